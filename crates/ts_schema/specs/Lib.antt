@@ -1,0 +1,5 @@
+pub mod Conditions
+pub mod Counts
+pub mod Faults
+pub mod Names
+pub mod Rows

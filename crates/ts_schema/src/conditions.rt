@@ -1,0 +1,78 @@
+//! Tests on rows.
+ghost use Rattle.std.specs.Prelude.{◌≡◌, ◌≤◌, length};
+ghost use Rattle.ts_schema.specs.Conditions.{ColumnsAreThere, compares, passes_all, passes_one};
+
+use crate::rows::{Row, field};
+use crate::sequences::Seq;
+
+/// How a column is compared.
+#[derive(Clone, Copy, Debug, PartialEq, Eq)]
+pub enum Cmp {
+    Eq,
+    Ne,
+    Lt,
+    Le,
+    Gt,
+    Ge,
+    IsNull,
+    NotNull,
+}
+
+/// One test on a row.
+#[derive(Clone, Copy, Debug, PartialEq, Eq)]
+pub struct Test {
+    /// The column: 0 is the time, the others count from 1.
+    pub col: u32,
+    /// The comparison.
+    pub cmp: Cmp,
+    /// The number to compare with; it plays no part where the test is on NULL.
+    pub num: i64,
+}
+
+/// Whether a row passes every test. A comparison with NULL isn't true.
+pub fn passes(row: &Row, tests: &Seq<Test>) -> bool
+    requires { ColumnsAreThere (length row.now.vals) tests.now }
+    ensures all { result ≡ passes_all row.now tests.now }
+{
+    passes_each(row, tests.items())
+}
+
+/// Whether a row passes each of these tests.
+pub fn passes_each(row: &Row, tests: &[Test]) -> bool
+    requires { ColumnsAreThere (length row.now.vals) tests.now }
+    ensures all { result ≡ passes_all row.now tests.now }
+{
+    let mut left = tests;
+    while let [test, rest @ ..] = left {
+        if !passes_test(row, test) {
+            return false;
+        }
+        left = rest;
+    }
+    true
+}
+
+/// Whether a row passes one test.
+fn passes_test(row: &Row, test: &Test) -> bool
+    requires { test.now.col ≤ length row.now.vals }
+    ensures { result ≡ passes_one row.now test.now }
+{
+    holds(test.cmp, field(row, test.col), test.num)
+}
+
+/// Whether a comparison of a value with a number is true.
+fn holds(cmp: Cmp, value: Option<i64>, num: i64) -> bool
+    ensures { result ≡ compares cmp value num }
+{
+    match (cmp, value) {
+        (Cmp::IsNull, None) => true,
+        (Cmp::NotNull, Some(_)) => true,
+        (Cmp::Eq, Some(v)) => v == num,
+        (Cmp::Ne, Some(v)) => v != num,
+        (Cmp::Lt, Some(v)) => v < num,
+        (Cmp::Le, Some(v)) => v <= num,
+        (Cmp::Gt, Some(v)) => v > num,
+        (Cmp::Ge, Some(v)) => v >= num,
+        _ => false,
+    }
+}

@@ -1,0 +1,19 @@
+//! The vocabulary of every layer: lists, names, columns, rows, tests on rows, a count of steps, and
+//! the answer for want of memory.
+#![tactic(auto)]
+
+mod columns;
+mod conditions;
+mod memory;
+mod names;
+mod rows;
+mod sequences;
+mod steps;
+
+pub use columns::Column;
+pub use conditions::{Cmp, Test, passes};
+pub use memory::NoMemory;
+pub use names::Name;
+pub use rows::{Row, field, row_order};
+pub use sequences::Seq;
+pub use steps::Steps;

@@ -1,0 +1,19 @@
+//! The one answer for want of memory.
+use std::alloc::{AllocError, AllocFailed};
+
+/// A growth was refused. Whatever the call was lent is as before the call, unless the call says
+/// otherwise.
+#[derive(Clone, Copy, Debug, PartialEq, Eq)]
+pub struct NoMemory;
+
+impl From<AllocError> for NoMemory {
+    fn from(_refused: AllocError) -> NoMemory {
+        NoMemory
+    }
+}
+
+impl<T: Drop> From<AllocFailed<T>> for NoMemory {
+    fn from(_refused: AllocFailed<T>) -> NoMemory {
+        NoMemory
+    }
+}

@@ -1,0 +1,65 @@
+//! Rows and their order.
+ghost use Rattle.std.specs.Prelude.{◌≡◌, ◌≤◌, length};
+ghost use Rattle.std.specs.Cmp.Lexicographic.{slice_cmp};
+ghost use Rattle.ts_schema.specs.Rows.{field_of, row_cmp, value_cmp};
+
+use crate::sequences::Seq;
+use std::cmp::Ordering;
+
+/// A row of a hypertable.
+#[derive(Drop, Debug, Clone, PartialEq, Eq)]
+pub struct Row {
+    /// Its time.
+    pub at: i64,
+    /// The values of its other columns in declared order; NULL is `None`.
+    pub vals: Seq<Option<i64>>,
+}
+
+/// The value of column `col`: column 0 is the time, the others count from 1.
+pub fn field(row: &Row, col: u32) -> Option<i64>
+    requires { col ≤ length row.now.vals }
+    ensures value { result ≡ field_of row.now col }
+{
+    match col {
+        0 => Some(row.at),
+        _ => *row.vals.get(col as usize - 1),
+    }
+}
+
+/// Rows by time, and then by their other columns, where NULL is greater than every number.
+pub fn row_order(a: &Row, b: &Row) -> Ordering
+    requires { length a.now.vals ≡ length b.now.vals }
+    ensures order { result ≡ row_cmp a.now b.now }
+{
+    a.at.cmp(&b.at)
+        .then(values_order(a.vals.items(), b.vals.items()))
+}
+
+/// Lists of values from left to right.
+pub fn values_order(a: &[Option<i64>], b: &[Option<i64>]) -> Ordering
+    ensures order { result ≡ slice_cmp value_cmp a.now b.now }
+{
+    match a {
+        [] => if b.is_empty() {
+            Ordering::Equal
+        } else {
+            Ordering::Less
+        },
+        [x, xs @ ..] => match b {
+            [] => Ordering::Greater,
+            [y, ys @ ..] => value_order(*x, *y).then(values_order(xs, ys)),
+        },
+    }
+}
+
+/// Values by size; NULL is greater than every number.
+pub fn value_order(a: Option<i64>, b: Option<i64>) -> Ordering
+    ensures order { result ≡ value_cmp a b }
+{
+    match (a, b) {
+        (None, None) => Ordering::Equal,
+        (None, Some(_)) => Ordering::Greater,
+        (Some(_), None) => Ordering::Less,
+        (Some(x), Some(y)) => x.cmp(&y),
+    }
+}
