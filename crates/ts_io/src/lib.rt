@@ -1,0 +1,16 @@
+//! Bytes in and bytes out: sources and sinks with a count of their faults, in memory and standard,
+//! and how a whole input is read and a whole text is written.
+#![tactic(auto)]
+
+mod mem_sinks;
+mod mem_sources;
+mod schedules;
+mod sinks;
+mod sources;
+mod whole;
+
+pub use mem_sinks::MemSink;
+pub use mem_sources::MemSource;
+pub use sinks::{Put, Sink};
+pub use sources::{Got, Source};
+pub use whole::{AllEnd, INPUT_LIMIT, WriteFault, read_all, write_whole};

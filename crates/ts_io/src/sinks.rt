@@ -1,0 +1,32 @@
+//! Where bytes go.
+ghost use Rattle.std.specs.Prelude.{◌≡◌, ℕ, ◌≤◌, List, Option};
+ghost use Rattle.ts_schema.specs.Faults.{Rose};
+ghost use Rattle.ts_io.specs.Sink.{Takes, IfFailed};
+
+/// What a write took.
+#[derive(Clone, Copy, Debug, PartialEq, Eq)]
+pub enum Put {
+    /// So many bytes from the front of the piece, at least one of a piece that isn't empty.
+    Bytes(usize),
+    /// Nothing, and the count of faults rose.
+    Failed,
+}
+
+/// Takes bytes in order, and counts its faults.
+pub trait Sink {
+    /// The bytes that were written, where they are told.
+    ghost written: { Self → Option (List ℕ) };
+
+    /// How many calls have failed.
+    ghost faults: { Self → ℕ };
+
+    /// How many calls have failed. At `u64::MAX` the count stands still.
+    fn faults(&self) -> u64
+        ensures { result ≡ faults self.now };
+
+    /// Writes the front of `piece`, as much of it as the sink likes.
+    fn write(&mut self, piece: &[u8]) -> Put
+        ensures bytes { Takes (written self.old) (written self.new) result piece.now }
+        ensures never_falls { faults self.old ≤ faults self.new }
+        ensures cause { IfFailed result (Rose (faults self.old) (faults self.new)) };
+}

@@ -1,0 +1,111 @@
+//! A whole input read, and a whole text written.
+ghost use Rattle.std.specs.Prelude.{◌≡◌, ◌+◌, ◌<◌, ◌≤◌, [], ◌++◌, length, vec_len, vec_capacity, OnOk, OnErr};
+ghost use Rattle.std.specs.Io.KnownBytes.{Appends};
+ghost use Rattle.ts_schema.specs.Faults.{Rose};
+ghost use Rattle.ts_io.specs.Whole.{AppendsPart, ReadsAll, IfReadFault, Brings, IfMoreFailed};
+
+use crate::sinks::{Put, Sink};
+use crate::sources::{Got, Source};
+
+/// How many bytes an input may have.
+pub const INPUT_LIMIT: usize = 67_108_864;
+
+/// A write failed, and the sink's count of faults rose.
+#[derive(Clone, Copy, Debug, PartialEq, Eq)]
+pub struct WriteFault;
+
+/// Writes all the bytes in order. After a fault a prefix of them was written.
+pub fn write_whole<K: Sink>(sink: &mut K, bytes: &[u8]) -> Result<(), WriteFault>
+    ensures all { OnOk result (Appends (K.written sink.old) (K.written sink.new) bytes.now) }
+    ensures part { OnErr result (AppendsPart (K.written sink.old) (K.written sink.new) bytes.now) }
+    ensures never_falls { K.faults sink.old ≤ K.faults sink.new }
+    ensures cause { OnErr result (Rose (K.faults sink.old) (K.faults sink.new)) }
+{
+    let mut rest = bytes;
+    while !rest.is_empty() {
+        match sink.write(rest) {
+            Put::Bytes(n) => rest = &rest[n..],
+            Put::Failed => return Err(WriteFault),
+        }
+    }
+    Ok(())
+}
+
+/// How the reading of a whole input ended.
+#[derive(Clone, Copy, Debug, PartialEq, Eq)]
+pub enum AllEnd {
+    /// The source came to its end within the limit.
+    End,
+    /// The source gave a byte beyond the limit.
+    InputLong,
+    /// A read failed, and the source's count of faults rose.
+    ReadFault,
+    /// There was no room for more bytes. What was given is kept.
+    NoMemory,
+}
+
+/// How many bytes one read asks for at most.
+const PIECE: usize = 65_536;
+
+/// What one read brought.
+enum More {
+    Bytes,
+    Ended,
+    Failed,
+    Refused,
+}
+
+/// Reads a whole input into `out`, which is empty: all of it, or its first 67,108,864 bytes where it
+/// is longer. After a fault or for want of memory `out` holds all that was given before.
+pub fn read_all<S: Source>(source: &mut S, out: &mut Vec<u8>) -> AllEnd
+    requires { out.old.items ≡ [] }
+    ensures read { ReadsAll result (S.left source.old) (S.left source.new) out.new.items }
+    ensures within { length out.new.items ≤ INPUT_LIMIT }
+    ensures never_falls { S.faults source.old ≤ S.faults source.new }
+    ensures cause { IfReadFault result (Rose (S.faults source.old) (S.faults source.new)) }
+{
+    let mut piece = [0; PIECE];
+    while out.len() <= INPUT_LIMIT {
+        let room = (INPUT_LIMIT + 1 - out.len()).min(PIECE);
+        match read_piece(source, &mut piece[..room], out) {
+            More::Bytes => {}
+            More::Ended => return AllEnd::End,
+            More::Failed => return AllEnd::ReadFault,
+            More::Refused => return AllEnd::NoMemory,
+        }
+    }
+    out.truncate(INPUT_LIMIT);
+    AllEnd::InputLong
+}
+
+/// Reads once, by way of `piece`, and appends what was given. The room is made first, so that no byte
+/// is lost for want of memory.
+fn read_piece<S: Source>(source: &mut S, piece: &mut [u8], out: &mut Vec<u8>) -> More
+    requires { 0 < length piece.old }
+    ensures more { Brings result (S.left source.old) (S.left source.new) out.old.items out.new.items (length piece.old) }
+    ensures never_falls { S.faults source.old ≤ S.faults source.new }
+    ensures cause { IfMoreFailed result (Rose (S.faults source.old) (S.faults source.new)) }
+{
+    if let Err(_) = out.reserve(piece.len()) {
+        return More::Refused;
+    }
+    match source.read(piece) {
+        Got::Bytes(0) => More::Ended,
+        Got::Bytes(n) => {
+            append_reserved(out, &piece[..n]);
+            More::Bytes
+        }
+        Got::Failed => More::Failed,
+    }
+}
+
+/// Appends bytes for which there is room.
+fn append_reserved(out: &mut Vec<u8>, bytes: &[u8])
+    requires { vec_len out.old + length bytes.now ≤ vec_capacity out.old }
+    ensures { out.new.items ≡ out.old.items ++ bytes.now }
+{
+    match out.extend_from_slice(bytes) {
+        Ok(()) => {}
+        Err(_) => unreachable!(),
+    }
+}
