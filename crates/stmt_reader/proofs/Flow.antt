@@ -16,7 +16,7 @@ flow skip (token t begin end) after = (record { at = begin + 1; token = t }) the
 flow skip ended after = ends (skip + 1)
 flow skip (nothing begin) after = stops (begin + 1)
 
-scan_is_flow : (n : ℕ) (text : List ℕ) (skip : ℕ) → scan_from (suc n) text skip ≡ flow skip (next text skip) (scan_from n text)
+pub scan_is_flow : (n : ℕ) (text : List ℕ) (skip : ℕ) → scan_from (suc n) text skip ≡ flow skip (next text skip) (scan_from n text)
 scan_is_flow n text skip = go (next text skip)
   where
     go : (a : Next) → elim a as (λ _. Stream) [ token t begin end ↦ (record { at = begin + 1; token = t }) then (scan_from n text end) | ended ↦ ends (skip + 1) | nothing begin ↦ stops (begin + 1) ] ≡ flow skip a (scan_from n text)

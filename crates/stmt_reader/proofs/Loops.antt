@@ -16,7 +16,7 @@ abbrev left_of : {A : Type 0} → Stream → Result (A × Stream) Fault → Stre
 left_of d (Ok x) = x.1
 left_of d (Err f) = d
 
-abbrev ok_unit : Stream → Result (Unit {0} × Stream) Fault
+abbrev pub ok_unit : Stream → Result (Unit {0} × Stream) Fault
 ok_unit s = Ok (tt, s)
 
 -- ---- going on
@@ -101,7 +101,7 @@ cond_ok : (b : Bool) (s : Stream) (f : Fault) (u : Unit {0}) (left : Stream) →
 cond_ok true s f u left e = (refl, ap (left_of s) e)
 cond_ok false s f u left e = absurd cc
 
-wanted_less : (test : Seen → Bool) (s : Stream) (u : Unit {0}) (left : Stream) → wanted test s ≡ Ok (u, left) → size left < size s
+pub wanted_less : (test : Seen → Bool) (s : Stream) (u : Unit {0}) (left : Stream) → wanted test s ≡ Ok (u, left) → size left < size s
 unfolding wanted
 wanted_less test s u left e =
     let k = cond_ok (heads test s) s (refused s) u left e in

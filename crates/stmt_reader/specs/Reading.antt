@@ -246,6 +246,13 @@ aggregates f = do
   first ← aggregate_rest f
   more (parts separators.Comma) aggregate (first ∷ [])
 
+-- { , c } , agg { , agg }
+unfoldable pub select_list : Parser (List (List ℕ) × List NamedAgg)
+select_list = do
+  k ← keys_and_function []
+  aggs ← aggregates k.1
+  gives (k.0, aggs)
+
 unfoldable pub grouping : Bucket → List (List ℕ) → Parser (Unit {0})
 grouping b keys = do
   keyword kw.Group
@@ -256,11 +263,10 @@ grouping b keys = do
 unfoldable pub fold_rest : Parser NamedFold
 fold_rest = do
   b ← bucket
-  k ← keys_and_function []
-  aggs ← aggregates k.1
+  list ← select_list
   from ← source
-  _ ← grouping b k.0
-  gives (record { step = b.step; shift = b.shift; at = b.at; name = b.name; keys = k.0; aggs = aggs; table = from.0; tests = from.1 })
+  _ ← grouping b list.0
+  gives (record { step = b.step; shift = b.shift; at = b.at; name = b.name; keys = list.0; aggs = list.1; table = from.0; tests = from.1 })
 
 -- ---- statements, after the words that tell them apart
 

@@ -46,8 +46,7 @@ impl Reader<'_> {
         ensures { Gives result (spec.fold_rest (ahead self.old)) (ahead self.new) }
     {
         let bucket = self.bucket()?;
-        let (keys, fun) = self.keys()?;
-        let aggs = self.aggregates(fun)?;
+        let (keys, aggs) = self.select_list()?;
         let (table, tests) = self.source()?;
         self.grouping(&bucket, &keys)?;
         let Bucket {
@@ -98,6 +97,16 @@ impl Reader<'_> {
         } else {
             Ok(0)
         }
+    }
+
+    /// The keys and the aggregates after the bucket.
+    #[tactic(auto, unfolding(crate::specs::Reading::select_list, crate::specs::Reading::bind))]
+    fn select_list(&mut self) -> Result<(Seq<Name>, Seq<NamedAgg>), ReadError>
+        ensures { Gives result (spec.select_list (ahead self.old)) (ahead self.new) }
+    {
+        let (keys, fun) = self.keys()?;
+        let aggs = self.aggregates(fun)?;
+        Ok((keys, aggs))
     }
 
     /// The keys, and the function of the first aggregate with its opening parenthesis.

@@ -3,6 +3,7 @@ ghost use Rattle.std.specs.Prelude.{◌≡◌, ◌≤◌, length};
 ghost use Rattle.stmt_reader.specs.Streams.{stream};
 ghost use Rattle.stmt_reader.specs.Answers.{Answers};
 ghost use Rattle.stmt_reader.specs.Reading.{statement};
+ghost use Rattle.stmt_reader.specs.Refusals.{Judges, OneReading};
 
 use crate::faults::{Fault, ReadError};
 use crate::reader::Reader;
@@ -31,6 +32,19 @@ pub enum ReadStmt {
 pub fn read_stmt(alloc: Global, text: &[u8], skip: u32) -> ReadStmt
     requires short { length text.now ≤ 65536 }
     requires within { skip ≤ length text.now }
+
+    // What reading from left to right gives.
+    ensures exact { Answers result (statement (stream text.now skip)) }
+
+    // What the grammar says: the statement where nothing is wrong, and else the first thing that is.
+    ensures judged { Judges (stream text.now skip) result }
+{
+    answer(alloc, text, skip)
+}
+
+fn answer(alloc: Global, text: &[u8], skip: u32) -> ReadStmt
+    requires short { length text.now ≤ 65536 }
+    requires within { skip ≤ length text.now }
     ensures exact { Answers result (statement (stream text.now skip)) }
 {
     match Reader::new(alloc, text, skip as usize).statement() {
@@ -41,3 +55,8 @@ pub fn read_stmt(alloc: Global, text: &[u8], skip: u32) -> ReadStmt
         Err(ReadError::Fault(Fault::BadNumber(place))) => ReadStmt::BadNumber(place),
     }
 }
+
+/// States that the tokens of a statement say one thing. It does nothing.
+pub fn one_reading_law()
+    ensures { OneReading }
+{}

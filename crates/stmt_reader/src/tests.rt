@@ -427,19 +427,21 @@ fn a_view_holds_its_fold(rt: HostRuntime) -> Result<(), Fail> {
     Ok(())
 }
 
+/// How many rows an INSERT has.
+fn row_count(answer: &ReadStmt) -> usize {
+    match answer {
+        ReadStmt::Stmt(Stmt::Insert { rows, .. }) => rows.len(),
+        _ => 0,
+    }
+}
+
 #[test]
 fn a_thousand_rows_are_read(rt: HostRuntime) -> Result<(), Fail> {
     let mut text = Vec::from_slice(rt.alloc(), b"a:INSERT INTO m VALUES (0, 1, 2)")?;
     for _ in 1..1000 {
         text.extend_from_slice(b", (1234567890, NULL, -5)")?;
     }
-    match read(rt.alloc(), &text) {
-        ReadStmt::Stmt(Stmt::Insert { table, cols, rows }) => {
-            assert!(rt; table == name(rt.alloc(), b"m")?);
-            assert!(rt; cols.is_none());
-            assert_eq!(rt; rows.len(), 1000);
-        }
-        _ => assert!(rt; false),
-    }
+    let answer = read(rt.alloc(), &text);
+    assert_eq!(rt; row_count(&answer), 1000);
     Ok(())
 }
