@@ -95,12 +95,11 @@ nothing_placed [] e = refl
 nothing_placed (x ∷ ts) e = absurd cc
 
 -- tokens at some places
-pub placed : List Token → List Placed
+abbrev pub placed : List Token → List Placed
 placed [] = []
 placed (t ∷ ts) = (record { at = 0; token = t }) ∷ placed ts
 
 pub plain-placed : (ts : List Token) → plain (placed ts) ≡ ts
-unfolding placed
 plain-placed [] = refl
 plain-placed (t ∷ ts) = ap (λ x. t ∷ x) (plain-placed ts)
 

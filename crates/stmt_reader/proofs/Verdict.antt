@@ -110,16 +110,16 @@ begins_before ts xs t b =
     begins_front (plain ts ++ t.token ∷ []) (plain xs) (subst (λ x. Begins statement x) (plain-append ts (t ∷ xs) ∙ sym (append_assoc (plain ts) (t.token ∷ []) (plain xs))) b)
 
 behind_in : (taken ts : List Placed) (left r : Stream) (between : List Placed) → ((x : Placed) (xs : List Placed) → taken ≡ ts ++ x ∷ xs → r ≡ x then (onto xs left) → ⊥) → taken ≡ ts ++ between → r ≡ onto between left → Behind taken left ts r
-behind_in taken ts left r [] no front back = record { between = []; front = sym (append-nil ts) ∙ sym front ∙ sym (append-nil taken); back = sym back }
-behind_in taken ts left r (x ∷ xs) no front back = absurd (no x xs front back)
+behind_in taken ts left r [] never front back = record { between = []; front = sym (append-nil ts) ∙ sym front ∙ sym (append-nil taken); back = sym back }
+behind_in taken ts left r (x ∷ xs) never front back = absurd (never x xs front back)
 
 behind_at : (taken ts : List Placed) (left r : Stream) → ((x : Placed) (xs : List Placed) → taken ≡ ts ++ x ∷ xs → r ≡ x then (onto xs left) → ⊥) → Within taken left ts r ⊎ Within ts r taken left → Behind taken left ts r
-behind_at taken ts left r no (inl w) = record { between = w.between; front = w.front; back = w.back }
-behind_at taken ts left r no (inr w) = behind_in taken ts left r w.between no w.front w.back
+behind_at taken ts left r never (inl w) = record { between = w.between; front = w.front; back = w.back }
+behind_at taken ts left r never (inr w) = behind_in taken ts left r w.between never w.front w.back
 
 -- what can't lie among the tokens that were taken lies behind them
 behind : (s : Stream) (taken ts : List Placed) (left r : Stream) → Good s taken left → s ≡ onto ts r → ((x : Placed) (xs : List Placed) → taken ≡ ts ++ x ∷ xs → r ≡ x then (onto xs left) → ⊥) → Behind taken left ts r
-behind s taken ts left r g e no = behind_at taken ts left r no (meet taken ts left r (sym g.split ∙ e))
+behind s taken ts left r g e never = behind_at taken ts left r never (meet taken ts left r (sym g.split ∙ e))
 
 stops_behind : (s : Stream) (taken ts : List Placed) (left : Stream) (p : ℕ) → Good s taken left → s ≡ onto ts (stops p) → Behind taken left ts (stops p)
 stops_behind s taken ts left p g e = behind s taken ts left (stops p) g e (λ x xs front k. cc)
@@ -128,16 +128,16 @@ ends_behind : (s : Stream) (taken ts : List Placed) (left : Stream) (p : ℕ) �
 ends_behind s taken ts left p g e = behind s taken ts left (ends p) g e (λ x xs front k. cc)
 
 refused_token_behind : (s : Stream) (taken ts : List Placed) (left : Stream) (t : Placed) (l : Stream) → Good s taken left → s ≡ onto ts (t then l) → (Begins statement (plain ts ++ t.token ∷ []) → ⊥) → Behind taken left ts (t then l)
-refused_token_behind s taken ts left t l g e no =
+refused_token_behind s taken ts left t l g e never =
     behind s taken ts left (t then l) g e (λ x xs front k.
     let h : t ≡ x = cc in
-    no (begins_before ts xs t (subst (λ y. Begins statement (plain y)) (front ∙ ap (λ y. ts ++ y ∷ xs) (sym h)) g.begins)))
+    never (begins_before ts xs t (subst (λ y. Begins statement (plain y)) (front ∙ ap (λ y. ts ++ y ∷ xs) (sym h)) g.begins)))
 
 misfit_behind : (s : Stream) (taken ts : List Placed) (left : Stream) (t : Placed) (l : Stream) → Good s taken left → s ≡ onto ts (t then l) → is_fit t.token ≡ false → Behind taken left ts (t then l)
-misfit_behind s taken ts left t l g e no =
+misfit_behind s taken ts left t l g e never =
     behind s taken ts left (t then l) g e (λ x xs front k.
     let h : t ≡ x = cc in
-    both_ways (is_fit t.token) no (fit_at ts xs t (subst AllFit (front ∙ ap (λ y. ts ++ y ∷ xs) (sym h)) g.fit)))
+    both_ways (is_fit t.token) never (fit_at ts xs t (subst AllFit (front ∙ ap (λ y. ts ++ y ∷ xs) (sym h)) g.fit)))
 
 -- a refusal lies behind what was taken
 pub record Later (left : Stream) (g : Fault) : Type 0 where
@@ -151,9 +151,9 @@ later {r = r} g b e = record { between = b.between; at = r; is = b.back; place-i
 
 refusal_later : (s : Stream) (taken : List Placed) (left : Stream) (g : Fault) → Good s taken left → Refuses s g → Later left g
 refusal_later s taken left (NoToken p) good (ts, e) = later (NoToken p) (stops_behind s taken ts left p good e) refl
-refusal_later s taken left (Syntax p) good (inl (ts, t, l, e, p-is, no)) = later (Syntax p) (refused_token_behind s taken ts left t l good e no) p-is
-refusal_later s taken left (Syntax p) good (inr (ts, e, no)) = later (Syntax p) (ends_behind s taken ts left p good e) refl
-refusal_later s taken left (BadNumber p) good (ts, t, l, e, p-is, no) = later (BadNumber p) (misfit_behind s taken ts left t l good e no) p-is
+refusal_later s taken left (Syntax p) good (inl (ts, t, l, e, p-is, never)) = later (Syntax p) (refused_token_behind s taken ts left t l good e never) p-is
+refusal_later s taken left (Syntax p) good (inr (ts, e, never)) = later (Syntax p) (ends_behind s taken ts left p good e) refl
+refusal_later s taken left (BadNumber p) good (ts, t, l, e, p-is, never) = later (BadNumber p) (misfit_behind s taken ts left t l good e never) p-is
 
 place_le : (s : Stream) (taken : List Placed) (left : Stream) (g : Fault) → Good s taken left → Rises s → Later left g → place left ≤ fault_place g
 place_le s taken left g good r k =
@@ -202,8 +202,8 @@ end_empty p r [] e = refl
 end_empty p r (x ∷ xs) e = absurd cc
 
 end_only_at : (p : ℕ) (r : Stream) (between : List Placed) → ends p ≡ onto between r → (ends p ≡ r → ⊥) → ⊥
-end_only_at p r [] e no = no e
-end_only_at p r (x ∷ xs) e no = absurd cc
+end_only_at p r [] e never = never e
+end_only_at p r (x ∷ xs) e never = absurd cc
 
 then_is_no_end : (t : Placed) (l : Stream) (p : ℕ) → t then l ≡ ends p → ⊥
 then_is_no_end t l p e = cc
@@ -212,13 +212,13 @@ bad_is_no_syntax : (f : Fault) (p q : ℕ) → read_err f ≡ read_err (Syntax p
 bad_is_no_syntax f p q e k = cc
 
 same_token : (taken ts : List Placed) (t u : Placed) (l m : Stream) → ts ≡ taken → t then l ≡ u then m → Begins statement (plain taken ++ t.token ∷ []) → (Begins statement (plain ts ++ u.token ∷ []) → ⊥) → ⊥
-same_token taken ts t u l m ts-is e b no =
+same_token taken ts t u l m ts-is e b never =
     let h : t ≡ u = cc in
-    no (subst (λ x. Begins statement (plain x ++ u.token ∷ [])) (sym ts-is) (subst (λ x. Begins statement (plain taken ++ x.token ∷ [])) h b))
+    never (subst (λ x. Begins statement (plain x ++ u.token ∷ [])) (sym ts-is) (subst (λ x. Begins statement (plain taken ++ x.token ∷ [])) h b))
 
 -- nothing but the end lies behind the end
 end_only : (taken : List Placed) (p : ℕ) (ts : List Placed) (r : Stream) → Behind taken (ends p) ts r → (ends p ≡ r → ⊥) → ⊥
-end_only taken p ts r b no = end_only_at p r b.between b.back no
+end_only taken p ts r b never = end_only_at p r b.between b.back never
 
 end_same : (taken : List Placed) (p : ℕ) (ts : List Placed) (q : ℕ) → Behind taken (ends p) ts (ends q) → taken ≡ ts
 end_same taken p ts q b = sym (b.front ∙ ap (λ x. taken ++ x) (end_empty p (ends q) b.between b.back) ∙ append-nil taken)
@@ -253,9 +253,9 @@ Verdict s (Err f) = First s f
 -- nothing lies behind the end but what is no fault
 nothing_wrong : (s : Stream) (a : Stmt) (p : ℕ) (f : Found whole statement s a (ends p)) (g : Fault) → Refuses s g → ⊥
 nothing_wrong s a p f (NoToken q) (ts, e) = end_only f.taken p ts (stops q) (stops_behind s f.taken ts (ends p) q (good_found s a (ends p) f) e) (λ k. cc)
-nothing_wrong s a p f (Syntax q) (inl (ts, t, l, e, q-is, no)) = end_only f.taken p ts (t then l) (refused_token_behind s f.taken ts (ends p) t l (good_found s a (ends p) f) e no) (λ k. cc)
-nothing_wrong s a p f (Syntax q) (inr (ts, e, no)) = no a (subst (λ x. statement (plain x) a) (end_same f.taken p ts q (ends_behind s f.taken ts (ends p) q (good_found s a (ends p) f) e)) f.said)
-nothing_wrong s a p f (BadNumber q) (ts, t, l, e, q-is, no) = end_only f.taken p ts (t then l) (misfit_behind s f.taken ts (ends p) t l (good_found s a (ends p) f) e no) (λ k. cc)
+nothing_wrong s a p f (Syntax q) (inl (ts, t, l, e, q-is, never)) = end_only f.taken p ts (t then l) (refused_token_behind s f.taken ts (ends p) t l (good_found s a (ends p) f) e never) (λ k. cc)
+nothing_wrong s a p f (Syntax q) (inr (ts, e, never)) = never a (subst (λ x. statement (plain x) a) (end_same f.taken p ts q (ends_behind s f.taken ts (ends p) q (good_found s a (ends p) f) e)) f.said)
+nothing_wrong s a p f (BadNumber q) (ts, t, l, e, q-is, never) = end_only f.taken p ts (t then l) (misfit_behind s f.taken ts (ends p) t l (good_found s a (ends p) f) e never) (λ k. cc)
 
 verdict_ok : (s : Stream) (a : Stmt) (left : Stream) → Rises s → Found whole statement s a left → Verdict s (bind read.end (λ _. gives a) left)
 unfolding bind read.end
@@ -267,12 +267,12 @@ verdict_ok s a (t then l) r f = first_at s f.taken (t then l) (Syntax t.at) (goo
 number_stands : (s : Stream) (taken : List Placed) (t : Placed) (l : Stream) → Good s taken (t then l) → Rises s → Begins statement (plain taken ++ t.token ∷ []) → (g : Fault) → Refuses s g → Comes (BadNumber t.at) g
 number_stands s taken t l good r b (NoToken q) h = tt
 number_stands s taken t l good r b (BadNumber q) h = tt
-number_stands s taken t l good r b (Syntax q) (inl (ts, u, m, e, q-is, no)) at =
-    let k = refused_token_behind s taken ts (t then l) u m good e no in
+number_stands s taken t l good r b (Syntax q) (inl (ts, u, m, e, q-is, never)) = λ at.
+    let k = refused_token_behind s taken ts (t then l) u m good e never in
     let h = rises_onto taken (t then l) (subst Rises good.split r) in
     let empty : k.between ≡ [] = (later_place k.between (u then m) (subst Rises k.back h)).1 (ap place (sym k.back) ∙ at ∙ sym q-is) in
-    same_token taken ts t u l m (k.front ∙ ap (λ x. taken ++ x) empty ∙ append-nil taken) (k.back ∙ ap (λ x. onto x (u then m)) empty) b no
-number_stands s taken t l good r b (Syntax q) (inr (ts, e, no)) at =
+    same_token taken ts t u l m (k.front ∙ ap (λ x. taken ++ x) empty ∙ append-nil taken) (k.back ∙ ap (λ x. onto x (u then m)) empty) b never
+number_stands s taken t l good r b (Syntax q) (inr (ts, e, never)) = λ at.
     let k = ends_behind s taken ts (t then l) q good e in
     let h = rises_onto taken (t then l) (subst Rises good.split r) in
     let empty : k.between ≡ [] = (later_place k.between (ends q) (subst Rises k.back h)).1 (ap place (sym k.back) ∙ at) in
@@ -332,7 +332,6 @@ agree_twice ts a b (Ok x) fit h k = ap (λ y. y.0) (sym h ∙ k)
 agree_twice ts a b (Err f) fit h k = absurd (no_misfit ts f fit h)
 
 fit_placed : (ts : List Token) → AllByRecursion (λ t. is_fit t ≡ true) ts → AllFit (placed ts)
-unfolding placed
 fit_placed [] f = tt
 fit_placed (t ∷ ts) f = (f.0, fit_placed ts f.1)
 
