@@ -1,8 +1,7 @@
 use super::*;
+use crate::faults::Fault;
 use std::alloc::Global;
 use std::test::*;
-use ts_num::Fun;
-use ts_schema::{Cmp, Column, Name, Seq};
 
 const LINES: [(&[u8], LineKind); 22] = [
     (b"", LineKind::Blank),
@@ -384,6 +383,6 @@ fn names_are_read_in_lower_case_and_numbers_by_value(rt: HostRuntime) {
         return assert!(rt; false);
     };
     assert_eq!(rt; interval, -7);
-    assert!(rt; table == b"m_1");
-    assert!(rt; col == b"time");
+    assert!(rt; table == b"m_1".as_slice());
+    assert!(rt; col == b"time".as_slice());
 }
