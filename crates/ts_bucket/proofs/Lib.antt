@@ -1,0 +1,4 @@
+mod Remainders
+pub mod BucketLaws
+pub mod SpanLaws
+mod Computed

@@ -1,0 +1,13 @@
+//! Buckets of time, without allocation: widths, spans and hulls, the bucket of a time, and the
+//! whole buckets of a window.
+#![tactic(auto)]
+
+mod buckets;
+mod spans;
+mod times;
+mod widths;
+
+pub use buckets::{bucket, first, meets, width};
+pub use spans::{Hull, Span};
+pub use times::{MAX_TIME, MIN_TIME};
+pub use widths::Width;
