@@ -1,4 +1,5 @@
-mod Remainders
+pub mod Remainders
 pub mod BucketLaws
 pub mod SpanLaws
+pub mod WindowLaws
 mod Computed

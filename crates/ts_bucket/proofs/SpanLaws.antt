@@ -1,5 +1,5 @@
 -- Laws of spans and hulls: when they have a number in common.
-use Rattle.std.proofs.Common.{◌≡◌, Bool, true, false, ◌&&◌, ◌↔◌, IsTrue, ℤ, pos, ◌+ℤ◌, ◌≤ℤ◌, ◌<ℤ◌, int_le, int_lt, refl, arith}
+use Rattle.std.proofs.Common.{◌≡◌, true, ℤ, pos, ◌+ℤ◌, ◌≤ℤ◌, ◌<ℤ◌, arith}
 use Rattle.std.proofs.lemmas.Int.{ints, by_lt_z}
 use Rattle.std.proofs.lemmas.Bool.Decides.{same_from_decides}
 use Rattle.ts_bucket.specs.Bucket.{WidthValue, IsWidth, is_bucket, bucket_of}
@@ -44,16 +44,16 @@ meets-between w b h bounds p =
     let to_low : bucket_of w h.most ≤ℤ h.most = (bucket_of_meets w h.most bounds).at_or_below in
     let to_high : h.most <ℤ (bucket_of w h.most +ℤ w.step) = (bucket_of_meets w h.most bounds).end_above in
     let forth : meets w b h ≡ true → (bucket_of w h.least ≤ℤ b) × (b <ℤ (bucket_of w h.most +ℤ w.step)) = λ met.
-        let before : h.least <ℤ (b +ℤ w.step) = grind (arith, ints) in
-        let after : b ≤ℤ h.most = grind (arith, ints) in
-        (bucket_of-first w b h.least bounds p before, omega (arith, ints))
+    let before : h.least <ℤ (b +ℤ w.step) = grind (arith, ints) in
+    let after : b ≤ℤ h.most = grind (arith, ints) in
+    (bucket_of-first w b h.least bounds p before, omega (arith, ints))
     in
     let back : (bucket_of w h.least ≤ℤ b) × (b <ℤ (bucket_of w h.most +ℤ w.step)) → meets w b h ≡ true = λ ends.
-        let first : bucket_of w h.least ≤ℤ b = ends.0 in
-        let last : b ≤ℤ bucket_of w h.most = bucket_before_end w (bucket_of w h.most) b bounds (is_bucket-bucket_of w h.most bounds) p ends.1 in
-        let before : h.least <ℤ (b +ℤ w.step) = omega (arith, ints) in
-        let after : b ≤ℤ h.most = omega (arith, ints) in
-        grind (arith, ints)
+    let first : bucket_of w h.least ≤ℤ b = ends.0 in
+    let last : b ≤ℤ bucket_of w h.most = bucket_before_end w (bucket_of w h.most) b bounds (is_bucket-bucket_of w h.most bounds) p ends.1 in
+    let before : h.least <ℤ (b +ℤ w.step) = omega (arith, ints) in
+    let after : b ≤ℤ h.most = omega (arith, ints) in
+    grind (arith, ints)
     in
     same_from_decides (meets w b h) (in_span (touched_span w h) b) (forth, back)
     (λ t. (grind (arith, ints), grind (arith, ints)), λ ends. in_span-from_ends (touched_span w h) b ends.0 ends.1)

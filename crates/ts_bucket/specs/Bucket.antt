@@ -1,5 +1,5 @@
 -- Buckets of time: what a width and a bucket are.
-use Rattle.std.specs.Prelude.{◌≡◌, ℕ, Bool, ◌&&◌, ◌+◌, ◌-◌, ◌^◌, ℤ, pos, negsuc, ◌+ℤ◌, ◌-ℤ◌, ◌≤ℤ◌, ◌<ℤ◌, int_le, int_lt}
+use Rattle.std.specs.Prelude.{◌≡◌, Bool, ◌&&◌, ◌+◌, ◌-◌, ◌^◌, ℤ, pos, negsuc, ◌+ℤ◌, ◌-ℤ◌, ◌≤ℤ◌, ◌<ℤ◌, int_le, int_lt}
 use Rattle.std.specs.Int.{int_rem_euclid}
 use Rattle.std.specs.Ordering.{int_eq}
 
@@ -34,6 +34,11 @@ is_time t = int_le min_time t && int_le t max_time
 pub record IsNearTimes (t : ℤ) : Type 0 where
   pub low : negsuc (2 ^ 62 + 2 ^ 41 - 1) ≤ℤ t
   pub high : t ≤ℤ pos (2 ^ 62 - 1 + 2 ^ 41)
+
+-- t lies within 2 ^ 42 of the range of times
+pub record IsWithinReach (t : ℤ) : Type 0 where
+  pub low : negsuc (2 ^ 62 + 2 ^ 42 - 1) ≤ℤ t
+  pub high : t ≤ℤ pos (2 ^ 62 - 1 + 2 ^ 42)
 
 -- the bucket that starts at b holds t: it is at or below t, and t is below its end
 abbrev pub holds : WidthValue → ℤ → ℤ → Bool

@@ -1,10 +1,8 @@
-//! The bucket of a time, and what meets what.
+//! Widths, and the bucket of a time.
 
 ghost use Rattle.std.specs.Prelude.{◌≡◌, ◌↔◌, IsTrue, IsSome, IfSome};
-ghost use Rattle.ts_bucket.specs.Bucket.{IsWidth, IsBucketOf, IsNearTimes, bucket_of, first_of};
-ghost use Rattle.ts_bucket.specs.Spans.{overlaps, SharesTime};
+ghost use Rattle.ts_bucket.specs.Bucket.{IsWidth, IsBucketOf, IsNearTimes, IsWithinReach, bucket_of, first_of};
 
-use crate::spans::{Hull, Span};
 use crate::times::MIN_TIME;
 use crate::widths::Width;
 
@@ -23,6 +21,17 @@ pub fn width(step: i64, shift: i64) -> Option<Width>
     }
 }
 
+/// The start of the bucket that holds `t`, which lies a little further outside the range of times
+/// than `bucket` allows.
+pub(crate) fn bucket_start(w: Width, t: i64) -> i64
+    requires { IsWithinReach t }
+    ensures bucket { IsBucketOf w t result }
+    ensures value { result ≡ bucket_of w t }
+    ensures bounds { IsWidth w }
+{
+    t - (t - w.shift).rem_euclid(w.step)
+}
+
 /// The start of the bucket that holds `t`, which lies within 2^41 of the range of times. Negative
 /// times round down, as all others do.
 pub fn bucket(w: Width, t: i64) -> i64
@@ -31,7 +40,7 @@ pub fn bucket(w: Width, t: i64) -> i64
     ensures value { result ≡ bucket_of w t }
     ensures bounds { IsWidth w }
 {
-    t - (t - w.shift).rem_euclid(w.step)
+    bucket_start(w, t)
 }
 
 /// The start of the first bucket: the one that holds the least time.
@@ -40,13 +49,5 @@ pub fn first(w: Width) -> i64
     ensures value { result ≡ first_of w }
     ensures bounds { IsWidth w }
 {
-    bucket(w, MIN_TIME)
-}
-
-/// Whether a hull and a span have a number in common.
-pub fn meets(h: Hull, s: Span) -> bool
-    ensures shared { IsTrue result ↔ SharesTime h s }
-    ensures value { result ≡ overlaps h s }
-{
-    h.least < s.hi && s.lo <= h.most && s.lo < s.hi
+    bucket_start(w, MIN_TIME)
 }
