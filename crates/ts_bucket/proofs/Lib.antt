@@ -2,4 +2,5 @@ pub mod Remainders
 pub mod BucketLaws
 pub mod SpanLaws
 pub mod WindowLaws
+pub mod PositionLaws
 mod Computed
