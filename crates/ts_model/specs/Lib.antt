@@ -7,3 +7,4 @@ pub mod Refreshes
 pub mod Answers
 pub mod Allowed
 pub mod Reads
+pub mod Calls
