@@ -1,0 +1,9 @@
+pub mod Counts
+pub mod Insertions
+pub mod Laws
+pub mod Merges
+pub mod Occurring
+pub mod Parts
+pub mod Places
+pub mod Scratches
+pub mod Steps
