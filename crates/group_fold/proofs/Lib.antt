@@ -4,6 +4,7 @@ pub mod Laws
 pub mod Merges
 pub mod Occurring
 pub mod Parts
+pub mod CutRows
 pub mod Places
 pub mod Scratches
 pub mod Steps

@@ -83,3 +83,13 @@ row_at fold b row = record { start = b; keys = keys_of fold.keys row; parts = ro
 -- the group of one row, in its bucket
 abbrev pub row_group : Fold → Row → Group
 row_group fold row = row_at fold (bucket_of fold.width row.at) row
+
+-- ---- rows in pieces
+
+-- the rows of all pieces, one piece after the other
+abbrev pub all_rows : List (List Row) → List Row
+all_rows [] = []
+all_rows (piece ∷ pieces) = piece ++ all_rows pieces
+
+abbrev pub PiecesFit : Fold → List (List Row) → Type 0
+PiecesFit fold pieces = AllByRecursion (RowsFit fold) pieces

@@ -4,7 +4,7 @@ ghost use Rattle.ts_bucket.specs.Bucket.{IsWidth};
 ghost use Rattle.group_fold.specs.Grouping.{RowsFit, ShowScratch, groups_of};
 
 use crate::blocks::fold_block;
-use crate::joins::join;
+use crate::joins::join_lists;
 use partial_agg::Group;
 use std::alloc::Global;
 use ts_model::Fold;
@@ -39,5 +39,5 @@ pub(crate) fn fold_rows(
     let (front, back) = rows.split_at(rows.len() / 2);
     let mine = fold_rows(alloc, plan, front)?;
     let theirs = fold_rows(alloc, plan, back)?;
-    join(alloc, mine, theirs)
+    join_lists(alloc, mine, theirs)
 }

@@ -22,11 +22,11 @@ pub fn join_parts(
 {
     let mine = a.copy()?.into_items();
     let theirs = b.copy()?.into_items();
-    Ok(Seq::of(join(alloc, mine, theirs)?))
+    Ok(Seq::of(join_lists(alloc, mine, theirs)?))
 }
 
 /// The same of lists that are given up. Groups move from one list to the other, and are not copied.
-pub(crate) fn join(
+pub(crate) fn join_lists(
     alloc: Global,
     a: Vec<Group>,
     b: Vec<Group>,

@@ -11,8 +11,10 @@
 mod blocks;
 mod folds;
 mod joins;
+mod pieces;
 mod results;
 
 pub use folds::fold;
 pub use joins::join_parts;
+pub use pieces::fold_pieces;
 pub use results::cells;
