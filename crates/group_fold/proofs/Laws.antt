@@ -82,7 +82,7 @@ module _ (fold : Fold) (wide : IsWidth fold.width) where
       (λ e. passing row rows e ∙ sym (rw e refl))
       (λ e. failing row rows e ∙ sym (rw e refl))
 
-  taken-commutes : (row other : Row) (groups : List Group) → taken fold row (taken fold other groups) ≡ taken fold other (taken fold row groups)
+  pub taken-commutes : (row other : Row) (groups : List Group) → taken fold row (taken fold other groups) ≡ taken fold other (taken fold row groups)
   taken-commutes row other groups = both (passes_all row fold.tests) (passes_all other fold.tests)
     where
       both : (s t : Bool) → cond s (with_group (row_group fold row) (cond t (with_group (row_group fold other) groups) groups)) (cond t (with_group (row_group fold other) groups) groups) ≡ cond t (with_group (row_group fold other) (cond s (with_group (row_group fold row) groups) groups)) (cond s (with_group (row_group fold row) groups) groups)

@@ -1,5 +1,7 @@
 //! The groups of a list of rows.
-ghost use Rattle.std.specs.Prelude.{◌≡◌, IfOk};
+ghost use Rattle.std.specs.Prelude.{◌≡◌, IfOk, List};
+ghost use Rattle.std.specs.List.Sorted.{IsPermutation};
+ghost use Rattle.ts_schema.specs.declared.rows.Row.{Row};
 ghost use Rattle.ts_bucket.specs.Bucket.{IsWidth};
 ghost use Rattle.group_fold.specs.Grouping.{RowsFit, ShowScratch, groups_of};
 
@@ -14,11 +16,13 @@ use ts_schema::{NoMemory, Row, Seq};
 const BLOCK: usize = 256;
 
 /// The groups of the rows that pass every test, in order by bucket and keys, with one partial
-/// aggregate for each aggregate of the plan.
+/// aggregate for each aggregate of the plan. The order of the rows plays no part.
 pub fn fold(alloc: Global, plan: &Fold, rows: &Seq<Row>) -> Result<Seq<Group>, NoMemory>
     requires { RowsFit plan.now rows.now }
     ensures groups { IfOk result (λ groups. groups ≡ groups_of plan.now rows.now) }
     ensures scratch { IfOk result (λ groups. ShowScratch plan.now rows.now groups) }
+    ensures any_order { IfOk result (λ groups. (others : List Row) → IsPermutation rows.now others → groups ≡ groups_of plan.now others) }
+    ensures bounds { IsWidth plan.now.width }
 {
     let _step = plan.width.step;
     Ok(Seq::of(fold_rows(alloc, plan, rows.items())?))

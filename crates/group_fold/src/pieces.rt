@@ -1,7 +1,9 @@
 //! The groups of rows that come in pieces, folded in several threads.
-ghost use Rattle.std.specs.Prelude.{◌≡◌, ◌+◌, ◌-◌, ◌*◌, ◌^◌, ◌<◌, ◌≤◌, IfOk, length, min};
+ghost use Rattle.std.specs.Prelude.{◌≡◌, ◌+◌, ◌-◌, ◌*◌, ◌^◌, ◌<◌, ◌≤◌, IfOk, List, length, min};
+ghost use Rattle.std.specs.List.Sorted.{IsPermutation};
+ghost use Rattle.ts_schema.specs.declared.rows.Row.{Row};
 ghost use Rattle.ts_bucket.specs.Bucket.{IsWidth};
-ghost use Rattle.group_fold.specs.Grouping.{PiecesFit, all_rows, groups_of};
+ghost use Rattle.group_fold.specs.Grouping.{PiecesFit, ShowScratch, all_rows, groups_of};
 ghost use denote.Param.Send.{IsSync};
 
 use crate::folds::fold_rows;
@@ -27,6 +29,9 @@ pub fn fold_pieces<R: Threads + Sync>(
 ) -> Result<Seq<Group>, NoMemory>
     requires { PiecesFit plan.now pieces.now }
     ensures groups { IfOk result (λ groups. groups ≡ groups_of plan.now (all_rows pieces.now)) }
+    ensures scratch { IfOk result (λ groups. ShowScratch plan.now (all_rows pieces.now) groups) }
+    ensures any_order { IfOk result (λ groups. (others : List Row) → IsPermutation (all_rows pieces.now) others → groups ≡ groups_of plan.now others) }
+    ensures bounds { IsWidth plan.now.width }
 {
     let _step = plan.width.step;
     if count_rows(pieces.items()) >= MOST_ROWS {
