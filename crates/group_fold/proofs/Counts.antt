@@ -1,6 +1,6 @@
 -- The counts of the groups of rows are at most the number of rows, so the groups of two lists fit together.
-use Rattle.std.proofs.Common.{◌≡◌, ℕ, zero, suc, ◌+◌, ◌<◌, ◌≤◌, ◌^◌, List, [], ◌∷◌, length, get_or, map, ℤ, Option, Bool, true, false, cond, ◌&&◌, sym, refl, ap, ◌∙◌, subst, arith}
-use Rattle.std.specs.List.{AllByRecursion, AllZip, filter, flat_map}
+use Rattle.std.proofs.Common.{◌≡◌, ℕ, zero, suc, ◌+◌, ◌<◌, ◌≤◌, ◌^◌, List, [], ◌∷◌, length, get_or, map, ℤ, Option, Bool, true, false, cond, ◌&&◌, sym, refl, ap, ◌∙◌, arith}
+use Rattle.std.specs.List.{AllByRecursion, filter}
 use Rattle.std.specs.declared.cmp.Ordering.TheVariants.{Equal}
 use Rattle.ts_schema.specs.declared.rows.Row.{Row}
 use Rattle.std.specs.Ordering.{is_eq}
@@ -36,11 +36,13 @@ counts_below bound fold rows h =
     every : (bs : List ℤ) → AllByRecursion (λ b. Unit {0}) bs
     every [] = tt
     every (b ∷ bs) = (tt, every bs)
+
     few : (keys : List (Option ℤ)) (b : ℤ) → length (with_keys fold keys (bucket_rows fold b rows)) < bound
     few keys b =
         let inner : length (with_keys fold keys (bucket_rows fold b rows)) ≤ length (bucket_rows fold b rows) = length-filter (λ row. is_eq (values_cmp (keys_of fold.keys row) keys)) (bucket_rows fold b rows) in
         let outer : length (bucket_rows fold b rows) ≤ length rows = length-filter (λ row. holds fold.width b row.at && passes_all row fold.tests) rows in
         omega (arith, inner, outer, h)
+
     in_bucket : (b : ℤ) → AllByRecursion (IsBelow bound fold) (groups_in fold rows b)
     in_bucket b =
         all-map (IsBelow bound fold) (group_at fold b (bucket_rows fold b rows))

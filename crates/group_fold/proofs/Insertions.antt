@@ -1,8 +1,7 @@
 -- A group put in its place: where it comes to stand, and that the order in which groups are put in plays no part.
-use Rattle.std.proofs.Common.{◌≡◌, List, [], ◌∷◌, ◌++◌, sym, refl, ap, ◌∙◌, subst}
+use Rattle.std.proofs.Common.{◌≡◌, List, [], ◌∷◌, ◌++◌, sym, refl, ap, ◌∙◌}
 use Rattle.std.specs.List.{AllByRecursion}
-use Rattle.std.specs.Cmp.{IsTotalOrder}
-use Rattle.std.specs.Ordering.{match_ordering, ordering_reverse}
+use Rattle.std.specs.Ordering.{ordering_reverse}
 use Rattle.std.specs.declared.cmp.Ordering.{Ordering}
 use Rattle.std.specs.declared.cmp.Ordering.TheVariants.{Less, Equal, Greater}
 use Rattle.std.proofs.lemmas.Cmp.{tied_back, alike_right}
@@ -104,15 +103,15 @@ with_group-twice g h [] e = sym (at_equal g h [] e)
 with_group-twice g h (x ∷ xs) e =
     by_order (group_cmp h x)
     (λ o.
-      let p : group_cmp (merged g h) x ≡ Less = alike g h x e ∙ o in
-      at_less (merged g h) x xs p ∙ sym (at_equal g h (x ∷ xs) e) ∙ ap (with_group g) (sym (at_less h x xs o)))
+    let p : group_cmp (merged g h) x ≡ Less = alike g h x e ∙ o in
+    at_less (merged g h) x xs p ∙ sym (at_equal g h (x ∷ xs) e) ∙ ap (with_group g) (sym (at_less h x xs o)))
     (λ o.
-      let p : group_cmp (merged g h) x ≡ Equal = alike g h x e ∙ o in
-      at_equal (merged g h) x xs p ∙ ap (λ m. m ∷ xs) (merged_assoc g h x) ∙ sym (at_equal g (merged h x) xs e) ∙ ap (with_group g) (sym (at_equal h x xs o)))
+    let p : group_cmp (merged g h) x ≡ Equal = alike g h x e ∙ o in
+    at_equal (merged g h) x xs p ∙ ap (λ m. m ∷ xs) (merged_assoc g h x) ∙ sym (at_equal g (merged h x) xs e) ∙ ap (with_group g) (sym (at_equal h x xs o)))
     (λ o.
-      let p : group_cmp (merged g h) x ≡ Greater = alike g h x e ∙ o in
-      let q : group_cmp g x ≡ Greater = alike g h x e ∙ o in
-      at_greater (merged g h) x xs p ∙ ap (λ zs. x ∷ zs) (with_group-twice g h xs e) ∙ sym (at_greater g x (with_group h xs) q) ∙ ap (with_group g) (sym (at_greater h x xs o)))
+    let p : group_cmp (merged g h) x ≡ Greater = alike g h x e ∙ o in
+    let q : group_cmp g x ≡ Greater = alike g h x e ∙ o in
+    at_greater (merged g h) x xs p ∙ ap (λ zs. x ∷ zs) (with_group-twice g h xs e) ∙ sym (at_greater g x (with_group h xs) q) ∙ ap (with_group g) (sym (at_greater h x xs o)))
 
 -- of two groups of different places, the lesser first or the greater first
 less_first : (g h : Group) (xs : List Group) → group_cmp g h ≡ Less → with_group g (with_group h xs) ≡ with_group h (with_group g xs)
@@ -121,29 +120,29 @@ less_first g h (x ∷ xs) e =
     by_order (group_cmp h x)
     -- g < h < x
     (λ o.
-      let p : group_cmp g x ≡ Less = less_trans g h x e o in
-      ap (with_group g) (at_less h x xs o) ∙ at_less g h (x ∷ xs) e ∙ ap (λ zs. g ∷ zs) (sym (at_less h x xs o)) ∙ sym (at_greater h g (x ∷ xs) (less_back g h e)) ∙ ap (with_group h) (sym (at_less g x xs p)))
+    let p : group_cmp g x ≡ Less = less_trans g h x e o in
+    ap (with_group g) (at_less h x xs o) ∙ at_less g h (x ∷ xs) e ∙ ap (λ zs. g ∷ zs) (sym (at_less h x xs o)) ∙ sym (at_greater h g (x ∷ xs) (less_back g h e)) ∙ ap (with_group h) (sym (at_less g x xs p)))
     -- g < h = x
     (λ o.
-      let p : group_cmp g x ≡ Less = sym (alike_to h x g o) ∙ e in
-      ap (with_group g) (at_equal h x xs o) ∙ at_less g (merged h x) xs e ∙ ap (λ zs. g ∷ zs) (sym (at_equal h x xs o)) ∙ sym (at_greater h g (x ∷ xs) (less_back g h e)) ∙ ap (with_group h) (sym (at_less g x xs p)))
+    let p : group_cmp g x ≡ Less = sym (alike_to h x g o) ∙ e in
+    ap (with_group g) (at_equal h x xs o) ∙ at_less g (merged h x) xs e ∙ ap (λ zs. g ∷ zs) (sym (at_equal h x xs o)) ∙ sym (at_greater h g (x ∷ xs) (less_back g h e)) ∙ ap (with_group h) (sym (at_less g x xs p)))
     -- x < h, and g anywhere below h
     (λ o.
-      ap (with_group g) (at_greater h x xs o)
-      ∙ by_order (group_cmp g x)
-        (λ p.
-          at_less g x (with_group h xs) p ∙ ap (λ zs. g ∷ zs) (sym (at_greater h x xs o)) ∙ sym (at_greater h g (x ∷ xs) (less_back g h e)) ∙ ap (with_group h) (sym (at_less g x xs p)))
-        (λ p.
-          at_equal g x (with_group h xs) p ∙ sym (at_greater h (merged g x) xs (less_back g h e)) ∙ ap (with_group h) (sym (at_equal g x xs p)))
-        (λ p.
-          at_greater g x (with_group h xs) p ∙ ap (λ zs. x ∷ zs) (less_first g h xs e) ∙ sym (at_greater h x (with_group g xs) o) ∙ ap (with_group h) (sym (at_greater g x xs p))))
+    ap (with_group g) (at_greater h x xs o)
+    ∙ by_order (group_cmp g x)
+    (λ p.
+    at_less g x (with_group h xs) p ∙ ap (λ zs. g ∷ zs) (sym (at_greater h x xs o)) ∙ sym (at_greater h g (x ∷ xs) (less_back g h e)) ∙ ap (with_group h) (sym (at_less g x xs p)))
+    (λ p.
+    at_equal g x (with_group h xs) p ∙ sym (at_greater h (merged g x) xs (less_back g h e)) ∙ ap (with_group h) (sym (at_equal g x xs p)))
+    (λ p.
+    at_greater g x (with_group h xs) p ∙ ap (λ zs. x ∷ zs) (less_first g h xs e) ∙ sym (at_greater h x (with_group g xs) o) ∙ ap (with_group h) (sym (at_greater g x xs p))))
 
 pub with_group-commutes : (g h : Group) (xs : List Group) → with_group g (with_group h xs) ≡ with_group h (with_group g xs)
 with_group-commutes g h xs =
     by_order (group_cmp g h)
     (λ e. less_first g h xs e)
     (λ e.
-      sym (with_group-twice g h xs e) ∙ ap (λ m. with_group m xs) (merged_comm g h e) ∙ with_group-twice h g xs (equal_back g h e))
+    sym (with_group-twice g h xs e) ∙ ap (λ m. with_group m xs) (merged_comm g h e) ∙ with_group-twice h g xs (equal_back g h e))
     (λ e. sym (less_first h g xs (greater_back g h e)))
 
 -- a group put into a list, and the list's groups into another
@@ -154,4 +153,4 @@ with_groups-with_group g (x ∷ xs) hs =
     (λ e. ap (λ zs. with_groups zs hs) (at_less g x xs e))
     (λ e. ap (λ zs. with_groups zs hs) (at_equal g x xs e) ∙ with_group-twice g x (with_groups xs hs) e)
     (λ e.
-      ap (λ zs. with_groups zs hs) (at_greater g x xs e) ∙ ap (with_group x) (with_groups-with_group g xs hs) ∙ with_group-commutes x g (with_groups xs hs))
+    ap (λ zs. with_groups zs hs) (at_greater g x xs e) ∙ ap (with_group x) (with_groups-with_group g xs hs) ∙ with_group-commutes x g (with_groups xs hs))

@@ -1,11 +1,11 @@
 -- Laws of the groups of rows: one row more, two lists one after the other, and their order.
 use Rattle.std.proofs.lemmas.List.{take_more}
-use Rattle.std.proofs.Common.{ℕ, ◌+◌, ◌<◌, length, get_or, take, ◌≡◌, Bool, true, false, cond, ◌&&◌, ◌||◌, List, [], ◌∷◌, ◌++◌, map, Option, ℤ, sym, refl, ap, ◌∙◌, subst}
+use Rattle.std.proofs.Common.{ℕ, ◌+◌, ◌<◌, length, get_or, take, ◌≡◌, Bool, true, false, cond, ◌&&◌, ◌||◌, List, [], ◌∷◌, ◌++◌, map, ℤ, sym, refl, ap, ◌∙◌}
 use Rattle.std.specs.List.{AllByRecursion, list_any, flat_map, filter}
 use Rattle.std.specs.List.Sorted.{IsStrictlySortedBy}
 use Rattle.std.specs.BTreeSet.{insert_key}
-use Rattle.std.specs.Ordering.{int_cmp, int_eq, is_eq, ordering_reverse}
-use Rattle.std.specs.declared.cmp.Ordering.TheVariants.{Less, Equal, Greater}
+use Rattle.std.specs.Ordering.{int_cmp, is_eq, ordering_reverse}
+use Rattle.std.specs.declared.cmp.Ordering.TheVariants.{Less}
 use Rattle.std.proofs.lemmas.Cmp.{int_cmp_total}
 use Rattle.ts_schema.specs.declared.rows.Row.{Row}
 use Rattle.ts_schema.specs.Conditions.{passes_all}
@@ -18,7 +18,7 @@ use Rattle.partial_agg.specs.Groups.{group_cmp}
 use Rattle.partial_agg.proofs.GroupLaws.{group_cmp_total}
 use Rattle.group_fold.specs.Grouping.{bucket_groups, groups_in, groups_of, row_group}
 use Rattle.group_fold.specs.Merging.{merged, with_group, with_groups, taken, AreInOrder}
-use Rattle.group_fold.proofs.Insertions.{by_order, at_less, at_equal, at_greater, with_group-commutes, with_groups-with_group}
+use Rattle.group_fold.proofs.Insertions.{by_order, with_group-commutes, with_groups-with_group}
 use Rattle.group_fold.proofs.Occurring.{all-map, all-once, sorted-once, any-once, flat_map-same, is_eq-swap, all_above, all_above_tied}
 use Rattle.group_fold.proofs.Steps.{put_bucket, untied_number}
 
@@ -40,11 +40,11 @@ pub no_bucket_rows : (fold : Fold) (b : ℤ) → IsWidth fold.width → is_bucke
 no_bucket_rows fold b wide p [] h = refl
 no_bucket_rows fold b wide p (row ∷ rows) h =
     elim (passes_all row fold.tests) as (λ t. list_any (λ x. is_eq (int_cmp b x)) (map (λ row. bucket_of fold.width row.at) (cond t (row ∷ filter (λ row. passes_all row fold.tests) rows) (filter (λ row. passes_all row fold.tests) rows))) ≡ false → cond (holds fold.width b row.at && t) (row ∷ bucket_rows fold b rows) (bucket_rows fold b rows) ≡ []) [
-      true ↦ λ k.
-        let parts = none_parts (is_eq (int_cmp b (bucket_of fold.width row.at))) (list_any (λ x. is_eq (int_cmp b x)) (map (λ row. bucket_of fold.width row.at) (filter (λ row. passes_all row fold.tests) rows))) k in
-        let out : holds fold.width b row.at ≡ false = holds-is fold.width b row.at wide p ∙ untied_number (bucket_of fold.width row.at) b (is_eq-swap int_cmp int_cmp_total (bucket_of fold.width row.at) b ∙ parts.0) in
-        rw out (no_bucket_rows fold b wide p rows parts.1)
-    | false ↦ λ k. rw (and_false (holds fold.width b row.at)) (no_bucket_rows fold b wide p rows k)
+      | true ↦ λ k.
+          let parts = none_parts (is_eq (int_cmp b (bucket_of fold.width row.at))) (list_any (λ x. is_eq (int_cmp b x)) (map (λ row. bucket_of fold.width row.at) (filter (λ row. passes_all row fold.tests) rows))) k in
+          let out : holds fold.width b row.at ≡ false = holds-is fold.width b row.at wide p ∙ untied_number (bucket_of fold.width row.at) b (is_eq-swap int_cmp int_cmp_total (bucket_of fold.width row.at) b ∙ parts.0) in
+          rw out (no_bucket_rows fold b wide p rows parts.1)
+      | false ↦ λ k. rw (and_false (holds fold.width b row.at)) (no_bucket_rows fold b wide p rows k)
     ] h
   where
     none_parts : (a b : Bool) → (a || b) ≡ false → (a ≡ false) × (b ≡ false)
@@ -63,14 +63,14 @@ module _ (fold : Fold) (wide : IsWidth fold.width) where
       let more : occurring_buckets fold (row ∷ rows) ≡ insert_key int_cmp (occurring_buckets fold rows) (bucket_of fold.width row.at) = rw pass refl in
       ap (flat_map (groups_in fold (row ∷ rows))) more
       ∙ put_bucket fold wide row rows pass (occurring_buckets fold rows) (sorted-once int_cmp int_cmp_total buckets) (starts_are_buckets rows)
-        (λ none. no_bucket_rows fold (bucket_of fold.width row.at) wide (is_bucket-bucket_of fold.width row.at wide) rows (sym (any-once int_cmp int_cmp_total (bucket_of fold.width row.at) buckets) ∙ none))
+      (λ none. no_bucket_rows fold (bucket_of fold.width row.at) wide (is_bucket-bucket_of fold.width row.at wide) rows (sym (any-once int_cmp int_cmp_total (bucket_of fold.width row.at) buckets) ∙ none))
 
   failing : (row : Row) (rows : List Row) → passes_all row fold.tests ≡ false → groups_of fold (row ∷ rows) ≡ groups_of fold rows
   failing row rows fail =
       let same : occurring_buckets fold (row ∷ rows) ≡ occurring_buckets fold rows = rw fail refl in
       ap (flat_map (groups_in fold (row ∷ rows))) same
       ∙ flat_map-same (groups_in fold (row ∷ rows)) (groups_in fold rows) (occurring_buckets fold rows)
-        (all_each (λ b. groups_in fold (row ∷ rows) b ≡ groups_in fold rows b) (λ b. ap (bucket_groups fold b) (out b row rows fail)) (occurring_buckets fold rows))
+      (all_each (λ b. groups_in fold (row ∷ rows) b ≡ groups_in fold rows b) (λ b. ap (bucket_groups fold b) (out b row rows fail)) (occurring_buckets fold rows))
     where
       out : (b : ℤ) (row : Row) (rows : List Row) → passes_all row fold.tests ≡ false → bucket_rows fold b (row ∷ rows) ≡ bucket_rows fold b rows
       out b row rows fail = rw (fail, and_false (holds fold.width b row.at)) refl
@@ -103,8 +103,8 @@ module _ (fold : Fold) (wide : IsWidth fold.width) where
   groups_of-append (x ∷ xs) ys =
       groups_of-more x (xs ++ ys) ∙ ap (taken fold x) (groups_of-append xs ys)
       ∙ by_test (passes_all x fold.tests)
-        (λ e. rw e refl ∙ sym (with_groups-with_group (row_group fold x) (groups_of fold xs) (groups_of fold ys)) ∙ ap (λ gs. with_groups gs (groups_of fold ys)) (sym (passing x xs e)))
-        (λ e. rw e refl ∙ ap (λ gs. with_groups gs (groups_of fold ys)) (sym (failing x xs e)))
+      (λ e. rw e refl ∙ sym (with_groups-with_group (row_group fold x) (groups_of fold xs) (groups_of fold ys)) ∙ ap (λ gs. with_groups gs (groups_of fold ys)) (sym (passing x xs e)))
+      (λ e. rw e refl ∙ ap (λ gs. with_groups gs (groups_of fold ys)) (sym (failing x xs e)))
 
 -- after one more row of a list
 pub groups_of_step : (fold : Fold) → IsWidth fold.width → (rows : List Row) (i : ℕ) (row : Row) → i < length rows → row ≡ get_or rows i row → groups_of fold (take (i + 1) rows) ≡ taken fold row (groups_of fold (take i rows))
@@ -140,8 +140,8 @@ sorted-with_group g (x ∷ xs) h =
     (λ e. rw e ((e, all_above group_cmp group_cmp_total g x xs e h.0), h))
     (λ e. rw e (all_above_tied group_cmp group_cmp_total g x xs e h.0, h.1))
     (λ e.
-      let below : group_cmp x g ≡ Less = group_cmp_total.antisymm x g ∙ ap ordering_reverse e in
-      rw e (all-with_group (λ y. group_cmp x y ≡ Less) (λ y z p. p) g xs below h.0, sorted-with_group g xs h.1))
+    let below : group_cmp x g ≡ Less = group_cmp_total.antisymm x g ∙ ap ordering_reverse e in
+    rw e (all-with_group (λ y. group_cmp x y ≡ Less) (λ y z p. p) g xs below h.0, sorted-with_group g xs h.1))
 
 pub sorted-with_groups : (gs hs : List Group) → AreInOrder hs → AreInOrder (with_groups gs hs)
 sorted-with_groups [] hs h = h

@@ -3,8 +3,6 @@ use Rattle.std.proofs.Common.{◌≡◌, ◌+◌, ◌<◌, ◌^◌, suc, List, [
 use Rattle.std.specs.Option.{MatchOption, option_to_list}
 use Rattle.std.specs.List.{AllByRecursion}
 use Rattle.std.specs.List.Sorted.{IsStrictlySortedBy}
-use Rattle.std.specs.Ordering.{match_ordering}
-use Rattle.std.specs.declared.cmp.Ordering.{Ordering}
 use Rattle.std.specs.declared.cmp.Ordering.TheVariants.{Less, Equal, Greater}
 use Rattle.ts_schema.specs.declared.rows.Row.{Row}
 use Rattle.ts_bucket.specs.Bucket.{IsWidth}
@@ -14,10 +12,9 @@ use Rattle.partial_agg.specs.declared.groups.Group.{Group}
 use Rattle.partial_agg.specs.Summaries.{Summary}
 use Rattle.partial_agg.specs.Groups.{group_cmp}
 use Rattle.partial_agg.proofs.GroupLaws.{group_cmp_total}
-use Rattle.group_fold.specs.declared.joins.Next.{Next}
-use Rattle.group_fold.specs.declared.joins.Next.TheVariants.{Neither, Mine, Theirs, Both}
-use Rattle.group_fold.specs.Merging.{AreGroupsOfBoth, CanJoin, PartsFit, FitTogether, joined_parts, merged, next_of_lists, with_group, with_groups}
-use Rattle.group_fold.proofs.Insertions.{by_order, less_back, greater_back, equal_back, alike, at_equal, at_greater, with_group-front}
+use Rattle.group_fold.specs.declared.joins.Next.TheVariants.{Mine, Theirs, Both}
+use Rattle.group_fold.specs.Merging.{AreGroupsOfBoth, CanJoin, PartsFit, joined_parts, merged, next_of_lists, with_group, with_groups}
+use Rattle.group_fold.proofs.Insertions.{by_order, less_back, greater_back, equal_back, at_equal, at_greater, with_group-front}
 use Rattle.group_fold.proofs.Occurring.{all_weaker, all_above, all_above_tied}
 use Rattle.group_fold.proofs.Laws.{all-with_groups, sorted-groups_of, groups_of-append}
 use Rattle.group_fold.proofs.Counts.{counts_below, fit_together}
@@ -33,7 +30,7 @@ unfolding IsStrictlySortedBy
 without_theirs gs h hs c = record {
   mine = c.mine;
   theirs = c.theirs.1;
-  fit = all_weaker (λ g. AllByRecursion (λ x. group_cmp g x ≡ Equal → PartsFit g.parts x.parts) (h ∷ hs)) (λ g. AllByRecursion (λ x. group_cmp g x ≡ Equal → PartsFit g.parts x.parts) hs) (λ g p. p.1) gs c.fit
+  fit = all_weaker (λ g. AllByRecursion (λ x. group_cmp g x ≡ Equal → PartsFit g.parts x.parts) (h ∷ hs)) (λ g. AllByRecursion (λ x. group_cmp g x ≡ Equal → PartsFit g.parts x.parts) hs) (λ g p. p.1) gs c.fit;
 }
 
 -- ---- the next group
@@ -84,7 +81,7 @@ mine_taken (Some x) (g ∷ gs) gs' [] is rest e c =
     let left : gs' ≡ gs = rest in
     record {
       next = subst (λ y. with_groups (g ∷ gs) [] ≡ y ∷ with_groups gs' []) same (subst (λ ys. with_groups (g ∷ gs) [] ≡ g ∷ with_groups ys []) (sym left) (mine_alone g gs c));
-      kept = subst (λ ys. CanJoin ys []) (sym left) (without_mine g gs [] c)
+      kept = subst (λ ys. CanJoin ys []) (sym left) (without_mine g gs [] c);
     }
 mine_taken (Some x) (g ∷ gs) gs' (h ∷ hs) is rest e c =
     let same : g ≡ x = cc in
@@ -92,7 +89,7 @@ mine_taken (Some x) (g ∷ gs) gs' (h ∷ hs) is rest e c =
     let less : group_cmp g h ≡ Less = by_order (group_cmp g h) (λ o. o) (λ o. cc (rw o at e)) (λ o. cc (rw o at e)) in
     record {
       next = subst (λ y. with_groups (g ∷ gs) (h ∷ hs) ≡ y ∷ with_groups gs' (h ∷ hs)) same (subst (λ ys. with_groups (g ∷ gs) (h ∷ hs) ≡ g ∷ with_groups ys (h ∷ hs)) (sym left) (mine_first g gs h hs c less));
-      kept = subst (λ ys. CanJoin ys (h ∷ hs)) (sym left) (without_mine g gs (h ∷ hs) c)
+      kept = subst (λ ys. CanJoin ys (h ∷ hs)) (sym left) (without_mine g gs (h ∷ hs) c);
     }
 
 pub theirs_taken : (r : Option Group) (gs hs hs' : List Group) → hs ≡ option_to_list r ++ hs' → hs' ≡ drop 1 hs → next_of_lists gs hs ≡ Theirs → CanJoin gs hs → Taken r gs hs gs hs'
@@ -104,7 +101,7 @@ theirs_taken (Some x) [] (h ∷ hs) hs' is rest e c =
     let left : hs' ≡ hs = rest in
     record {
       next = is;
-      kept = subst (λ ys. CanJoin [] ys) (sym left) (without_theirs [] h hs c)
+      kept = subst (λ ys. CanJoin [] ys) (sym left) (without_theirs [] h hs c);
     }
 theirs_taken (Some x) (g ∷ gs) (h ∷ hs) hs' is rest e c =
     let same : h ≡ x = cc in
@@ -112,7 +109,7 @@ theirs_taken (Some x) (g ∷ gs) (h ∷ hs) hs' is rest e c =
     let greater : group_cmp g h ≡ Greater = by_order (group_cmp g h) (λ o. cc (rw o at e)) (λ o. cc (rw o at e)) (λ o. o) in
     record {
       next = subst (λ y. with_groups (g ∷ gs) (h ∷ hs) ≡ y ∷ with_groups (g ∷ gs) hs') same (subst (λ ys. with_groups (g ∷ gs) (h ∷ hs) ≡ h ∷ with_groups (g ∷ gs) ys) (sym left) (theirs_first g gs h hs c greater));
-      kept = subst (λ ys. CanJoin (g ∷ gs) ys) (sym left) (without_theirs (g ∷ gs) h hs c)
+      kept = subst (λ ys. CanJoin (g ∷ gs) ys) (sym left) (without_theirs (g ∷ gs) h hs c);
     }
 
 pub both_taken : (g h : Group) (parts : List Summary) (gs gs' hs hs' : List Group) → gs ≡ g ∷ gs' → hs ≡ h ∷ hs' → next_of_lists gs hs ≡ Both → CanJoin gs hs → parts ≡ joined_parts g.parts h.parts → (with_groups gs hs ≡ record { start = g.start; keys = g.keys; parts = parts } ∷ with_groups gs' hs') × CanJoin gs' hs'
@@ -130,7 +127,7 @@ can_join_groups fold wide xs ys few = record {
   mine = sorted-groups_of fold wide xs;
   theirs = sorted-groups_of fold wide ys;
   fit = fit_together (suc (length xs)) (suc (length ys)) fold (groups_of fold xs) (groups_of fold ys) (omega arith)
-    (counts_below (suc (length xs)) fold xs (omega arith)) (counts_below (suc (length ys)) fold ys (omega arith))
+      (counts_below (suc (length xs)) fold xs (omega arith)) (counts_below (suc (length ys)) fold ys (omega arith));
 }
 
 pub groups_of_both : (gs hs both : List Group) → both ≡ with_groups gs hs → AreGroupsOfBoth gs hs both

@@ -1,13 +1,13 @@
 -- The keys of a list, each once, in order: their order, and which keys occur.
-use Rattle.std.proofs.Common.{◌≡◌, Bool, true, false, ◌||◌, List, [], ◌∷◌, ◌++◌, map, sym, refl, ap, ◌∙◌, subst}
+use Rattle.std.proofs.Common.{◌≡◌, Bool, true, false, ◌||◌, List, [], ◌∷◌, ◌++◌, map, refl, ap, ◌∙◌}
 use Rattle.std.specs.List.{AllByRecursion, list_any, flat_map}
 use Rattle.std.specs.List.Sorted.{IsStrictlySortedBy}
 use Rattle.std.specs.Cmp.{IsTotalOrder}
 use Rattle.std.specs.BTreeSet.{insert_key}
-use Rattle.std.specs.Ordering.{match_ordering, ordering_reverse, is_eq}
+use Rattle.std.specs.Ordering.{ordering_reverse, is_eq}
 use Rattle.std.specs.declared.cmp.Ordering.{Ordering}
 use Rattle.std.specs.declared.cmp.Ordering.TheVariants.{Less, Equal, Greater}
-use Rattle.std.proofs.lemmas.Cmp.{tied_back, alike_right, tied_itself}
+use Rattle.std.proofs.lemmas.Cmp.{alike_right}
 use Rattle.ts_model.specs.Scratch.{once}
 use Rattle.group_fold.proofs.Insertions.{by_order}
 
@@ -94,8 +94,8 @@ module _ {K : Type 0} (cmp : K → K → Ordering) (total : IsTotalOrder cmp) wh
       (λ e. rw e ((e, all_above k x xs e h.0), h))
       (λ e. rw e h)
       (λ e.
-        let below : cmp x k ≡ Less = total.antisymm x k ∙ ap ordering_reverse e in
-        rw e (all-insert_key (λ y. cmp x y ≡ Less) xs k h.0 below, sorted-insert_key xs k h.1))
+      let below : cmp x k ≡ Less = total.antisymm x k ∙ ap ordering_reverse e in
+      rw e (all-insert_key (λ y. cmp x y ≡ Less) xs k h.0 below, sorted-insert_key xs k h.1))
 
   pub sorted-once : (ks : List K) → IsStrictlySortedBy cmp (once cmp ks)
   unfolding IsStrictlySortedBy
@@ -113,13 +113,14 @@ module _ {K : Type 0} (cmp : K → K → Ordering) (total : IsTotalOrder cmp) wh
       by_order (cmp k x)
       (λ e. rw e refl)
       (λ e.
-        let alike : cmp j k ≡ cmp j x = alike_right total k x j e in
-        rw (e, alike) (twice (is_eq (cmp j x)) (list_any (λ x. is_eq (cmp j x)) xs)))
+      let alike : cmp j k ≡ cmp j x = alike_right total k x j e in
+      rw (e, alike) (twice (is_eq (cmp j x)) (list_any (λ x. is_eq (cmp j x)) xs)))
       (λ e. rw (e, any-insert_key j xs k) (swapped (is_eq (cmp j x)) (is_eq (cmp j k)) (list_any (λ x. is_eq (cmp j x)) xs)))
     where
       twice : (a b : Bool) → (a || b) ≡ (a || (a || b))
       twice true b = refl
       twice false b = refl
+
       swapped : (a b c : Bool) → (a || (b || c)) ≡ (b || (a || c))
       swapped true true c = refl
       swapped true false c = refl

@@ -1,12 +1,12 @@
 -- Where a binary search finds the place of a group.
-use Rattle.std.proofs.Common.{◌≡◌, ℕ, zero, suc, ◌+◌, ◌<◌, ◌≤◌, List, [], ◌∷◌, ◌++◌, length, get_or, set, take, drop, Result, Ok, Err, Option, ℤ, sym, refl, ap, ◌∙◌, subst, arith, ⊎_elim, ◌⊎◌}
-use Rattle.std.specs.List.{AllByRecursion, All, AllWithin}
+use Rattle.std.proofs.Common.{◌≡◌, ℕ, zero, suc, ◌<◌, ◌≤◌, List, [], ◌∷◌, ◌++◌, length, get_or, set, take, drop, Result, Ok, Err, Option, ℤ, sym, refl, ap, ◌∙◌, subst, arith, ⊎_elim, ◌⊎◌}
+use Rattle.std.specs.List.{AllByRecursion, AllWithin}
 use Rattle.std.specs.List.Sorted.{IsStrictlySortedBy, IsBinarySearchResult, IsSearchInRange, IsNonDecreasingBy}
 use Rattle.std.specs.Ordering.{ordering_index}
 use Rattle.std.specs.declared.cmp.Ordering.{Ordering}
 use Rattle.std.specs.declared.cmp.Ordering.TheVariants.{Less, Equal, Greater}
 use Rattle.std.proofs.lemmas.Map.Keys.{Less-from_sorted}
-use Rattle.std.proofs.lemmas.List.Elements.{All-from_recursion, recursion_from_All}
+use Rattle.std.proofs.lemmas.List.Elements.{All-from_recursion}
 use Rattle.partial_agg.specs.declared.groups.Group.{Group}
 use Rattle.partial_agg.specs.Groups.{group_cmp}
 use Rattle.partial_agg.specs.Summaries.{Summary}
@@ -24,11 +24,11 @@ rising : (g : Group) (groups : List Group) → AreInOrder groups → IsNonDecrea
 rising g groups sorted i j d le in' =
     ⊎_elim
     (λ below.
-      let less : group_cmp (get_or groups i d) (get_or groups j d) ≡ Less = Less-from_sorted group_cmp groups i j d sorted below in' in
-      by_order (group_cmp (get_or groups j d) g)
-      (λ e. let low : group_cmp (get_or groups i d) g ≡ Less = less_trans (get_or groups i d) (get_or groups j d) g less e in rw low (omega arith))
-      (λ e. let low : group_cmp (get_or groups i d) g ≡ Less = sym (alike_to (get_or groups j d) g (get_or groups i d) e) ∙ less in rw low (omega arith))
-      (λ e. rw e (index_le (group_cmp (get_or groups i d) g))))
+    let less : group_cmp (get_or groups i d) (get_or groups j d) ≡ Less = Less-from_sorted group_cmp groups i j d sorted below in' in
+    by_order (group_cmp (get_or groups j d) g)
+    (λ e. let low : group_cmp (get_or groups i d) g ≡ Less = less_trans (get_or groups i d) (get_or groups j d) g less e in rw low (omega arith))
+    (λ e. let low : group_cmp (get_or groups i d) g ≡ Less = sym (alike_to (get_or groups j d) g (get_or groups i d) e) ∙ less in rw low (omega arith))
+    (λ e. rw e (index_le (group_cmp (get_or groups i d) g))))
     (λ same. subst (λ k. ordering_index (group_cmp (get_or groups i d) g) ≤ ordering_index (group_cmp (get_or groups k d) g)) same (omega arith))
     (split i j le)
   where

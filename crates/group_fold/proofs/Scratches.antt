@@ -1,29 +1,26 @@
 -- What the groups of rows show is the aggregation from scratch.
-use Rattle.std.proofs.Common.{◌≡◌, Bool, true, false, cond, List, [], ◌∷◌, ◌++◌, map, ℤ, Option, sym, refl, ap, ◌∙◌, subst}
-use Rattle.std.specs.Prelude.{IsTrue}
+use Rattle.std.proofs.Common.{◌≡◌, Bool, true, false, List, [], ◌∷◌, ◌++◌, map, ℤ, Option, sym, refl, ap, ◌∙◌, subst}
 use Rattle.std.specs.List.{AllByRecursion, list_any, flat_map, filter}
 use Rattle.std.specs.List.Sorted.{IsStrictlySortedBy}
 use Rattle.std.specs.Ordering.{int_cmp, int_eq, is_eq}
-use Rattle.std.specs.declared.cmp.Ordering.TheVariants.{Less, Equal, Greater}
+use Rattle.std.specs.declared.cmp.Ordering.TheVariants.{Less}
 use Rattle.std.proofs.lemmas.Cmp.{int_cmp_total}
 use Rattle.std.proofs.lemmas.Map.Lookups.{exact_signed}
 use Rattle.std.proofs.lemmas.Bool.Decides.{Decides-int_eq}
 use Rattle.std.proofs.lemmas.List.Elements.{filter-append}
 use Rattle.ts_num.specs.Aggregates.{shown_or_null}
-use Rattle.ts_num.specs.declared.values.Datum.{Datum}
 use Rattle.ts_num.specs.declared.values.Datum.TheVariants.{Int}
 use Rattle.ts_schema.specs.declared.rows.Row.{Row}
 use Rattle.ts_schema.specs.Conditions.{passes_all}
 use Rattle.ts_bucket.specs.Bucket.{IsWidth, is_bucket, bucket_of}
 use Rattle.ts_model.specs.declared.views.Agg.{Agg}
 use Rattle.ts_model.specs.declared.views.Fold.{Fold}
-use Rattle.ts_model.specs.Scratch.{cell, bucket_rows, key_lists, with_keys, result_row, group_rows, scratch_of, occurring_buckets, fold_rows}
-use Rattle.partial_agg.specs.declared.groups.Group.{Group}
-use Rattle.partial_agg.specs.Summaries.{summary, shown}
+use Rattle.ts_model.specs.Scratch.{cell, bucket_rows, key_lists, with_keys, result_row, scratch_of, occurring_buckets}
+use Rattle.partial_agg.specs.Summaries.{summary}
 use Rattle.partial_agg.proofs.Joined.{shown-summary}
 use Rattle.group_fold.specs.Grouping.{column, group_at, bucket_groups, groups_in, groups_of, cells_of, shown_each, ShowScratch}
 use Rattle.group_fold.proofs.Insertions.{by_order}
-use Rattle.group_fold.proofs.Occurring.{all_weaker, all-map, all-flat_map, none_from_all, not_eq-less, not_eq-greater, all_above, all_above_tied, all_untied, sorted-once, any-once}
+use Rattle.group_fold.proofs.Occurring.{all-map, all-flat_map, none_from_all, not_eq-less, not_eq-greater, all_above, all_above_tied, all_untied, sorted-once, any-once}
 use Rattle.group_fold.proofs.Steps.{untied_number}
 use Rattle.group_fold.proofs.Laws.{no_bucket_rows}
 
@@ -83,21 +80,21 @@ module _ (fold : Fold) (rows : List Row) (b : ℤ) where
   of_bucket_among (x ∷ bs) sorted absent =
       by_order (int_cmp b x)
       (λ e.
-        let above : AllByRecursion (λ y. int_cmp b y ≡ Less) (x ∷ bs) = (e, all_above int_cmp int_cmp_total b x bs e sorted.0) in
-        let none = none_from_all (λ y. is_eq (int_cmp b y)) (x ∷ bs) (all_untied int_cmp int_cmp_total b (x ∷ bs) above) in
-        all_out (x ∷ bs) above ∙ sym (absent none))
+      let above : AllByRecursion (λ y. int_cmp b y ≡ Less) (x ∷ bs) = (e, all_above int_cmp int_cmp_total b x bs e sorted.0) in
+      let none = none_from_all (λ y. is_eq (int_cmp b y)) (x ∷ bs) (all_untied int_cmp int_cmp_total b (x ∷ bs) above) in
+      all_out (x ∷ bs) above ∙ sym (absent none))
       (λ e.
-        let same : b ≡ x = exact_signed b x e in
-        let above = all_above_tied int_cmp int_cmp_total b x bs e sorted.0 in
-        filter-append (λ g. int_eq g.start b) (groups_in fold rows x) (flat_map (groups_in fold rows) bs)
-        ∙ ap (λ gs. filter (λ g. int_eq g.start b) (groups_in fold rows x) ++ gs) (all_out bs above)
-        ∙ append-nil (filter (λ g. int_eq g.start b) (groups_in fold rows x))
-        ∙ subst (λ y. filter (λ g. int_eq g.start b) (groups_in fold rows y) ≡ groups_in fold rows b) same (filter-all (λ g. int_eq g.start b) (groups_in fold rows b) own_kept))
+      let same : b ≡ x = exact_signed b x e in
+      let above = all_above_tied int_cmp int_cmp_total b x bs e sorted.0 in
+      filter-append (λ g. int_eq g.start b) (groups_in fold rows x) (flat_map (groups_in fold rows) bs)
+      ∙ ap (λ gs. filter (λ g. int_eq g.start b) (groups_in fold rows x) ++ gs) (all_out bs above)
+      ∙ append-nil (filter (λ g. int_eq g.start b) (groups_in fold rows x))
+      ∙ subst (λ y. filter (λ g. int_eq g.start b) (groups_in fold rows y) ≡ groups_in fold rows b) same (filter-all (λ g. int_eq g.start b) (groups_in fold rows b) own_kept))
       (λ e.
-        let untied : is_eq (int_cmp b x) ≡ false = not_eq-greater (int_cmp b x) e in
-        filter-append (λ g. int_eq g.start b) (groups_in fold rows x) (flat_map (groups_in fold rows) bs)
-        ∙ ap (λ gs. gs ++ filter (λ g. int_eq g.start b) (flat_map (groups_in fold rows) bs)) (filter-none (λ g. int_eq g.start b) (groups_in fold rows x) (other_out x untied))
-        ∙ of_bucket_among bs sorted.1 (λ none. absent (rw untied none)))
+      let untied : is_eq (int_cmp b x) ≡ false = not_eq-greater (int_cmp b x) e in
+      filter-append (λ g. int_eq g.start b) (groups_in fold rows x) (flat_map (groups_in fold rows) bs)
+      ∙ ap (λ gs. gs ++ filter (λ g. int_eq g.start b) (flat_map (groups_in fold rows) bs)) (filter-none (λ g. int_eq g.start b) (groups_in fold rows x) (other_out x untied))
+      ∙ of_bucket_among bs sorted.1 (λ none. absent (rw untied none)))
 
 -- the groups that start at a bucket are the bucket's
 pub groups_of_bucket : (fold : Fold) → IsWidth fold.width → (rows : List Row) (b : ℤ) → is_bucket fold.width b ≡ true → filter (λ g. int_eq g.start b) (groups_of fold rows) ≡ groups_in fold rows b
@@ -109,5 +106,5 @@ groups_of_bucket fold wide rows b p =
 pub groups_show_scratch : (fold : Fold) → IsWidth fold.width → (rows : List Row) → ShowScratch fold rows (groups_of fold rows)
 groups_show_scratch fold wide rows = record {
   of_bucket = λ b p. ap (map (cells_of fold)) (groups_of_bucket fold wide rows b p) ∙ bucket_cells fold b (bucket_rows fold b rows) (key_lists fold (bucket_rows fold b rows));
-  of_all = all_cells fold rows (occurring_buckets fold rows)
+  of_all = all_cells fold rows (occurring_buckets fold rows);
 }

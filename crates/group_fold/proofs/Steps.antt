@@ -1,6 +1,6 @@
 -- The groups of rows with one more row in front: its group is put in its place.
-use Rattle.std.proofs.Common.{◌≡◌, Bool, true, false, cond, ◌&&◌, ◌||◌, List, [], ◌∷◌, ◌++◌, map, Option, ℤ, sym, refl, ap, ◌∙◌, subst}
-use Rattle.std.specs.List.{AllByRecursion, list_any, flat_map, filter}
+use Rattle.std.proofs.Common.{◌≡◌, Bool, true, false, ◌||◌, List, [], ◌∷◌, ◌++◌, map, Option, ℤ, sym, refl, ap, ◌∙◌, subst}
+use Rattle.std.specs.List.{AllByRecursion, list_any, flat_map}
 use Rattle.std.specs.List.Sorted.{IsStrictlySortedBy}
 use Rattle.std.specs.BTreeSet.{insert_key}
 use Rattle.std.specs.Ordering.{int_cmp, int_eq, is_eq, ordering_then}
@@ -13,18 +13,18 @@ use Rattle.ts_schema.specs.Rows.{field_of, values_cmp}
 use Rattle.ts_schema.specs.Conditions.{passes_all}
 use Rattle.ts_schema.proofs.OrderLaws.{values_cmp_total, values_cmp_exact}
 use Rattle.ts_bucket.specs.Bucket.{IsWidth, is_bucket, bucket_of, holds}
-use Rattle.ts_bucket.proofs.BucketLaws.{holds-is, holds-bucket_of, is_bucket-bucket_of}
+use Rattle.ts_bucket.proofs.BucketLaws.{holds-is, holds-bucket_of}
 use Rattle.ts_model.specs.declared.views.Agg.{Agg}
 use Rattle.ts_model.specs.declared.views.Fold.{Fold}
-use Rattle.ts_model.specs.Scratch.{once, keys_of, bucket_rows, key_lists, with_keys, occurring_buckets}
+use Rattle.ts_model.specs.Scratch.{keys_of, bucket_rows, key_lists, with_keys}
 use Rattle.partial_agg.specs.declared.groups.Group.{Group}
 use Rattle.partial_agg.specs.Summaries.{Summary, summary, joined}
 use Rattle.partial_agg.specs.Groups.{group_cmp}
 use Rattle.partial_agg.proofs.Joined.{summary-append}
-use Rattle.group_fold.specs.Grouping.{column, group_at, bucket_groups, groups_in, groups_of, row_at, row_group}
+use Rattle.group_fold.specs.Grouping.{column, group_at, bucket_groups, groups_in, row_at, row_group}
 use Rattle.group_fold.specs.Merging.{joined_parts, merged, with_group}
 use Rattle.group_fold.proofs.Insertions.{by_order, at_less, at_equal, at_greater, with_group-front, with_group-low, with_group-past}
-use Rattle.group_fold.proofs.Occurring.{all_weaker, all-map, all-flat_map, map-same, flat_map-same, none_from_all, not_eq-less, not_eq-greater, is_eq-swap, all_above, all_above_tied, all_untied, all-once, sorted-once, any-once, key_less, key_equal, key_greater}
+use Rattle.group_fold.proofs.Occurring.{all_weaker, all-map, all-flat_map, map-same, flat_map-same, none_from_all, not_eq-less, not_eq-greater, is_eq-swap, all_above, all_above_tied, all_untied, sorted-once, any-once, key_less, key_equal, key_greater}
 
 -- ---- in one bucket
 
@@ -59,7 +59,7 @@ module _ (fold : Fold) (b : ℤ) (row : Row) (found : List Row) where
   groups_others qs h =
       map-same (group_at fold b (row ∷ found)) (group_at fold b found) qs
       (all_weaker (λ q. values_cmp (keys_of fold.keys row) q ≡ Less) (λ q. group_at fold b (row ∷ found) q ≡ group_at fold b found q)
-        (λ q p. group_at-other q (not_eq-less (values_cmp (keys_of fold.keys row) q) p)) qs h)
+      (λ q p. group_at-other q (not_eq-less (values_cmp (keys_of fold.keys row) q) p)) qs h)
 
   put_in : (qs : List (List (Option ℤ))) → IsStrictlySortedBy values_cmp qs → (list_any (λ q. is_eq (values_cmp (keys_of fold.keys row) q)) qs ≡ false → with_keys fold (keys_of fold.keys row) found ≡ []) → map (group_at fold b (row ∷ found)) (insert_key values_cmp qs (keys_of fold.keys row)) ≡ with_group (row_at fold b row) (map (group_at fold b found) qs)
   unfolding IsStrictlySortedBy
@@ -67,27 +67,27 @@ module _ (fold : Fold) (b : ℤ) (row : Row) (found : List Row) where
   put_in (q ∷ qs) sorted absent =
       by_order (values_cmp (keys_of fold.keys row) q)
       (λ e.
-        let above : AllByRecursion (λ y. values_cmp (keys_of fold.keys row) y ≡ Less) (q ∷ qs) = (e, all_above values_cmp values_cmp_total (keys_of fold.keys row) q qs e sorted.0) in
-        let none = none_from_all (λ y. is_eq (values_cmp (keys_of fold.keys row) y)) (q ∷ qs) (all_untied values_cmp values_cmp_total (keys_of fold.keys row) (q ∷ qs) above) in
-        let place : group_cmp (row_at fold b row) (group_at fold b found q) ≡ Less = by_keys q ∙ e in
-        ap (map (group_at fold b (row ∷ found))) (key_less values_cmp values_cmp_total (keys_of fold.keys row) q qs e)
-        ∙ ap (λ g. g ∷ map (group_at fold b (row ∷ found)) (q ∷ qs)) (group_at-new (absent none))
-        ∙ ap (λ gs. row_at fold b row ∷ gs) (groups_others (q ∷ qs) above)
-        ∙ sym (at_less (row_at fold b row) (group_at fold b found q) (map (group_at fold b found) qs) place))
+      let above : AllByRecursion (λ y. values_cmp (keys_of fold.keys row) y ≡ Less) (q ∷ qs) = (e, all_above values_cmp values_cmp_total (keys_of fold.keys row) q qs e sorted.0) in
+      let none = none_from_all (λ y. is_eq (values_cmp (keys_of fold.keys row) y)) (q ∷ qs) (all_untied values_cmp values_cmp_total (keys_of fold.keys row) (q ∷ qs) above) in
+      let place : group_cmp (row_at fold b row) (group_at fold b found q) ≡ Less = by_keys q ∙ e in
+      ap (map (group_at fold b (row ∷ found))) (key_less values_cmp values_cmp_total (keys_of fold.keys row) q qs e)
+      ∙ ap (λ g. g ∷ map (group_at fold b (row ∷ found)) (q ∷ qs)) (group_at-new (absent none))
+      ∙ ap (λ gs. row_at fold b row ∷ gs) (groups_others (q ∷ qs) above)
+      ∙ sym (at_less (row_at fold b row) (group_at fold b found q) (map (group_at fold b found) qs) place))
       (λ e.
-        let above = all_above_tied values_cmp values_cmp_total (keys_of fold.keys row) q qs e sorted.0 in
-        let place : group_cmp (row_at fold b row) (group_at fold b found q) ≡ Equal = by_keys q ∙ e in
-        ap (map (group_at fold b (row ∷ found))) (key_equal values_cmp values_cmp_total (keys_of fold.keys row) q qs e)
-        ∙ ap (λ g. g ∷ map (group_at fold b (row ∷ found)) qs) (group_at-more q e)
-        ∙ ap (λ gs. merged (row_at fold b row) (group_at fold b found q) ∷ gs) (groups_others qs above)
-        ∙ sym (at_equal (row_at fold b row) (group_at fold b found q) (map (group_at fold b found) qs) place))
+      let above = all_above_tied values_cmp values_cmp_total (keys_of fold.keys row) q qs e sorted.0 in
+      let place : group_cmp (row_at fold b row) (group_at fold b found q) ≡ Equal = by_keys q ∙ e in
+      ap (map (group_at fold b (row ∷ found))) (key_equal values_cmp values_cmp_total (keys_of fold.keys row) q qs e)
+      ∙ ap (λ g. g ∷ map (group_at fold b (row ∷ found)) qs) (group_at-more q e)
+      ∙ ap (λ gs. merged (row_at fold b row) (group_at fold b found q) ∷ gs) (groups_others qs above)
+      ∙ sym (at_equal (row_at fold b row) (group_at fold b found q) (map (group_at fold b found) qs) place))
       (λ e.
-        let place : group_cmp (row_at fold b row) (group_at fold b found q) ≡ Greater = by_keys q ∙ e in
-        let untied : is_eq (values_cmp (keys_of fold.keys row) q) ≡ false = not_eq-greater (values_cmp (keys_of fold.keys row) q) e in
-        ap (map (group_at fold b (row ∷ found))) (key_greater values_cmp values_cmp_total (keys_of fold.keys row) q qs e)
-        ∙ ap (λ g. g ∷ map (group_at fold b (row ∷ found)) (insert_key values_cmp qs (keys_of fold.keys row))) (group_at-other q untied)
-        ∙ ap (λ gs. group_at fold b found q ∷ gs) (put_in qs sorted.1 (λ none. absent (rw untied none)))
-        ∙ sym (at_greater (row_at fold b row) (group_at fold b found q) (map (group_at fold b found) qs) place))
+      let place : group_cmp (row_at fold b row) (group_at fold b found q) ≡ Greater = by_keys q ∙ e in
+      let untied : is_eq (values_cmp (keys_of fold.keys row) q) ≡ false = not_eq-greater (values_cmp (keys_of fold.keys row) q) e in
+      ap (map (group_at fold b (row ∷ found))) (key_greater values_cmp values_cmp_total (keys_of fold.keys row) q qs e)
+      ∙ ap (λ g. g ∷ map (group_at fold b (row ∷ found)) (insert_key values_cmp qs (keys_of fold.keys row))) (group_at-other q untied)
+      ∙ ap (λ gs. group_at fold b found q ∷ gs) (put_in qs sorted.1 (λ none. absent (rw untied none)))
+      ∙ sym (at_greater (row_at fold b row) (group_at fold b found q) (map (group_at fold b found) qs) place))
 
 -- keys that don't occur have no rows
 no_rows : (fold : Fold) (keys : List (Option ℤ)) (found : List Row) → list_any (λ q. is_eq (values_cmp keys q)) (map (keys_of fold.keys) found) ≡ false → with_keys fold keys found ≡ []
@@ -150,7 +150,7 @@ module _ (fold : Fold) (wide : IsWidth fold.width) (row : Row) (rows : List Row)
   buckets_others bs h k =
       flat_map-same (groups_in fold (row ∷ rows)) (groups_in fold rows) bs
       (both (λ b. is_bucket fold.width b ≡ true) (λ b. int_cmp (bucket_of fold.width row.at) b ≡ Less) (λ b. groups_in fold (row ∷ rows) b ≡ groups_in fold rows b)
-        (λ b p e. groups_in-other b p (not_eq-less (int_cmp (bucket_of fold.width row.at) b) e)) bs h k)
+      (λ b p e. groups_in-other b p (not_eq-less (int_cmp (bucket_of fold.width row.at) b) e)) bs h k)
     where
       both : {X : Type 0} (P Q R : X → Type 0) → ((x : X) → P x → Q x → R x) → (xs : List X) → AllByRecursion P xs → AllByRecursion Q xs → AllByRecursion R xs
       both P Q R f [] h k = tt
@@ -167,22 +167,22 @@ module _ (fold : Fold) (wide : IsWidth fold.width) (row : Row) (rows : List Row)
   put_bucket pass (b ∷ bs) sorted starts absent =
       by_order (int_cmp (bucket_of fold.width row.at) b)
       (λ e.
-        let above : AllByRecursion (λ y. int_cmp (bucket_of fold.width row.at) y ≡ Less) (b ∷ bs) = (e, all_above int_cmp int_cmp_total (bucket_of fold.width row.at) b bs e sorted.0) in
-        let none = none_from_all (λ y. is_eq (int_cmp (bucket_of fold.width row.at) y)) (b ∷ bs) (all_untied int_cmp int_cmp_total (bucket_of fold.width row.at) (b ∷ bs) above) in
-        ap (flat_map (groups_in fold (row ∷ rows))) (key_less int_cmp int_cmp_total (bucket_of fold.width row.at) b bs e)
-        ∙ ap (λ gs. gs ++ flat_map (groups_in fold (row ∷ rows)) (b ∷ bs)) (groups_in-new pass (absent none))
-        ∙ ap (λ gs. row_group fold row ∷ gs) (buckets_others (b ∷ bs) starts above)
-        ∙ sym (with_group-front (row_group fold row) (flat_map (groups_in fold rows) (b ∷ bs)) (all_later (b ∷ bs) above)))
+      let above : AllByRecursion (λ y. int_cmp (bucket_of fold.width row.at) y ≡ Less) (b ∷ bs) = (e, all_above int_cmp int_cmp_total (bucket_of fold.width row.at) b bs e sorted.0) in
+      let none = none_from_all (λ y. is_eq (int_cmp (bucket_of fold.width row.at) y)) (b ∷ bs) (all_untied int_cmp int_cmp_total (bucket_of fold.width row.at) (b ∷ bs) above) in
+      ap (flat_map (groups_in fold (row ∷ rows))) (key_less int_cmp int_cmp_total (bucket_of fold.width row.at) b bs e)
+      ∙ ap (λ gs. gs ++ flat_map (groups_in fold (row ∷ rows)) (b ∷ bs)) (groups_in-new pass (absent none))
+      ∙ ap (λ gs. row_group fold row ∷ gs) (buckets_others (b ∷ bs) starts above)
+      ∙ sym (with_group-front (row_group fold row) (flat_map (groups_in fold rows) (b ∷ bs)) (all_later (b ∷ bs) above)))
       (λ e.
-        let above = all_above_tied int_cmp int_cmp_total (bucket_of fold.width row.at) b bs e sorted.0 in
-        let same : bucket_of fold.width row.at ≡ b = exact_signed (bucket_of fold.width row.at) b e in
-        ap (flat_map (groups_in fold (row ∷ rows))) (key_equal int_cmp int_cmp_total (bucket_of fold.width row.at) b bs e)
-        ∙ ap (λ gs. gs ++ flat_map (groups_in fold (row ∷ rows)) bs) (subst (λ x. groups_in fold (row ∷ rows) x ≡ with_group (row_group fold row) (groups_in fold rows x)) same (groups_in-own pass))
-        ∙ ap (λ gs. with_group (row_group fold row) (groups_in fold rows b) ++ gs) (buckets_others bs starts.1 above)
-        ∙ sym (with_group-low (row_group fold row) (groups_in fold rows b) (flat_map (groups_in fold rows) bs) (all_later bs above)))
+      let above = all_above_tied int_cmp int_cmp_total (bucket_of fold.width row.at) b bs e sorted.0 in
+      let same : bucket_of fold.width row.at ≡ b = exact_signed (bucket_of fold.width row.at) b e in
+      ap (flat_map (groups_in fold (row ∷ rows))) (key_equal int_cmp int_cmp_total (bucket_of fold.width row.at) b bs e)
+      ∙ ap (λ gs. gs ++ flat_map (groups_in fold (row ∷ rows)) bs) (subst (λ x. groups_in fold (row ∷ rows) x ≡ with_group (row_group fold row) (groups_in fold rows x)) same (groups_in-own pass))
+      ∙ ap (λ gs. with_group (row_group fold row) (groups_in fold rows b) ++ gs) (buckets_others bs starts.1 above)
+      ∙ sym (with_group-low (row_group fold row) (groups_in fold rows b) (flat_map (groups_in fold rows) bs) (all_later bs above)))
       (λ e.
-        let untied : is_eq (int_cmp (bucket_of fold.width row.at) b) ≡ false = not_eq-greater (int_cmp (bucket_of fold.width row.at) b) e in
-        ap (flat_map (groups_in fold (row ∷ rows))) (key_greater int_cmp int_cmp_total (bucket_of fold.width row.at) b bs e)
-        ∙ ap (λ gs. gs ++ flat_map (groups_in fold (row ∷ rows)) (insert_key int_cmp bs (bucket_of fold.width row.at))) (groups_in-other b starts.0 untied)
-        ∙ ap (λ gs. groups_in fold rows b ++ gs) (put_bucket pass bs sorted.1 starts.1 (λ none. absent (rw untied none)))
-        ∙ sym (with_group-past (row_group fold row) (groups_in fold rows b) (flat_map (groups_in fold rows) bs) (earlier_groups b e)))
+      let untied : is_eq (int_cmp (bucket_of fold.width row.at) b) ≡ false = not_eq-greater (int_cmp (bucket_of fold.width row.at) b) e in
+      ap (flat_map (groups_in fold (row ∷ rows))) (key_greater int_cmp int_cmp_total (bucket_of fold.width row.at) b bs e)
+      ∙ ap (λ gs. gs ++ flat_map (groups_in fold (row ∷ rows)) (insert_key int_cmp bs (bucket_of fold.width row.at))) (groups_in-other b starts.0 untied)
+      ∙ ap (λ gs. groups_in fold rows b ++ gs) (put_bucket pass bs sorted.1 starts.1 (λ none. absent (rw untied none)))
+      ∙ sym (with_group-past (row_group fold row) (groups_in fold rows b) (flat_map (groups_in fold rows) bs) (earlier_groups b e)))

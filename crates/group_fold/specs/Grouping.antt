@@ -1,5 +1,5 @@
 -- The groups of rows: one for each bucket and each list of keys that occurs in it.
-use Rattle.std.specs.Prelude.{◌≡◌, ℕ, ◌≤◌, List, [], ◌∷◌, ◌++◌, map, filter, flat_map, length, Option, ℤ, IsTrue}
+use Rattle.std.specs.Prelude.{◌≡◌, ◌≤◌, List, [], ◌∷◌, ◌++◌, map, filter, flat_map, length, Option, ℤ, IsTrue}
 use Rattle.std.specs.List.{AllByRecursion}
 use Rattle.std.specs.Ordering.{int_eq}
 use Rattle.ts_num.specs.Aggregates.{shown_or_null}
@@ -26,7 +26,7 @@ abbrev pub group_at : Fold → ℤ → List Row → List (Option ℤ) → Group
 group_at fold b found keys = record {
   start = b;
   keys = keys;
-  parts = map (λ agg. summary (column (with_keys fold keys found) agg)) fold.aggs
+  parts = map (λ agg. summary (column (with_keys fold keys found) agg)) fold.aggs;
 }
 
 -- the groups of a bucket over its rows: one for each list of keys, in order

@@ -16,11 +16,7 @@ use ts_model::{Agg, Fold};
 use ts_schema::{NoMemory, Row, Seq, field, passes, value_order};
 
 /// The groups of a few rows.
-pub(crate) fn fold_block(
-    alloc: Global,
-    plan: &Fold,
-    rows: &[Row],
-) -> Result<Vec<Group>, NoMemory>
+pub(crate) fn fold_block(alloc: Global, plan: &Fold, rows: &[Row]) -> Result<Vec<Group>, NoMemory>
     requires fits { RowsFit plan.now rows.now }
     requires width { IsWidth plan.now.width }
     requires few { length rows.now ≤ 256 }
@@ -36,12 +32,7 @@ pub(crate) fn fold_block(
 }
 
 /// Takes a row in: into the group of its bucket and keys, or as a group of its own.
-fn add_row(
-    alloc: Global,
-    plan: &Fold,
-    row: &Row,
-    groups: &mut Vec<Group>,
-) -> Result<(), NoMemory>
+fn add_row(alloc: Global, plan: &Fold, row: &Row, groups: &mut Vec<Group>) -> Result<(), NoMemory>
     requires fits { RowFits plan.now row.now }
     requires order { AreInOrder groups.old.items }
     requires room { AllByRecursion (IsBelow (2 ^ 62 - 1) plan.now) groups.old.items }
@@ -97,8 +88,9 @@ fn keys_order(keys: &[Option<i64>], cols: &[u32], row: &Row) -> Ordering
         },
         [key, more_keys @ ..] => match cols {
             [] => Ordering::Greater,
-            [col, more_cols @ ..] => value_order(*key, field(row, *col))
-                .then(keys_order(more_keys, more_cols, row)),
+            [col, more_cols @ ..] => value_order(*key, field(row, *col)).then(keys_order(
+                more_keys, more_cols, row,
+            )),
         },
     }
 }

@@ -28,11 +28,7 @@ pub fn fold(alloc: Global, plan: &Fold, rows: &Seq<Row>) -> Result<Seq<Group>, N
     Ok(Seq::of(fold_rows(alloc, plan, rows.items())?))
 }
 
-pub(crate) fn fold_rows(
-    alloc: Global,
-    plan: &Fold,
-    rows: &[Row],
-) -> Result<Vec<Group>, NoMemory>
+pub(crate) fn fold_rows(alloc: Global, plan: &Fold, rows: &[Row]) -> Result<Vec<Group>, NoMemory>
     requires fits { RowsFit plan.now rows.now }
     requires width { IsWidth plan.now.width }
     ensures { IfOk result (λ groups. groups.items ≡ groups_of plan.now rows.now) }

@@ -11,11 +11,7 @@ use ts_schema::{NoMemory, Seq};
 
 /// The groups of both lists in order, where groups of the same bucket and keys are merged. So the
 /// groups of two lists of rows become those of both together.
-pub fn join_parts(
-    alloc: Global,
-    a: &Seq<Group>,
-    b: &Seq<Group>,
-) -> Result<Seq<Group>, NoMemory>
+pub fn join_parts(alloc: Global, a: &Seq<Group>, b: &Seq<Group>) -> Result<Seq<Group>, NoMemory>
     requires { CanJoin a.now b.now }
     ensures joined { IfOk result (λ groups. groups ≡ with_groups a.now b.now) }
     ensures of_rows { IfOk result (AreGroupsOfBoth a.now b.now) }

@@ -18,3 +18,6 @@ pub use folds::fold;
 pub use joins::join_parts;
 pub use pieces::fold_pieces;
 pub use results::cells;
+
+#[cfg(test)]
+mod tests;

@@ -1,10 +1,7 @@
-use Rattle.std.proofs.Common.{◌≡◌, ◌<◌, ◌+◌, ◌++◌, length, get_or, take, drop, sym, refl, ap, ◌∙◌, arith, add-one}
-use Rattle.std.specs.List.{AllByRecursion}
+use Rattle.std.proofs.Common.{◌≡◌, ◌<◌, length, get_or, sym, ap, ◌∙◌, arith}
 use Rattle.ts_num.specs.declared.values.Fun.TheVariants.{CountAll}
-use Rattle.ts_model.specs.declared.views.Agg.{Agg}
-use Rattle.partial_agg.specs.Summaries.{Summary, joined, summary}
+use Rattle.partial_agg.specs.Summaries.{joined}
 use Rattle.group_fold.specs.Grouping.{row_parts}
-use Rattle.group_fold.specs.Merging.{joined_parts}
 use Rattle.group_fold.proofs.Counts.{length-row_parts, row_part}
 use Rattle.group_fold.proofs.Parts.{part_within, part_holds, part_step, parts_whole}
 use Rattle.group_fold.proofs.blocks.add_to_parts.Goals as goal
@@ -34,7 +31,7 @@ pub loop-k-preserved : goal.loop-k-preserved
 loop-k-preserved c =
     let same : length c.args.parts.now ≡ length (row_parts c.args.aggs.now c.args.row.now) = c.requires.many ∙ sym (length-row_parts c.args.aggs.now c.args.row.now) in
     let made : c.add.new.self ≡ joined c.get.result.now (get_or (row_parts c.args.aggs.now c.args.row.now) c.loop-k.k c.get.result.now) =
-      c.add.ensures.added ∙ ap (joined c.get.result.now) (row_part c.args.aggs.now c.args.row.now c.loop-k.k (record { fun = CountAll; col = 0 }) c.get.result.now c.field.result c.loop-k-test.true c.field.ensures.value) in
+    c.add.ensures.added ∙ ap (joined c.get.result.now) (row_part c.args.aggs.now c.args.row.now c.loop-k.k (record { fun = CountAll; col = 0 }) c.get.result.now c.field.result c.loop-k-test.true c.field.ensures.value) in
     part_step c.loop-k.k c.args.parts.now (row_parts c.args.aggs.now c.args.row.now) c.loop-k.parts c.set.new.self c.get.result.now c.add.new.self c.get.result.now c.get.result.now
     same c.loop-k.invariant (omega (arith, c.requires.many)) c.get.ensures.item made c.set.ensures.set
 

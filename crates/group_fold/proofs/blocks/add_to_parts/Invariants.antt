@@ -1,4 +1,4 @@
-use Rattle.std.proofs.Common.{◌≡◌, ◌++◌, length, take, drop}
+use Rattle.std.proofs.Common.{◌≡◌, ◌++◌, take, drop}
 use Rattle.group_fold.specs.Grouping.{row_parts}
 use Rattle.group_fold.specs.Merging.{joined_parts}
 use Rattle.group_fold.proofs.blocks.add_to_parts.Given as goal

@@ -1,6 +1,5 @@
-use Rattle.std.proofs.Common.{◌≡◌, ◌<◌, ◌∙◌, true, false, length, take, sym, ap, subst, arith, length-take}
+use Rattle.std.proofs.Common.{◌<◌, ◌∙◌, length, take, sym, ap, subst, arith, length-take}
 use Rattle.std.specs.List.{AllByRecursion}
-use Rattle.ts_schema.specs.declared.rows.Row.{Row}
 use Rattle.group_fold.specs.Merging.{AreInOrder, IsBelow}
 use Rattle.group_fold.proofs.Counts.{counts_below}
 use Rattle.group_fold.proofs.Laws.{sorted-groups_of, row_passed, row_failed}
@@ -19,11 +18,11 @@ add_row-requires-clause-room c =
 pub loop-row-preserved : goal.loop-row-preserved
 loop-row-preserved c =
     elim c.if-passes.branch [
-      then-passes+in_ok-add_row w ↦
-        row_passed c.args.plan.now c.requires.width c.args.rows.now c.loop-row.row-index c.row-item.result c.loop-row.groups.items c.if-passes.groups.items
-        c.loop-row-test.true c.row-item.is (sym c.passes.ensures.all ∙ w.if-passes.true) c.loop-row.invariant (ap (λ v. v.items) w.groups-is ∙ w.in_ok-add_row.ensures)
-    | else-passes w ↦
-        ap (λ v. v.items) w.groups-is
-        ∙ row_failed c.args.plan.now c.requires.width c.args.rows.now c.loop-row.row-index c.row-item.result c.loop-row.groups.items
+      | then-passes+in_ok-add_row w ↦
+          row_passed c.args.plan.now c.requires.width c.args.rows.now c.loop-row.row-index c.row-item.result c.loop-row.groups.items c.if-passes.groups.items
+          c.loop-row-test.true c.row-item.is (sym c.passes.ensures.all ∙ w.if-passes.true) c.loop-row.invariant (ap (λ v. v.items) w.groups-is ∙ w.in_ok-add_row.ensures)
+      | else-passes w ↦
+          ap (λ v. v.items) w.groups-is
+          ∙ row_failed c.args.plan.now c.requires.width c.args.rows.now c.loop-row.row-index c.row-item.result c.loop-row.groups.items
           c.loop-row-test.true c.row-item.is (sym c.passes.ensures.all ∙ w.if-passes.false) c.loop-row.invariant
     ]

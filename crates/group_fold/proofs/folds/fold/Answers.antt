@@ -1,6 +1,4 @@
 use Rattle.std.proofs.Common.{◌≡◌, sym, ap, ◌∙◌, subst}
-use Rattle.partial_agg.specs.declared.groups.Group.{Group}
-use Rattle.std.proofs.Common.{List}
 use Rattle.ts_bucket.specs.Bucket.{IsWidth}
 use Rattle.group_fold.specs.Grouping.{ShowScratch, groups_of}
 use Rattle.group_fold.proofs.AnyOrder.{groups_of-permuted}

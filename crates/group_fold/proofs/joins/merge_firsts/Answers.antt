@@ -1,4 +1,3 @@
-use Rattle.std.proofs.Common.{◌≡◌}
 use Rattle.group_fold.proofs.Merges.{both_taken}
 use Rattle.group_fold.proofs.joins.merge_firsts.Goals as goal
 

@@ -1,6 +1,5 @@
-use Rattle.std.proofs.Common.{◌≡◌, ◌<◌, ◌+◌, length, get_or, sym, refl, ap, ◌∙◌, arith}
+use Rattle.std.proofs.Common.{◌≡◌, ◌<◌, length, ap, ◌∙◌, arith}
 use Rattle.partial_agg.specs.Summaries.{joined}
-use Rattle.group_fold.specs.Merging.{joined_parts, PartsFit}
 use Rattle.group_fold.proofs.Parts.{part_within, part_room, part_step, parts_whole, parts_fit-length}
 use Rattle.group_fold.proofs.joins.merge_parts.Goals as goal
 use Rattle.group_fold.proofs.joins.merge_parts.Goals.{In-loop-k}

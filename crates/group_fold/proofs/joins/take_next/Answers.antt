@@ -1,5 +1,5 @@
 use Rattle.std.proofs.Common.{sym, ◌∙◌}
-use Rattle.group_fold.proofs.Merges.{Taken, mine_taken, theirs_taken}
+use Rattle.group_fold.proofs.Merges.{mine_taken, theirs_taken}
 use Rattle.group_fold.proofs.joins.take_next.Goals as goal
 
 pub returns-in-Mine-clause-next : goal.returns-in-Mine-clause-next

@@ -1,4 +1,4 @@
-use Rattle.std.proofs.Common.{◌≡◌, ◌+◌, ◌<◌, ◌^◌, ◌/◌, ◌∙◌, length, arith, rules}
+use Rattle.std.proofs.Common.{◌≡◌, ◌<◌, ◌/◌, ◌∙◌, length, arith, rules}
 use Rattle.std.proofs.lemmas.Result.{IfOk-weaker}
 use Rattle.group_fold.specs.Grouping.{all_rows, groups_of, PiecesFit}
 use Rattle.group_fold.specs.Merging.{with_groups}
@@ -27,6 +27,6 @@ join_lists-requires t c =
 pub returns-in_ok-theirs-in_default : goal.returns-in_ok-theirs-in_default
 returns-in_ok-theirs-in_default t c =
     let whole : with_groups c.in_ok-mine-in_default.mine.items c.in_ok-theirs-in_default.theirs.items ≡ groups_of c.args.plan.now (all_rows c.args.pieces.now) =
-      parts_joined c.args.plan.now c.requires.width c.args.pieces.now c.split_at.result.0.now c.split_at.result.1.now (length c.args.pieces.now / 2) c.in_ok-mine-in_default.mine.items c.in_ok-theirs-in_default.theirs.items
-      c.split_at.ensures.front c.split_at.ensures.back c.in_ok-mine-in_default.ensures c.in_ok-theirs-in_default.ensures in
+    parts_joined c.args.plan.now c.requires.width c.args.pieces.now c.split_at.result.0.now c.split_at.result.1.now (length c.args.pieces.now / 2) c.in_ok-mine-in_default.mine.items c.in_ok-theirs-in_default.theirs.items
+    c.split_at.ensures.front c.split_at.ensures.back c.in_ok-mine-in_default.ensures c.in_ok-theirs-in_default.ensures in
     IfOk-weaker c.join_lists.result (λ groups. groups.items ≡ with_groups c.in_ok-mine-in_default.mine.items c.in_ok-theirs-in_default.theirs.items) (λ groups. groups.items ≡ groups_of c.args.plan.now (all_rows c.args.pieces.now)) (λ groups is. is ∙ whole) c.join_lists.ensures

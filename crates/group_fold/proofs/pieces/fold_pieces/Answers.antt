@@ -1,4 +1,4 @@
-use Rattle.std.proofs.Common.{◌≡◌, sym, ap, ◌∙◌, subst, rules}
+use Rattle.std.proofs.Common.{◌≡◌, sym, ◌∙◌, subst, rules}
 use Rattle.ts_bucket.specs.Bucket.{IsWidth}
 use Rattle.group_fold.specs.Grouping.{ShowScratch, groups_of, all_rows}
 use Rattle.group_fold.proofs.AnyOrder.{groups_of-permuted}
