@@ -7,10 +7,15 @@ mod mem_sources;
 mod schedules;
 mod sinks;
 mod sources;
+mod standard;
 mod whole;
 
 pub use mem_sinks::MemSink;
 pub use mem_sources::MemSource;
 pub use sinks::{Put, Sink};
 pub use sources::{Got, Source};
+pub use standard::{StdinSource, StdoutSink};
 pub use whole::{AllEnd, INPUT_LIMIT, WriteFault, read_all, write_whole};
+
+#[cfg(test)]
+mod tests;

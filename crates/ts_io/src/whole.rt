@@ -2,7 +2,8 @@
 ghost use Rattle.std.specs.Prelude.{◌≡◌, ◌+◌, ◌<◌, ◌≤◌, [], ◌++◌, length, vec_len, vec_capacity, OnOk, OnErr};
 ghost use Rattle.std.specs.Io.KnownBytes.{Appends};
 ghost use Rattle.ts_schema.specs.Faults.{Rose};
-ghost use Rattle.ts_io.specs.Whole.{AppendsPart, ReadsAll, IfReadFault, Brings, IfMoreFailed};
+ghost use Rattle.ts_io.specs.Pieces.{Brings, IfMoreFailed};
+ghost use Rattle.ts_io.specs.Whole.{AppendsPart, ReadsAll, IfReadFault};
 
 use crate::sinks::{Put, Sink};
 use crate::sources::{Got, Source};
