@@ -1,7 +1,6 @@
 pub mod Lines
 pub mod MemSink
 pub mod MemSource
-pub mod Pieces
 pub mod Schedule
 pub mod Sink
 pub mod Source

@@ -1,5 +1,5 @@
 -- A whole input and a whole text.
-use Rattle.std.specs.Prelude.{◌≡◌, ℕ, ◌+◌, ◌<◌, ◌≤◌, List, ◌++◌, Option, Some, None, length, take, drop, ⊤}
+use Rattle.std.specs.Prelude.{◌≡◌, ℕ, ◌+◌, ◌<◌, List, ◌++◌, Option, Some, None, length, take, drop, ⊤}
 use Rattle.std.specs.Io.KnownBytes.{Appends, Consumes, IsAtEnd}
 use Rattle.ts_io.specs.declared.whole.TheConstants.{INPUT_LIMIT}
 use Rattle.ts_io.specs.declared.whole.AllEnd.{AllEnd}

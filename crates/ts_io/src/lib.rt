@@ -4,6 +4,7 @@
 
 mod mem_sinks;
 mod mem_sources;
+mod pieces;
 mod schedules;
 mod sinks;
 mod sources;
