@@ -2,6 +2,8 @@
 //! and how a whole input is read and a whole text is written.
 #![tactic(auto)]
 
+mod line_ends;
+mod line_reader;
 mod mem_sinks;
 mod mem_sources;
 mod pieces;
@@ -11,6 +13,7 @@ mod sources;
 mod standard;
 mod whole;
 
+pub use line_reader::{LINE_LIMIT, LineEnd, Lines};
 pub use mem_sinks::MemSink;
 pub use mem_sources::MemSource;
 pub use sinks::{Put, Sink};

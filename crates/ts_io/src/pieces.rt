@@ -8,19 +8,22 @@ use crate::sources::{Got, Source};
 /// How many bytes one read asks for at most.
 pub const PIECE: usize = 65_536;
 
-/// Reads once, by way of `piece`, and appends what was given to `out`, which has the room.
-pub fn read_into<S: Source>(source: &mut S, piece: &mut [u8], out: &mut Vec<u8>) -> Got
-    requires asks { 0 < length piece.old }
-    requires room { vec_len out.old + length piece.old ≤ vec_capacity out.old }
+/// Reads at most `most` bytes once, by way of `piece`, and appends what was given to `out`, which has
+/// the room.
+pub fn read_into<S: Source>(source: &mut S, piece: &mut [u8], most: usize, out: &mut Vec<u8>) -> Got
+    requires asks { 0 < most }
+    requires fits { most ≤ length piece.old }
+    requires room { vec_len out.old + most ≤ vec_capacity out.old }
     ensures filled { Fills (S.left source.old) (S.left source.new) result out.old.items out.new.items }
-    ensures within { length out.new.items ≤ length out.old.items + length piece.old }
+    ensures within { length out.new.items ≤ length out.old.items + most }
     ensures capacity { vec_capacity out.old ≤ vec_capacity out.new }
     ensures never_falls { S.faults source.old ≤ S.faults source.new }
     ensures cause { IfFailed result (Rose (S.faults source.old) (S.faults source.new)) }
 {
-    let got = source.read(piece);
+    let front = &mut piece[..most];
+    let got = source.read(front);
     if let Got::Bytes(n) = got {
-        append_reserved(out, &piece[..n]);
+        append_reserved(out, &front[..n]);
     }
     got
 }

@@ -1,3 +1,5 @@
+mod lines;
+
 use super::*;
 use std::io::{self, ErrorKind, Read, Write};
 use std::test::Fail;

@@ -60,7 +60,7 @@ pub fn read_all<S: Source>(source: &mut S, out: &mut Vec<u8>) -> AllEnd
         if let Err(_) = out.reserve(room) {
             return AllEnd::NoMemory;
         }
-        match read_into(source, &mut piece[..room], out) {
+        match read_into(source, &mut piece, room, out) {
             Got::Bytes(0) => return AllEnd::End,
             Got::Bytes(_) => {}
             Got::Failed => return AllEnd::ReadFault,
