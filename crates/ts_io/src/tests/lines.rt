@@ -14,6 +14,16 @@ fn takes(rt: &impl Abort, lines: &mut Lines, source: &mut MemSource, want: &[u8]
     assert_eq!(rt; lines.line(), want);
 }
 
+/// Takes the next lines, which must be this one so many times.
+fn takes_times(rt: &impl Abort, lines: &mut Lines, source: &mut MemSource, want: &[u8], times: u32)
+    requires { lines.old.is_open ≡ true }
+    ensures { lines.new.is_open ≡ true }
+{
+    for _ in 0..times {
+        takes(rt, lines, source, want);
+    }
+}
+
 #[test]
 fn lines_are_the_same_however_the_source_cuts_them(rt: HostRuntime) -> Result<(), Fail> {
     for most in 1..8 {
@@ -64,8 +74,7 @@ fn a_line_may_have_65536_bytes(rt: HostRuntime) -> Result<(), Fail> {
 #[test]
 fn an_input_may_have_67108864_bytes_of_lines(rt: HostRuntime) -> Result<(), Fail> {
     // 1,024 lines of 65,536 bytes with their line ends, and the bytes that follow.
-    let mut row = vec![in rt.alloc(); b'x'; LINE_LIMIT - 1]?;
-    row.push(b'\n')?;
+    let line = vec![in rt.alloc(); b'x'; LINE_LIMIT - 1]?;
     for (more, want) in [
         (b"".as_slice(), LineEnd::End),
         (b"x".as_slice(), LineEnd::InputLong),
@@ -73,14 +82,13 @@ fn an_input_may_have_67108864_bytes_of_lines(rt: HostRuntime) -> Result<(), Fail
     ] {
         let mut text = Vec::new(rt.alloc());
         for _ in 0..1_024 {
-            text.extend_from_slice(row.as_slice())?;
+            text.extend_from_slice(line.as_slice())?;
+            text.push(b'\n')?;
         }
         text.extend_from_slice(more)?;
         let mut source = MemSource::new(text, usize::MAX, Vec::new(rt.alloc()));
         let mut lines = Lines::new(rt.alloc())?;
-        for _ in 0..1_024 {
-            takes(&rt, &mut lines, &mut source, &row[..LINE_LIMIT - 1]);
-        }
+        takes_times(&rt, &mut lines, &mut source, line.as_slice(), 1_024);
         let end = lines.next(&mut source);
         assert_eq!(rt; end, want);
     }
