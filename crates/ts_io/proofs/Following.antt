@@ -2,10 +2,10 @@
 use Rattle.std.proofs.Common.{◌≡◌, ℕ, ◌+◌, ◌-◌, ◌<◌, ◌≤◌, List, [], ◌∷◌, ◌++◌, length, take, drop, None, Some, refl, sym, ◌∙◌, ap, subst, arith, append_assoc, append-nil, length-append, length-take-le, take-add, take_at, drop_at}
 use Rattle.std.proofs.lemmas.List.{take-append-le}
 use Rattle.std.specs.Prelude.{Option}
-use Rattle.std.specs.Io.KnownBytes.{Consumes, IsAtEnd, Keeps, prepend_known}
+use Rattle.std.specs.Io.KnownBytes.{Consumes, IsAtEnd, prepend_known}
 use Rattle.std.proofs.KnownBytes.{Consumes-trans}
 use Rattle.ts_io.specs.Lines.{ended_lines, lines_within, IsFirstEnd}
-use Rattle.ts_io.specs.Reader.{Answers, IfReadFault, ReadsLine, SkipsLong}
+use Rattle.ts_io.specs.Reader.{IfReadFault, ReadsLine, SkipsLong}
 use Rattle.ts_io.specs.declared.line_reader.TheConstants.{LINE_LIMIT}
 use Rattle.ts_io.specs.declared.line_reader.LineEnd.{LineEnd}
 use Rattle.ts_io.specs.declared.line_reader.LineEnd.TheVariants.{Line, LineLong, End, InputLong, ReadFault}
@@ -24,12 +24,6 @@ same_filled (Some xs) None held more front took = took
 same_filled (Some xs) (Some ys) held more front took =
     ap (λ l. held ++ l) took ∙ sym (append_assoc held (drop (length held) more) ys) ∙ ap (λ l. l ++ ys) (grown held more front)
 
--- a read that failed moves nothing
-pub same_kept : (left now : Option (List ℕ)) (held more : List ℕ) → Keeps left now → more ≡ held → Consumes (prepend_known held left) (prepend_known more now) []
-same_kept None now held more kept same = tt
-same_kept (Some xs) None held more kept same = kept
-same_kept (Some xs) (Some ys) held more kept same = ap (λ l. held ++ l) (sym kept) ∙ ap (λ l. l ++ ys) (sym same)
-
 -- what is held is dropped
 pub gone_held : (left : Option (List ℕ)) (held rest : List ℕ) → rest ≡ [] → Consumes (prepend_known held left) (prepend_known rest left) held
 gone_held None held rest empty = tt
@@ -40,13 +34,6 @@ pub gone_same : (start mid now : Option (List ℕ)) (gone : List ℕ) → Consum
 gone_same start mid now gone took same = subst (Consumes start now) (append-nil gone) (Consumes-trans start mid now gone [] took same)
 
 -- ---- what an answer says
-
--- nothing was taken before it
-pub after_same : (end : LineEnd) (n m : ℕ) (start mid now : Option (List ℕ)) (line : List ℕ) → Consumes start mid [] → ReadsLine end n mid m now line → ReadsLine end n start m now line
-after_same end n m None mid now line same reads = tt
-after_same end n m (Some xs) None now line same reads = absurd same
-after_same end n m (Some xs) (Some ys) None line same reads = reads
-after_same end n m (Some xs) (Some ys) (Some zs) line same reads = subst (λ t. Answers end n t m zs line) (sym same) reads
 
 -- a line that ends among the bytes held
 pub line_given : (start left : Option (List ℕ)) (held : List ℕ) (n k : ℕ) → Consumes start (prepend_known held left) [] → IsFirstEnd held k → k < n → k ≤ LINE_LIMIT
@@ -88,12 +75,6 @@ last_given (Some xs) (Some ys) held n m same end none some within short =
     let whole : xs ≡ held = same ∙ ap (λ l. held ++ l) end ∙ append-nil held in
     (ap (lines_within n) whole ∙ lines_within-last n held none some within ∙ ap (λ ls. held ∷ ls) (sym (ap (lines_within m) end ∙ lines_within-nil m)), short)
 
--- no byte is left
-pub end_given : (start left : Option (List ℕ)) (line : List ℕ) (n m : ℕ) → Consumes start (prepend_known [] left) [] → IsAtEnd left → ReadsLine End n start m (prepend_known [] left) line
-end_given None left line n m same end = tt
-end_given (Some xs) None line n m same end = same
-end_given (Some xs) (Some ys) line n m same end = (ap (lines_within n) (same ∙ end) ∙ lines_within-nil n, same ∙ end, end)
-
 -- the bytes that are gone are the last line, and it is too long
 pub long_last_given : (start left : Option (List ℕ)) (gone line : List ℕ) (n m : ℕ) → Consumes start (prepend_known [] left) gone → IsAtEnd left → ended_lines gone ≡ []
     → n ≡ m + length gone → LINE_LIMIT < length gone → ReadsLine LineLong n start m (prepend_known [] left) line
@@ -121,14 +102,9 @@ over_given (Some xs) (Some ys) gone held line n m took none fewer more over =
     ∙ ap (λ l. gone ++ l) (take-append-le m held ys (omega arith)) in
     (lines_within-cut n xs beyond ∙ ap ended_lines cut ∙ ended_lines-append_none gone (take m held) none more, beyond)
 
--- a read failed
-pub fault_given : (start now : Option (List ℕ)) (gone line : List ℕ) (n m : ℕ) → Consumes start now gone → ReadsLine ReadFault n start m now line
-fault_given None now gone line n m took = tt
-fault_given (Some xs) None gone line n m took = took
-fault_given (Some xs) (Some ys) gone line n m took = tt
+-- ---- faults
 
--- ---- no read failed
-
+-- an answer that is no fault needs no cause
 pub never_failed : (end : LineEnd) (P : Type 0) → IfReadFault end ⊥ → IfReadFault end P
 never_failed Line P h = tt
 never_failed LineLong P h = tt

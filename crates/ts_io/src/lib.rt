@@ -13,7 +13,7 @@ mod sources;
 mod standard;
 mod whole;
 
-pub use line_reader::{LINE_LIMIT, LineEnd, Lines};
+pub use line_reader::{HELD_LIMIT, LINE_LIMIT, LineEnd, Lines};
 pub use mem_sinks::MemSink;
 pub use mem_sources::MemSource;
 pub use sinks::{Put, Sink};
