@@ -1,10 +1,9 @@
 -- Laws of changes: an edge more changes no value, nor does one that begins the value before it, and a change within a span changes its values alone.
-use Rattle.std.proofs.Common.{◌≡◌, ℕ, length, zero, suc, Bool, true, false, cond, ◌&&◌, ◌⊎◌, inl, inr, ℤ, ◌≤ℤ◌, ◌<ℤ◌, int_lt, int_le, List, [], ◌∷◌, ◌++◌, map, take, drop, insert, Option, Some, None, nat_eq, refl, sym, ap, ◌∙◌, subst, arith, true≢false}
+use Rattle.std.proofs.Common.{◌≡◌, ℕ, length, suc, Bool, true, false, cond, ◌⊎◌, inl, inr, ℤ, ◌≤ℤ◌, ◌<ℤ◌, int_lt, List, [], ◌∷◌, ◌++◌, map, take, drop, insert, Option, Some, None, nat_eq, refl, sym, ap, ◌∙◌, arith, true≢false}
 use Rattle.std.proofs.lemmas.Bool.{false≢true}
 use Rattle.std.proofs.lemmas.List.{length-map}
 use Rattle.std.proofs.Math.Seq.{take-append_seam}
 use Rattle.std.specs.List.{dedup, dedup_from}
-use Rattle.std.specs.Ordering.{int_eq}
 use Rattle.std.specs.Option.{option_eq}
 use Rattle.std.proofs.lemmas.Int.{ints, by_lt_z}
 use Rattle.std.proofs.lemmas.Bool.Decides.{Decides-int_eq, Decides-eqb}
@@ -195,25 +194,25 @@ same_side : (s : SpanValue) (p t : ℤ) → p ≤ℤ t → (p <ℤ s.lo → t <�
 same_side s p t le lo hi = by_lt_z p s.lo
     (λ below. let l : t <ℤ s.lo = lo below in grind (arith, ints))
     (λ above. by_lt_z p s.hi
-        (λ under. let u : t <ℤ s.hi = hi under in grind (arith, ints))
-        (λ over. grind (arith, ints)))
+    (λ under. let u : t <ℤ s.hi = hi under in grind (arith, ints))
+    (λ over. grind (arith, ints)))
 
 -- from a number on, at which the values before and after the change are known
 values_on : (s : SpanValue) (c : Change) (p : ℤ) (v w : Option ℕ) (es : List Edge) (t : ℤ) → IsBelowFirst p es → IsRising es → (p <ℤ s.lo → HasEdge s.lo es) → (p <ℤ s.hi → HasEdge s.hi es) → w ≡ cond (in_span s p) (changed c v) v → p ≤ℤ t → value_from w (map (edge_changed s c) es) t ≡ cond (in_span s t) (changed c (value_from v es t)) (value_from v es t)
 values_on s c p v w [] t h r lo hi e le = e ∙ ap (λ b. cond b (changed c v) v) (same_side s p t le (λ l. absurd (lo l)) (λ l. absurd (hi l)))
 values_on s c p v w (x ∷ xs) t h r lo hi e le = by_lt_z t x.from
     (λ below.
-        let low : int_lt t x.from ≡ true = grind (arith, ints) in
-        let ends : (y : ℤ) → (p <ℤ y → HasEdge y (x ∷ xs)) → p <ℤ y → t <ℤ y = λ y has l. (let first : x.from ≤ℤ y = at_or_above_first x xs y r (has l) in omega (arith, ints)) in
-        ap (λ b. cond b w (value_from (edge_changed s c x).value (map (edge_changed s c) xs) t)) low
-        ∙ e ∙ ap (λ b. cond b (changed c v) v) (same_side s p t le (ends s.lo lo) (ends s.hi hi))
-        ∙ sym (ap (λ b. cond (in_span s t) (changed c (cond b v (value_from x.value xs t))) (cond b v (value_from x.value xs t))) low))
+    let low : int_lt t x.from ≡ true = grind (arith, ints) in
+    let ends : (y : ℤ) → (p <ℤ y → HasEdge y (x ∷ xs)) → p <ℤ y → t <ℤ y = λ y has l. (let first : x.from ≤ℤ y = at_or_above_first x xs y r (has l) in omega (arith, ints)) in
+    ap (λ b. cond b w (value_from (edge_changed s c x).value (map (edge_changed s c) xs) t)) low
+    ∙ e ∙ ap (λ b. cond b (changed c v) v) (same_side s p t le (ends s.lo lo) (ends s.hi hi))
+    ∙ sym (ap (λ b. cond (in_span s t) (changed c (cond b v (value_from x.value xs t))) (cond b v (value_from x.value xs t))) low))
     (λ above.
-        let high : int_lt t x.from ≡ false = grind (arith, ints) in
-        let before : p <ℤ x.from = h in
-        ap (λ b. cond b w (value_from (edge_changed s c x).value (map (edge_changed s c) xs) t)) high
-        ∙ values_on s c x.from x.value (edge_changed s c x).value xs t r.0 r.1 (λ l. later_edge x xs s.lo l (lo (omega (arith, ints)))) (λ l. later_edge x xs s.hi l (hi (omega (arith, ints)))) refl above
-        ∙ sym (ap (λ b. cond (in_span s t) (changed c (cond b v (value_from x.value xs t))) (cond b v (value_from x.value xs t))) high))
+    let high : int_lt t x.from ≡ false = grind (arith, ints) in
+    let before : p <ℤ x.from = h in
+    ap (λ b. cond b w (value_from (edge_changed s c x).value (map (edge_changed s c) xs) t)) high
+    ∙ values_on s c x.from x.value (edge_changed s c x).value xs t r.0 r.1 (λ l. later_edge x xs s.lo l (lo (omega (arith, ints)))) (λ l. later_edge x xs s.hi l (hi (omega (arith, ints)))) refl above
+    ∙ sym (ap (λ b. cond (in_span s t) (changed c (cond b v (value_from x.value xs t))) (cond b v (value_from x.value xs t))) high))
 
 -- edges with one at each end of the span
 values-changed : (s : SpanValue) (c : Change) (es : List Edge) (t : ℤ) → s.lo <ℤ s.hi → IsRising es → HasEdge s.lo es → HasEdge s.hi es → value_from None (map (edge_changed s c) es) t ≡ cond (in_span s t) (changed c (value_from None es t)) (value_from None es t)
@@ -222,15 +221,15 @@ values-changed s c (x ∷ xs) t l r lo hi =
     let first : x.from ≤ℤ s.lo = at_or_above_first x xs s.lo r lo in
     by_lt_z t x.from
     (λ below.
-        let low : int_lt t x.from ≡ true = grind (arith, ints) in
-        let out : in_span s t ≡ false = grind (arith, ints) in
-        ap (λ b. cond b None (value_from (edge_changed s c x).value (map (edge_changed s c) xs) t)) low
-        ∙ sym (ap (λ b. cond b (changed c (value_from None (x ∷ xs) t)) (value_from None (x ∷ xs) t)) out ∙ ap (λ b. cond b None (value_from x.value xs t)) low))
+    let low : int_lt t x.from ≡ true = grind (arith, ints) in
+    let out : in_span s t ≡ false = grind (arith, ints) in
+    ap (λ b. cond b None (value_from (edge_changed s c x).value (map (edge_changed s c) xs) t)) low
+    ∙ sym (ap (λ b. cond b (changed c (value_from None (x ∷ xs) t)) (value_from None (x ∷ xs) t)) out ∙ ap (λ b. cond b None (value_from x.value xs t)) low))
     (λ above.
-        let high : int_lt t x.from ≡ false = grind (arith, ints) in
-        ap (λ b. cond b None (value_from (edge_changed s c x).value (map (edge_changed s c) xs) t)) high
-        ∙ values_on s c x.from x.value (edge_changed s c x).value xs t r.0 r.1 (λ below. later_edge x xs s.lo below lo) (λ below. later_edge x xs s.hi below hi) refl above
-        ∙ sym (ap (λ b. cond (in_span s t) (changed c (cond b None (value_from x.value xs t))) (cond b None (value_from x.value xs t))) high))
+    let high : int_lt t x.from ≡ false = grind (arith, ints) in
+    ap (λ b. cond b None (value_from (edge_changed s c x).value (map (edge_changed s c) xs) t)) high
+    ∙ values_on s c x.from x.value (edge_changed s c x).value xs t r.0 r.1 (λ below. later_edge x xs s.lo below lo) (λ below. later_edge x xs s.hi below hi) refl above
+    ∙ sym (ap (λ b. cond (in_span s t) (changed c (cond b None (value_from x.value xs t))) (cond b None (value_from x.value xs t))) high))
 
 -- the edges after a change within a span
 abbrev pub edges_changed : SpanValue → Change → List Edge → List Edge

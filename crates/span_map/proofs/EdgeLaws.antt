@@ -1,21 +1,21 @@
 -- Laws of edges: the value at a number is that of the last edge at or below it.
-use Rattle.std.proofs.Common.{◌≡◌, ◌≢◌, ℕ, zero, suc, ◌+◌, ◌-◌, ◌<◌, ◌≤◌, Bool, true, false, cond, ℤ, ◌≤ℤ◌, ◌<ℤ◌, int_lt, int_le, List, [], ◌∷◌, length, take, drop, get_or, Option, None, refl, sym, ap, ◌∙◌, subst, arith}
+use Rattle.std.proofs.Common.{◌≡◌, ◌≢◌, ℕ, zero, suc, ◌-◌, ◌<◌, ◌≤◌, true, false, cond, ℤ, ◌≤ℤ◌, int_lt, int_le, List, [], ◌∷◌, length, take, get_or, Option, refl, sym, ap, ◌∙◌, arith}
 use Rattle.std.proofs.lemmas.Int.{ints, by_lt_z}
 use Rattle.span_map.specs.declared.edges.Edge.{Edge}
-use Rattle.span_map.specs.Edges.{value_from, last_value, IsBelowFirst, IsRising, place_upto}
+use Rattle.span_map.specs.Edges.{value_from, last_value, IsBelowFirst, place_upto}
 
 -- the value at a number is that after the edges at or below it
 pub value_from-place : (v : Option ℕ) (es : List Edge) (t : ℤ) → value_from v es t ≡ last_value v (take (place_upto t es) es)
 value_from-place v [] t = refl
 value_from-place v (e ∷ es) t = by_lt_z t e.from
     (λ below.
-        let low : int_lt t e.from ≡ true = grind (arith, ints) in
-        let fails : int_le e.from t ≡ false = grind (arith, ints) in
-        ap (λ b. cond b v (value_from e.value es t)) low ∙ sym (ap (λ b. last_value v (take (cond b (suc (place_upto t es)) 0) (e ∷ es))) fails))
+    let low : int_lt t e.from ≡ true = grind (arith, ints) in
+    let fails : int_le e.from t ≡ false = grind (arith, ints) in
+    ap (λ b. cond b v (value_from e.value es t)) low ∙ sym (ap (λ b. last_value v (take (cond b (suc (place_upto t es)) 0) (e ∷ es))) fails))
     (λ above.
-        let high : int_lt t e.from ≡ false = grind (arith, ints) in
-        let passes : int_le e.from t ≡ true = grind (arith, ints) in
-        ap (λ b. cond b v (value_from e.value es t)) high ∙ value_from-place e.value es t ∙ sym (ap (λ b. last_value v (take (cond b (suc (place_upto t es)) 0) (e ∷ es))) passes))
+    let high : int_lt t e.from ≡ false = grind (arith, ints) in
+    let passes : int_le e.from t ≡ true = grind (arith, ints) in
+    ap (λ b. cond b v (value_from e.value es t)) high ∙ value_from-place e.value es t ∙ sym (ap (λ b. last_value v (take (cond b (suc (place_upto t es)) 0) (e ∷ es))) passes))
 
 -- the value after some edges is that of the last of them
 last_value-take : (v : Option ℕ) (es : List Edge) (i : ℕ) (d : Edge) → i < length es → last_value v (take (suc i) es) ≡ (get_or es i d).value

@@ -1,12 +1,12 @@
 -- What is assigned where a floor has nothing or less: just the numbers of the span at which it has.
-use Rattle.std.proofs.Common.{◌≡◌, ℕ, Bool, true, false, cond, ◌&&◌, ◌⊎◌, inl, inr, ℤ, ◌≤ℤ◌, ◌<ℤ◌, int_lt, int_le, List, [], ◌∷◌, Option, Some, None, refl, sym, ap, ◌∙◌, subst, arith}
+use Rattle.std.proofs.Common.{◌≡◌, ℕ, Bool, true, false, cond, ◌&&◌, ◌⊎◌, inl, inr, ℤ, ◌≤ℤ◌, ◌<ℤ◌, int_lt, int_le, List, [], ◌∷◌, Option, Some, None, refl, sym, ap, ◌∙◌, arith}
 use Rattle.std.specs.Int.{int_max, int_min}
 use Rattle.std.proofs.lemmas.Int.{ints, clamps, by_lt_z}
 use Rattle.ts_bucket.specs.Positions.{is_before}
 use Rattle.ts_bucket.specs.Spans.{SpanValue, in_span}
 use Rattle.span_map.specs.declared.edges.Edge.{Edge}
 use Rattle.span_map.specs.Edges.{value_from, IsBelowFirst, IsRising}
-use Rattle.span_map.specs.Floors.{run_filled, opened, run_past, value_past, floor_filled}
+use Rattle.span_map.specs.Floors.{run_filled, opened, floor_filled}
 use Rattle.span_map.proofs.EdgeLaws.{value_from-below, IsBelowFirst-from}
 
 -- t is at or above the start of the open run, or of the span where none is open
@@ -51,15 +51,16 @@ opens s pos w e es v t h =
     let start : s.lo ≤ℤ int_max e.from s.lo = omega (arith, ints, clamps) in
     by_lt_z t e.from
     (λ below.
-        let out : int_le (int_max e.from s.lo) t ≡ false = out_of (int_max e.from s.lo) t (omega (arith, ints)) in
-        ap (λ b. cond (b && int_lt t s.hi && is_before pos (value_from e.value es t)) (Some pos) v) out
-        ∙ sym (none_of (int_le s.lo t) (int_lt t s.hi) (is_before pos (value_from w (e ∷ es) t)) (Some pos) v (test_below pos w e es t below ∙ h)))
+    let out : int_le (int_max e.from s.lo) t ≡ false = out_of (int_max e.from s.lo) t (omega (arith, ints)) in
+    ap (λ b. cond (b && int_lt t s.hi && is_before pos (value_from e.value es t)) (Some pos) v) out
+    ∙ sym (none_of (int_le s.lo t) (int_lt t s.hi) (is_before pos (value_from w (e ∷ es) t)) (Some pos) v (test_below pos w e es t below ∙ h)))
     (λ above.
-        ap (λ b. cond (b && int_lt t s.hi && is_before pos (value_from e.value es t)) (Some pos) v) (max_test e.from s.lo t above)
-        ∙ ap (λ b. cond (int_le s.lo t && int_lt t s.hi && b) (Some pos) v) (sym (test_above pos w e es t above)))
+    ap (λ b. cond (b && int_lt t s.hi && is_before pos (value_from e.value es t)) (Some pos) v) (max_test e.from s.lo t above)
+    ∙ ap (λ b. cond (int_le s.lo t && int_lt t s.hi && b) (Some pos) v) (sym (test_above pos w e es t above)))
   where
     out_of : (x t : ℤ) → t <ℤ x → int_le x t ≡ false
     out_of x t l = grind (arith, ints)
+
     max_test : (x y t : ℤ) → x ≤ℤ t → int_le (int_max x y) t ≡ int_le y t
     max_test x y t l = by_lt_z t y (λ below. out_of (int_max x y) t (omega (arith, ints, clamps)) ∙ sym (out_of y t below)) (λ above. in_of (int_max x y) t (omega (arith, ints, clamps)) ∙ sym (in_of y t above))
       where
@@ -71,29 +72,34 @@ ends : (s : SpanValue) (pos : ℕ) (from : ℤ) (w : Option ℕ) (e : Edge) (es 
 ends s pos from w e es v t r fits h =
     by_lt_z t e.from
     (λ below.
-        none_of (int_le s.lo t) (int_lt t s.hi) (is_before pos (value_from e.value es t)) (Some pos) _ (test_first pos e es t r below ∙ h)
-        ∙ ap (λ b. cond (int_le from t && b) (Some pos) v) (min_test e.from s.hi t below)
-        ∙ all_of (int_le from t && int_lt t s.hi) (is_before pos (value_from w (e ∷ es) t)) (Some pos) v (test_below pos w e es t below ∙ fits.0))
+    none_of (int_le s.lo t) (int_lt t s.hi) (is_before pos (value_from e.value es t)) (Some pos) _ (test_first pos e es t r below ∙ h)
+    ∙ ap (λ b. cond (int_le from t && b) (Some pos) v) (min_test e.from s.hi t below)
+    ∙ all_of (int_le from t && int_lt t s.hi) (is_before pos (value_from w (e ∷ es) t)) (Some pos) v (test_below pos w e es t below ∙ fits.0))
     (λ above.
-        ap (λ x. cond (int_le s.lo t && int_lt t s.hi && is_before pos (value_from e.value es t)) (Some pos) x) (past_end from (int_min e.from s.hi) t (omega (arith, ints, clamps)))
-        ∙ ap (λ b. cond (b && int_lt t s.hi && is_before pos (value_from e.value es t)) (Some pos) v) (same_start above fits.2)
-        ∙ ap (λ b. cond (int_le from t && int_lt t s.hi && b) (Some pos) v) (sym (test_above pos w e es t above)))
+    ap (λ x. cond (int_le s.lo t && int_lt t s.hi && is_before pos (value_from e.value es t)) (Some pos) x) (past_end from (int_min e.from s.hi) t (omega (arith, ints, clamps)))
+    ∙ ap (λ b. cond (b && int_lt t s.hi && is_before pos (value_from e.value es t)) (Some pos) v) (same_start above fits.2)
+    ∙ ap (λ b. cond (int_le from t && int_lt t s.hi && b) (Some pos) v) (sym (test_above pos w e es t above)))
   where
     all_of : (a c : Bool) (p v : Option ℕ) → c ≡ true → cond a p v ≡ cond (a && c) p v
     all_of true c p v e = sym (ap (λ x. cond x p v) e)
     all_of false c p v e = refl
+
     lower : (x t : ℤ) → t <ℤ x → int_lt t x ≡ true
     lower x t l = grind (arith, ints)
+
     higher : (x t : ℤ) → x ≤ℤ t → int_lt t x ≡ false
     higher x t l = grind (arith, ints)
+
     min_test : (x y t : ℤ) → t <ℤ x → int_lt t (int_min x y) ≡ int_lt t y
     min_test x y t l = by_lt_z t y (λ below. lower (int_min x y) t (omega (arith, ints, clamps)) ∙ sym (lower y t below)) (λ above. higher (int_min x y) t (omega (arith, ints, clamps)) ∙ sym (higher y t above))
+
     past_end : (from end t : ℤ) → end ≤ℤ t → run_filled (Some from) end pos v t ≡ v
     past_end from end t l = ap (λ b. cond (int_le from t && b) (Some pos) v) (higher end t l) ∙ none (int_le from t)
       where
         none : (a : Bool) → cond (a && false) (Some pos) v ≡ v
         none true = refl
         none false = refl
+
     same_start : e.from ≤ℤ t → (from ≡ s.lo) ⊎ (from <ℤ e.from) → int_le s.lo t ≡ int_le from t
     same_start above (inl same) = ap (λ x. int_le x t) (sym same)
     same_start above (inr before) =

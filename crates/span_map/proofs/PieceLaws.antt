@@ -6,7 +6,6 @@ use Rattle.span_map.specs.declared.edges.Edge.{Edge}
 use Rattle.span_map.specs.declared.pieces.Piece.{Piece}
 use Rattle.span_map.specs.Edges.{value_from, last_value, IsBelowFirst, IsRising, place_upto, place_below}
 use Rattle.span_map.specs.Pieces.{piece_at, ArePieces, piece_of, pieces_from}
-use Rattle.span_map.proofs.EdgeLaws.{value_from-below}
 
 -- each of the edges is below x
 abbrev AllBelow : ℤ → List Edge → Type 0
@@ -42,17 +41,18 @@ piece_at-first lo hi (Some pos) ps t l after =
     ap (λ b. piece_at (cond b (record { span = record { lo = lo; hi = hi }; pos = pos } ∷ []) [] ++ ps) t) (lower hi lo l)
     ∙ by_lt_z t hi
     (λ below.
-        ap (λ b. cond (int_le lo t && b) (Some pos) (piece_at ps t)) (lower hi t below)
-        ∙ whole (int_le lo t) (after below)
-        ∙ sym (ap (λ b. cond b (cond (int_le lo t) (Some pos) None) (piece_at ps t)) (lower hi t below)))
+    ap (λ b. cond (int_le lo t && b) (Some pos) (piece_at ps t)) (lower hi t below)
+    ∙ whole (int_le lo t) (after below)
+    ∙ sym (ap (λ b. cond b (cond (int_le lo t) (Some pos) None) (piece_at ps t)) (lower hi t below)))
     (λ above.
-        ap (λ b. cond (int_le lo t && b) (Some pos) (piece_at ps t)) (higher hi t above)
-        ∙ out (int_le lo t)
-        ∙ sym (ap (λ b. cond b (cond (int_le lo t) (Some pos) None) (piece_at ps t)) (higher hi t above)))
+    ap (λ b. cond (int_le lo t && b) (Some pos) (piece_at ps t)) (higher hi t above)
+    ∙ out (int_le lo t)
+    ∙ sym (ap (λ b. cond b (cond (int_le lo t) (Some pos) None) (piece_at ps t)) (higher hi t above)))
   where
     whole : (b : Bool) → piece_at ps t ≡ None → cond (b && true) (Some pos) (piece_at ps t) ≡ cond b (Some pos) None
     whole true e = refl
     whole false e = e
+
     out : (b : Bool) → cond (b && false) (Some pos) (piece_at ps t) ≡ piece_at ps t
     out true = refl
     out false = refl
@@ -77,15 +77,15 @@ piece_at-pieces_from lo hi v (e ∷ es) t h r b =
     piece_at-first lo e.from v (pieces_from e.from hi e.value es) t h none
     ∙ by_lt_z t e.from
     (λ below.
-        let under : t <ℤ hi = let end : e.from <ℤ hi = b.0 in omega (arith, ints) in
-        ap (λ c. cond c (cond (int_le lo t) v None) (piece_at (pieces_from e.from hi e.value es) t)) (lower e.from t below)
-        ∙ both (int_le lo t)
-        ∙ sym (ap (λ c. cond (int_le lo t && c) (value_from v (e ∷ es) t) None) (lower hi t under) ∙ ap (λ c. cond (int_le lo t && true) (cond c v (value_from e.value es t)) None) (lower e.from t below)))
+    let under : t <ℤ hi = let end : e.from <ℤ hi = b.0 in omega (arith, ints) in
+    ap (λ c. cond c (cond (int_le lo t) v None) (piece_at (pieces_from e.from hi e.value es) t)) (lower e.from t below)
+    ∙ both (int_le lo t)
+    ∙ sym (ap (λ c. cond (int_le lo t && c) (value_from v (e ∷ es) t) None) (lower hi t under) ∙ ap (λ c. cond (int_le lo t && true) (cond c v (value_from e.value es t)) None) (lower e.from t below)))
     (λ above.
-        let low : lo ≤ℤ t = let first : lo <ℤ e.from = h in omega (arith, ints) in
-        ap (λ c. cond c (cond (int_le lo t) v None) (piece_at (pieces_from e.from hi e.value es) t)) (higher e.from t above)
-        ∙ rest ∙ ap (λ c. cond (c && int_lt t hi) (value_from e.value es t) None) (from e.from t above ∙ sym (from lo t low))
-        ∙ ap (λ c. cond (int_le lo t && int_lt t hi) (cond c v (value_from e.value es t)) None) (sym (higher e.from t above)))
+    let low : lo ≤ℤ t = let first : lo <ℤ e.from = h in omega (arith, ints) in
+    ap (λ c. cond c (cond (int_le lo t) v None) (piece_at (pieces_from e.from hi e.value es) t)) (higher e.from t above)
+    ∙ rest ∙ ap (λ c. cond (c && int_lt t hi) (value_from e.value es t) None) (from e.from t above ∙ sym (from lo t low))
+    ∙ ap (λ c. cond (int_le lo t && int_lt t hi) (cond c v (value_from e.value es t)) None) (sym (higher e.from t above)))
   where
     both : (c : Bool) → cond c v None ≡ cond (c && true) v None
     both true = refl
@@ -117,7 +117,6 @@ rising-pieces_from lo hi v (e ∷ es) h r b =
     rising_first lo e.from hi v (pieces_from e.from hi e.value es) h (omega (arith, ints)) (rising-pieces_from e.from hi e.value es r.0 r.1 b.1)
 
 -- ---- the edges between two numbers
-
 
 below-drop_upto : (lo : ℤ) (es : List Edge) → IsBelowFirst lo (drop (place_upto lo es) es)
 below-drop_upto lo [] = tt

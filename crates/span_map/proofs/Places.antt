@@ -1,6 +1,5 @@
 -- What a binary search over rising edges finds.
-use Rattle.std.proofs.Common.{◌≡◌, ℕ, zero, suc, ◌+◌, ◌<◌, ◌≤◌, Bool, true, false, cond, ℤ, ◌<ℤ◌, int_lt, int_le, List, [], ◌∷◌, length, get_or, ◌⊎◌, inl, inr, refl, sym, ap, ◌∙◌, subst, arith}
-use Rattle.std.specs.List.{AllWithin}
+use Rattle.std.proofs.Common.{◌≡◌, ℕ, zero, suc, ◌<◌, ◌≤◌, Bool, true, false, cond, ℤ, ◌<ℤ◌, int_lt, int_le, List, [], ◌∷◌, length, get_or, ◌⊎◌, inl, inr, refl, sym, ap, ◌∙◌, subst, arith}
 use Rattle.std.specs.List.Sorted.{IsPartitionPoint, IsPartitionedBy}
 use Rattle.std.proofs.lemmas.Int.{ints}
 use Rattle.std.proofs.lemmas.Bool.{cases_lt}
@@ -21,7 +20,6 @@ rising_places [] i j d r h l = absurd (omega arith)
 rising_places (e ∷ es) i zero d r h l = absurd (omega arith)
 rising_places (e ∷ es) zero (suc j) d r h l = rising_after e.from es j d r.0 r.1 (omega arith)
 rising_places (e ∷ es) (suc i) (suc j) d r h l = rising_places es i j d r.1 (omega arith) (omega arith)
-
 
 -- a test that each lower edge passes where a higher one does splits rising edges
 pub parted : (p : Edge → Bool) (es : List Edge) → ((a b : Edge) → a.from <ℤ b.from → p b ≡ true → p a ≡ true) → IsRising es → IsPartitionedBy p es

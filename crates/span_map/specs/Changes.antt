@@ -1,5 +1,5 @@
 -- Changes of the values within a span.
-use Rattle.std.specs.Prelude.{◌≡◌, ℕ, Bool, cond, ◌&&◌, ℤ, List, Option, Some, None, int_lt, [], ◌∷◌}
+use Rattle.std.specs.Prelude.{◌≡◌, ℕ, cond, ℤ, List, Option, Some, None, int_lt, [], ◌∷◌}
 use Rattle.ts_bucket.specs.Positions.{later, above}
 use Rattle.ts_bucket.specs.Spans.{SpanValue, in_span}
 use Rattle.span_map.specs.Edges.{value_from}

@@ -1,5 +1,5 @@
 -- Edges: the numbers at which the value of a map changes, in rising order.
-use Rattle.std.specs.Prelude.{◌≡◌, ℕ, suc, Bool, false, cond, ℤ, ◌<ℤ◌, int_lt, int_le, nat_eq, List, [], ◌∷◌, Option, None, is_some, count_by}
+use Rattle.std.specs.Prelude.{ℕ, suc, Bool, false, cond, ℤ, ◌<ℤ◌, int_lt, int_le, nat_eq, List, [], ◌∷◌, Option, is_some, count_by}
 use Rattle.std.specs.Ordering.{int_eq}
 use Rattle.std.specs.Option.{option_eq}
 use Rattle.span_map.specs.declared.edges.Edge.{Edge}

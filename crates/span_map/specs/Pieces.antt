@@ -1,6 +1,6 @@
 -- Pieces: spans with one value each.
-use Rattle.std.specs.Prelude.{◌≡◌, ℕ, Bool, cond, ◌&&◌, ℤ, ◌≤ℤ◌, ◌<ℤ◌, List, [], ◌∷◌, ◌++◌, Option, Some, None, int_lt}
-use Rattle.ts_bucket.specs.Spans.{SpanValue, in_span}
+use Rattle.std.specs.Prelude.{ℕ, cond, ℤ, ◌≤ℤ◌, ◌<ℤ◌, List, [], ◌∷◌, ◌++◌, Option, Some, None, int_lt}
+use Rattle.ts_bucket.specs.Spans.{in_span}
 use Rattle.span_map.specs.declared.edges.Edge.{Edge}
 use Rattle.span_map.specs.declared.pieces.Piece.{Piece}
 

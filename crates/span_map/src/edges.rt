@@ -38,7 +38,11 @@ pub(crate) fn value_after(edges: &[Edge], count: usize) -> Option<u64>
     requires { count ≤ length edges.now }
     ensures { result ≡ last_value None (take count edges.now) }
 {
-    if count == 0 { None } else { edges[count - 1].value }
+    if count == 0 {
+        None
+    } else {
+        edges[count - 1].value
+    }
 }
 
 /// How many pieces the edges begin.

@@ -35,7 +35,12 @@ fn push_piece(pieces: &mut Vec<Piece>, start: Edge, end: Edge) -> Result<(), NoM
 }
 
 /// The pieces from the start on and below the end, where the edges are those between the two.
-fn pieces_between(alloc: Global, start: Edge, edges: &[Edge], end: Edge) -> Result<Seq<Piece>, NoMemory>
+fn pieces_between(
+    alloc: Global,
+    start: Edge,
+    edges: &[Edge],
+    end: Edge,
+) -> Result<Seq<Piece>, NoMemory>
     ensures { IfOk result (λ pieces. pieces ≡ pieces_from start.from end.from start.value edges.now) }
 {
     let mut pieces = Vec::new(alloc);
@@ -49,7 +54,11 @@ fn pieces_between(alloc: Global, start: Edge, edges: &[Edge], end: Edge) -> Resu
 }
 
 /// The pieces of these edges within the span.
-pub(crate) fn pieces_within(alloc: Global, edges: &[Edge], span: Span) -> Result<Seq<Piece>, NoMemory>
+pub(crate) fn pieces_within(
+    alloc: Global,
+    edges: &[Edge],
+    span: Span,
+) -> Result<Seq<Piece>, NoMemory>
     requires { IsRising edges.now }
     ensures values { IfOk result (λ pieces. (t : ℤ) → piece_at pieces t ≡ cond (in_span span t) (value_from None edges.now t) None) }
     ensures rising { IfOk result (λ pieces. ArePieces span.lo span.hi pieces) }

@@ -64,7 +64,9 @@ fn calls_do_what_they_do_to_a_plain_function(rt: HostRuntime) -> Result<(), Fail
     let mut values = [None; 24];
     for (lo, hi, call) in calls {
         let span = span(lo, hi)?;
-        map.reserve(3 * (floor.len() % 16 + 1) + map.len())?;
+        let pieces = floor.len();
+        assert_eq!(rt; pieces, 2);
+        map.reserve(3 * (pieces + 1) + map.len())?;
         match call {
             Call::Assign(pos) => map.assign(span, pos),
             Call::AssignAbove(pos) => map.assign_above(span, pos, &floor),
@@ -79,5 +81,28 @@ fn calls_do_what_they_do_to_a_plain_function(rt: HostRuntime) -> Result<(), Fail
             assert_eq!(rt; map.at(t), values[i]);
         }
     }
+    Ok(())
+}
+
+#[test]
+fn ranges_are_the_pieces_within_a_span(rt: HostRuntime) -> Result<(), Fail> {
+    let mut map = SpanMap::new(rt.alloc());
+    map.reserve(6)?;
+    map.assign(span(0, 10)?, 3);
+    map.assign(span(10, 20)?, 4);
+    map.clear_upto(span(5, 15)?, 3);
+    assert_eq!(rt; map.len(), 2);
+    let pieces = map.copy()?.ranges(span(2, 12)?)?;
+    let expected = [
+        Piece {
+            span: span(2, 5)?,
+            pos: 3,
+        },
+        Piece {
+            span: span(10, 12)?,
+            pos: 4,
+        },
+    ];
+    assert_eq!(rt; pieces.items(), expected.as_slice());
     Ok(())
 }

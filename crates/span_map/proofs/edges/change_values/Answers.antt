@@ -1,5 +1,5 @@
 -- Both ends get an edge, the edges between change, and what begins nothing new goes.
-use Rattle.std.proofs.Common.{◌≡◌, ◌<◌, ◌∙◌, ◌++◌, ℤ, ◌<ℤ◌, ap, sym, subst, None, List, length, map, take, drop, arith}
+use Rattle.std.proofs.Common.{◌≡◌, ◌∙◌, ◌<ℤ◌, ap, sym, subst, None, length, map, arith}
 use Rattle.std.specs.Int.{w64, cast_signed, cast_unsigned}
 use Rattle.std.specs.List.{dedup}
 use Rattle.std.proofs.lemmas.Int.{ints}
@@ -21,10 +21,10 @@ is c =
     let lo : cast_signed w64 (cast_unsigned w64 c.span.inside.lo) ≡ c.args.span.lo = omega (arith, ints) in
     let hi : cast_signed w64 (cast_unsigned w64 c.span.inside.hi) ≡ c.args.span.hi = omega (arith, ints) in
     let two : c.split-then-span.new.edges.items ≡ with_edge None c.args.span.hi (with_edge None c.args.span.lo c.args.edges.now.items) =
-        c.split-then-span.ensures.items ∙ ap (λ t. with_edge None t c.split.new.edges.items) hi
-        ∙ ap (with_edge None c.args.span.hi) (c.split.ensures.items ∙ ap (λ t. with_edge None t c.args.edges.now.items) lo) in
+    c.split-then-span.ensures.items ∙ ap (λ t. with_edge None t c.split.new.edges.items) hi
+    ∙ ap (with_edge None c.args.span.hi) (c.split.ensures.items ∙ ap (λ t. with_edge None t c.args.edges.now.items) lo) in
     let mapped : c.change_within.new.edges ≡ map (edge_changed c.args.span c.args.change) c.split-then-span.new.edges.items =
-        c.change_within.ensures ∙ ap (map (edge_changed c.args.span c.args.change)) c.deref_mut.ensures.value in
+    c.change_within.ensures ∙ ap (map (edge_changed c.args.span c.args.change)) c.deref_mut.ensures.value in
     c.merge.ensures.items
     ∙ ap (dedup same_value) (written_back (edge_changed c.args.span c.args.change) c.split-then-span.new.edges.items c.change_within.new.edges c.split-then-span.new.edges.len (omega (arith, ap (length {A = Edge}) c.deref_mut.ensures.value)) mapped)
     ∙ ap (λ es. dedup same_value (map (edge_changed c.args.span c.args.change) es)) two

@@ -1,5 +1,5 @@
 -- The step of a loop that changes each edge in place.
-use Rattle.std.proofs.Common.{◌≡◌, ◌<◌, ◌∙◌, ap, length, get_or, set, pos, None, arith}
+use Rattle.std.proofs.Common.{◌<◌, ◌∙◌, ap, length, get_or, set, pos, None, arith}
 use Rattle.std.proofs.lemmas.List.{get_or_default}
 use Rattle.std.proofs.lemmas.List.Edits.{map_over_more}
 use Rattle.span_map.specs.declared.edges.Edge.{Edge}

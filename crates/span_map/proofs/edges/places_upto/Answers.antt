@@ -1,5 +1,5 @@
 -- The search splits the edges by a test that lower ones pass where higher ones do.
-use Rattle.std.proofs.Common.{◌≡◌, Bool, true, ◌<ℤ◌, ◌∙◌, int_le, int_lt, arith, rules}
+use Rattle.std.proofs.Common.{Bool, ◌∙◌, int_le, arith, rules}
 use Rattle.std.proofs.lemmas.Int.{ints}
 use Rattle.std.proofs.lemmas.List.Sorted.{IsPartitionPoint-from_clause}
 use Rattle.std.specs.List.Sorted.{IsPartitionedBy}

@@ -1,5 +1,5 @@
 -- The value at a number is that after the edges at or below it.
-use Rattle.std.proofs.Common.{◌≡◌, ℕ, None, sym, ap, ◌∙◌, take, FitsSigned}
+use Rattle.std.proofs.Common.{◌≡◌, None, sym, ap, ◌∙◌, take, FitsSigned}
 use Rattle.std.specs.Int.{w64}
 use Rattle.std.proofs.lemmas.Int.{to_z-of_z}
 use Rattle.span_map.specs.Edges.{last_value, place_upto}

@@ -8,5 +8,5 @@ invariant-loop-edge l = record {
   rising : IsRising l.edges.items;
   len : vec_len l.edges ≤ vec_len l.initial.edges + 2 * piece_count (take l.edge-index l.floor);
   capacity : vec_capacity l.edges ≡ vec_capacity l.initial.edges;
-  values : (t : ℤ) → floor_filled l.span l.pos l.run (drop l.edge-index l.floor) (value_from None l.edges.items t) t ≡ floor_filled l.span l.pos (Some l.span.lo) l.floor (value_from None l.initial.edges.items t) t
+  values : (t : ℤ) → floor_filled l.span l.pos l.run (drop l.edge-index l.floor) (value_from None l.edges.items t) t ≡ floor_filled l.span l.pos (Some l.span.lo) l.floor (value_from None l.initial.edges.items t) t;
 }

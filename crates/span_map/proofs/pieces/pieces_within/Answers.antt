@@ -1,10 +1,9 @@
 -- The edges between the ends of the span are those that the two searches leave.
-use Rattle.std.proofs.Common.{◌≡◌, ◌∙◌, ℕ, ℤ, List, None, ap, sym, subst, take, drop, arith}
+use Rattle.std.proofs.Common.{◌≡◌, ap, sym, subst, arith}
 use Rattle.std.specs.Int.{w64, cast_signed, cast_unsigned}
 use Rattle.std.proofs.lemmas.Int.{ints}
 use Rattle.ts_bucket.specs.Spans.{SpanValue}
-use Rattle.span_map.specs.declared.edges.Edge.{Edge}
-use Rattle.span_map.specs.Edges.{IsRising, last_value, place_upto, place_below}
+use Rattle.span_map.specs.Edges.{IsRising}
 use Rattle.span_map.specs.Pieces.{pieces_from}
 use Rattle.span_map.proofs.PieceLaws.{rising-drop, between, value_on, found_is, values_as, rising_as}
 use Rattle.span_map.proofs.pieces.pieces_within.Goals as goal
