@@ -11,6 +11,8 @@ mod kills;
 mod lives;
 mod scans;
 mod segments;
+#[cfg(test)]
+mod tests;
 
 pub use hulls::join_hulls;
 pub use scans::later;
