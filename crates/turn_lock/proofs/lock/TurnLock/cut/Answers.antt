@@ -1,0 +1,7 @@
+use Rattle.std.proofs.Common.{rules, subst, ℕ}
+use Rattle.atomic_table.specs.Table.{Splits}
+use Rattle.turn_lock.proofs.Shares.{splits}
+use Rattle.turn_lock.proofs.lock.TurnLock.cut.Goals as goal
+
+pub split_seat-requires : goal.split_seat-requires
+split_seat-requires g c = (search rules, search rules, splits _ _ _ _ c.self.inside.table.shared.key _ c.args.seat.now.me.0 g.C.Cutting.count (search rules) (search rules))
