@@ -92,15 +92,18 @@ module _ {V B E : Type 0} (base : V → B) (first : B → ℕ) (events : V → L
     closing idle live =
         let h = home_is idle r.home r.stands in
         let lead = leads in
-        let end : end_of (first root) r.log ≡ end_of (first root) (events h.0) = ap (end_of (first root)) (sym h.2.all) in
-        (h.0, r.homes ∙ ap (λ (o : maybe.Option (Option V)). o ∷ []) h.1, record {
-          opened = h.2.on_root;
-          one_base = ((r.fits id v at).live live).0;
-          seen = h.2.all ∙ sym lead.seen;
-          closed_is = h.2.as_shut ∙ sym lead.closed;
-          made = counts_permute v.made _ (λ p. sym (sum_only (λ (q : Knows B E). times p q.made) s.views id v at (none_made p)) ∙ r.made p
-              ∙ ap (λ (e : ℕ). times p (positions_between (end_of (first root) (events key.value.value)) e)) end);
-        })
+        let end : end_of (first root) r.log ≡ end_of (first root) (events h.0) = ap (end_of (first root)) (sym h.2.all) in (
+          h.0,
+          r.homes ∙ ap (λ (o : maybe.Option (Option V)). o ∷ []) h.1,
+          record {
+            opened = h.2.on_root;
+            one_base = ((r.fits id v at).live live).0;
+            seen = h.2.all ∙ sym lead.seen;
+            closed_is = h.2.as_shut ∙ sym lead.closed;
+            made = counts_permute v.made _ (λ p. sym (sum_only (λ (q : Knows B E). times p q.made) s.views id v at (none_made p)) ∙ r.made p
+                ∙ ap (λ (e : ℕ). times p (positions_between (end_of (first root) (events key.value.value)) e)) end);
+          },
+        )
 
   some_is : (x y : Option V) → maybe.some x ≡ maybe.some y → x ≡ y
   some_is x y e = some-injective x y e

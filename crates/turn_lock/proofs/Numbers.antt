@@ -29,6 +29,12 @@ positions_none p = λ i. positions_after p ((let e : p - p ≡ 0 = omega arith i
 pub positions_one : (p : ℕ) → positions_between p (p + 1) ≡ (p + 1) ∷ []
 positions_one p = λ i. positions_after p ((let e : p + 1 - p ≡ suc 0 = omega arith in e) i)
 
+-- the position that one more event adds
+pub positions_added : {E : Type 0} (p : ℕ) (events : List E) (e : E) → positions_between (end_of p events) (end_of p (events ++ e ∷ [])) ≡ end_of p (events ++ e ∷ []) ∷ []
+positions_added p events e =
+    let more : end_of p (events ++ e ∷ []) ≡ end_of p events + 1 = omega (arith, length-append events (e ∷ [])) in
+    ap (positions_between (end_of p events)) more ∙ positions_one (end_of p events) ∙ ap (λ n. n ∷ []) (sym more)
+
 pub times-append : (p : ℕ) (xs ys : List ℕ) → times p (xs ++ ys) ≡ times p xs + times p ys
 times-append p xs ys = sum_by-append (λ q. cond (eqb q p) 1 0) xs ys
 
@@ -49,8 +55,8 @@ found_in x [] h = absurd (omega arith)
 found_in x (y ∷ ys) h = dite (ℕ_discrete y x)
     (λ e. ([], (ys, λ i. e i ∷ ys)))
     (λ ne. let c = times-cons x y ys in let z : eqb y x ≡ false = ne_eqb y x ne in
-        let h' : 0 < times x ys = subst (λ b. 0 < cond b 1 0 + times x ys → 0 < times x ys) (sym z) (λ k. omega arith) (subst (λ n. 0 < n) c h) in
-        let r = found_in x ys h' in (y ∷ r.0, (r.1.0, λ i. y ∷ r.1.1 i)))
+    let h' : 0 < times x ys = subst (λ b. 0 < cond b 1 0 + times x ys → 0 < times x ys) (sym z) (λ k. omega arith) (subst (λ n. 0 < n) c h) in
+    let r = found_in x ys h' in (y ∷ r.0, (r.1.0, λ i. y ∷ r.1.1 i)))
 
 -- two lists in which each number stands as often are one in another order
 pub counts_permute : (xs ys : List ℕ) → ((p : ℕ) → times p xs ≡ times p ys) → IsPermutation xs ys
@@ -62,7 +68,7 @@ counts_permute (x ∷ xs) ys h =
     let u : times x (x ∷ xs) ≡ 1 + times x xs = c ∙ ap (λ b. cond b 1 0 + times x xs) t in
     let f = found_in x ys (let e = h x in omega (arith, e, u)) in
     let fewer : (p : ℕ) → times p xs ≡ times p (f.0 ++ f.1.0) = λ p.
-        let a = h p in let b = times-cons p x xs in let d = ap (times p) f.1.1 in let g = times-append p f.0 (x ∷ f.1.0) in
-        let k = times-cons p x f.1.0 in let l = times-append p f.0 f.1.0 in omega (arith, a, b, d, g, k, l) in
+    let a = h p in let b = times-cons p x xs in let d = ap (times p) f.1.1 in let g = times-append p f.0 (x ∷ f.1.0) in
+    let k = times-cons p x f.1.0 in let l = times-append p f.0 f.1.0 in omega (arith, a, b, d, g, k, l) in
     subst (IsPermutation (x ∷ xs)) (sym f.1.1)
-        (IsPermutation-trans _ _ _ (IsPermutation-cons x _ _ (counts_permute xs (f.0 ++ f.1.0) fewer)) (IsPermutation-sym _ _ (IsPermutation-middle f.0 x f.1.0)))
+    (IsPermutation-trans _ _ _ (IsPermutation-cons x _ _ (counts_permute xs (f.0 ++ f.1.0) fewer)) (IsPermutation-sym _ _ (IsPermutation-middle f.0 x f.1.0)))

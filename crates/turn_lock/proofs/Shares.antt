@@ -42,9 +42,9 @@ module _ {E : Type 0} where
       let a = prefix_length xs log p in let b = prefix_length ys log q in
       let short : (length log ≤ length xs) ⊎ (length log ≤ length ys) = ⊎_elim (λ e. let l = ap length e in inl (omega arith)) (λ e. let l = ap length e in inr (omega arith)) one in
       ⊎_elim
-          (λ c. c.1 ∙ prefix_whole ys log q (let lt = c.0 in ⊎_elim {C = length log ≤ length ys} (λ h. omega arith) (λ h. h) short))
-          (λ c. c.1 ∙ prefix_whole xs log p (let le = c.0 in ⊎_elim {C = length log ≤ length xs} (λ h. h) (λ h. omega arith) short))
-          (longer_cases xs ys)
+      (λ c. c.1 ∙ prefix_whole ys log q (let lt = c.0 in ⊎_elim {C = length log ≤ length ys} (λ h. omega arith) (λ h. h) short))
+      (λ c. c.1 ∙ prefix_whole xs log p (let le = c.0 in ⊎_elim {C = length log ≤ length xs} (λ h. h) (λ h. omega arith) short))
+      (longer_cases xs ys)
 
 or_cases : (a b : Bool) → (a || b) ≡ true → (a ≡ true) ⊎ (b ≡ true)
 or_cases true b e = inl refl
@@ -121,29 +121,29 @@ module _ {V B E : Type 0} (base : V → B) (first : B → ℕ) (events : V → L
       let no_ticket : (u x : Knows B E) → u.stage ≡ Idle → (n : ℕ) → HasTicket u.stage n → HasTicket x.stage n = λ u x is n h. absurd (subst (λ (q : Stage E). HasTicket q n) is h) in
       let no_turn : (u x : Knows B E) → u.stage ≡ Idle → HasTurn u.stage → HasTurn x.stage = λ u x is h. absurd (subst HasTurn is h) in
       let both_fits : Fits root r.log r.shut both = record {
-            seen = longer_begins v.seen w.seen r.log f.seen g.seen;
-            other_seen = shorter_begins v.seen w.seen r.log f.seen g.seen;
-            closed = λ e. ⊎_elim
-                (λ t. let c = f.closed t in (longer_all v.seen w.seen r.log f.seen g.seen (inl c.0), c.1))
-                (λ t. let c = g.closed t in (longer_all v.seen w.seen r.log f.seen g.seen (inr c.0), c.1))
-                (or_cases v.shut w.shut e);
-            live = λ _. ((f.live live).0, (g.live live').0);
-            gone = λ e. absurd (omega arith);
-          } in
+        seen = longer_begins v.seen w.seen r.log f.seen g.seen;
+        other_seen = shorter_begins v.seen w.seen r.log f.seen g.seen;
+        closed = λ e. ⊎_elim
+            (λ t. let c = f.closed t in (longer_all v.seen w.seen r.log f.seen g.seen (inl c.0), c.1))
+            (λ t. let c = g.closed t in (longer_all v.seen w.seen r.log f.seen g.seen (inr c.0), c.1))
+            (or_cases v.shut w.shut e);
+        live = λ _. ((f.live live).0, (g.live live').0);
+        gone = λ e. absurd (omega arith);
+      } in
       let left_newest : Newest r.log r.shut v → Newest r.log r.shut both = λ h. record {
-            live = omega arith;
-            seen = longer_all v.seen w.seen r.log f.seen g.seen (inl h.seen);
-            closed = or_same v.shut w.shut r.shut h.closed (λ t. (g.closed t).1);
-          } in
+        live = omega arith;
+        seen = longer_all v.seen w.seen r.log f.seen g.seen (inl h.seen);
+        closed = or_same v.shut w.shut r.shut h.closed (λ t. (g.closed t).1);
+      } in
       let right_newest : Newest r.log r.shut w → Newest r.log r.shut both = λ h. record {
-            live = omega arith;
-            seen = longer_all v.seen w.seen r.log f.seen g.seen (inr h.seen);
-            closed = or_same_right v.shut w.shut r.shut h.closed (λ t. (f.closed t).1);
-          } in
+        live = omega arith;
+        seen = longer_all v.seen w.seen r.log f.seen g.seen (inr h.seen);
+        closed = or_same_right v.shut w.shut r.shut h.closed (λ t. (f.closed t).1);
+      } in
       let here : get_elem? views id ≡ some both = set_else one other id spent (λ e. ne (sym e)) ∙ set_at s.views id v both at in
       let newest : (j : ℕ) × Leads views j r.log r.shut = dite (ℕ_discrete r.last other)
-            (λ e. (id, (both, here, right_newest (subst (Newest r.log r.shut) (one_at s.views other r.newest.0 w (subst (λ k. get_elem? s.views k ≡ some r.newest.0) e r.newest.1) there) r.newest.2))))
-            (λ apart. let h = leads_set s.views id r.last r.log r.shut v both at left_newest r.newest in (r.last, (h.0, set_else one other r.last spent apart ∙ h.1, h.2))) in
+      (λ e. (id, (both, here, right_newest (subst (Newest r.log r.shut) (one_at s.views other r.newest.0 w (subst (λ k. get_elem? s.views k ≡ some r.newest.0) e r.newest.1) there) r.newest.2))))
+      (λ apart. let h = leads_set s.views id r.last r.log r.shut v both at left_newest r.newest in (r.last, (h.0, set_else one other r.last spent apart ∙ h.1, h.2))) in
       record {
         next = r.next;
         serving = r.serving;
@@ -171,9 +171,17 @@ module _ {V B E : Type 0} (base : V → B) (first : B → ℕ) (events : V → L
 
   pub counts : (n id : ℕ) (me : Me (Option V) (Knows B E)) → 0 < me.0.shares → Allows Holds n id me 0 (λ y. y) (Counts (step n 0 0 0 none) me)
   counts n id me live s r wide at small =
-      let f = r.fits id me.0 at in
-      (me.0, keeps, tt, rests base first events closed key s 0 id me.0 at r, (refl, record {
-        fits = let a = sum_at (λ (u : Knows B E). u.shares) s.views id me.0 at in let b = r.shares in let c = r.few in omega (arith, a, b, c);
-        one_base = (f.live live).1 ∙ sym (f.live live).0;
-        begins = λ le. prefix_shorter me.0.other_seen me.0.seen r.log f.other_seen f.seen le;
-      }))
+      let f = r.fits id me.0 at in (
+        me.0,
+        keeps,
+        tt,
+        rests base first events closed key s 0 id me.0 at r,
+        (
+          refl,
+          record {
+            fits = let a = sum_at (λ (u : Knows B E). u.shares) s.views id me.0 at in let b = r.shares in let c = r.few in omega (arith, a, b, c);
+            one_base = (f.live live).1 ∙ sym (f.live live).0;
+            begins = λ le. prefix_shorter me.0.other_seen me.0.seen r.log f.other_seen f.seen le;
+          },
+        ),
+      )

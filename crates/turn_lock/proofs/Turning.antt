@@ -103,15 +103,15 @@ module _ {V B E : Type 0} (base : V → B) (first : B → ℕ) (events : V → L
         queue = λ n le lt. dite (ℕ_discrete n t)
             (λ e. (w, subst (λ k. get_elem? (set s.views id w) k ≡ some w) (sym (ap (drawn_by r.holder t id) e ∙ drawn_here r.holder t id)) (set_at s.views id v w at), sym e))
             (λ ne. let small : n < t = omega arith in subst (λ k. Queues (set s.views id w) k n) (sym (drawn_before r.holder t id n small))
-                (queues_set s.views id (r.holder n) n v w at (λ h. absurd (subst (λ (g : Stage E). HasTicket g n) idle h)) (r.queue n le (omega arith))));
+            (queues_set s.views id (r.holder n) n v w at (λ h. absurd (subst (λ (g : Stage E). HasTicket g n) idle h)) (r.queue n le (omega arith))));
         places = all_set (λ j (u : Knows B E). InPlace (t + 1) r.serving (drawn_by r.holder t id) r.log r.shut (r.home ≡ none) j u.stage) s.views id w
             (omega arith, omega arith, drawn_here r.holder t id)
             (λ j u ne a. subst (λ k. InPlace (k + 1) r.serving (drawn_by r.holder k id) r.log r.shut (r.home ≡ none) j u.stage) is (place_drawn r.log r.shut r.next r.serving id r.holder (r.home ≡ none) j u.stage (r.places j u a)));
         fits = all_set (λ j. Fits root r.log r.shut) s.views id w (at_stage_fits root r.log r.shut (Waiting t) v live (r.fits id v at)) (λ j u ne a. r.fits j u a);
         stands = stands_as base events closed root r.log r.shut (Rules s.views (r.holder r.serving)) (Rules (set s.views id w) (drawn_by r.holder t id r.serving)) r.home
             (λ out h. let lt = turn_below r.log r.shut r.next r.serving r.holder (r.home ≡ none) (r.holder r.serving) h.0.stage (r.places (r.holder r.serving) h.0 h.1) h.2 in
-                let small : r.serving < t = omega arith in
-                subst (Rules (set s.views id w)) (sym (drawn_before r.holder t id r.serving small)) (rules_set s.views id (r.holder r.serving) v w at no_turn h)) r.stands;
+            let small : r.serving < t = omega arith in
+            subst (Rules (set s.views id w)) (sym (drawn_before r.holder t id r.serving small)) (rules_set s.views id (r.holder r.serving) v w at no_turn h)) r.stands;
         newest = leads_set s.views id r.last r.log r.shut v w at (newest_at_stage r.log r.shut (Waiting t) v) r.newest;
         shares = same_shares s.views id v w at refl ∙ r.shares;
         few = r.few;
@@ -123,8 +123,8 @@ module _ {V B E : Type 0} (base : V → B) (first : B → ℕ) (events : V → L
   draws n id me t idle live s r wide at small =
       let y : ℕ = get_or s.words 0 0 in let told : M → Type 0 = Draws (step n 0 t (t + 1) none) me y in
       exchanged y t (t + 1) (Goes s 0 id me told)
-          (λ hit. (at_stage (Waiting t) me.0, keeps, tt, draws_next s id me.0 t r at idle live (sym (ap (λ (ws : List ℕ). get_or ws 0 0) r.words) ∙ hit), ((λ _. refl), λ miss. absurd (miss hit))))
-          (λ miss. still s 0 id me told at r ((λ hit. absurd (miss hit)), λ _. refl))
+      (λ hit. (at_stage (Waiting t) me.0, keeps, tt, draws_next s id me.0 t r at idle live (sym (ap (λ (ws : List ℕ). get_or ws 0 0) r.words) ∙ hit), ((λ _. refl), λ miss. absurd (miss hit))))
+      (λ miss. still s 0 id me told at r ((λ hit. absurd (miss hit)), λ _. refl))
 
   -- the value is at home while the ticket served is one that waits
   at_home : (s : St) (id : ℕ) (v : Knows B E) (r : Holds s) → get_elem? s.views id ≡ some v → r.holder r.serving ≡ id → (HasTurn v.stage → ⊥)
@@ -165,6 +165,28 @@ module _ {V B E : Type 0} (base : V → B) (first : B → ℕ) (events : V → L
         made = λ p. same_made p s.views id v w at refl ∙ r.made p;
       }
 
+  looks_hit : (n id : ℕ) (me : M) (t : ℕ) (x : V) (s : St) (r : Holds s) → get_elem? s.views id ≡ some me.0 → me.0.stage ≡ Waiting t → 0 < me.0.shares → get_or s.words 1 0 ≡ t → r.serving ≡ t → r.home ≡ some (Some x)
+      → IsValue base events closed root r.log r.shut x → Goes s 1 id me (Looks base events closed (step n 1 0 0 none) me (get_or s.words 1 0)) (get_or s.words 1 0)
+  looks_hit n id me t x s r at waits live hit is home val =
+      let y : ℕ = get_or s.words 1 0 in let f = r.fits id me.0 at in let w = at_stage (Turn t (events x) (closed x)) me.0 in let now : M = (w, (0, Some x) ∷ me.1) in (
+        w,
+        takes 0 (Some x),
+        ap (λ (hs : List (maybe.Option (Option V))). get_elem? hs 0) r.homes ∙ ap some home,
+        looks_in s id me.0 t x r at waits live is home val,
+        subst (λ (g : Stage E). LooksAt base events closed g me y now) (sym waits) (
+          (λ _. (
+            x,
+            record {
+              after = refl {a = now};
+              one_base = (f.live live).0 ∙ ap Some (sym val.on_root);
+              begins = subst (IsPrefix me.0.seen) (sym val.all) f.seen;
+              stays = λ e. (val.as_shut ∙ (f.closed e).1, val.all ∙ sym (f.closed e).0);
+            },
+          )),
+          λ miss. absurd {A = now ≡ me} (miss hit),
+        ),
+      )
+
   pub looks : (n id : ℕ) (me : M) (t : ℕ) → me.0.stage ≡ Waiting t → 0 < me.0.shares → Allows Holds n id me 1 (λ y. y) (Looks base events closed (step n 1 0 0 none) me)
   looks n id me t waits live s r wide at small =
       let y : ℕ = get_or s.words 1 0 in
@@ -172,24 +194,11 @@ module _ {V B E : Type 0} (base : V → B) (first : B → ℕ) (events : V → L
       let told : M → Type 0 = Looks base events closed (step n 1 0 0 none) me y in
       let place : InPlace r.next r.serving r.holder r.log r.shut (r.home ≡ none) id (Waiting t) = subst (InPlace r.next r.serving r.holder r.log r.shut (r.home ≡ none) id) waits (r.places id me.0 at) in
       dite (ℕ_discrete y t)
-          (λ hit.
-            let is : r.serving ≡ t = sym served ∙ hit in
-            let h = at_home s id me.0 r at (ap r.holder is ∙ place.2) (λ turn. subst HasTurn waits turn) r.home r.stands in
-            let f = r.fits id me.0 at in
-            (
-              at_stage (Turn t (events h.0) (closed h.0)) me.0,
-              takes 0 (Some h.0),
-              ap (λ (hs : List (maybe.Option (Option V))). get_elem? hs 0) r.homes ∙ ap some h.1,
-              looks_in s id me.0 t h.0 r at waits live is h.1 h.2,
-              subst (λ (g : Stage E). LooksAt base events closed g me y (at_stage (Turn t (events h.0) (closed h.0)) me.0, (0, Some h.0) ∷ me.1)) (sym waits)
-                  ((λ _. (h.0, record {
-                    after = refl;
-                    one_base = (f.live live).0 ∙ ap Some (sym h.2.on_root);
-                    begins = subst (IsPrefix me.0.seen) (sym h.2.all) f.seen;
-                    stays = λ e. (h.2.as_shut ∙ (f.closed e).1, h.2.all ∙ sym (f.closed e).0);
-                  })), λ miss. absurd {A = (at_stage (Turn t (events h.0) (closed h.0)) me.0, (0, Some h.0) ∷ me.1) ≡ me} (miss hit)),
-            ))
-          (λ miss. still s 1 id me told at r (subst (λ (g : Stage E). LooksAt base events closed g me y me) (sym waits) ((λ hit. absurd (miss hit)), λ _. refl)))
+      (λ hit.
+      let is : r.serving ≡ t = sym served ∙ hit in
+      let h = at_home s id me.0 r at (ap r.holder is ∙ place.2) (λ turn. subst HasTurn waits turn) r.home r.stands in
+      looks_hit n id me t h.0 s r at waits live hit is h.1 h.2)
+      (λ miss. still s 1 id me told at r (subst (λ (g : Stage E). LooksAt base events closed g me y me) (sym waits) ((λ hit. absurd (miss hit)), λ _. refl)))
 
   -- what a pass with the turn did to the value, as far as the rule is concerned
   pub record Turned (v : Knows B E) (t : ℕ) (xs : List E) (c : Bool) (x : V) : Type 0 where
@@ -213,12 +222,12 @@ module _ {V B E : Type 0} (base : V → B) (first : B → ℕ) (events : V → L
       let more : IsPrefix r.log (events x) = subst (λ l. IsPrefix l (events x)) place.3 did.grown in
       let closes : r.shut ≡ true → (closed x ≡ true) × (events x ≡ r.log) = λ e. let d = did.stays (place.4 ∙ e) in (d.0, d.1 ∙ place.3) in
       let fit : (u : Knows B E) → Fits root r.log r.shut u → Fits root (events x) (closed x) u = λ u f. record {
-            seen = prefix_then u.seen r.log (events x) f.seen more;
-            other_seen = prefix_then u.other_seen r.log (events x) f.other_seen more;
-            closed = λ e. let d = f.closed e in let k = closes d.1 in (d.0 ∙ sym k.1, k.0);
-            live = f.live;
-            gone = f.gone;
-          } in
+        seen = prefix_then u.seen r.log (events x) f.seen more;
+        other_seen = prefix_then u.other_seen r.log (events x) f.other_seen more;
+        closed = λ e. let d = f.closed e in let k = closes d.1 in (d.0 ∙ sym k.1, k.0);
+        live = f.live;
+        gone = f.gone;
+      } in
       let mine_fits = fit v (r.fits id v at) in
       let start : ℕ = first root in
       record {
@@ -250,7 +259,7 @@ module _ {V B E : Type 0} (base : V → B) (first : B → ℕ) (events : V → L
             let a = made_set p s.views id v w at in
             let b = times-append p v.made (positions_between (end_of (first (base x)) xs) (end_of (first (base x)) (events x))) in
             let same : positions_between (end_of (first (base x)) xs) (end_of (first (base x)) (events x)) ≡ positions_between e e' =
-                λ k. positions_between (end_of (first (one k)) (place.3 k)) (end_of (first (one k)) (events x)) in
+            λ k. positions_between (end_of (first (one k)) (place.3 k)) (end_of (first (one k)) (events x)) in
             let d = ap (times p) same in
             let m = ap (times p) (positions_meet o e e' (let l = r.longer in omega arith) (let l = prefix_length r.log (events x) more in omega arith)) in
             let n = times-append p (positions_between o e) (positions_between e e') in

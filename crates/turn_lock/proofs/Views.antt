@@ -20,14 +20,20 @@ use Rattle.turn_lock.proofs.Lists.{one_at, set_at, all_set, set_same, sum_set, s
 module _ {B E : Type 0} where
   pub queues_set : (views : List (Knows B E)) (id j n : ℕ) (v w : Knows B E) → get_elem? views id ≡ some v → (HasTicket v.stage n → HasTicket w.stage n) → Queues views j n → Queues (set views id w) j n
   queues_set views id j n v w at keep q = dite (ℕ_discrete j id)
-      (λ e. (w, subst (λ k. get_elem? (set views id w) k ≡ some w) (sym e) (set_at views id v w at),
-        keep (subst (λ (u : Knows B E). HasTicket u.stage n) (one_at views id q.0 v (subst (λ k. get_elem? views k ≡ some q.0) e q.1) at) q.2)))
+      (λ e. (
+        w,
+        subst (λ k. get_elem? (set views id w) k ≡ some w) (sym e) (set_at views id v w at),
+        keep (subst (λ (u : Knows B E). HasTicket u.stage n) (one_at views id q.0 v (subst (λ k. get_elem? views k ≡ some q.0) e q.1) at) q.2),
+      ))
       (λ ne. (q.0, set_else views id j w ne ∙ q.1, q.2))
 
   pub rules_set : (views : List (Knows B E)) (id j : ℕ) (v w : Knows B E) → get_elem? views id ≡ some v → (HasTurn v.stage → HasTurn w.stage) → Rules views j → Rules (set views id w) j
   rules_set views id j v w at keep q = dite (ℕ_discrete j id)
-      (λ e. (w, subst (λ k. get_elem? (set views id w) k ≡ some w) (sym e) (set_at views id v w at),
-        keep (subst (λ (u : Knows B E). HasTurn u.stage) (one_at views id q.0 v (subst (λ k. get_elem? views k ≡ some q.0) e q.1) at) q.2)))
+      (λ e. (
+        w,
+        subst (λ k. get_elem? (set views id w) k ≡ some w) (sym e) (set_at views id v w at),
+        keep (subst (λ (u : Knows B E). HasTurn u.stage) (one_at views id q.0 v (subst (λ k. get_elem? views k ≡ some q.0) e q.1) at) q.2),
+      ))
       (λ ne. (q.0, set_else views id j w ne ∙ q.1, q.2))
 
   -- some view is the newest
@@ -36,8 +42,11 @@ module _ {B E : Type 0} where
 
   pub leads_set : (views : List (Knows B E)) (id j : ℕ) (log : List E) (shut : Bool) (v w : Knows B E) → get_elem? views id ≡ some v → (Newest log shut v → Newest log shut w) → Leads views j log shut → Leads (set views id w) j log shut
   leads_set views id j log shut v w at keep q = dite (ℕ_discrete j id)
-      (λ e. (w, subst (λ k. get_elem? (set views id w) k ≡ some w) (sym e) (set_at views id v w at),
-        keep (subst (Newest log shut) (one_at views id q.0 v (subst (λ k. get_elem? views k ≡ some q.0) e q.1) at) q.2)))
+      (λ e. (
+        w,
+        subst (λ k. get_elem? (set views id w) k ≡ some w) (sym e) (set_at views id v w at),
+        keep (subst (Newest log shut) (one_at views id q.0 v (subst (λ k. get_elem? views k ≡ some q.0) e q.1) at) q.2),
+      ))
       (λ ne. (q.0, set_else views id j w ne ∙ q.1, q.2))
 
   pub shares_set : (views : List (Knows B E)) (id : ℕ) (v w : Knows B E) → get_elem? views id ≡ some v → shares_in (set views id w) + v.shares ≡ shares_in views + w.shares

@@ -84,11 +84,11 @@ module _ {V B E : Type 0} where
   -- but for its turn the pass is as it was: its lock, shares and base, and what it has seen and made
   pub record IsSamePass (old new : Carried V B E) : Type 0 where
     pub lock : new.lock ≡ old.lock
-    pub shares : new.knows.shares ≡ old.knows.shares
-    pub base : new.knows.base ≡ old.knows.base
-    pub seen : new.knows.seen ≡ old.knows.seen
-    pub closed : new.knows.shut ≡ old.knows.shut
-    pub made : new.knows.made ≡ old.knows.made
+    pub shares : shares_of new ≡ shares_of old
+    pub base : base_of new ≡ base_of old
+    pub seen : seen_of new ≡ seen_of old
+    pub closed : closed_of new ≡ closed_of old
+    pub made : made_of new ≡ made_of old
 
   -- the pass, but for the number of its shares
   abbrev pub with_shares : ℕ → Carried V B E → Carried V B E

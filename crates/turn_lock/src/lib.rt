@@ -13,6 +13,8 @@ mod pass;
 mod plays;
 mod sharing;
 mod steps;
+#[cfg(test)]
+mod tests;
 mod turns;
 mod view;
 

@@ -11,6 +11,7 @@ use std::alloc::{AllocFailed, Global};
 use std::snapshot::Snapshot;
 
 /// A new lock with its first pass, or the value back where memory ran out.
+#[derive(Drop)]
 pub enum MadeLock<V: Grown> {
     Made { lock: TurnLock<V>, pass: Pass<V> },
     NoMemory(V),

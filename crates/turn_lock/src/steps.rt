@@ -24,7 +24,8 @@ impl<V: Grown> TurnLock<V> {
     {
         self.table
             .shared
-            .compare_exchange::<Draw>(seat, NEXT, ticket, ticket + 1) == ticket
+            .compare_exchange::<Draw>(seat, NEXT, ticket, ticket + 1)
+            == ticket
     }
 
     // Takes the next ticket. Where there is none left, it tries for ever.

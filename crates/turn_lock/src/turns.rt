@@ -16,6 +16,7 @@ impl<V: Grown> TurnLock<V> {
     pub fn take<R: Threads + Wait + Sync>(&self, rt: &R, pass: &mut Pass<V>) -> Held<V>
         requires lock { IsPassOf self.now pass.old }
         requires idle { IsIdle pass.old }
+        ensures lock { IsPassOf self.now pass.new }
         ensures same { IsSamePass pass.old pass.new }
         ensures turn { IsTurnOf pass.new result }
         ensures found { (found_of pass.new ≡ V.events result.value) × (found_closed_of pass.new ≡ V.closed result.value) }

@@ -26,6 +26,6 @@ loop-pass-preserved g c =
 pub returns-clause-begins : goal.returns-clause-begins
 returns-clause-begins g c =
     let end = YieldsList-end (YieldsList-from_vec {s = c.into_iter-pass-iterator.result} c.args.others.items (search rules) (search rules))
-          c.loop-pass.yielded c.loop-pass.pass-iterator c.loop-pass.yielded_by c.next.result c.next.new.self c.in-None.is c.next.ensures.steps in
+    c.loop-pass.yielded c.loop-pass.pass-iterator c.loop-pass.yielded_by c.next.result c.next.new.self c.in-None.is c.next.ensures.steps in
     let all = sym (map-id c.loop-pass.yielded) ∙ end.0 in
     (c.loop-pass.invariant.begins, subst (All (λ pass. IsPrefix (seen_of pass) (seen_of c.loop-pass.all))) all c.loop-pass.invariant.each_begins)

@@ -26,7 +26,7 @@ store-requires-2 g c =
     let old = c.args.seat.now in let x = c.args.value in let now = c.exchange.ensures.3 in
     let out : c.exchange.new.seat.me.1 ≡ (0, Some x) ∷ [] = ap (λ m. m.1) now ∙ (λ i. (0, Some x) ∷ rest (c.requires.turn.1 i)) in
     let told = posted_is g.V.Grown.base g.V.Grown.first g.V.Grown.events g.V.Grown.closed c.self.inside.table.shared.key c.exchange.new.seat.me c.store.new.seat.me c.args.ticket (found_at old.me.0.stage) (found_closed_at old.me.0.stage) x
-          (ap (λ m. m.0.stage) now ∙ c.requires.turn.0) out c.store.ensures.2 in (
+    (ap (λ m. m.0.stage) now ∙ c.requires.turn.0) out c.store.ensures.2 in (
       search rules,
       search rules,
       advances g.V.Grown.base g.V.Grown.first g.V.Grown.events g.V.Grown.closed c.self.inside.table.shared.key _ c.store.new.seat.id c.store.new.seat.me c.args.ticket x
