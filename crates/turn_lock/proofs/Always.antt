@@ -1,5 +1,5 @@
 -- What the rule says of every moment, in sentences.
-use Rattle.std.proofs.Common.{◌≡◌, ◌≢◌, ◌⊎◌, ℕ, zero, suc, ◌+◌, ◌-◌, ◌<◌, ◌≤◌, Bool, true, false, cond, List, [], ◌∷◌, length, get_or, refl, sym, ap, ◌∙◌, subst, inl, inr, ⊎_elim, arith}
+use Rattle.std.proofs.Common.{◌≡◌, ℕ, Bool, List, length, get_or, refl, sym, ap, ◌∙◌, subst, inl, inr, arith}
 use Rattle.std.specs.Prelude.{Option, Some, None, slice_index}
 use mathlib.Core.Logic.{dite}
 use mathlib.Core.Option.{none, some, some-injective, some-ne-none}
@@ -13,10 +13,9 @@ use Rattle.turn_lock.specs.declared.view.Stage.TheVariants.{Idle, Waiting, Turn}
 use Rattle.turn_lock.specs.declared.view.Knows.{Knows}
 use Rattle.turn_lock.specs.declared.opening.Opening.{Opening}
 use Rattle.turn_lock.specs.Positions.{positions_between, times, end_of}
-use Rattle.turn_lock.specs.Steps.{spent}
-use Rattle.turn_lock.specs.Rule.{HasTicket, HasTurn, InPlace, Rules, Fits, IsValue, Stands, Kept}
-use Rattle.turn_lock.specs.Moments.{AtHome, HasOneHolder, IsMoment, opening_end}
-use Rattle.turn_lock.proofs.Lists.{one_at, prefix_length, prefix_shorter}
+use Rattle.turn_lock.specs.Rule.{HasTicket, HasTurn, InPlace, Rules, IsValue, Stands, Kept}
+use Rattle.turn_lock.specs.Moments.{AtHome, IsMoment, opening_end}
+use Rattle.turn_lock.proofs.Lists.{prefix_length, prefix_shorter}
 use Rattle.turn_lock.proofs.Numbers.{times_between}
 
 module _ {E : Type 0} where

@@ -1,20 +1,18 @@
 -- The rule at the opening, and what it says at the close.
-use Rattle.std.proofs.Common.{◌≡◌, ◌≢◌, ◌⊎◌, ℕ, zero, suc, ◌+◌, ◌-◌, ◌<◌, ◌≤◌, ◌^◌, Bool, true, false, cond, List, [], ◌∷◌, ◌++◌, length, refl, sym, ap, ◌∙◌, subst, inl, inr, ⊎_elim, arith}
+use Rattle.std.proofs.Common.{◌≡◌, ◌≢◌, ℕ, ◌<◌, ◌^◌, Bool, List, [], ◌∷◌, refl, sym, ap, ◌∙◌, subst, arith}
 use Rattle.std.specs.Prelude.{Option, Some, None, IsPermutation}
 use mathlib.Core.Logic.{dite}
 use mathlib.Core.Option.{none, some, some-injective}
 use mathlib.Core.Option as maybe
-use mathlib.Core.List.{IsPrefix}
 use native.Mathlib.Decide.{ℕ_discrete}
 use lib.ListN.{get_elem?}
 use Rattle.atomic_table.specs.Table.{State, Me, opening, Final, Seen}
-use Rattle.turn_lock.specs.declared.view.Stage.{Stage}
-use Rattle.turn_lock.specs.declared.view.Stage.TheVariants.{Idle, Waiting, Turn}
+use Rattle.turn_lock.specs.declared.view.Stage.TheVariants.{Idle}
 use Rattle.turn_lock.specs.declared.view.Knows.{Knows}
 use Rattle.turn_lock.specs.declared.opening.Opening.{Opening}
 use Rattle.turn_lock.specs.Positions.{positions_between, times, end_of}
-use Rattle.turn_lock.specs.Steps.{fresh, spent}
-use Rattle.turn_lock.specs.Rule.{HasTicket, HasTurn, InPlace, Queues, Rules, Fits, Newest, IsValue, Stands, shares_in, times_made, Kept}
+use Rattle.turn_lock.specs.Steps.{fresh}
+use Rattle.turn_lock.specs.Rule.{HasTurn, InPlace, Rules, Fits, Newest, IsValue, Stands, Kept}
 use Rattle.turn_lock.proofs.Lists.{one_at, only_one, prefix_self, prefix_none, sum_two, sum_only}
 use Rattle.turn_lock.proofs.Numbers.{positions_none, counts_permute}
 use Rattle.turn_lock.proofs.Views.{turn_shares}

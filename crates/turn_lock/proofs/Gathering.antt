@@ -1,5 +1,5 @@
 -- One more pass is joined into many.
-use Rattle.std.proofs.Common.{◌≡◌, ℕ, zero, suc, ◌+◌, ◌<◌, get_or, ◌||◌, Bool, List, [], ◌∷◌, ◌++◌, All, sum_by, flat_map, refl, sym, ap, ◌∙◌, subst, arith, append_assoc}
+use Rattle.std.proofs.Common.{◌≡◌, ℕ, zero, suc, ◌+◌, ◌<◌, get_or, ◌||◌, List, [], ◌∷◌, ◌++◌, All, sum_by, flat_map, sym, ap, ◌∙◌, arith}
 use Rattle.std.proofs.lemmas.List.{flat_map_more}
 use Rattle.std.proofs.lemmas.List.Sums.{sum_by_push, fold_push}
 use Rattle.std.proofs.lemmas.List.Elements.{All-append}

@@ -1,24 +1,23 @@
 -- The steps of sharing keep the rule: a split, a join, and the look back that follows it.
-use Rattle.std.proofs.Common.{◌≡◌, ◌≢◌, ◌⊎◌, ℕ, zero, suc, ◌+◌, ◌-◌, ◌<◌, ◌≤◌, ◌^◌, ◌||◌, Bool, true, false, cond, ltb, List, [], ◌∷◌, ◌++◌, length, get_or, set, sum_by, refl, sym, ap, ◌∙◌, subst, inl, inr, ⊎_elim, arith}
-use Rattle.std.specs.Prelude.{Option, Some, None, nat_lt}
+use Rattle.std.proofs.Common.{◌≡◌, ◌⊎◌, ℕ, suc, ◌<◌, ◌≤◌, ◌||◌, Bool, true, false, cond, List, [], ◌∷◌, ◌++◌, length, set, refl, sym, ap, ◌∙◌, subst, inl, inr, ⊎_elim, arith}
+use Rattle.std.specs.Prelude.{Option, Some, nat_lt}
 use Rattle.std.proofs.lemmas.Bool.Decides.{nat_tests}
-use Rattle.std.proofs.lemmas.List.Sums.{sum_by-append, sum_by-cons}
+use Rattle.std.proofs.lemmas.List.Sums.{sum_by-append}
 use mathlib.Core.Logic.{dite}
 use mathlib.Core.Option.{none, some}
-use mathlib.Core.Option as maybe
 use mathlib.Core.List.{IsPrefix}
 use native.Mathlib.Decide.{ℕ_discrete, dec_le}
 use lib.ListN.{get_elem?}
 use Rattle.atomic_table.specs.Table.{State, Me, keeps, step, Allows, Splits, Joins}
 use Rattle.atomic_table.proofs.Lists.{set_else, at_longer, at_snoc}
 use Rattle.turn_lock.specs.declared.view.Stage.{Stage}
-use Rattle.turn_lock.specs.declared.view.Stage.TheVariants.{Idle, Waiting, Turn}
+use Rattle.turn_lock.specs.declared.view.Stage.TheVariants.{Idle}
 use Rattle.turn_lock.specs.declared.view.Knows.{Knows}
 use Rattle.turn_lock.specs.declared.opening.Opening.{Opening}
 use Rattle.turn_lock.specs.Pass.{longer}
-use Rattle.turn_lock.specs.Positions.{positions_between, times, end_of}
+use Rattle.turn_lock.specs.Positions.{times}
 use Rattle.turn_lock.specs.Steps.{shorter, spent, left_with, given, joined, Counts}
-use Rattle.turn_lock.specs.Rule.{HasTicket, HasTurn, InPlace, Queues, Rules, Fits, Newest, Stands, shares_in, times_made, Kept}
+use Rattle.turn_lock.specs.Rule.{HasTicket, HasTurn, InPlace, Rules, Fits, Newest, Kept}
 use Rattle.turn_lock.proofs.Lists.{one_at, set_at, all_set, prefix_none, prefix_length, prefix_shorter, prefix_whole, sum_at}
 use Rattle.turn_lock.proofs.Numbers.{times-append}
 use Rattle.turn_lock.proofs.Views.{Leads, queues_set, rules_set, leads_set, shares_set, made_set, same_made, spent_fits, stands_as, rests}

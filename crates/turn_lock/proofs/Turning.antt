@@ -1,5 +1,5 @@
 -- The steps of a turn keep the rule: draw, look, post and advance.
-use Rattle.std.proofs.Common.{◌≡◌, ◌≢◌, ◌⊎◌, ℕ, zero, suc, ◌+◌, ◌<◌, ◌≤◌, eqb, Bool, true, false, cond, List, [], ◌∷◌, ◌++◌, length, get_or, set, refl, sym, ap, ◌∙◌, subst, inl, inr, ⊎_elim, arith, eq-eqb, ne_eqb}
+use Rattle.std.proofs.Common.{◌≡◌, ◌≢◌, ℕ, ◌+◌, ◌<◌, eqb, Bool, true, cond, List, [], ◌∷◌, get_or, set, refl, sym, ap, ◌∙◌, subst, arith, eq-eqb, ne_eqb}
 use Rattle.std.specs.Prelude.{Option, Some, None}
 use mathlib.Core.Logic.{dite}
 use mathlib.Core.Option.{none, some}
@@ -8,16 +8,16 @@ use mathlib.Core.List.{IsPrefix}
 use native.Mathlib.Decide.{ℕ_discrete}
 use lib.ListN.{get_elem?}
 use prog.Atomic.{either}
-use Rattle.atomic_table.specs.Table.{State, Me, Act, keeps, takes, gives, Valid, stepped, carried_after, step, Allows, rest, put_back}
-use Rattle.atomic_table.proofs.Lists.{set_else, exchanged}
+use Rattle.atomic_table.specs.Table.{State, Me, Act, keeps, takes, gives, Valid, stepped, carried_after, step, Allows, put_back}
+use Rattle.atomic_table.proofs.Lists.{exchanged}
 use Rattle.turn_lock.specs.declared.view.Stage.{Stage}
 use Rattle.turn_lock.specs.declared.view.Stage.TheVariants.{Idle, Waiting, Turn}
 use Rattle.turn_lock.specs.declared.view.Knows.{Knows}
 use Rattle.turn_lock.specs.declared.opening.Opening.{Opening}
 use Rattle.turn_lock.specs.Positions.{positions_between, times, end_of}
-use Rattle.turn_lock.specs.Steps.{at_stage, published, Draws, Looks, LooksAt, Found, Posts, PostsAt, Advances}
-use Rattle.turn_lock.specs.Rule.{HasTicket, HasTurn, InPlace, Queues, Rules, Fits, Newest, IsValue, Stands, Kept}
-use Rattle.turn_lock.proofs.Lists.{one_at, set_at, within, all_set, prefix_self, prefix_then, prefix_length}
+use Rattle.turn_lock.specs.Steps.{at_stage, published, Draws, Looks, LooksAt, Posts, PostsAt, Advances}
+use Rattle.turn_lock.specs.Rule.{HasTicket, HasTurn, InPlace, Queues, Rules, Fits, IsValue, Stands, Kept}
+use Rattle.turn_lock.proofs.Lists.{one_at, set_at, all_set, prefix_self, prefix_then, prefix_length}
 use Rattle.turn_lock.proofs.Numbers.{positions_meet, times-append}
 use Rattle.turn_lock.proofs.Views.{queues_set, rules_set, leads_set, same_shares, same_made, made_set, at_stage_fits, newest_at_stage, stands_as, rests}
 

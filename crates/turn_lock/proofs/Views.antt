@@ -1,5 +1,5 @@
 -- One view of a list changes, and the others stay: who has a ticket, who has the turn, what fits, and the sums.
-use Rattle.std.proofs.Common.{◌≡◌, ◌≢◌, ◌⊎◌, ℕ, ◌+◌, ◌<◌, ◌≤◌, Bool, true, false, List, [], ◌∷◌, ◌++◌, length, get_or, set, refl, sym, ap, ◌∙◌, subst, inl, inr, ⊎_elim, arith}
+use Rattle.std.proofs.Common.{◌≡◌, ℕ, ◌+◌, ◌<◌, Bool, List, get_or, set, refl, sym, ap, ◌∙◌, subst, arith}
 use Rattle.std.specs.Prelude.{Option, Some, None}
 use mathlib.Core.Logic.{dite}
 use mathlib.Core.Option.{none, some}
@@ -7,15 +7,14 @@ use mathlib.Core.Option as maybe
 use native.Mathlib.Decide.{ℕ_discrete}
 use lib.ListN.{get_elem?}
 use Rattle.atomic_table.specs.Table.{State}
-use Rattle.atomic_table.proofs.Lists.{set_else, set_again, at_longer, at_snoc}
+use Rattle.atomic_table.proofs.Lists.{set_else, set_again}
 use Rattle.turn_lock.specs.declared.view.Stage.{Stage}
-use Rattle.turn_lock.specs.declared.view.Stage.TheVariants.{Idle, Waiting, Turn}
 use Rattle.turn_lock.specs.declared.view.Knows.{Knows}
 use Rattle.turn_lock.specs.declared.opening.Opening.{Opening}
-use Rattle.turn_lock.specs.Positions.{times, end_of}
+use Rattle.turn_lock.specs.Positions.{times}
 use Rattle.turn_lock.specs.Steps.{at_stage, spent}
-use Rattle.turn_lock.specs.Rule.{HasTicket, HasTurn, InPlace, Queues, Rules, Fits, Newest, IsValue, Stands, shares_in, times_made, Kept}
-use Rattle.turn_lock.proofs.Lists.{one_at, set_at, all_set, set_same, sum_set, sum_at}
+use Rattle.turn_lock.specs.Rule.{HasTicket, HasTurn, Queues, Rules, Fits, Newest, Stands, shares_in, times_made, Kept}
+use Rattle.turn_lock.proofs.Lists.{one_at, set_at, set_same, sum_set}
 
 module _ {B E : Type 0} where
   pub queues_set : (views : List (Knows B E)) (id j n : ℕ) (v w : Knows B E) → get_elem? views id ≡ some v → (HasTicket v.stage n → HasTicket w.stage n) → Queues views j n → Queues (set views id w) j n

@@ -1,5 +1,4 @@
-use Rattle.std.proofs.Common.{rules, subst, ℕ}
-use Rattle.atomic_table.specs.Table.{Splits}
+use Rattle.std.proofs.Common.{rules}
 use Rattle.turn_lock.proofs.Shares.{splits}
 use Rattle.turn_lock.proofs.lock.TurnLock.cut.Goals as goal
 

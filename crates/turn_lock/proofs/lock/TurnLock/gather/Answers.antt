@@ -1,4 +1,4 @@
-use Rattle.std.proofs.Common.{rules, All, subst, sym, ◌≡◌, ◌∙◌, map-id}
+use Rattle.std.proofs.Common.{rules, All, subst, sym, ◌∙◌, map-id}
 use Rattle.std.proofs.lemmas.Iterator.Consumers.{YieldsList-end}
 use Rattle.std.proofs.lemmas.Iterator.Adapters.{YieldsList-from_vec}
 use mathlib.Core.List.{IsPrefix}
