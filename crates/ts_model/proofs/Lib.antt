@@ -1,1 +1,4 @@
 pub mod WorkedRows
+pub mod HistoryLaws
+pub mod CallLaws
+pub mod UntouchedLaws

@@ -30,6 +30,7 @@ use Rattle.ts_model.specs.declared.refreshes.Window.{Window}
 use Rattle.ts_model.specs.declared.refreshes.Window.TheVariants.{Whole, NoBucket, Nothing}
 use Rattle.ts_model.specs.declared.rosters.Roster.{Roster}
 use Rattle.ts_model.specs.declared.tables.Hyper.{Hyper as HyperInfo}
+use Rattle.ts_model.specs.declared.tables.TableDef.{TableDef}
 use Rattle.ts_model.specs.declared.tables.TableInfo.{TableInfo}
 use Rattle.ts_model.specs.declared.views.Agg.{Agg}
 use Rattle.ts_model.specs.declared.views.Fold.{Fold}
@@ -161,26 +162,26 @@ values_fit (c ∷ cs) [] = false
 values_fit (c ∷ cs) (v ∷ vs) = (not c.must || is_some v) && values_fit cs vs
 
 -- a row that may be inserted into a hypertable: its time is in range, and its values fit the other columns
-abbrev pub row_fits : TableInfo → HyperInfo → Row → Bool
-row_fits info hyper row = is_time row.at && values_fit (remove info.def.cols hyper.at) row.vals
+abbrev pub row_fits : TableDef → HyperInfo → Row → Bool
+row_fits def hyper row = is_time row.at && values_fit (remove def.cols hyper.at) row.vals
 
 -- at least one row, and each fits
-abbrev pub rows_fit : TableInfo → HyperInfo → List Row → Bool
-rows_fit info hyper new = nat_lt 0 (length new) && list_all (row_fits info hyper) new
+abbrev pub rows_fit : TableDef → HyperInfo → List Row → Bool
+rows_fit def hyper new = nat_lt 0 (length new) && list_all (row_fits def hyper) new
 
 -- the test holds of a table, where it is a hypertable
-abbrev pub of_hyper : (TableInfo → HyperInfo → Bool) → TableInfo → Option HyperInfo → Bool
-of_hyper test info None = false
-of_hyper test info (Some hyper) = test info hyper
+abbrev pub of_hyper : (TableDef → HyperInfo → Bool) → TableDef → Option HyperInfo → Bool
+of_hyper test def None = false
+of_hyper test def (Some hyper) = test def hyper
 
-abbrev pub of_table : (TableInfo → HyperInfo → Bool) → Option TableInfo → Bool
+abbrev pub of_table : (TableDef → HyperInfo → Bool) → Option TableInfo → Bool
 of_table test None = false
-of_table test (Some info) = of_hyper test info info.hyper
+of_table test (Some info) = of_hyper test info.def info.hyper
 
 -- an operation on a hypertable: rows that fit, or tests on its columns
 abbrev pub op_fits : Roster → Op → Bool
-op_fits r (Insert t new) = of_table (λ info hyper. rows_fit info hyper new) (table_of r t)
-op_fits r (Delete t tests) = of_table (λ info hyper. list_all (test_fits (length info.def.cols)) tests) (table_of r t)
+op_fits r (Insert t new) = of_table (λ def hyper. rows_fit def hyper new) (table_of r t)
+op_fits r (Delete t tests) = of_table (λ def hyper. list_all (test_fits (length def.cols)) tests) (table_of r t)
 
 -- 1 to 16 columns with different names
 abbrev pub columns_fit : List Column → Bool
@@ -192,8 +193,8 @@ hyper_fits hyper None = false
 hyper_fits hyper (Some info) = nat_lt hyper.at (length info.def.cols) && int_lt (pos 0) hyper.interval && int_le hyper.interval most_interval
 
 -- an aggregate over the columns of a hypertable: at least one function, at most 16 output columns, and as many different names
-abbrev pub view_fits : ViewDef → TableInfo → HyperInfo → Bool
-view_fits def info hyper = fold_fits (length info.def.cols) def.fold && nat_lt 0 (length def.fold.aggs) && nat_le (output_count def.fold) most_columns && length def.names == output_count def.fold && all_apart def.names
+abbrev pub view_fits : ViewDef → TableDef → HyperInfo → Bool
+view_fits def table hyper = fold_fits (length table.cols) def.fold && nat_lt 0 (length def.fold.aggs) && nat_le (output_count def.fold) most_columns && length def.names == output_count def.fold && all_apart def.names
 
 -- a span of whole buckets from the first on that isn't empty
 abbrev pub span_fits : Span → Option ViewDef → Bool
@@ -265,8 +266,8 @@ all_allowed (h ▸ e) = all_allowed h && allowed h e
 
 -- the hypertable, the aggregate and the columns of a query are there
 abbrev pub can_ask : Roster → Query → Bool
-can_ask r (Rows t tests) = of_table (λ info hyper. list_all (test_fits (length info.def.cols)) tests) (table_of r t)
-can_ask r (Buckets t fold) = of_table (λ info hyper. fold_fits (length info.def.cols) fold) (table_of r t)
+can_ask r (Rows t tests) = of_table (λ def hyper. list_all (test_fits (length def.cols)) tests) (table_of r t)
+can_ask r (Buckets t fold) = of_table (λ def hyper. fold_fits (length def.cols) fold) (table_of r t)
 can_ask r (Aggregate n starts) = is_some (view_of r n)
 
 -- ---- jobs
