@@ -108,7 +108,7 @@ either_way false x y e = e
 
 untouched_commit : (n : ℕ) (def : ViewDef) (h : History) (ops : List Op) (b : ℤ) (s : ℕ) → touched n def (h ▸ Commit ops) b s ≡ false → (touched n def h b s ≡ false → scratch def h b ≡ scratch_at n def h s b) → scratch def (h ▸ Commit ops) b ≡ scratch_at n def (h ▸ Commit ops) s b
 untouched_commit n def h ops b s e before =
-    let parts = or_parts _ _ (sym (is_above-later s (last_touch n def h b) (cond (touches def ops h b) (Some (suc (position h))) None)) ∙ e) in
+    let parts : (is_above s (last_touch n def h b) ≡ false) × (is_above s (cond (touches def ops h b) (Some (suc (position h))) None) ≡ false) = or_parts _ _ (sym (is_above-later s (last_touch n def h b) (cond (touches def ops h b) (Some (suc (position h))) None)) ∙ e) in
     elim (nat_lt (position h) s) as (λ t. nat_lt (position h) s ≡ t → scratch def (h ▸ Commit ops) b ≡ cond t (scratch def (h ▸ Commit ops) b) (scratch_at n def h s b)) [
       | true ↦ λ _. refl
       | false ↦ λ at_or_before.

@@ -300,18 +300,20 @@ was_refreshed n (h ▸ Commit ops) b r = was_refreshed n h b r
 was_refreshed n (h ▸ Cut v span) b r = was_refreshed n h b r
 was_refreshed n (h ▸ Built cut snap) b r = was_refreshed n h b r || (snap == r && is_covered b (span_of_cut n h cut))
 
--- a job of a refresh of aggregate n fits a history. What its groups are the groups of is told by a fact of rows
-pub record Fits (n : ℕ) (def : ViewDef) (h : History) (cut snap : ℕ) (span : Span) (spans : List Span) (AreGroupsOf : List Row → Type 0) (top : Option ℤ) : Type 0 where
+-- the rows that the groups of a job are made of: those of its spans at its snapshot
+abbrev pub job_rows : ViewDef → History → ℕ → List Span → List Row
+job_rows def h snap spans = rows_of_spans def.fold spans (rows_at def.table h snap)
+
+-- a job of a refresh of aggregate n fits a history. The crate that makes groups says beside it that the job's groups are those of its rows
+pub record Fits (n : ℕ) (def : ViewDef) (h : History) (cut snap : ℕ) (span : Span) (spans : List Span) (top : Option ℤ) : Type 0 where
   -- its cut is a cut of the history with the job's span
   pub cut_is : span_of_cut n h cut ≡ Some span
   -- its snapshot is at or after the cut, and not after the history
   pub after_cut : cut ≤ snap
   pub taken : snap ≤ position h
   -- its spans are ranges of whole buckets of the span
-  pub whole : IsTrue (list_all (is_part_of def.fold.width span) spans)
-  -- its groups are those of the rows of its spans at the snapshot
-  pub groups : AreGroupsOf (rows_of_spans def.fold spans (rows_at def.table h snap))
+  pub whole : list_all (is_part_of def.fold.width span) spans ≡ true
   -- its top is the greatest end of a bucket with a group
-  pub top_is : top ≡ last_end def.fold.width (rows_of_spans def.fold spans (rows_at def.table h snap))
-  -- each other bucket of the span was refreshed at some r, and not touched between r and the snapshot
-  pub others : (b : ℤ) → IsTrue (is_bucket def.fold.width b) → IsTrue (in_span span b) → IsTrue (not (lies_in spans b)) → (r : ℕ) × (r ≤ snap) × IsTrue (was_refreshed n h b r) × IsTrue (not (is_above r (last_touch_at n def h snap b)))
+  pub top_is : top ≡ last_end def.fold.width (job_rows def h snap spans)
+  -- each other bucket of the span is covered by a finished refresh, and no commit touched it between that one's snapshot and this
+  pub others : (b : ℤ) → is_bucket def.fold.width b ≡ true → in_span span b ≡ true → lies_in spans b ≡ false → (r : ℕ) × (r ≤ snap) × (was_refreshed n h b r ≡ true) × (is_above r (last_touch_at n def h snap b) ≡ false)

@@ -2,11 +2,19 @@
 use Rattle.std.specs.Prelude.{◌≡◌, ℕ, suc, ◌+◌, ◌^◌, ◌<◌, ◌≤◌, Bool, true, false, List, [], ◌∷◌, length, ℤ, pos, neg_ℤ, ◌≤ℤ◌, ◌<ℤ◌, Option, Some, None, Contains}
 use Rattle.std.specs.List.{AllByRecursion}
 use Rattle.ts_bucket.specs.Bucket.{IsWidth, is_bucket}
+use Rattle.ts_bucket.specs.declared.spans.Span.{Span}
+use Rattle.ts_model.specs.declared.events.Event.{Event}
+use Rattle.ts_model.specs.declared.queries.Query.{Query}
+use Rattle.ts_model.specs.declared.rosters.Roster.{Roster}
+use Rattle.ts_model.specs.declared.tables.Hyper.{Hyper}
+use Rattle.ts_model.specs.declared.tables.TableInfo.{TableInfo}
 use Rattle.ts_model.specs.declared.views.ViewDef.{ViewDef}
 use Rattle.ts_model.specs.History.{History, position, prefix, Begins}
 use Rattle.ts_model.specs.Scratch.{scratch, scratch_at}
 use Rattle.ts_model.specs.Refreshes.{touched, last, watermark, is_below, threshold}
-use Rattle.ts_model.specs.Allowed.{all_allowed}
+use Rattle.ts_model.specs.Roster.{roster, table_of, view_of, table_named, view_named, set_only}
+use Rattle.ts_model.specs.Answers.{answer}
+use Rattle.ts_model.specs.Allowed.{all_allowed, sound, Fits, job_rows}
 
 -- a bucket that no commit touched after a position has the aggregation that it had there
 abbrev pub UntouchedKeeps : Type 0
@@ -22,3 +30,43 @@ WatermarkNeverFalls = (n : ℕ) (def : ViewDef) (g h : History) (b : ℤ) → Be
 
 abbrev pub ThresholdNeverFalls : Type 0
 ThresholdNeverFalls = (t : ℕ) (g h : History) (b : ℤ) → Begins g h → is_below b (threshold t g) ≡ true → is_below b (threshold t h) ≡ true
+
+-- what makes a table a hypertable stays
+abbrev pub KeepsHyper : Option Hyper → Option Hyper → Type 0
+KeepsHyper None now = Unit {0}
+KeepsHyper (Some hyper) now = now ≡ Some hyper
+
+-- a table is still there, with its definition, and a hypertable is still the same hypertable
+pub record KeepsTable (was : TableInfo) (found : Option TableInfo) : Type 0 where
+  pub info : TableInfo
+  pub there : found ≡ Some info
+  pub def : info.def ≡ was.def
+  pub hyper : KeepsHyper was.hyper info.hyper
+
+-- an aggregate is still there, and nothing of it but its mode has changed
+pub record KeepsView (was : ViewDef) (found : Option ViewDef) : Type 0 where
+  pub only : Bool
+  pub there : found ≡ Some (set_only only was)
+
+-- no table, no aggregate, no name and no kind is taken away
+pub record KeepsRelations (old new : Roster) : Type 0 where
+  pub tables : (t : ℕ) (info : TableInfo) → table_of old t ≡ Some info → KeepsTable info (table_of new t)
+  pub views : (n : ℕ) (def : ViewDef) → view_of old n ≡ Some def → KeepsView def (view_of new n)
+  pub table_names : (name : List ℕ) (t : ℕ) → table_named old name ≡ Some t → table_named new name ≡ Some t
+  pub view_names : (name : List ℕ) (n : ℕ) → view_named old name ≡ Some n → view_named new name ≡ Some n
+
+-- names and kinds are never taken away
+abbrev pub RelationsStay : Type 0
+RelationsStay = (g h : History) → Begins g h → KeepsRelations (roster g) (roster h)
+
+-- an event whose parts are there and in range stays so as a history grows
+abbrev pub SoundStays : Type 0
+SoundStays = (g h : History) (e : Event) → Begins g h → sound g e ≡ true → sound h e ≡ true
+
+-- what a query shows at a history stays what it shows at that position of every history that begins with it
+abbrev pub AnswersStay : Type 0
+AnswersStay = (query : Query) (g h : History) → Begins g h → answer query (prefix h (position g)) ≡ answer query g
+
+-- a job that fits a history fits every history that begins with it, and its groups are made of the same rows
+abbrev pub FitsStays : Type 0
+FitsStays = (n : ℕ) (def : ViewDef) (g h : History) (cut snap : ℕ) (span : Span) (spans : List Span) (top : Option ℤ) → Begins g h → Fits n def g cut snap span spans top → Fits n def h cut snap span spans top × (job_rows def h snap spans ≡ job_rows def g snap spans)
