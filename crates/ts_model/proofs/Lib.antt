@@ -5,3 +5,4 @@ pub mod UntouchedLaws
 pub mod RefreshLaws
 pub mod RosterLaws
 pub mod AllowedLaws
+pub mod MadeLaws

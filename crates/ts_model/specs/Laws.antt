@@ -4,6 +4,10 @@ use Rattle.std.specs.List.{AllByRecursion}
 use Rattle.ts_bucket.specs.Bucket.{IsWidth, is_bucket}
 use Rattle.ts_bucket.specs.declared.spans.Span.{Span}
 use Rattle.ts_model.specs.declared.events.Event.{Event}
+use Rattle.ts_model.specs.declared.events.Event.TheVariants.{Table, Hyper as HyperMade, View, Mode, Commit, Cut, Built}
+use Rattle.ts_model.specs.declared.events.Op.{Op}
+use Rattle.ts_model.specs.declared.tables.TableDef.{TableDef}
+use Rattle.ts_model.specs.Calls.{Act, refuses, says, makes, making_table, making_hyper, making_view, setting_mode, committing, cutting, finishing}
 use Rattle.ts_model.specs.declared.queries.Query.{Query}
 use Rattle.ts_model.specs.declared.rosters.Roster.{Roster}
 use Rattle.ts_model.specs.declared.tables.Hyper.{Hyper}
@@ -14,7 +18,7 @@ use Rattle.ts_model.specs.Scratch.{scratch, scratch_at}
 use Rattle.ts_model.specs.Refreshes.{touched, last, watermark, is_below, threshold}
 use Rattle.ts_model.specs.Roster.{roster, table_of, view_of, table_named, view_named, set_only}
 use Rattle.ts_model.specs.Answers.{answer}
-use Rattle.ts_model.specs.Allowed.{all_allowed, sound, Fits, job_rows}
+use Rattle.ts_model.specs.Allowed.{all_allowed, allowed, sound, Fits, job_rows}
 
 -- a bucket that no commit touched after a position has the aggregation that it had there
 abbrev pub UntouchedKeeps : Type 0
@@ -70,3 +74,19 @@ AnswersStay = (query : Query) (g h : History) → Begins g h → answer query (p
 -- a job that fits a history fits every history that begins with it, and its groups are made of the same rows
 abbrev pub FitsStays : Type 0
 FitsStays = (n : ℕ) (def : ViewDef) (g h : History) (cut snap : ℕ) (span : Span) (spans : List Span) (top : Option ℤ) → Begins g h → Fits n def g cut snap span spans top → Fits n def h cut snap span spans top × (job_rows def h snap spans ≡ job_rows def g snap spans)
+
+-- the event that a call makes, if it makes one, is allowed
+abbrev pub MakesAllowed : {A : Type 0} → History → Act A → Type 0
+MakesAllowed h (refuses r) = Unit {0}
+MakesAllowed h (says a) = Unit {0}
+MakesAllowed h (makes e a) = allowed h e ≡ true
+
+-- each call makes allowed events only, where what it is given is sound
+pub record CallsMakeAllowed : Type 0 where
+  pub tables : (def : TableDef) (h : History) → sound h (Table def) ≡ true → MakesAllowed h (making_table def h)
+  pub hypers : (t : ℕ) (hyper : Hyper) (h : History) → sound h (HyperMade t hyper) ≡ true → MakesAllowed h (making_hyper t hyper h)
+  pub views : (def : ViewDef) (h : History) → sound h (View def) ≡ true → MakesAllowed h (making_view def h)
+  pub modes : (n : ℕ) (only : Bool) (h : History) → sound h (Mode n only) ≡ true → MakesAllowed h (setting_mode n only h)
+  pub commits : (ops : List Op) (h : History) → sound h (Commit ops) ≡ true → MakesAllowed h (committing ops h)
+  pub cuts : (n : ℕ) (lo hi : Option ℤ) (h : History) (def : ViewDef) → view_of (roster h) n ≡ Some def → IsWidth def.fold.width → MakesAllowed h (cutting n lo hi h)
+  pub finishes : (cut snap : ℕ) (h : History) → sound h (Built cut snap) ≡ true → MakesAllowed h (finishing cut snap h)
