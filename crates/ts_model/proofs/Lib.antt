@@ -6,3 +6,4 @@ pub mod RefreshLaws
 pub mod RosterLaws
 pub mod AllowedLaws
 pub mod MadeLaws
+pub mod RangeLaws

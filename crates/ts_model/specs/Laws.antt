@@ -1,7 +1,9 @@
 -- Laws of the definitions, each in one sentence.
-use Rattle.std.specs.Prelude.{◌≡◌, ℕ, suc, ◌+◌, ◌^◌, ◌<◌, ◌≤◌, Bool, true, false, List, [], ◌∷◌, length, ℤ, pos, neg_ℤ, ◌≤ℤ◌, ◌<ℤ◌, Option, Some, None, Contains}
+use Rattle.std.specs.Prelude.{◌≡◌, ℕ, suc, ◌+◌, ◌^◌, ◌<◌, ◌≤◌, Bool, true, false, ◌&&◌, int_le, List, [], ◌∷◌, length, ℤ, pos, neg_ℤ, ◌≤ℤ◌, ◌<ℤ◌, Option, Some, None, Contains}
 use Rattle.std.specs.List.{AllByRecursion}
-use Rattle.ts_bucket.specs.Bucket.{IsWidth, is_bucket}
+use Rattle.ts_bucket.specs.Bucket.{IsWidth, is_bucket, first_of}
+use Rattle.ts_bucket.specs.Spans.{in_span}
+use Rattle.ts_bucket.specs.declared.widths.Width.{Width}
 use Rattle.ts_bucket.specs.declared.spans.Span.{Span}
 use Rattle.ts_model.specs.declared.events.Event.{Event}
 use Rattle.ts_model.specs.declared.events.Event.TheVariants.{Table, Hyper as HyperMade, View, Mode, Commit, Cut, Built}
@@ -17,8 +19,8 @@ use Rattle.ts_model.specs.History.{History, position, prefix, Begins}
 use Rattle.ts_model.specs.Scratch.{scratch, scratch_at}
 use Rattle.ts_model.specs.Refreshes.{touched, last, watermark, is_below, threshold}
 use Rattle.ts_model.specs.Roster.{roster, table_of, view_of, table_named, view_named, set_only}
-use Rattle.ts_model.specs.Answers.{answer}
-use Rattle.ts_model.specs.Allowed.{all_allowed, allowed, sound, Fits, job_rows}
+use Rattle.ts_model.specs.Answers.{answer, buckets_in, ranges}
+use Rattle.ts_model.specs.Allowed.{all_allowed, allowed, sound, lies_in, Fits, job_rows}
 
 -- a bucket that no commit touched after a position has the aggregation that it had there
 abbrev pub UntouchedKeeps : Type 0
@@ -90,3 +92,30 @@ pub record CallsMakeAllowed : Type 0 where
   pub commits : (ops : List Op) (h : History) → sound h (Commit ops) ≡ true → MakesAllowed h (committing ops h)
   pub cuts : (n : ℕ) (lo hi : Option ℤ) (h : History) (def : ViewDef) → view_of (roster h) n ≡ Some def → IsWidth def.fold.width → MakesAllowed h (cutting n lo hi h)
   pub finishes : (cut snap : ℕ) (h : History) → sound h (Built cut snap) ≡ true → MakesAllowed h (finishing cut snap h)
+
+-- a bucket that a query asks for: one from the first on whose start lies in the span
+abbrev pub is_asked : Width → Span → ℤ → Bool
+is_asked w starts b = in_span starts b && (is_bucket w b && int_le (first_of w) b)
+
+-- a range of whole buckets that isn't empty
+pub record IsWholeRange (w : Width) (range : Span) : Type 0 where
+  pub starts : is_bucket w range.lo ≡ true
+  pub ends : is_bucket w range.hi ≡ true
+  pub some : range.lo <ℤ range.hi
+
+-- ranges rise and don't touch: the end of each is less than the start of the next
+abbrev pub RiseApart : List Span → Type 0
+RiseApart [] = Unit {0}
+RiseApart (s ∷ []) = Unit {0}
+RiseApart (s ∷ t ∷ ss) = (s.hi <ℤ t.lo) × RiseApart (t ∷ ss)
+
+-- these are the maximal ranges of the buckets asked for that pass a test
+pub record AreRangesOf (w : Width) (starts : Span) (test : ℤ → Bool) (found : List Span) : Type 0 where
+  pub whole : AllByRecursion (IsWholeRange w) found
+  pub rising : RiseApart found
+  -- a bucket is in one of them exactly where it is asked for and passes
+  pub exact : (b : ℤ) → is_bucket w b ≡ true → lies_in found b ≡ (is_asked w starts b && test b)
+
+-- the ranges of the buckets in a span are the maximal ranges of those that pass
+abbrev pub RangesAreMaximal : Type 0
+RangesAreMaximal = (w : Width) (starts : Span) (test : ℤ → Bool) → IsWidth w → AreRangesOf w starts test (ranges w test (buckets_in w starts))
