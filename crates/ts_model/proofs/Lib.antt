@@ -7,3 +7,5 @@ pub mod RosterLaws
 pub mod AllowedLaws
 pub mod MadeLaws
 pub mod RangeLaws
+pub mod OrderLaws
+pub mod SumLaws

@@ -1,7 +1,15 @@
 -- Laws of the definitions, each in one sentence.
-use Rattle.std.specs.Prelude.{◌≡◌, ℕ, suc, ◌+◌, ◌^◌, ◌<◌, ◌≤◌, Bool, true, false, ◌&&◌, int_le, List, [], ◌∷◌, length, ℤ, pos, neg_ℤ, ◌≤ℤ◌, ◌<ℤ◌, Option, Some, None, Contains}
-use Rattle.std.specs.List.{AllByRecursion}
-use Rattle.ts_bucket.specs.Bucket.{IsWidth, is_bucket, first_of}
+use Rattle.std.specs.Prelude.{◌≡◌, ℕ, suc, ◌+◌, ◌^◌, ◌<◌, ◌≤◌, Bool, true, false, ◌&&◌, not, int_le, map, filter, negsuc, ◌-◌, List, [], ◌∷◌, length, ℤ, pos, neg_ℤ, ◌≤ℤ◌, ◌<ℤ◌, Option, Some, None, Contains}
+use Rattle.std.specs.List.{AllByRecursion, list_all, list_any}
+use Rattle.std.specs.Ordering.{is_gt, is_lt, int_cmp}
+use Rattle.std.specs.declared.cmp.Ordering.{Ordering}
+use Rattle.ts_num.specs.Aggregates.{sum_of}
+use Rattle.ts_schema.specs.Conditions.{passes_all}
+use Rattle.ts_schema.specs.Rows.{row_cmp, values_cmp}
+use Rattle.ts_schema.specs.declared.rows.Row.{Row}
+use Rattle.ts_model.specs.declared.views.Fold.{Fold}
+use Rattle.ts_model.specs.Rows.{rows}
+use Rattle.ts_bucket.specs.Bucket.{IsWidth, is_bucket, first_of, bucket_of}
 use Rattle.ts_bucket.specs.Spans.{in_span}
 use Rattle.ts_bucket.specs.declared.widths.Width.{Width}
 use Rattle.ts_bucket.specs.declared.spans.Span.{Span}
@@ -16,7 +24,7 @@ use Rattle.ts_model.specs.declared.tables.Hyper.{Hyper}
 use Rattle.ts_model.specs.declared.tables.TableInfo.{TableInfo}
 use Rattle.ts_model.specs.declared.views.ViewDef.{ViewDef}
 use Rattle.ts_model.specs.History.{History, position, prefix, Begins}
-use Rattle.ts_model.specs.Scratch.{scratch, scratch_at}
+use Rattle.ts_model.specs.Scratch.{scratch, scratch_at, keys_of, key_lists, occurring_buckets}
 use Rattle.ts_model.specs.Refreshes.{touched, last, watermark, is_below, threshold}
 use Rattle.ts_model.specs.Roster.{roster, table_of, view_of, table_named, view_named, set_only}
 use Rattle.ts_model.specs.Answers.{answer, buckets_in, ranges}
@@ -119,3 +127,36 @@ pub record AreRangesOf (w : Width) (starts : Span) (test : ℤ → Bool) (found 
 -- the ranges of the buckets in a span are the maximal ranges of those that pass
 abbrev pub RangesAreMaximal : Type 0
 RangesAreMaximal = (w : Width) (starts : Span) (test : ℤ → Bool) → IsWidth w → AreRangesOf w starts test (ranges w test (buckets_in w starts))
+
+-- no item is greater than a later one
+abbrev pub InOrder : {K : Type 0} → (K → K → Ordering) → List K → Type 0
+InOrder cmp [] = Unit {0}
+InOrder cmp (x ∷ xs) = (list_all (λ y. not (is_gt (cmp x y))) xs ≡ true) × InOrder cmp xs
+
+-- each item is less than every later one
+abbrev pub Rises : {K : Type 0} → (K → K → Ordering) → List K → Type 0
+Rises cmp [] = Unit {0}
+Rises cmp (x ∷ xs) = (list_all (λ y. is_lt (cmp x y)) xs ≡ true) × Rises cmp xs
+
+-- these are the keys that occur, each once, in order
+pub record IsOnce {K : Type 0} (cmp : K → K → Ordering) (keys found : List K) : Type 0 where
+  pub rising : Rises cmp found
+  -- whatever test some key passes, some found key passes, and the other way round
+  pub occurring : (test : K → Bool) → list_any test found ≡ list_any test keys
+
+-- the rows of a table stand in row order, each as often as it is there
+abbrev pub RowsStandInOrder : Type 0
+RowsStandInOrder = (t : ℕ) (h : History) → InOrder row_cmp (rows t h)
+
+-- the result rows of a bucket come one for each list of keys that occurs, in order, and the buckets of a query once each, in order
+pub record ResultsComeInOrder : Type 0 where
+  pub keys : (fold : Fold) (group : List Row) → IsOnce values_cmp (map (keys_of fold.keys) group) (key_lists fold group)
+  pub buckets : (fold : Fold) (rows : List Row) → IsOnce int_cmp (map (λ row. bucket_of fold.width row.at) (filter (λ row. passes_all row fold.tests) rows)) (occurring_buckets fold rows)
+
+-- a value of 64 bits
+abbrev pub IsWord : ℤ → Type 0
+IsWord v = (negsuc (2 ^ 63 - 1) ≤ℤ v) × (v ≤ℤ pos (2 ^ 63 - 1))
+
+-- the sum of fewer than 2 ^ 62 values of 64 bits lies within 2 ^ 125 of 0, and so fits 128 bits
+abbrev pub SumsFit : Type 0
+SumsFit = (vs : List ℤ) → AllByRecursion IsWord vs → length vs < 2 ^ 62 → (neg_ℤ (pos (2 ^ 125)) ≤ℤ sum_of vs) × (sum_of vs ≤ℤ pos (2 ^ 125))
