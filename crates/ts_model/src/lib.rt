@@ -6,6 +6,7 @@
 mod backends;
 mod events;
 mod gates;
+pub mod laws;
 mod outcomes;
 mod queries;
 mod refreshes;
