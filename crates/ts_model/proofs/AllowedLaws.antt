@@ -128,8 +128,8 @@ cut_bounded n (h ▸ Commit ops) k span e = omega (arith, cut_bounded n h k span
 cut_bounded n (h ▸ Cut v made) k span e =
     elim ((k == suc (position h)) && (v == n)) as (λ t. ((k == suc (position h)) && (v == n)) ≡ t → cond t (Some made) (span_of_cut n h k) ≡ Some span → k ≤ suc (position h)) [
       | true ↦ λ here _.
-        let is : k ≡ suc (position h) = eqb-true k (suc (position h)) (and_parts _ _ here).0 in
-        omega arith
+          let is : k ≡ suc (position h) = eqb-true k (suc (position h)) (and_parts _ _ here).0 in
+          omega arith
       | false ↦ λ _ f. omega (arith, cut_bounded n h k span f)
     ] refl e
 cut_bounded n (h ▸ Built cut snap) k span e = omega (arith, cut_bounded n h k span e)
@@ -181,14 +181,16 @@ pub fits_stays : FitsStays
 fits_stays n def g h cut snap span spans top q f =
     let longer : position g ≤ position h = position_begins q in
     let same_rows : job_rows def h snap spans ≡ job_rows def g snap spans = ap (rows_of_spans def.fold spans) (rows_at_stay def.table snap q f.taken) in
-    let taken : snap ≤ position h = omega (arith, f.taken) in
-    (record {
-      cut_is = cut_stays n cut span q f.cut_is;
-      after_cut = f.after_cut;
-      taken = taken;
-      whole = f.whole;
-      top_is = f.top_is ∙ ap (last_end def.fold.width) (sym same_rows);
-      others = λ b bucket inside apart.
-        let other = f.others b bucket inside apart in
-        (other.0, other.1, refreshed_stays n b other.0 q other.2, ap (is_above other.0) (last_touch_at_stays n def snap b q f.taken) ∙ other.3);
-    }, same_rows)
+    let taken : snap ≤ position h = omega (arith, f.taken) in (
+      record {
+        cut_is = cut_stays n cut span q f.cut_is;
+        after_cut = f.after_cut;
+        taken = taken;
+        whole = f.whole;
+        top_is = f.top_is ∙ ap (last_end def.fold.width) (sym same_rows);
+        others = λ b bucket inside apart.
+            let other = f.others b bucket inside apart in
+            (other.0, other.1, refreshed_stays n b other.0 q other.2, ap (is_above other.0) (last_touch_at_stays n def snap b q f.taken) ∙ other.3);
+      },
+      same_rows,
+    )

@@ -9,3 +9,4 @@ pub mod MadeLaws
 pub mod RangeLaws
 pub mod OrderLaws
 pub mod SumLaws
+pub mod RowLaws

@@ -62,9 +62,9 @@ nonempty_fits n def h lo hi other there width ok =
     let z = bucket_of w hi in
     elim (int_lt a z) as (λ t. int_lt a z ≡ t → MatchOption (cond t (Some (record { lo = a; hi = z })) None) (HasNoBucket w lo hi) (IsInscribed w lo hi) → MakesAllowed h (cut_over n h (whole_or other (cond t (Some (record { lo = a; hi = z })) None)))) [
       | true ↦ λ below inside.
-        let fits : span_fits (record { lo = a; hi = z }) (Some def) ≡ true = and_from _ _ (and_from _ _ (and_from _ _ inside.starts inside.ends) below) (starts_from_first w lo) in
-        let is_sound : span_fits (record { lo = a; hi = z }) (view_of (roster h) n) ≡ true = ap (span_fits (record { lo = a; hi = z })) there ∙ fits in
-        and_from _ _ (and_from _ _ is_sound refl) refl
+          let fits : span_fits (record { lo = a; hi = z }) (Some def) ≡ true = and_from _ _ (and_from _ _ (and_from _ _ inside.starts inside.ends) below) (starts_from_first w lo) in
+          let is_sound : span_fits (record { lo = a; hi = z }) (view_of (roster h) n) ≡ true = ap (span_fits (record { lo = a; hi = z })) there ∙ fits in
+          and_from _ _ (and_from _ _ is_sound refl) refl
       | false ↦ λ _ _. ok
     ] refl (inscribed_meets w lo hi width)
 

@@ -101,7 +101,7 @@ not_greater : (b : Bool) → not b ≡ true → b ≡ false
 not_greater true e = absurd (cc)
 not_greater false e = refl
 
-at_most_all : (row x : Row) (xs : List Row) → is_gt (row_cmp row x) ≡ false → list_all (λ y. not (is_gt (row_cmp x y))) xs ≡ true → list_all (λ y. not (is_gt (row_cmp row y))) xs ≡ true
+pub at_most_all : (row x : Row) (xs : List Row) → is_gt (row_cmp row x) ≡ false → list_all (λ y. not (is_gt (row_cmp x y))) xs ≡ true → list_all (λ y. not (is_gt (row_cmp row y))) xs ≡ true
 at_most_all row x [] l e = refl
 at_most_all row x (y ∷ ys) l e =
     let parts = and_parts (not (is_gt (row_cmp x y))) (list_all (λ z. not (is_gt (row_cmp x z))) ys) e in
@@ -112,8 +112,8 @@ in_order-with_row row [] o = (refl, tt)
 in_order-with_row row (x ∷ xs) o =
     elim (is_gt (row_cmp row x)) as (λ b. is_gt (row_cmp row x) ≡ b → InOrder row_cmp (cond b (x ∷ with_row row xs) (row ∷ x ∷ xs))) [
       | true ↦ λ e.
-        let less : not (is_gt (row_cmp x row)) ≡ true = ap (λ r. not (is_gt r)) (row_cmp_total.antisymm x row) ∙ greater_turned (row_cmp row x) e in
-        (list_all-with_row (λ y. not (is_gt (row_cmp x y))) row xs less o.0, in_order-with_row row xs o.1)
+          let less : not (is_gt (row_cmp x row)) ≡ true = ap (λ r. not (is_gt r)) (row_cmp_total.antisymm x row) ∙ greater_turned (row_cmp row x) e in
+          (list_all-with_row (λ y. not (is_gt (row_cmp x y))) row xs less o.0, in_order-with_row row xs o.1)
       | false ↦ λ e. (and_from _ _ (ap not e) (at_most_all row x xs e o.0), o)
     ] refl
 
@@ -176,8 +176,8 @@ module _ {K : Type 0} (cmp : K → K → Ordering) (total : IsTotalOrder cmp) (a
         | Less ↦ λ e. (and_from _ _ (ap is_lt e) (less_than_all k x xs e r.0), r)
         | Equal ↦ λ e. r
         | Greater ↦ λ e.
-          let turned : is_lt (cmp x k) ≡ true = ap is_lt (total.antisymm x k ∙ ap ordering_reverse e) in
-          (list_all-insert_key (λ y. is_lt (cmp x y)) xs k turned r.0, rises-insert_key xs k r.1)
+            let turned : is_lt (cmp x k) ≡ true = ap is_lt (total.antisymm x k ∙ ap ordering_reverse e) in
+            (list_all-insert_key (λ y. is_lt (cmp x y)) xs k turned r.0, rises-insert_key xs k r.1)
       ] refl
 
   any-insert_key : (test : K → Bool) (ks : List K) (k : K) → list_any test (insert_key cmp ks k) ≡ (test k || list_any test ks)
@@ -192,6 +192,7 @@ module _ {K : Type 0} (cmp : K → K → Ordering) (total : IsTotalOrder cmp) (a
       twice : (a b c : Bool) → a ≡ b → (b || c) ≡ (a || (b || c))
       twice true b c e = ap (λ z. z || c) (sym e)
       twice false b c e = refl
+
       swapped : (a b c : Bool) → (a || (b || c)) ≡ (b || (a || c))
       swapped true true c = refl
       swapped true false c = refl

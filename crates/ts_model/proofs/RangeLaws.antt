@@ -49,8 +49,8 @@ among-numbers p t c (suc n) =
     elim (int_eq t c) as (λ b. int_eq t c ≡ b → among c (cond (p t) (t ∷ filter p (numbers_from (t +ℤ pos 1) n)) (filter p (numbers_from (t +ℤ pos 1) n))) ≡ (in_span (counted t (suc n)) c && p c)) [
       | true ↦ λ e. here p t c n ((Decides-int_eq t c).0 e) e rest
       | false ↦ λ e.
-        let apart : t ≡ c → ⊥ = λ q. both_ways (int_eq t c) e ((Decides-int_eq t c).1 q) in
-        elsewhere p t c n e (rest ∙ ap (λ b. b && p c) (sym (counted_next t c n apart)))
+          let apart : t ≡ c → ⊥ = λ q. both_ways (int_eq t c) e ((Decides-int_eq t c).1 q) in
+          elsewhere p t c n e (rest ∙ ap (λ b. b && p c) (sym (counted_next t c n apart)))
     ] refl
   where
     here : (p : ℤ → Bool) (t c : ℤ) (n : ℕ) → t ≡ c → int_eq t c ≡ true → among c (filter p (numbers_from (t +ℤ pos 1) n)) ≡ (in_span (counted (t +ℤ pos 1) n) c && p c) → among c (cond (p t) (t ∷ filter p (numbers_from (t +ℤ pos 1) n)) (filter p (numbers_from (t +ℤ pos 1) n))) ≡ (in_span (counted t (suc n)) c && p c)
@@ -62,6 +62,7 @@ among-numbers p t c (suc n) =
           | true ↦ λ f. ap (λ b. b || among c (filter p (numbers_from (t +ℤ pos 1) n))) e ∙ sym (ap (λ b. b && p c) inside ∙ (sym passes ∙ f))
           | false ↦ λ f. rest ∙ ap (λ b. b && p c) past ∙ sym (ap (λ b. b && p c) inside ∙ (sym passes ∙ f))
         ] refl
+
     elsewhere : (p : ℤ → Bool) (t c : ℤ) (n : ℕ) → int_eq t c ≡ false → among c (filter p (numbers_from (t +ℤ pos 1) n)) ≡ (in_span (counted t (suc n)) c && p c) → among c (cond (p t) (t ∷ filter p (numbers_from (t +ℤ pos 1) n)) (filter p (numbers_from (t +ℤ pos 1) n))) ≡ (in_span (counted t (suc n)) c && p c)
     elsewhere p t c n e rest =
         elim (p t) as (λ b. among c (cond b (t ∷ filter p (numbers_from (t +ℤ pos 1) n)) (filter p (numbers_from (t +ℤ pos 1) n))) ≡ (in_span (counted t (suc n)) c && p c)) [
@@ -158,9 +159,9 @@ module _ (w : Width) (width : IsWidth w) (low b : ℤ) (bs : List ℤ) (test : �
     rising = tt;
     from = at_low;
     exact = λ c other.
-      ap (λ x. x || false) (alone w b c width bucket other)
-      ∙ ap (λ x. int_eq b c || x) (r.exact c other)
-      ∙ added (int_eq b c) (among c bs) (test c) (test b) (same_test test b c) passes;
+        ap (λ x. x || false) (alone w b c width bucket other)
+        ∙ ap (λ x. int_eq b c || x) (r.exact c other)
+        ∙ added (int_eq b c) (among c bs) (test c) (test b) (same_test test b c) passes;
   }
 
   -- a bucket that passes, before a range that it touches
@@ -170,14 +171,14 @@ module _ (w : Width) (width : IsWidth w) (low b : ℤ) (bs : List ℤ) (test : �
     rising = elim ss as (λ rest. RiseApart (s ∷ rest) → RiseApart (record { lo = b; hi = s.hi } ∷ rest)) [ [] ↦ λ _. tt | t ∷ rest ↦ λ p. p ] r.rising;
     from = at_low;
     exact = λ c other.
-      let some : s.lo <ℤ s.hi = r.whole.0.some in
-      let positive = width.positive in
-      let joined : in_span (record { lo = b; hi = s.hi }) c ≡ (in_span (record { lo = b; hi = b +ℤ w.step }) c || in_span s c) = spans_joined b (b +ℤ w.step) s.lo s.hi c touch (omega (arith, ints)) some in
-      ap (λ x. x || lies_in ss c) joined
-      ∙ or_assoc (in_span (record { lo = b; hi = b +ℤ w.step }) c) (in_span s c) (lies_in ss c)
-      ∙ ap (λ x. x || lies_in (s ∷ ss) c) (alone w b c width bucket other)
-      ∙ ap (λ x. int_eq b c || x) (r.exact c other)
-      ∙ added (int_eq b c) (among c bs) (test c) (test b) (same_test test b c) passes;
+        let some : s.lo <ℤ s.hi = r.whole.0.some in
+        let positive = width.positive in
+        let joined : in_span (record { lo = b; hi = s.hi }) c ≡ (in_span (record { lo = b; hi = b +ℤ w.step }) c || in_span s c) = spans_joined b (b +ℤ w.step) s.lo s.hi c touch (omega (arith, ints)) some in
+        ap (λ x. x || lies_in ss c) joined
+        ∙ or_assoc (in_span (record { lo = b; hi = b +ℤ w.step }) c) (in_span s c) (lies_in ss c)
+        ∙ ap (λ x. x || lies_in (s ∷ ss) c) (alone w b c width bucket other)
+        ∙ ap (λ x. int_eq b c || x) (r.exact c other)
+        ∙ added (int_eq b c) (among c bs) (test c) (test b) (same_test test b c) passes;
   }
 
   -- a bucket that passes, before a range that it doesn't touch
@@ -187,9 +188,9 @@ module _ (w : Width) (width : IsWidth w) (low b : ℤ) (bs : List ℤ) (test : �
     rising = (let above : (b +ℤ w.step) ≤ℤ s.lo = buckets_apart w b s.lo width bucket r.whole.0.starts (let l : (b +ℤ pos 1) ≤ℤ s.lo = r.from in omega (arith, ints)) in apart_above (b +ℤ w.step) s.lo above apart, r.rising);
     from = at_low;
     exact = λ c other.
-      ap (λ x. x || lies_in (s ∷ ss) c) (alone w b c width bucket other)
-      ∙ ap (λ x. int_eq b c || x) (r.exact c other)
-      ∙ added (int_eq b c) (among c bs) (test c) (test b) (same_test test b c) passes;
+        ap (λ x. x || lies_in (s ∷ ss) c) (alone w b c width bucket other)
+        ∙ ap (λ x. int_eq b c || x) (r.exact c other)
+        ∙ added (int_eq b c) (among c bs) (test c) (test b) (same_test test b c) passes;
   }
 
   with_bucket_ranged : (found : List Span) → Ranged w (b +ℤ pos 1) bs test found → test b ≡ true → Ranged w low (b ∷ bs) test (with_bucket w b found)

@@ -64,12 +64,12 @@ row_missed w span b t false width bucket inside e = and_right (holds w b t) fals
 row_missed w span b t true width bucket inside e =
     ⊎_elim
     (λ (held : holds w b t ≡ true).
-      let P : ℤ → Type 0 = λ c. is_below b (cond (in_span span c && true) (Some (c +ℤ w.step)) None) ≡ false in
-      let here : P b = subst P (sym (holds-one w b t width bucket held)) e in
-      let Q : Bool → Type 0 = λ i. is_below b (cond (i && true) (Some (b +ℤ w.step)) None) ≡ false in
-      let below : int_lt b (b +ℤ w.step) ≡ false = subst Q inside here in
-      let positive = width.positive in
-      absurd (grind (arith, ints)))
+    let P : ℤ → Type 0 = λ c. is_below b (cond (in_span span c && true) (Some (c +ℤ w.step)) None) ≡ false in
+    let here : P b = subst P (sym (holds-one w b t width bucket held)) e in
+    let Q : Bool → Type 0 = λ i. is_below b (cond (i && true) (Some (b +ℤ w.step)) None) ≡ false in
+    let below : int_lt b (b +ℤ w.step) ≡ false = subst Q inside here in
+    let positive = width.positive in
+    absurd (grind (arith, ints)))
     (λ (apart : holds w b t ≡ false). and_left (holds w b t) true apart)
     (cases_Bool (holds w b t))
 
@@ -130,10 +130,10 @@ nothing_above_built n def h cut snap b s width bucket ok e mark before =
     ⊎_elim
     (λ earlier. nothing_above_further n def h (Built cut snap) b s ok earlier (before earlier marks.0))
     (λ now.
-      let this = covered_snap (is_covered b (span_of_cut n h cut)) snap s now in
-      let none : scratch_at n def h snap b ≡ [] = covering n def h snap b (span_of_cut n h cut) width bucket this.0 marks.1 in
-      let P : ℕ → Type 0 = λ k. scratch_at n def (h ▸ Built cut snap) k b ≡ [] in
-      subst P this.1 (scratch_at_further n def h (Built cut snap) snap b (built_bounds h cut snap (and_parts _ _ ok).1) ∙ none))
+    let this = covered_snap (is_covered b (span_of_cut n h cut)) snap s now in
+    let none : scratch_at n def h snap b ≡ [] = covering n def h snap b (span_of_cut n h cut) width bucket this.0 marks.1 in
+    let P : ℕ → Type 0 = λ k. scratch_at n def (h ▸ Built cut snap) k b ≡ [] in
+    subst P this.1 (scratch_at_further n def h (Built cut snap) snap b (built_bounds h cut snap (and_parts _ _ ok).1) ∙ none))
     (later_is (last n h b) (cond (is_covered b (span_of_cut n h cut)) (Some snap) None) s e)
 
 pub nothing_above_watermark : NothingAboveWatermark

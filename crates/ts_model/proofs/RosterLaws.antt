@@ -36,9 +36,9 @@ place_stays : (a b m n t : ℕ) → a ≡ b → m ≤ n → cond (nat_lt a m) (S
 place_stays a b m n t e l p =
     elim (nat_lt a m) as (λ x. nat_lt a m ≡ x → cond x (Some a) None ≡ Some t → cond (nat_lt b n) (Some b) None ≡ Some t) [
       | true ↦ λ below some.
-        let less : a < m = ltb-true a m below in
-        let here : b < n = omega arith in
-        cond-true (nat_lt b n) (Some b) None (lt-ltb b n here) ∙ ap Some (sym e) ∙ some
+          let less : a < m = ltb-true a m below in
+          let here : b < n = omega arith in
+          cond-true (nat_lt b n) (Some b) None (lt-ltb b n here) ∙ ap Some (sym e) ∙ some
       | false ↦ λ _ some. absurd (cc)
     ] refl p
 
@@ -46,14 +46,14 @@ place-append : {X : Type 0} (p : X → Bool) (xs ys : List X) (t : ℕ) → plac
 place-append p xs ys t e =
     elim (nat_lt (position_or_len p xs) (length xs)) as (λ x. nat_lt (position_or_len p xs) (length xs) ≡ x → place p (xs ++ ys) ≡ Some t) [
       | true ↦ λ below.
-        let less : position_or_len p xs < length xs = ltb-true _ _ below in
-        let apart : (position_or_len p xs == length xs) ≡ false = grind (arith, nat_tests) in
-        let stays : position_or_len p xs ≡ position_or_len p (xs ++ ys) = sym (prefix_len-append (λ x. not (p x)) xs ys ∙ cond-false (position_or_len p xs == length xs) _ _ apart) in
-        let longer : length xs ≤ length (xs ++ ys) = simp length-append (omega arith) in
-        place_stays (position_or_len p xs) (position_or_len p (xs ++ ys)) (length xs) (length (xs ++ ys)) t stays longer e
+          let less : position_or_len p xs < length xs = ltb-true _ _ below in
+          let apart : (position_or_len p xs == length xs) ≡ false = grind (arith, nat_tests) in
+          let stays : position_or_len p xs ≡ position_or_len p (xs ++ ys) = sym (prefix_len-append (λ x. not (p x)) xs ys ∙ cond-false (position_or_len p xs == length xs) _ _ apart) in
+          let longer : length xs ≤ length (xs ++ ys) = simp length-append (omega arith) in
+          place_stays (position_or_len p xs) (position_or_len p (xs ++ ys)) (length xs) (length (xs ++ ys)) t stays longer e
       | false ↦ λ above.
-        let none : place p xs ≡ None = cond-false (nat_lt (position_or_len p xs) (length xs)) (Some (position_or_len p xs)) None above in
-        absurd (cc)
+          let none : place p xs ≡ None = cond-false (nat_lt (position_or_len p xs) (length xs)) (Some (position_or_len p xs)) None above in
+          absurd (cc)
     ] refl
 
 prefix_len-change_at : {X : Type 0} (q : X → Bool) (xs : List X) (j : ℕ) (f : X → X) → ((x : X) → q (f x) ≡ q x) → prefix_len q (change_at xs j f) ≡ prefix_len q xs
@@ -109,12 +109,12 @@ relations_further r (Table def) = record {
 }
 relations_further r (Hyper u hyper) = record {
   tables = λ t info e.
-    let changed = slice_get-change_at r.tables u t (made_hyper hyper) info e in
-    let there : table_of (roster_after r (Hyper u hyper)) t ≡ Some (cond changed.0 (made_hyper hyper info) info) = changed.1 in
-    elim changed.0 as (λ b. table_of (roster_after r (Hyper u hyper)) t ≡ Some (cond b (made_hyper hyper info) info) → KeepsTable info (table_of (roster_after r (Hyper u hyper)) t)) [
-      | true ↦ λ f. record { info = made_hyper hyper info; there = f; def = refl; hyper = keeps_hyper_made info.hyper hyper }
-      | false ↦ λ f. table_itself info _ f
-    ] there;
+      let changed = slice_get-change_at r.tables u t (made_hyper hyper) info e in
+      let there : table_of (roster_after r (Hyper u hyper)) t ≡ Some (cond changed.0 (made_hyper hyper info) info) = changed.1 in
+      elim changed.0 as (λ b. table_of (roster_after r (Hyper u hyper)) t ≡ Some (cond b (made_hyper hyper info) info) → KeepsTable info (table_of (roster_after r (Hyper u hyper)) t)) [
+        | true ↦ λ f. record { info = made_hyper hyper info; there = f; def = refl; hyper = keeps_hyper_made info.hyper hyper }
+        | false ↦ λ f. table_itself info _ f
+      ] there;
   views = λ n view e. view_itself view (view_of r n) e;
   table_names = λ name t e. place-change_at (λ info. same_name info.def.name name) r.tables u (made_hyper hyper) t (λ info. refl) e;
   view_names = λ name n e. e;
@@ -128,12 +128,12 @@ relations_further r (View def) = record {
 relations_further r (Mode v only) = record {
   tables = λ t info e. table_itself info (table_of r t) e;
   views = λ n view e.
-    let changed = slice_get-change_at r.views v n (set_only only) view e in
-    let there : view_of (roster_after r (Mode v only)) n ≡ Some (cond changed.0 (set_only only view) view) = changed.1 in
-    elim changed.0 as (λ b. view_of (roster_after r (Mode v only)) n ≡ Some (cond b (set_only only view) view) → KeepsView view (view_of (roster_after r (Mode v only)) n)) [
-      | true ↦ λ f. record { only = only; there = f }
-      | false ↦ λ f. view_itself view _ f
-    ] there;
+      let changed = slice_get-change_at r.views v n (set_only only) view e in
+      let there : view_of (roster_after r (Mode v only)) n ≡ Some (cond changed.0 (set_only only view) view) = changed.1 in
+      elim changed.0 as (λ b. view_of (roster_after r (Mode v only)) n ≡ Some (cond b (set_only only view) view) → KeepsView view (view_of (roster_after r (Mode v only)) n)) [
+        | true ↦ λ f. record { only = only; there = f }
+        | false ↦ λ f. view_itself view _ f
+      ] there;
   table_names = λ name t e. e;
   view_names = λ name n e. place-change_at (λ view. same_name view.name name) r.views v (set_only only) n (λ view. refl) e;
 }
@@ -146,13 +146,13 @@ relations_further r (Built cut snap) = relations_themselves r
 pub relations_trans : (q r s : Roster) → KeepsRelations q r → KeepsRelations r s → KeepsRelations q s
 relations_trans q r s a b = record {
   tables = λ t info e.
-    let first = a.tables t info e in
-    let second = b.tables t first.info first.there in
-    record { info = second.info; there = second.there; def = second.def ∙ first.def; hyper = keeps_hyper_trans info.hyper first.info.hyper second.info.hyper first.hyper second.hyper };
+      let first = a.tables t info e in
+      let second = b.tables t first.info first.there in
+      record { info = second.info; there = second.there; def = second.def ∙ first.def; hyper = keeps_hyper_trans info.hyper first.info.hyper second.info.hyper first.hyper second.hyper };
   views = λ n view e.
-    let first = a.views n view e in
-    let second = b.views n (set_only first.only view) first.there in
-    record { only = second.only; there = second.there };
+      let first = a.views n view e in
+      let second = b.views n (set_only first.only view) first.there in
+      record { only = second.only; there = second.there };
   table_names = λ name t e. b.table_names name t (a.table_names name t e);
   view_names = λ name n e. b.view_names name n (a.view_names name n e);
 }

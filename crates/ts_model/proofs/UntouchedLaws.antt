@@ -52,8 +52,8 @@ filter-kept p q [] e = refl
 filter-kept p q (x ∷ xs) e =
     elim (q x) as (λ b. list_any p (cond b (x ∷ filter q xs) (filter q xs)) ≡ false → filter p (cond (not b) (x ∷ filter (λ row. not (q row)) xs) (filter (λ row. not (q row)) xs)) ≡ filter p (x ∷ xs)) [
       | true ↦ λ f.
-        let parts = or_parts (p x) (list_any p (filter q xs)) f in
-        filter-kept p q xs parts.1 ∙ sym (ap (λ b. cond b (x ∷ filter p xs) (filter p xs)) parts.0)
+          let parts = or_parts (p x) (list_any p (filter q xs)) f in
+          filter-kept p q xs parts.1 ∙ sym (ap (λ b. cond b (x ∷ filter p xs) (filter p xs)) parts.0)
       | false ↦ λ f. ap (λ ys. cond (p x) (x ∷ ys) ys) (filter-kept p q xs f)
     ] e
 
@@ -112,10 +112,10 @@ untouched_commit n def h ops b s e before =
     elim (nat_lt (position h) s) as (λ t. nat_lt (position h) s ≡ t → scratch def (h ▸ Commit ops) b ≡ cond t (scratch def (h ▸ Commit ops) b) (scratch_at n def h s b)) [
       | true ↦ λ _. refl
       | false ↦ λ at_or_before.
-        let l : s < suc (position h) = omega (arith, ltb-false (position h) s at_or_before) in
-        let newer : nat_lt s (suc (position h)) ≡ true = lt-ltb s (suc (position h)) l in
-        let missed : touches def ops h b ≡ false = elim (touches def ops h b) as (λ t. is_above s (cond t (Some (suc (position h))) None) ≡ false → t ≡ false) [ true ↦ λ f. absurd (true≢false (sym newer ∙ f)) | false ↦ λ _. refl ] parts.1 in
-        ap (group_rows def.fold b) (bucket_rows-after_ops def.fold b def.table ops (rows def.table h) missed) ∙ before parts.0
+          let l : s < suc (position h) = omega (arith, ltb-false (position h) s at_or_before) in
+          let newer : nat_lt s (suc (position h)) ≡ true = lt-ltb s (suc (position h)) l in
+          let missed : touches def ops h b ≡ false = elim (touches def ops h b) as (λ t. is_above s (cond t (Some (suc (position h))) None) ≡ false → t ≡ false) [ true ↦ λ f. absurd (true≢false (sym newer ∙ f)) | false ↦ λ _. refl ] parts.1 in
+          ap (group_rows def.fold b) (bucket_rows-after_ops def.fold b def.table ops (rows def.table h) missed) ∙ before parts.0
     ] refl
 
 pub untouched_keeps : UntouchedKeeps

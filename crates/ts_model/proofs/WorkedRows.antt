@@ -78,15 +78,15 @@ first_bucket = refl
 
 abbrev with_nulls : History
 with_nulls = base ▸ inserted_rows (
-  record { at = pos 1; vals = None ∷ None ∷ [] }
-  ∷ record { at = pos 2; vals = None ∷ None ∷ [] }
-  ∷ record { at = pos 3; vals = Some (pos 4) ∷ None ∷ [] }
-  ∷ row 4 4 6
-  ∷ []
-)
+    record { at = pos 1; vals = None ∷ None ∷ [] }
+    ∷ record { at = pos 2; vals = None ∷ None ∷ [] }
+    ∷ record { at = pos 3; vals = Some (pos 4) ∷ None ∷ [] }
+    ∷ row 4 4 6
+    ∷ []
+    )
 
 by_device : answer (Buckets 0 (record { width = tens; keys = 1 ∷ []; aggs = record { fun = CountAll; col = 0 } ∷ record { fun = Count; col = 2 } ∷ record { fun = Sum; col = 2 } ∷ []; tests = [] })) with_nulls
-  ≡ record { rows = (Int (pos 0) ∷ Int (pos 4) ∷ Int (pos 2) ∷ Int (pos 1) ∷ Int (pos 6) ∷ []) ∷ (Int (pos 0) ∷ Null ∷ Int (pos 2) ∷ Int (pos 0) ∷ Null ∷ []) ∷ []; stale = [] }
+    ≡ record { rows = (Int (pos 0) ∷ Int (pos 4) ∷ Int (pos 2) ∷ Int (pos 1) ∷ Int (pos 6) ∷ []) ∷ (Int (pos 0) ∷ Null ∷ Int (pos 2) ∷ Int (pos 0) ∷ Null ∷ []) ∷ []; stale = [] }
 by_device = refl
 
 abbrev great_values : History
@@ -94,7 +94,7 @@ great_values = base ▸ inserted_rows (row 0 1 9223372036854775807 ∷ row 1 1 9
 
 -- a sum beyond 64 bits, and means in lowest terms
 sums_and_means : answer (Buckets 0 (record { width = tens; keys = []; aggs = record { fun = Sum; col = 2 } ∷ record { fun = Avg; col = 2 } ∷ []; tests = [] })) great_values
-  ≡ record { rows = (Int (pos 0) ∷ Int (pos 18446744073709551614) ∷ Ratio (record { num = pos 9223372036854775807; den = 1 }) ∷ []) ∷ (Int (pos 10) ∷ Int (pos 5) ∷ Ratio (record { num = pos 5; den = 3 }) ∷ []) ∷ []; stale = [] }
+    ≡ record { rows = (Int (pos 0) ∷ Int (pos 18446744073709551614) ∷ Ratio (record { num = pos 9223372036854775807; den = 1 }) ∷ []) ∷ (Int (pos 10) ∷ Int (pos 5) ∷ Ratio (record { num = pos 5; den = 3 }) ∷ []) ∷ []; stale = [] }
 unfolding greatest_common
 sums_and_means = refl
 

@@ -27,3 +27,6 @@ pub use scans::RowsAt;
 pub use snapshots::Shown;
 pub use tables::{Hyper, TableDef, TableInfo};
 pub use views::{Agg, Fold, ViewDef};
+
+#[cfg(test)]
+mod tests;
