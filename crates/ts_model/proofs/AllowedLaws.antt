@@ -1,14 +1,11 @@
 -- Laws of allowed events: what is sound stays so, calls make allowed events, and jobs that fit go on fitting.
-use Rattle.std.proofs.Common.{◌≡◌, ℕ, zero, suc, ◌+◌, ◌<◌, ◌≤◌, Bool, true, false, ◌&&◌, ◌||◌, not, cond, nat_lt, nat_le, ◌==◌, List, [], ◌∷◌, ◌++◌, ℤ, Option, Some, None, ◌⊎◌, inl, inr, ⊎_elim, sym, refl, ap, ◌∙◌, subst, arith}
-use Rattle.std.specs.Prelude.{is_some, is_none}
+use Rattle.std.proofs.Common.{◌≡◌, ℕ, suc, ◌≤◌, Bool, true, false, ◌&&◌, cond, nat_le, ◌==◌, List, [], ◌∷◌, ℤ, Option, Some, None, sym, refl, ap, ◌∙◌, subst, arith}
+use Rattle.std.specs.Prelude.{is_some}
 use Rattle.std.specs.List.{list_all}
-use Rattle.std.proofs.lemmas.Bool.{true≢false, or_left, and_parts, and_from, lt-ltb, le-ltb, leb-true, le-leb, eqb-true, cond-true, cond-false, cases_Bool}
+use Rattle.std.proofs.lemmas.Bool.{true≢false, or_left, and_parts, and_from, le-ltb, leb-true, le-leb, eqb-true, cond-false}
 use Rattle.std.proofs.lemmas.Bool.Decides.{nat_tests}
 use Rattle.ts_bucket.specs.Positions.{is_above}
-use Rattle.ts_bucket.specs.Spans.{in_span}
-use Rattle.ts_bucket.specs.Bucket.{is_bucket}
 use Rattle.ts_bucket.specs.declared.spans.Span.{Span}
-use Rattle.ts_schema.specs.declared.rows.Row.{Row}
 use Rattle.ts_model.specs.declared.events.Event.{Event}
 use Rattle.ts_model.specs.declared.events.Event.TheVariants.{Table, Hyper, View, Mode, Commit, Cut, Built}
 use Rattle.ts_model.specs.declared.events.Op.{Op}
@@ -20,12 +17,12 @@ use Rattle.ts_model.specs.declared.tables.Hyper.{Hyper as HyperInfo}
 use Rattle.ts_model.specs.declared.tables.TableDef.{TableDef}
 use Rattle.ts_model.specs.declared.tables.TableInfo.{TableInfo}
 use Rattle.ts_model.specs.declared.views.ViewDef.{ViewDef}
-use Rattle.ts_model.specs.History.{History, start, ◌▸◌, position, prefix, Begins, same, further}
+use Rattle.ts_model.specs.History.{History, start, ◌▸◌, position, Begins, same, further}
 use Rattle.ts_model.specs.Roster.{roster, table_of, view_of}
 use Rattle.ts_model.specs.Rows.{rows}
-use Rattle.ts_model.specs.Refreshes.{span_of_cut, is_covered, last_touch, last_touch_at}
+use Rattle.ts_model.specs.Refreshes.{span_of_cut, last_touch, last_touch_at}
 use Rattle.ts_model.specs.Answers.{answer}
-use Rattle.ts_model.specs.Allowed.{last_end, of_hyper, of_table, op_fits, rows_fit, hyper_fits, view_fits, span_fits, test_fits, finished_by, pending, is_known, is_sound_in, event_bytes, sound, rows_at, rows_of_spans, lies_in, was_refreshed, job_rows, Fits}
+use Rattle.ts_model.specs.Allowed.{last_end, of_hyper, of_table, op_fits, hyper_fits, view_fits, span_fits, finished_by, pending, is_known, is_sound_in, rows_at, rows_of_spans, was_refreshed, job_rows}
 use Rattle.ts_model.specs.Laws.{KeepsHyper, KeepsTable, KeepsView, KeepsRelations, SoundStays, AnswersStay, FitsStays}
 use Rattle.ts_model.proofs.HistoryLaws.{position_begins, prefix_begins}
 use Rattle.ts_model.proofs.RosterLaws.{relations_stay}

@@ -1,14 +1,10 @@
 -- Laws of calls: what a call leaves begins with what was seen, and what a call of an alone store finds.
-use Rattle.std.proofs.Common.{◌≡◌, ℕ, suc, ◌≤◌, Bool, true, false, sym, refl, ap, ◌∙◌, subst, arith}
-use Rattle.std.specs.Prelude.{IsTrue}
+use Rattle.std.proofs.Common.{◌≡◌, Bool, true, false, sym, refl, ◌∙◌, subst}
 use Rattle.std.proofs.lemmas.Bool.{true≢false}
-use Rattle.ts_schema.specs.Faults.{Rose}
-use Rattle.ts_model.specs.declared.events.Event.{Event}
 use Rattle.ts_model.specs.declared.outcomes.Outcome.{Outcome}
 use Rattle.ts_model.specs.declared.outcomes.Outcome.TheVariants.{Done, Refused, DiskFault, NoMemory}
-use Rattle.ts_model.specs.declared.outcomes.Refusal.{Refusal}
-use Rattle.ts_model.specs.History.{History, ◌▸◌, position, Begins, same, further}
-use Rattle.ts_model.specs.Calls.{Act, refuses, says, makes, Found, Leaves, Answered, Called, Looked, Counted}
+use Rattle.ts_model.specs.History.{History, Begins, same, further}
+use Rattle.ts_model.specs.Calls.{Act, refuses, says, makes, Found, Leaves, Answered, Called, Looked}
 use Rattle.ts_model.proofs.HistoryLaws.{begins_trans}
 
 -- what a call finds begins with what was seen

@@ -1,31 +1,29 @@
 -- Calls make allowed events only, and what a call leaves is an allowed history.
-use Rattle.std.proofs.Common.{◌≡◌, ℕ, suc, Bool, true, false, ◌&&◌, ◌||◌, not, cond, nat_lt, nat_le, List, [], ◌∷◌, length, ℤ, ◌+ℤ◌, ◌≤ℤ◌, ◌<ℤ◌, int_le, int_lt, Option, Some, None, sym, refl, ap, ◌∙◌, subst, arith}
+use Rattle.std.proofs.Common.{◌≡◌, ℕ, suc, Bool, true, false, cond, nat_lt, length, ℤ, int_le, int_lt, Option, Some, None, sym, refl, ap, ◌∙◌, subst, arith}
 use Rattle.std.specs.Prelude.{is_some, is_none, MatchOption}
 use Rattle.std.specs.Int.{int_max}
 use Rattle.std.proofs.lemmas.Bool.{true≢false, and_from, not_from_false}
-use Rattle.std.proofs.lemmas.Int.{ints, clamps}
+use Rattle.std.proofs.lemmas.Int.{ints}
 use Rattle.ts_num.specs.Aggregates.{greater}
-use Rattle.ts_bucket.specs.Bucket.{IsWidth, is_bucket, first_of, bucket_of}
-use Rattle.ts_bucket.specs.Windows.{IsInscribed, HasNoBucket, start_from, window_start, nonempty_span, inscribed}
-use Rattle.ts_bucket.specs.declared.spans.Span.{Span}
+use Rattle.ts_bucket.specs.Bucket.{IsWidth, first_of, bucket_of}
+use Rattle.ts_bucket.specs.Windows.{IsInscribed, HasNoBucket, start_from, window_start, inscribed}
 use Rattle.ts_bucket.specs.declared.widths.Width.{Width}
 use Rattle.ts_bucket.proofs.WindowLaws.{inscribed_meets}
 use Rattle.ts_model.specs.declared.events.Event.{Event}
-use Rattle.ts_model.specs.declared.events.Event.TheVariants.{Table, Hyper, View, Mode, Commit, Cut, Built}
-use Rattle.ts_model.specs.declared.outcomes.CutDone.{CutDone}
+use Rattle.ts_model.specs.declared.events.Event.TheVariants.{Table, Hyper, View, Built}
 use Rattle.ts_model.specs.declared.outcomes.Outcome.{Outcome}
 use Rattle.ts_model.specs.declared.outcomes.Outcome.TheVariants.{Done, Refused, DiskFault, NoMemory}
 use Rattle.ts_model.specs.declared.refreshes.Pending.{Pending}
 use Rattle.ts_model.specs.declared.refreshes.Pending.TheVariants.{Waiting, Finished, Unknown}
 use Rattle.ts_model.specs.declared.refreshes.Window.{Window}
-use Rattle.ts_model.specs.declared.refreshes.Window.TheVariants.{Whole, NoBucket, Nothing}
+use Rattle.ts_model.specs.declared.refreshes.Window.TheVariants.{NoBucket, Nothing}
 use Rattle.ts_model.specs.declared.views.ViewDef.{ViewDef}
-use Rattle.ts_model.specs.History.{History, start, ◌▸◌, position}
+use Rattle.ts_model.specs.History.{History, position}
 use Rattle.ts_model.specs.Roster.{roster, hyper_of, view_of, is_taken}
 use Rattle.ts_model.specs.Rows.{rows}
 use Rattle.ts_model.specs.Refreshes.{watermark}
 use Rattle.ts_model.specs.Allowed.{most_relations, allowed, all_allowed, sound, is_waiting, pending, span_fits, whole_or, window_up_to, window, last_end}
-use Rattle.ts_model.specs.Calls.{Act, refuses, says, makes, refusal, new_relation, making_table, making_view, making_hyper, cut_over, cut_of_view, cutting, finish_of, finishing, Answered, Called}
+use Rattle.ts_model.specs.Calls.{Act, refuses, says, makes, refusal, new_relation, cut_over, cut_of_view, cutting, finish_of, Answered}
 use Rattle.ts_model.specs.Laws.{MakesAllowed, CallsMakeAllowed}
 
 -- a new relation is allowed where its name is free and there is room for it

@@ -1,26 +1,24 @@
 -- Orders: of values, lists of values and rows; rows stand in order, and keys come once each, in order.
-use Rattle.std.proofs.Common.{◌≡◌, ℕ, Bool, true, false, ◌&&◌, ◌||◌, not, cond, ◌==◌, List, [], ◌∷◌, map, filter, ℤ, Option, Some, None, sym, refl, ap, ◌∙◌, subst, arith}
+use Rattle.std.proofs.Common.{◌≡◌, ℕ, Bool, true, false, ◌||◌, not, cond, ◌==◌, List, [], ◌∷◌, map, filter, ℤ, Option, Some, None, sym, refl, ap, ◌∙◌}
 use Rattle.std.specs.List.{list_all, list_any}
-use Rattle.std.specs.Ordering.{is_gt, is_lt, ordering_reverse, ordering_then, int_cmp, then_cmp, on, match_ordering}
+use Rattle.std.specs.Ordering.{is_gt, is_lt, ordering_reverse, ordering_then, int_cmp, match_ordering}
 use Rattle.std.specs.declared.cmp.Ordering.{Ordering}
 use Rattle.std.specs.declared.cmp.Ordering.TheVariants.{Less, Equal, Greater}
 use Rattle.std.specs.Cmp.{IsTotalOrder, int_cmp_total, on_total, then_total, upto}
-use Rattle.std.specs.Cmp.Lexicographic.{slice_cmp, lists_total}
+use Rattle.std.specs.Cmp.Lexicographic.{lists_total}
 use Rattle.std.specs.FinMap.{IsAntisymmetric, int_cmp-IsAntisymmetric, slice_cmp-IsAntisymmetric}
 use Rattle.std.specs.BTreeSet.{insert_key}
-use Rattle.std.proofs.lemmas.Bool.{true≢false, and_parts, and_from}
+use Rattle.std.proofs.lemmas.Bool.{and_parts, and_from}
 use Rattle.ts_bucket.specs.Bucket.{bucket_of}
 use Rattle.ts_schema.specs.declared.rows.Row.{Row}
 use Rattle.ts_schema.specs.Rows.{value_cmp, values_cmp, row_cmp}
 use Rattle.ts_schema.specs.Conditions.{passes_all}
-use Rattle.ts_model.specs.declared.events.Event.{Event}
 use Rattle.ts_model.specs.declared.events.Event.TheVariants.{Table, Hyper, View, Mode, Commit, Cut, Built}
 use Rattle.ts_model.specs.declared.events.Op.{Op}
 use Rattle.ts_model.specs.declared.events.Op.TheVariants.{Insert, Delete}
-use Rattle.ts_model.specs.declared.views.Fold.{Fold}
-use Rattle.ts_model.specs.History.{History, start, ◌▸◌}
-use Rattle.ts_model.specs.Rows.{with_row, with_rows, in_order, after_op, after_ops, rows}
-use Rattle.ts_model.specs.Scratch.{keys_of, once, key_lists, occurring_buckets}
+use Rattle.ts_model.specs.History.{start, ◌▸◌}
+use Rattle.ts_model.specs.Rows.{with_row, with_rows, after_op, after_ops, rows}
+use Rattle.ts_model.specs.Scratch.{keys_of, once}
 use Rattle.ts_model.specs.Laws.{InOrder, Rises, IsOnce, RowsStandInOrder, ResultsComeInOrder}
 
 -- ---- the orders

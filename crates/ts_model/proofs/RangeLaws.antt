@@ -1,18 +1,18 @@
 -- The buckets of a span, and their ranges: maximal, rising, not touching, and exactly the buckets that pass.
-use Rattle.std.proofs.Common.{◌≡◌, ℕ, zero, suc, ◌+◌, Bool, true, false, ◌&&◌, ◌||◌, cond, List, [], ◌∷◌, filter, ℤ, pos, negsuc, ◌+ℤ◌, ◌-ℤ◌, ◌≤ℤ◌, ◌<ℤ◌, int_le, int_lt, sym, refl, ap, ◌∙◌, subst, arith}
+use Rattle.std.proofs.Common.{◌≡◌, ℕ, zero, suc, Bool, true, false, ◌&&◌, ◌||◌, cond, List, [], ◌∷◌, filter, ℤ, pos, negsuc, ◌+ℤ◌, ◌-ℤ◌, ◌≤ℤ◌, ◌<ℤ◌, int_le, int_lt, sym, refl, ap, ◌∙◌, subst, arith}
 use Rattle.std.specs.List.{list_any, AllByRecursion}
 use Rattle.std.specs.Ordering.{int_eq}
 use Rattle.std.proofs.lemmas.Bool.{and_parts, and_right, both_ways}
 use Rattle.std.proofs.lemmas.Bool.Decides.{Decides-int_eq}
 use Rattle.std.proofs.lemmas.Int.{ints}
-use Rattle.ts_bucket.specs.Bucket.{IsWidth, is_bucket, first_of, holds}
+use Rattle.ts_bucket.specs.Bucket.{IsWidth, is_bucket, first_of}
 use Rattle.ts_bucket.specs.Spans.{in_span}
 use Rattle.ts_bucket.specs.declared.spans.Span.{Span}
 use Rattle.ts_bucket.specs.declared.widths.Width.{Width}
 use Rattle.ts_bucket.proofs.BucketLaws.{buckets_apart, is_bucket-next, holds-is, bucket_of-bucket}
-use Rattle.ts_model.specs.Answers.{numbers_from, count_of, numbers_in, buckets_in, with_bucket, ranges}
+use Rattle.ts_model.specs.Answers.{numbers_from, count_of, buckets_in, with_bucket, ranges}
 use Rattle.ts_model.specs.Allowed.{lies_in}
-use Rattle.ts_model.specs.Laws.{is_asked, IsWholeRange, RiseApart, AreRangesOf, RangesAreMaximal}
+use Rattle.ts_model.specs.Laws.{is_asked, IsWholeRange, RiseApart, RangesAreMaximal}
 
 -- ---- the buckets of a span
 

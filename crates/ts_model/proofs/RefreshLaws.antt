@@ -1,11 +1,11 @@
 -- Laws of refreshes: what was last refreshed stays as it was, nothing stood at or above the watermark, and watermark and threshold never fall.
-use Rattle.std.proofs.Common.{◌≡◌, ℕ, zero, suc, ◌<◌, ◌≤◌, max, Bool, true, false, ◌&&◌, ◌||◌, not, cond, nat_lt, nat_le, ◌==◌, List, [], ◌∷◌, ◌++◌, ℤ, ◌+ℤ◌, ◌≤ℤ◌, ◌<ℤ◌, int_lt, int_le, Option, Some, None, ◌⊎◌, inl, inr, ⊎_elim, sym, refl, ap, ◌∙◌, subst, arith}
-use Rattle.std.proofs.lemmas.Bool.{true≢false, or_parts, or_from, or_cases, or_left, or_right, and_left, and_right, and_parts, lt-ltb, le-ltb, ltb-false, leb-true, cond-true, cond-false, cases_Bool, cases_lt}
-use Rattle.std.proofs.lemmas.Int.{ints, clamps}
+use Rattle.std.proofs.Common.{◌≡◌, ℕ, ◌<◌, ◌≤◌, max, Bool, true, false, ◌&&◌, ◌||◌, cond, nat_lt, List, [], ◌∷◌, ℤ, ◌+ℤ◌, int_lt, Option, Some, None, ◌⊎◌, inl, inr, ⊎_elim, sym, refl, ap, ◌∙◌, subst, arith}
+use Rattle.std.proofs.lemmas.Bool.{true≢false, or_parts, or_left, and_left, and_right, and_parts, lt-ltb, le-ltb, leb-true, cond-true, cond-false, cases_Bool, cases_lt}
+use Rattle.std.proofs.lemmas.Int.{ints}
 use Rattle.ts_num.specs.Aggregates.{greater}
 use Rattle.ts_bucket.specs.Bucket.{IsWidth, holds, is_bucket, bucket_of}
 use Rattle.ts_bucket.specs.Spans.{in_span}
-use Rattle.ts_bucket.specs.Positions.{later, is_above}
+use Rattle.ts_bucket.specs.Positions.{later}
 use Rattle.ts_bucket.specs.declared.spans.Span.{Span}
 use Rattle.ts_bucket.specs.declared.widths.Width.{Width}
 use Rattle.ts_bucket.proofs.BucketLaws.{holds-one}
@@ -20,7 +20,7 @@ use Rattle.ts_model.specs.Roster.{roster, view_of}
 use Rattle.ts_model.specs.Rows.{rows}
 use Rattle.ts_model.specs.Scratch.{bucket_rows, group_rows, scratch, scratch_at}
 use Rattle.ts_model.specs.Refreshes.{span_of_cut, last, is_covered, is_below, top_in, top_at, top_of, watermark, is_over, threshold}
-use Rattle.ts_model.specs.Allowed.{allowed, all_allowed, sound, pending, is_known, event_bytes}
+use Rattle.ts_model.specs.Allowed.{allowed, all_allowed, sound}
 use Rattle.ts_model.specs.Laws.{NothingAboveWatermark, WatermarkNeverFalls, ThresholdNeverFalls}
 use Rattle.ts_model.proofs.HistoryLaws.{position_begins}
 

@@ -12,8 +12,8 @@ use Rattle.ts_model.specs.declared.rosters.Roster.{Roster}
 use Rattle.ts_model.specs.declared.tables.Hyper.{Hyper as HyperInfo}
 use Rattle.ts_model.specs.declared.tables.TableInfo.{TableInfo}
 use Rattle.ts_model.specs.declared.views.ViewDef.{ViewDef}
-use Rattle.ts_model.specs.History.{History, start, ◌▸◌, Begins, same, further}
-use Rattle.ts_model.specs.Roster.{change_at, made_hyper, set_only, roster_after, roster, table_of, view_of, same_name, table_named, view_named}
+use Rattle.ts_model.specs.History.{◌▸◌, same, further}
+use Rattle.ts_model.specs.Roster.{change_at, made_hyper, set_only, roster_after, roster, table_of, view_of, same_name}
 use Rattle.ts_model.specs.Laws.{KeepsHyper, KeepsTable, KeepsView, KeepsRelations, RelationsStay}
 
 -- ---- lists that grow at the end, and lists with one item changed

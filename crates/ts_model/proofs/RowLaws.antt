@@ -1,11 +1,11 @@
 -- Laws of rows in order: the order in which rows are put in their places plays no part.
-use Rattle.std.proofs.Common.{◌≡◌, ℕ, suc, ◌+◌, Bool, true, false, ◌&&◌, ◌||◌, not, cond, List, [], ◌∷◌, ◌++◌, filter, length, sym, refl, ap, ◌∙◌, subst, arith}
-use Rattle.std.specs.List.{list_all, list_any}
+use Rattle.std.proofs.Common.{◌≡◌, suc, ◌+◌, Bool, true, false, not, cond, List, [], ◌∷◌, ◌++◌, filter, length, sym, refl, ap, ◌∙◌, arith}
+use Rattle.std.specs.List.{list_all}
 use Rattle.std.specs.Ordering.{is_gt, ordering_reverse}
 use Rattle.std.specs.declared.cmp.Ordering.{Ordering}
 use Rattle.std.specs.declared.cmp.Ordering.TheVariants.{Less, Equal, Greater}
 use Rattle.std.specs.Cmp.{upto}
-use Rattle.std.proofs.lemmas.Bool.{true≢false, and_parts, and_from, cond-true, cond-false, cases_Bool}
+use Rattle.std.proofs.lemmas.Bool.{true≢false, and_parts, and_from, cond-true, cond-false}
 use Rattle.ts_schema.specs.declared.rows.Row.{Row}
 use Rattle.ts_schema.specs.Rows.{row_cmp}
 use Rattle.ts_model.specs.Rows.{with_row, with_rows, in_order}
@@ -126,7 +126,6 @@ in_order-is (x ∷ xs) o = ap (with_row x) (in_order-is xs o.1) ∙ first x xs o
     first : (x : Row) (xs : List Row) → list_all (λ y. not (is_gt (row_cmp x y))) xs ≡ true → with_row x xs ≡ x ∷ xs
     first x [] e = refl
     first x (y ∷ ys) e = with_row-here x y ys (unturned (is_gt (row_cmp x y)) (and_parts _ _ e).0)
-
 
 pub in_order-twice : (xs : List Row) → in_order (in_order xs) ≡ in_order xs
 in_order-twice xs = with_rows-in_order xs []

@@ -1,20 +1,18 @@
 -- A bucket that no commit touched after a position has the aggregation that it had there.
-use Rattle.std.proofs.Common.{◌≡◌, ℕ, suc, ◌<◌, ◌≤◌, Bool, true, false, ◌&&◌, ◌||◌, not, cond, nat_lt, ◌==◌, List, [], ◌∷◌, ◌++◌, filter, ℤ, ◌+ℤ◌, ◌≤ℤ◌, ◌<ℤ◌, int_lt, int_le, Option, Some, None, sym, refl, ap, ◌∙◌, subst, arith}
+use Rattle.std.proofs.Common.{◌≡◌, ℕ, suc, ◌<◌, Bool, true, false, ◌&&◌, ◌||◌, not, cond, nat_lt, ◌==◌, List, [], ◌∷◌, ◌++◌, filter, ℤ, Option, Some, None, sym, refl, ap, ◌∙◌, arith}
 use Rattle.std.specs.List.{list_any}
-use Rattle.std.specs.Int.{int_min, int_max}
 use Rattle.std.specs.Ordering.{is_gt}
 use Rattle.std.proofs.lemmas.Bool.{true≢false, or_parts, or_from, and_left, lt-ltb, ltb-false}
-use Rattle.std.proofs.lemmas.Int.{ints, clamps}
+use Rattle.std.proofs.lemmas.Int.{ints}
 use Rattle.ts_bucket.specs.Bucket.{holds}
 use Rattle.ts_bucket.specs.Spans.{meets}
-use Rattle.ts_bucket.specs.Positions.{later, is_above}
+use Rattle.ts_bucket.specs.Positions.{is_above}
 use Rattle.ts_bucket.specs.declared.spans.Hull.{Hull}
 use Rattle.ts_bucket.specs.declared.widths.Width.{Width}
 use Rattle.ts_bucket.proofs.PositionLaws.{is_above-later}
 use Rattle.ts_schema.specs.declared.rows.Row.{Row}
 use Rattle.ts_schema.specs.Rows.{row_cmp}
 use Rattle.ts_schema.specs.Conditions.{passes_all}
-use Rattle.ts_model.specs.declared.events.Event.{Event}
 use Rattle.ts_model.specs.declared.events.Event.TheVariants.{Table, Hyper, View, Mode, Commit, Cut, Built}
 use Rattle.ts_model.specs.declared.events.Op.{Op}
 use Rattle.ts_model.specs.declared.events.Op.TheVariants.{Insert, Delete}
@@ -23,7 +21,7 @@ use Rattle.ts_model.specs.declared.views.Fold.{Fold}
 use Rattle.ts_model.specs.History.{History, start, ◌▸◌, position}
 use Rattle.ts_model.specs.Rows.{with_row, with_rows, after_op, after_ops, rows}
 use Rattle.ts_model.specs.Effect.{appended_by, taken_by, all_appended, all_taken, hull_with, hull_of, hull_of_ops}
-use Rattle.ts_model.specs.Scratch.{bucket_rows, group_rows, scratch_of, scratch, scratch_at}
+use Rattle.ts_model.specs.Scratch.{bucket_rows, group_rows, scratch, scratch_at}
 use Rattle.ts_model.specs.Refreshes.{is_met, touches, last_touch, touched}
 use Rattle.ts_model.specs.Laws.{UntouchedKeeps}
 

@@ -1,9 +1,8 @@
 -- Worked rows: small histories, with every cell, stale range, window and watermark that they show, computed on the definitions.
-use Rattle.std.proofs.Common.{◌≡◌, ℕ, Bool, true, false, List, [], ◌∷◌, ◌++◌, ℤ, pos, negsuc, Option, Some, None, refl}
+use Rattle.std.proofs.Common.{◌≡◌, ℕ, Bool, true, false, List, [], ◌∷◌, ℤ, pos, negsuc, Some, None, refl}
 use Rattle.std.specs.Prelude.{codes}
 use Rattle.std.specs.List.{flat_map}
 use Rattle.ts_num.specs.Fractions.{greatest_common}
-use Rattle.ts_num.specs.declared.fractions.Frac.{Frac}
 use Rattle.ts_num.specs.declared.values.Datum.{Datum}
 use Rattle.ts_num.specs.declared.values.Datum.TheVariants.{Null, Int, Ratio}
 use Rattle.ts_num.specs.declared.values.Fun.TheVariants.{CountAll, Count, Sum, Max, Avg}
@@ -16,18 +15,17 @@ use Rattle.ts_schema.specs.declared.conditions.Cmp.TheVariants.{Lt}
 use Rattle.ts_model.specs.declared.events.Event.{Event}
 use Rattle.ts_model.specs.declared.events.Event.TheVariants.{Table, Hyper, View, Mode, Commit, Cut, Built}
 use Rattle.ts_model.specs.declared.events.Op.TheVariants.{Insert, Delete}
-use Rattle.ts_model.specs.declared.queries.Query.TheVariants.{Rows, Buckets, Aggregate}
-use Rattle.ts_model.specs.declared.queries.Answer.{Answer}
-use Rattle.ts_model.specs.declared.refreshes.Pending.TheVariants.{Waiting, Finished, Unknown}
+use Rattle.ts_model.specs.declared.queries.Query.TheVariants.{Buckets, Aggregate}
+use Rattle.ts_model.specs.declared.refreshes.Pending.TheVariants.{Finished}
 use Rattle.ts_model.specs.declared.refreshes.Window.TheVariants.{Whole, NoBucket, Nothing}
 use Rattle.ts_model.specs.declared.views.Fold.{Fold}
 use Rattle.ts_model.specs.declared.views.ViewDef.{ViewDef}
-use Rattle.ts_model.specs.History.{History, start, ◌▸◌, position, prefix}
+use Rattle.ts_model.specs.History.{History, start, ◌▸◌, prefix}
 use Rattle.ts_model.specs.Rows.{rows}
 use Rattle.ts_model.specs.Answers.{answer, numbers_from, shown}
 use Rattle.ts_model.specs.Refreshes.{watermark, last, stale, threshold}
 use Rattle.ts_model.specs.Allowed.{window, pending, waiting, all_allowed, event_bytes}
-use Rattle.ts_model.specs.Reads.{reads, job_reads}
+use Rattle.ts_model.specs.Reads.{reads}
 use Rattle.ts_model.specs.Calls.{committed}
 
 -- ---- a table m with the columns time, dev and v, in chunks of 100, and an aggregate c that counts rows and sums v by tens

@@ -1,5 +1,5 @@
 -- Laws of the definitions, each in one sentence.
-use Rattle.std.specs.Prelude.{◌≡◌, ℕ, suc, ◌+◌, ◌^◌, ◌<◌, ◌≤◌, Bool, true, false, ◌&&◌, not, int_le, map, filter, negsuc, ◌-◌, List, [], ◌∷◌, length, ℤ, pos, neg_ℤ, ◌≤ℤ◌, ◌<ℤ◌, Option, Some, None, Contains}
+use Rattle.std.specs.Prelude.{◌≡◌, ℕ, ◌^◌, ◌<◌, Bool, true, false, ◌&&◌, not, int_le, map, filter, negsuc, ◌-◌, List, [], ◌∷◌, length, ℤ, pos, neg_ℤ, ◌≤ℤ◌, ◌<ℤ◌, Option, Some, None}
 use Rattle.std.specs.List.{AllByRecursion, list_all, list_any}
 use Rattle.std.specs.Ordering.{is_gt, is_lt, int_cmp}
 use Rattle.std.specs.declared.cmp.Ordering.{Ordering}
@@ -14,7 +14,7 @@ use Rattle.ts_bucket.specs.Spans.{in_span}
 use Rattle.ts_bucket.specs.declared.widths.Width.{Width}
 use Rattle.ts_bucket.specs.declared.spans.Span.{Span}
 use Rattle.ts_model.specs.declared.events.Event.{Event}
-use Rattle.ts_model.specs.declared.events.Event.TheVariants.{Table, Hyper as HyperMade, View, Mode, Commit, Cut, Built}
+use Rattle.ts_model.specs.declared.events.Event.TheVariants.{Table, Hyper as HyperMade, View, Mode, Commit, Built}
 use Rattle.ts_model.specs.declared.events.Op.{Op}
 use Rattle.ts_model.specs.declared.tables.TableDef.{TableDef}
 use Rattle.ts_model.specs.Calls.{Act, refuses, says, makes, making_table, making_hyper, making_view, setting_mode, committing, cutting, finishing}
