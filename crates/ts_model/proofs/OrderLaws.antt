@@ -1,17 +1,17 @@
 -- Orders: of values, lists of values and rows; rows stand in order, and keys come once each, in order.
-use Rattle.std.proofs.Common.{◌≡◌, ℕ, Bool, true, false, ◌||◌, not, cond, ◌==◌, List, [], ◌∷◌, map, filter, ℤ, Option, Some, None, sym, refl, ap, ◌∙◌}
+use Rattle.std.proofs.Common.{◌≡◌, ℕ, Bool, true, false, ◌||◌, not, cond, ◌==◌, List, [], ◌∷◌, map, filter, sym, refl, ap, ◌∙◌}
 use Rattle.std.specs.List.{list_all, list_any}
-use Rattle.std.specs.Ordering.{is_gt, is_lt, ordering_reverse, ordering_then, int_cmp, match_ordering}
+use Rattle.std.specs.Ordering.{is_gt, is_lt, ordering_reverse, int_cmp, match_ordering}
 use Rattle.std.specs.declared.cmp.Ordering.{Ordering}
 use Rattle.std.specs.declared.cmp.Ordering.TheVariants.{Less, Equal, Greater}
-use Rattle.std.specs.Cmp.{IsTotalOrder, int_cmp_total, on_total, then_total, upto}
-use Rattle.std.specs.Cmp.Lexicographic.{lists_total}
-use Rattle.std.specs.FinMap.{IsAntisymmetric, int_cmp-IsAntisymmetric, slice_cmp-IsAntisymmetric}
+use Rattle.std.specs.Cmp.{IsTotalOrder, int_cmp_total, upto}
+use Rattle.std.proofs.lemmas.Map.Lookups.{CmpEqualImpliesEq, exact_signed}
 use Rattle.std.specs.BTreeSet.{insert_key}
 use Rattle.std.proofs.lemmas.Bool.{and_parts, and_from}
 use Rattle.ts_bucket.specs.Bucket.{bucket_of}
 use Rattle.ts_schema.specs.declared.rows.Row.{Row}
-use Rattle.ts_schema.specs.Rows.{value_cmp, values_cmp, row_cmp}
+use Rattle.ts_schema.specs.Rows.{values_cmp, row_cmp}
+use Rattle.ts_schema.proofs.OrderLaws.{values_cmp_total, row_cmp_total, then_equal, values_cmp_exact}
 use Rattle.ts_schema.specs.Conditions.{passes_all}
 use Rattle.ts_model.specs.declared.events.Event.TheVariants.{Table, Hyper, View, Mode, Commit, Cut, Built}
 use Rattle.ts_model.specs.declared.events.Op.{Op}
@@ -21,55 +21,14 @@ use Rattle.ts_model.specs.Rows.{with_row, with_rows, after_op, after_ops, rows}
 use Rattle.ts_model.specs.Scratch.{keys_of, once}
 use Rattle.ts_model.specs.Laws.{InOrder, Rises, IsOnce, RowsStandInOrder, ResultsComeInOrder}
 
--- ---- the orders
-
-value_turned : (x y : Option ℤ) → value_cmp x y ≡ ordering_reverse (value_cmp y x)
-value_turned None None = refl
-value_turned None (Some y) = refl
-value_turned (Some x) None = refl
-value_turned (Some x) (Some y) = int_cmp_total.antisymm x y
-
-value_chain : (x y z : Option ℤ) → value_cmp x y ≡ Less → value_cmp y z ≡ Less → value_cmp x z ≡ Less
-value_chain None None z p q = q
-value_chain None (Some y) z p q = absurd (cc)
-value_chain (Some x) None None p q = absurd (cc)
-value_chain (Some x) None (Some z) p q = absurd (cc)
-value_chain (Some x) (Some y) None p q = refl
-value_chain (Some x) (Some y) (Some z) p q = int_cmp_total.trans x y z p q
-
-pub value_cmp_same : IsAntisymmetric value_cmp
-value_cmp_same None None e = refl
-value_cmp_same None (Some y) e = absurd (cc)
-value_cmp_same (Some x) None e = absurd (cc)
-value_cmp_same (Some x) (Some y) e = ap Some (int_cmp-IsAntisymmetric x y e)
-
-pub value_cmp_total : IsTotalOrder value_cmp
-value_cmp_total = record {
-  antisymm = value_turned;
-  trans = value_chain;
-  congr = λ x y z e. ap (λ v. value_cmp v z) (value_cmp_same x y e);
-}
-
-pub values_cmp_same : IsAntisymmetric values_cmp
-values_cmp_same = slice_cmp-IsAntisymmetric value_cmp_same
-
-pub values_cmp_total : IsTotalOrder values_cmp
-values_cmp_total = lists_total value_cmp_total
-
-pub row_cmp_total : IsTotalOrder row_cmp
-row_cmp_total = then_total (on_total (λ r. r.at) int_cmp_total) (on_total (λ r. r.vals) values_cmp_total)
-
-both_equal : (o p : Ordering) → ordering_then o p ≡ Equal → (o ≡ Equal) × (p ≡ Equal)
-both_equal Less p e = absurd (cc)
-both_equal Equal p e = (refl, e)
-both_equal Greater p e = absurd (cc)
+-- ---- the order of rows
 
 -- rows that the order doesn't tell apart are the same row
-pub row_cmp_same : IsAntisymmetric row_cmp
+pub row_cmp_same : CmpEqualImpliesEq row_cmp
 row_cmp_same x y e =
-    let parts = both_equal (int_cmp x.at y.at) (values_cmp x.vals y.vals) e in
-    let times : x.at ≡ y.at = int_cmp-IsAntisymmetric x.at y.at parts.0 in
-    let values : x.vals ≡ y.vals = values_cmp_same x.vals y.vals parts.1 in
+    let parts = then_equal (int_cmp x.at y.at) (values_cmp x.vals y.vals) e in
+    let times : x.at ≡ y.at = exact_signed x.at y.at parts.0 in
+    let values : x.vals ≡ y.vals = values_cmp_exact x.vals y.vals parts.1 in
     λ i. record { at = times i; vals = values i }
 
 -- ---- rows stand in order
@@ -145,7 +104,7 @@ rows_stand_in_order t (h ▸ Built cut snap) = rows_stand_in_order t h
 
 -- ---- keys come once each, in order
 
-module _ {K : Type 0} (cmp : K → K → Ordering) (total : IsTotalOrder cmp) (alike : IsAntisymmetric cmp) where
+module _ {K : Type 0} (cmp : K → K → Ordering) (total : IsTotalOrder cmp) (alike : CmpEqualImpliesEq cmp) where
   list_all-insert_key : (q : K → Bool) (ks : List K) (k : K) → q k ≡ true → list_all q ks ≡ true → list_all q (insert_key cmp ks k) ≡ true
   list_all-insert_key q [] k here rest = and_from _ _ here refl
   list_all-insert_key q (x ∷ xs) k here rest =
@@ -207,6 +166,6 @@ module _ {K : Type 0} (cmp : K → K → Ordering) (total : IsTotalOrder cmp) (a
 
 pub results_come_in_order : ResultsComeInOrder
 results_come_in_order = record {
-  keys = λ fold group. is_once values_cmp values_cmp_total values_cmp_same (map (keys_of fold.keys) group);
-  buckets = λ fold rows. is_once int_cmp int_cmp_total int_cmp-IsAntisymmetric (map (λ row. bucket_of fold.width row.at) (filter (λ row. passes_all row fold.tests) rows));
+  keys = λ fold group. is_once values_cmp values_cmp_total values_cmp_exact (map (keys_of fold.keys) group);
+  buckets = λ fold rows. is_once int_cmp int_cmp_total exact_signed (map (λ row. bucket_of fold.width row.at) (filter (λ row. passes_all row fold.tests) rows));
 }

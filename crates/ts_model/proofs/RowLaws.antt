@@ -10,7 +10,8 @@ use Rattle.ts_schema.specs.declared.rows.Row.{Row}
 use Rattle.ts_schema.specs.Rows.{row_cmp}
 use Rattle.ts_model.specs.Rows.{with_row, with_rows, in_order}
 use Rattle.ts_model.specs.Laws.{InOrder}
-use Rattle.ts_model.proofs.OrderLaws.{row_cmp_total, row_cmp_same, in_order-with_rows, at_most_all}
+use Rattle.ts_schema.proofs.OrderLaws.{row_cmp_total}
+use Rattle.ts_model.proofs.OrderLaws.{row_cmp_same, in_order-with_rows, at_most_all}
 
 unturned : (b : Bool) → not b ≡ true → b ≡ false
 unturned true e = absurd (cc)
