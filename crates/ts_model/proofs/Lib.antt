@@ -10,3 +10,4 @@ pub mod RangeLaws
 pub mod OrderLaws
 pub mod SumLaws
 pub mod RowLaws
+pub mod SameRanges
