@@ -11,3 +11,4 @@ pub mod OrderLaws
 pub mod SumLaws
 pub mod RowLaws
 pub mod SameRanges
+pub mod ReadLaws

@@ -203,3 +203,14 @@ module _ {X : Type 0} (w : Width) (f : ℤ → List X) where
 pub flat_map-buckets_in : {X : Type 0} (w : Width) (f : ℤ → List X) (starts : Span) (some : List ℤ) → RisingBuckets w starts.lo some → ((b : ℤ) → among b some ≡ true → is_asked w starts b ≡ true) → ((b : ℤ) → is_asked w starts b ≡ true → among b some ≡ false → f b ≡ []) → flat_map f (buckets_in w starts) ≡ flat_map f some
 flat_map-buckets_in w f starts some r within none =
     flat_map_some w f starts.lo (buckets_in w starts) some (rising-buckets_in w starts) r (λ b e. among-buckets_in w starts b ∙ within b e) (λ b e n. none b (sym (among-buckets_in w starts b) ∙ e) n)
+
+each_alone : (bs : List ℤ) → flat_map (λ b. b ∷ []) bs ≡ bs
+each_alone [] = refl
+each_alone (b ∷ bs) = ap (λ cs. b ∷ cs) (each_alone bs)
+
+-- buckets that rise and are the same numbers are the same list
+pub same_buckets : (w : Width) (low : ℤ) (a b : List ℤ) → RisingBuckets w low a → RisingBuckets w low b → ((c : ℤ) → among c a ≡ among c b) → a ≡ b
+same_buckets w low a b ra rb same =
+    sym (each_alone a)
+    ∙ flat_map_some w (λ c. c ∷ []) low a b ra rb (λ c e. same c ∙ e) (λ c e n. absurd (true≢false (sym e ∙ same c ∙ n)))
+    ∙ each_alone b
