@@ -13,6 +13,9 @@ int_min-assoc x y z = omega (arith, ints, clamps)
 int_max-assoc : (x y z : ℤ) → int_max x (int_max y z) ≡ int_max (int_max x y) z
 int_max-assoc x y z = omega (arith, ints, clamps)
 
+int_max-comm : (x y : ℤ) → int_max x y ≡ int_max y x
+int_max-comm x y = omega (arith, ints, clamps)
+
 pub joined_hull-none : (a : Option HullValue) → joined_hull a None ≡ a
 joined_hull-none None = refl
 joined_hull-none (Some g) = refl
@@ -40,6 +43,11 @@ later_time-assoc None b c = refl
 later_time-assoc (Some x) None c = refl
 later_time-assoc (Some x) (Some y) None = refl
 later_time-assoc (Some x) (Some y) (Some z) = ap Some (int_max-assoc x y z)
+
+pub later_time-comm : (a b : Option ℤ) → later_time a b ≡ later_time b a
+later_time-comm None b = sym (later_time-none b)
+later_time-comm (Some x) None = refl
+later_time-comm (Some x) (Some y) = ap Some (int_max-comm x y)
 
 -- the greatest time of two lists is the greater of theirs
 pub latest_of-append : (xs ys : List Row) → latest_of (xs ++ ys) ≡ later_time (latest_of xs) (latest_of ys)

@@ -1,14 +1,19 @@
 -- Laws of versions: what one more version adds to what is shown or taken.
-use Rattle.std.proofs.Common.{◌≡◌, ℕ, ◌<◌, ◌≤◌, ◌+◌, Bool, true, false, cond, ◌&&◌, Option, Some, None, List, [], ◌∷◌, ◌++◌, length, get_or, take, drop, map, refl, sym, ◌∙◌, ap, arith}
-use Rattle.std.specs.List.{filter}
-use Rattle.std.proofs.lemmas.List.{append_assoc, map-append, length-append, length-map, take_at, take-append-drop}
+use Rattle.std.proofs.Common.{◌≡◌, ℕ, ◌<◌, ◌≤◌, ◌+◌, Bool, true, false, cond, ◌&&◌, Some, None, List, [], ◌∷◌, ◌++◌, length, get_or, take, drop, map, refl, sym, ◌∙◌, ap, subst, arith}
+use Rattle.std.specs.List.{filter, list_all}
+use Rattle.std.specs.Prelude.{nat_le}
+use Rattle.std.proofs.lemmas.List.Folds.{list_all-append}
+use Rattle.std.proofs.lemmas.List.Recursion.{and_at}
+use Rattle.std.proofs.lemmas.Bool.{leb-true}
+use Rattle.std.proofs.lemmas.List.{append_assoc, append-nil, map-append, length-append, length-map, take_at, take-append-drop}
 use Rattle.std.proofs.lemmas.List.Elements.{filter_more, filter-append}
 use Rattle.std.proofs.lemmas.List.Sums.{length-filter, count_by-le-length}
-use Rattle.ts_bucket.specs.Spans.{SpanValue, HullValue}
+use Rattle.ts_bucket.specs.Spans.{SpanValue}
 use Rattle.ts_schema.specs.declared.rows.Row.{Row}
 use Rattle.ts_schema.specs.declared.conditions.Test.{Test}
+use Rattle.ts_schema.specs.Conditions.{ColumnsAreThere}
 use Rattle.seg_rows.specs.Hulls.{joined_hull, hull_at, hull_of}
-use Rattle.seg_rows.specs.Versions.{Version, visible_at, shown_at, rows_of, rows_at, is_taken, taken_at, after_kill, later_time, latest_of, latest_at}
+use Rattle.seg_rows.specs.Versions.{Version, visible_at, shown_at, rows_of, rows_at, is_taken, taken_at, after_kill, later_time, latest_of, latest_at, has_columns, TestsFit}
 use Rattle.seg_rows.proofs.HullLaws.{hull_of-append, latest_of-append}
 
 map-cond : {X Y : Type 0} (f : X → Y) (b : Bool) (x : X) → map f (cond b (x ∷ []) []) ≡ cond b (f x ∷ []) []
@@ -25,6 +30,14 @@ picked_more f p xs i d x h e =
 pub picked-append : {X Y : Type 0} (f : X → Y) (p : X → Bool) (xs ys : List X)
     → map f (filter p (xs ++ ys)) ≡ map f (filter p xs) ++ map f (filter p ys)
 picked-append f p xs ys = ap (map f) (filter-append p xs ys) ∙ map-append f (filter p xs) (filter p ys)
+
+pub and_first : (a b : Bool) → (a && b) ≡ true → a ≡ true
+and_first true b h = refl
+and_first false b h = h
+
+pub and_second : (a b : Bool) → (a && b) ≡ true → b ≡ true
+and_second true b h = h
+and_second false b h = cc
 
 pub and_true : (a b r : Bool) → a ≡ true → r ≡ b → r ≡ (a && b)
 and_true a b r e h = grind arith
@@ -103,3 +116,24 @@ after_kill-nothing p tests (v ∷ vs) e =
 -- what was pushed after what was done
 pub pushed_step : (out before done more new : List Row) → out ≡ before ++ done → new ≡ done ++ more → out ++ more ≡ before ++ new
 pushed_step out before done more new e f = ap (λ x. x ++ more) e ∙ (append_assoc before done more ∙ ap (λ x. before ++ x) (sym f))
+
+-- a delete that took nothing left the versions as they were
+pub kill_nothing : (p : ℕ) (tests : List Test) (old new : List Version) (removed : ℕ)
+    → new ≡ map (after_kill p tests) old → removed ≡ length (taken_at p tests old) → removed ≡ 0 → new ≡ old
+kill_nothing p tests old new removed after counted none = after ∙ after_kill-nothing p tests old (sym counted ∙ none)
+
+-- the columns of the tests are there
+pub columns_there : (tests : List Test) (n : ℕ) → list_all (λ (t : Test). nat_le t.col n) tests ≡ true → ColumnsAreThere n tests
+columns_there [] n h = tt
+columns_there (t ∷ tests) n h = (leb-true t.col n (and_first (nat_le t.col n) (list_all (λ (t : Test). nat_le t.col n) tests) h), columns_there tests n (and_second (nat_le t.col n) (list_all (λ (t : Test). nat_le t.col n) tests) h))
+
+-- tests that fit all versions fit each one
+pub fit_at : (tests : List Test) (vs : List Version) (i : ℕ) (d : Version) → TestsFit tests vs → i < length vs → ColumnsAreThere (length (get_or vs i d).row.vals) tests
+fit_at tests vs i d fit h = columns_there tests (length (get_or vs i d).row.vals) (and_at (list_all (has_columns tests)) (has_columns tests) refl (λ _ _. refl) vs i d h fit)
+
+-- what is seen and taken of two lists
+pub ruleset parts = (rows_at-append, taken_at-append, latest_at-append, hull_of-append, latest_of-append, length-append, map-append, append-nil, list_all-append)
+
+-- a delete takes no more than there is
+pub taken_few : (p : ℕ) (tests : List Test) (vs : List Version) → length (taken_at p tests vs) ≤ length vs
+taken_few p tests vs = taken_at-length p tests vs

@@ -1,5 +1,5 @@
 -- How the positions of a segment's versions are kept.
-use Rattle.std.specs.Prelude.{◌≡◌, ℕ, Bool, not, ◌&&◌, nat_le, List, [], ◌∷◌, length, slice_index_or, replicate, Option, None}
+use Rattle.std.specs.Prelude.{◌≡◌, ℕ, Bool, not, ◌&&◌, nat_le, List, [], ◌∷◌, length, replicate, None}
 use Rattle.ts_schema.specs.declared.rows.Row.{Row}
 use Rattle.seg_rows.specs.Versions.{Version, is_dead_at}
 use Rattle.seg_rows.specs.declared.lives.Life.{Life}

@@ -1,11 +1,11 @@
 -- Versions of rows: a row with the positions at which it was born and died, and what a position sees.
 use Rattle.std.specs.Prelude.{ℕ, Bool, false, true, cond, not, ◌&&◌, nat_le, List, [], ◌∷◌, map, filter, length, count_by, ◌≡◌, ℤ, Option, Some, None}
 use Rattle.std.specs.Int.{int_max}
-use Rattle.std.specs.List.{All}
+use Rattle.std.specs.List.{list_all}
 use Rattle.ts_bucket.specs.Spans.{SpanValue, in_span}
 use Rattle.ts_schema.specs.declared.rows.Row.{Row}
 use Rattle.ts_schema.specs.declared.conditions.Test.{Test}
-use Rattle.ts_schema.specs.Conditions.{ColumnsAreThere, passes_all}
+use Rattle.ts_schema.specs.Conditions.{passes_all}
 
 -- a row, the position at which it was born, and the position at which it died, if it did
 pub record Version : Type 0 where
@@ -65,9 +65,13 @@ latest_of (row ∷ rows) = later_time (Some row.at) (latest_of rows)
 abbrev pub latest_at : ℕ → List Version → Option ℤ
 latest_at p vs = latest_of (rows_of (filter (visible_at p) vs))
 
+-- each test is on a column that the row of this version has
+abbrev pub has_columns : List Test → Version → Bool
+has_columns tests v = list_all (λ t. nat_le t.col (length v.row.vals)) tests
+
 -- each test is on a column that every row has
 abbrev pub TestsFit : List Test → List Version → Type 0
-TestsFit tests vs = All (λ v. ColumnsAreThere (length v.row.vals) tests) vs
+TestsFit tests vs = list_all (has_columns tests) vs ≡ true
 
 -- the same items, each as often, in some order: every test passes as many of both
 abbrev pub AsOften : {X : Type 0} → List X → List X → Type 0

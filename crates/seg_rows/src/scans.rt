@@ -22,7 +22,7 @@ pub fn scan_rows<L>(
     ensures rows { OnOk result (out.new ≡ out.old ++ rows_at pos span (versions_of rows.now lives.now)) }
     ensures part { OnErr result ((k : ℕ) × (out.new ≡ out.old ++ take k (rows_at pos span (versions_of rows.now lives.now)))) }
     ensures ticks { OnOk result (steps.new ≡ raised_by (length rows.now) steps.old) }
-    ensures at_most { OnErr result ((steps.old ≤ steps.new) × (steps.new ≤ raised_by (length rows.now) steps.old)) }
+    ensures at_most { OnErr result (steps.new ≤ raised_by (length rows.now) steps.old) }
 {
     let _so_far = steps.count();
     for (i, row) in rows.iter().enumerate() {

@@ -83,7 +83,13 @@ impl Segment {
         ensures joined { IfOk result (λ both. both ≡ self.now ++ other.now) }
     {
         let rows = joined_rows(self.alloc, self.rows.items(), other.rows.items())?;
-        let lives = joined_lives(self.alloc, &self.lives, self.rows.len(), &other.lives, other.rows.len())?;
+        let lives = joined_lives(
+            self.alloc,
+            &self.lives,
+            self.rows.len(),
+            &other.lives,
+            other.rows.len(),
+        )?;
         Ok(Segment {
             alloc: self.alloc,
             rows: Arc::new(self.alloc, rows)?,
@@ -145,7 +151,7 @@ impl Segment {
         ensures rows { OnOk result (out.new ≡ out.old ++ rows_at pos span self.now) }
         ensures part { OnErr result ((k : ℕ) × (out.new ≡ out.old ++ take k (rows_at pos span self.now))) }
         ensures ticks { OnOk result (steps.new ≡ raised_by (length self.now) steps.old) }
-        ensures at_most { OnErr result ((steps.old ≤ steps.new) × (steps.new ≤ raised_by (length self.now) steps.old)) }
+        ensures at_most { OnErr result (steps.new ≤ raised_by (length self.now) steps.old) }
     {
         scan_rows(self.rows.items(), &self.lives, pos, span, out, steps)
     }

@@ -1,35 +1,24 @@
-//! Segments beside a plain list of versions.
-ghost use Rattle.std.specs.Prelude.{ℕ, IfOk};
+//! Segments beside plain lists of versions.
+ghost use Rattle.std.specs.Prelude.{ℕ, ◌≤ℤ◌, IfOk};
 ghost use Rattle.ts_schema.specs.Conditions.{ColumnsAreThere};
 
-use crate::Segment;
+use crate::{Killed, Segment};
 use std::alloc::Global;
-use std::process::Abort;
 use std::test::Fail;
 use ts_bucket::{Hull, Span};
 use ts_schema::{Cmp, NoMemory, Row, Seq, Steps, Test};
 
-/// A version of a row without values.
-#[derive(Clone, Copy)]
-struct Plain {
-    at: i64,
-    born: u64,
-    died: Option<u64>,
-}
-
-fn row(alloc: Global, at: i64) -> Row {
-    Row {
-        at,
-        vals: Seq::new(alloc),
-    }
-}
-
-fn rows(alloc: Global, times: &[i64]) -> Result<Seq<Row>, NoMemory> {
+/// The segment of rows without values at these times, born at a position.
+fn sealed(alloc: Global, times: &[i64], born: u64) -> Result<Segment, NoMemory> {
     let mut rows = Seq::new(alloc);
     for t in times {
-        rows.push(row(alloc, *t))?;
+        let row = Row {
+            at: *t,
+            vals: Seq::new(alloc),
+        };
+        rows.push(row)?;
     }
-    Ok(rows)
+    Segment::seal(alloc, rows, born)
 }
 
 /// The one test that a row's time is `cmp` a number.
@@ -41,100 +30,169 @@ fn on_time(alloc: Global, cmp: Cmp, num: i64) -> Result<Seq<Test>, NoMemory>
     Ok(tests)
 }
 
-/// Whether a position sees just the versions of the plain list that it should, in every span.
-fn sees_the_same(
-    rt: &impl Abort,
+/// Deletes the rows whose time is `cmp` a number.
+fn kill(
+    alloc: Global,
+    segment: &Segment,
+    cmp: Cmp,
+    num: i64,
+    pos: u64,
+) -> Result<Killed, NoMemory> {
+    segment.kill(&on_time(alloc, cmp, num)?, pos)
+}
+
+/// The times that a position sees in a span.
+fn seen(alloc: Global, segment: &Segment, pos: u64, lo: i64, hi: i64) -> Result<Vec<i64>, NoMemory>
+    requires { lo ≤ℤ hi }
+{
+    let mut rows = Seq::new(alloc);
+    let mut steps = Steps::new(());
+    segment.scan(pos, Span { lo, hi }, &mut rows, &mut steps)?;
+    times_of(alloc, rows.items())
+}
+
+/// The times of these rows.
+fn times_of(alloc: Global, rows: &[Row]) -> Result<Vec<i64>, NoMemory> {
+    let mut times = Vec::new(alloc);
+    for row in rows {
+        times.push(row.at)?;
+    }
+    Ok(times)
+}
+
+/// A version of a row without values.
+#[derive(Clone, Copy)]
+struct Plain {
+    at: i64,
+    born: u64,
+    died: u64,
+}
+
+impl Plain {
+    fn is_seen(&self, pos: u64, lo: i64, hi: i64) -> bool {
+        self.born <= pos && pos < self.died && lo <= self.at && self.at < hi
+    }
+}
+
+/// The times of the plain versions that a position sees in a span.
+fn plainly_seen(
+    alloc: Global,
+    plain: &[Plain],
+    pos: u64,
+    lo: i64,
+    hi: i64,
+) -> Result<Vec<i64>, NoMemory> {
+    let mut times = Vec::new(alloc);
+    for version in plain {
+        if version.is_seen(pos, lo, hi) {
+            times.push(version.at)?;
+        }
+    }
+    Ok(times)
+}
+
+/// Whether every position sees the same in the segment as in the plain list, in some spans.
+fn agrees(alloc: Global, segment: &Segment, plain: &[Plain]) -> Result<bool, NoMemory> {
+    for pos in 0..9 {
+        if !agrees_at(alloc, segment, plain, pos)? {
+            return Ok(false);
+        }
+    }
+    Ok(true)
+}
+
+fn agrees_at(
     alloc: Global,
     segment: &Segment,
     plain: &[Plain],
-) -> Result<(), NoMemory> {
-    for pos in [0, 1, 2, 3, 4, 5, 6, 7, u64::MAX] {
-        for (lo, hi) in [(i64::MIN, i64::MAX), (-5, 5), (0, 0), (5, 6), (6, 100)] {
-            let mut out = Seq::new(alloc);
-            let mut steps = Steps::new(());
-            segment.scan(pos, Span { lo, hi }, &mut out, &mut steps)?;
-            let mut seen = Vec::new(alloc);
-            for row in out.items() {
-                seen.push(row.at)?;
-            }
-            let mut want = Vec::new(alloc);
-            for v in plain {
-                if v.born <= pos && v.died.map_or(true, |d| pos < d) && lo <= v.at && v.at < hi {
-                    want.push(v.at)?;
-                }
-            }
-            assert!(rt; seen == want);
-            assert_eq!(rt; steps.count(), plain.len() as u64);
-            if lo == i64::MIN {
-                assert!(rt; segment.last(pos) == want.iter().copied().max());
-            }
-        }
-    }
-    Ok(())
+    pos: u64,
+) -> Result<bool, NoMemory> {
+    let all = seen(alloc, segment, pos, -1000, 1000)?
+        == plainly_seen(alloc, plain, pos, -1000, 1000)?;
+    let few = seen(alloc, segment, pos, -5, 5)? == plainly_seen(alloc, plain, pos, -5, 5)?;
+    let none = seen(alloc, segment, pos, 5, 5)?.is_empty();
+    let last = plainly_seen(alloc, plain, pos, -1000, 1000)?
+        .iter()
+        .copied()
+        .max();
+    Ok(all && few && none && segment.last(pos) == last)
 }
+
+const NEVER: u64 = u64::MAX;
 
 #[test]
 fn every_position_keeps_seeing_its_rows(rt: HostRuntime) -> Result<(), Fail> {
     let alloc = rt.alloc();
-    let times = [5, -5, 0, 5, 99];
-    let fresh = Segment::seal(alloc, rows(alloc, &times)?, 2)?;
-    let mut plain = times.map(|at| Plain {
-        at,
-        born: 2,
-        died: None,
-    });
-    assert_eq!(rt; fresh.count(), 5);
-    sees_the_same(&rt, alloc, &fresh, &plain)?;
-
-    let first = fresh.kill(&on_time(alloc, Cmp::Eq, 5)?, 4)?;
-    assert_eq!(rt; first.removed, 2);
-    assert!(rt; first.hull == Some(Hull { least: 5, most: 5 }));
-    plain[0].died = Some(4);
-    plain[3].died = Some(4);
-    sees_the_same(&rt, alloc, &first.segment, &plain)?;
-
-    let second = first.segment.kill(&on_time(alloc, Cmp::Ge, 0)?, 6)?;
-    assert_eq!(rt; second.removed, 2);
-    assert!(rt; second.hull == Some(Hull { least: 0, most: 99 }));
-    plain[2].died = Some(6);
-    plain[4].died = Some(6);
-    sees_the_same(&rt, alloc, &second.segment, &plain)?;
-
-    let third = second.segment.kill(&on_time(alloc, Cmp::Gt, 99)?, 7)?;
-    assert_eq!(rt; third.removed, 0);
-    assert!(rt; third.hull.is_none());
-    sees_the_same(&rt, alloc, &third.segment.copy()?, &plain)?;
-
-    let joined = third.segment.join(&Segment::seal(alloc, rows(alloc, &[7])?, 7)?)?;
-    let [a, b, c, d, e] = plain;
-    let f = Plain {
-        at: 7,
-        born: 7,
-        died: None,
-    };
-    sees_the_same(&rt, alloc, &joined, &[a, b, c, d, e, f])?;
+    let fresh = sealed(alloc, &[5, -5, 0, 5, 99], 2)?;
+    let first = kill(alloc, &fresh, Cmp::Eq, 5, 4)?;
+    let second = kill(alloc, &first.segment, Cmp::Ge, 0, 6)?;
+    let joined = second.segment.join(&sealed(alloc, &[7], 7)?)?;
+    let plain = [
+        Plain {
+            at: 5,
+            born: 2,
+            died: 4,
+        },
+        Plain {
+            at: -5,
+            born: 2,
+            died: NEVER,
+        },
+        Plain {
+            at: 0,
+            born: 2,
+            died: 6,
+        },
+        Plain {
+            at: 5,
+            born: 2,
+            died: 4,
+        },
+        Plain {
+            at: 99,
+            born: 2,
+            died: 6,
+        },
+        Plain {
+            at: 7,
+            born: 7,
+            died: NEVER,
+        },
+    ];
+    assert!(rt; agrees(alloc, &joined, &plain)?);
+    assert!(rt; agrees(alloc, &second.segment.copy()?, &plain[..5])?);
     Ok(())
 }
 
 #[test]
-fn a_row_that_dies_where_it_was_born_is_never_seen(rt: HostRuntime) -> Result<(), Fail> {
+fn a_delete_tells_what_it_took(rt: HostRuntime) -> Result<(), Fail> {
     let alloc = rt.alloc();
-    let fresh = Segment::seal(alloc, rows(alloc, &[1, 2])?, 3)?;
-    let killed = fresh.kill(&on_time(alloc, Cmp::Le, 1)?, 3)?;
-    assert_eq!(rt; killed.removed, 1);
-    assert_eq!(rt; killed.segment.count(), 2);
-    let plain = [
-        Plain {
-            at: 1,
-            born: 3,
-            died: Some(3),
-        },
-        Plain {
-            at: 2,
-            born: 3,
-            died: None,
-        },
-    ];
-    sees_the_same(&rt, alloc, &killed.segment, &plain)?;
+    let fresh = sealed(alloc, &[5, -5, 0, 5, 99], 2)?;
+    assert_eq!(rt; fresh.count(), 5);
+    let first = kill(alloc, &fresh, Cmp::Eq, 5, 4)?;
+    assert_eq!(rt; first.removed, 2);
+    assert!(rt; first.hull == Some(Hull { least: 5, most: 5 }));
+    let second = kill(alloc, &first.segment, Cmp::Ge, 0, 6)?;
+    assert_eq!(rt; second.removed, 2);
+    assert!(rt; second.hull == Some(Hull { least: 0, most: 99 }));
+    let third = kill(alloc, &second.segment, Cmp::Gt, 99, 7)?;
+    assert_eq!(rt; third.removed, 0);
+    assert!(rt; third.hull.is_none());
+    assert_eq!(rt; third.segment.count(), 5);
+    Ok(())
+}
+
+#[test]
+fn a_scan_ticks_for_dead_versions_too(rt: HostRuntime) -> Result<(), Fail> {
+    let alloc = rt.alloc();
+    let fresh = sealed(alloc, &[1, 2], 3)?;
+    let killed = kill(alloc, &fresh, Cmp::Le, 1, 3)?;
+    let mut rows = Seq::new(alloc);
+    let mut steps = Steps::new(());
+    killed
+        .segment
+        .scan(3, Span { lo: 0, hi: 9 }, &mut rows, &mut steps)?;
+    assert_eq!(rt; rows.len(), 1);
+    assert_eq!(rt; steps.count(), 2);
     Ok(())
 }

@@ -1,6 +1,6 @@
-use Rattle.std.proofs.Common.{◌≡◌, ◌+◌, ◌∙◌, ap, sym, length, map, take, take_all, arith}
+use Rattle.std.proofs.Common.{◌+◌, ◌∙◌, ap, sym, length, map, take, take_all}
 use Rattle.std.proofs.lemmas.List.{length_push}
-use Rattle.seg_rows.specs.Lives.{versions_of, with_lives}
+use Rattle.seg_rows.specs.Lives.{with_lives}
 use Rattle.seg_rows.specs.Versions.{after_kill}
 use Rattle.seg_rows.proofs.StepLaws.{fits_here, kill_step, life_step, versions_done}
 use Rattle.seg_rows.proofs.kills.lives_after.Goals as goal

@@ -1,5 +1,5 @@
-use Rattle.std.proofs.Common.{◌≡◌, ◌<◌, ◌≤◌, ◌+◌, ◌∙◌, ap, sym, cond, length, take, None, arith}
-use Rattle.seg_rows.specs.Hulls.{hull_of, hull_at, joined_hull}
+use Rattle.std.proofs.Common.{◌∙◌, ap, length, arith}
+use Rattle.seg_rows.specs.Hulls.{hull_of}
 use Rattle.seg_rows.specs.Lives.{versions_of}
 use Rattle.seg_rows.specs.Versions.{taken_at}
 use Rattle.seg_rows.proofs.LifeLaws.{length-versions_of}

@@ -1,4 +1,4 @@
-use Rattle.std.proofs.Common.{◌≡◌, ◌∙◌, ap}
+use Rattle.std.proofs.Common.{◌∙◌, ap}
 use Rattle.seg_rows.specs.Versions.{latest_at}
 use Rattle.seg_rows.proofs.StepLaws.{latest_step, versions_done}
 use Rattle.seg_rows.proofs.scans.last_time.Goals as goal

@@ -1,4 +1,4 @@
-use Rattle.std.proofs.Common.{◌≡◌, ◌∙◌, ◌++◌, cond, [], ◌∷◌, ap, sym, append_assoc, length, take, arith}
+use Rattle.std.proofs.Common.{◌∙◌, ◌++◌, cond, [], ◌∷◌, ap, sym, length, take, arith}
 use Rattle.std.proofs.lemmas.Result.{err_from_is_err_and}
 use Rattle.seg_rows.specs.Lives.{versions_of}
 use Rattle.seg_rows.specs.Versions.{rows_at}

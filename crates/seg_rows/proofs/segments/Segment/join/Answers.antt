@@ -1,5 +1,3 @@
-use Rattle.std.proofs.Common.{◌≡◌, ◌∙◌, ◌++◌, ap, sym, length}
-use Rattle.seg_rows.specs.Lives.{versions_of, with_lives, lives_of}
 use Rattle.seg_rows.proofs.LifeLaws.{with_lives-append}
 use Rattle.seg_rows.proofs.segments.Segment.join.Goals as goal
 

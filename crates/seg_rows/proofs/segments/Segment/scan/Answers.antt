@@ -1,4 +1,4 @@
-use Rattle.std.proofs.Common.{◌≡◌, ◌∙◌, ap, sym, length, arith}
+use Rattle.std.proofs.Common.{◌≡◌, ◌∙◌, ap, sym, length}
 use Rattle.seg_rows.proofs.LifeLaws.{length-versions_of}
 use Rattle.seg_rows.proofs.segments.Segment.scan.Goals as goal
 

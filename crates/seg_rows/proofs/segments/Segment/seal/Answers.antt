@@ -1,4 +1,3 @@
-use Rattle.std.proofs.Common.{◌≡◌, ◌∙◌, ap, sym}
 use Rattle.seg_rows.proofs.LifeLaws.{with_lives-together}
 use Rattle.seg_rows.proofs.segments.Segment.seal.Goals as goal
 
