@@ -13,3 +13,6 @@ mod scripts;
 pub use endings::Status;
 pub use laws::rollup_law;
 pub use run::run_words;
+
+#[cfg(test)]
+mod tests;
