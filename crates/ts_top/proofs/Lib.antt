@@ -4,5 +4,6 @@ mod NumberLemmas
 mod RollupLaws
 mod RollupLemmas
 mod ScriptLemmas
+mod StatementLaws
 mod TextLemmas
 mod Writing

@@ -11,7 +11,7 @@ use Rattle.std.proofs.Math.Nat.{pow-suc, pow-le-pow_right}
 pub digits_more : (ds : List ℕ) (i : ℕ) → i < length ds → digits_value (take (i + 1) ds) ≡ digits_value (take i ds) * 10 + (get_or ds i 0 - 48)
 digits_more ds i h = fold_more (λ value digit. value * 10 + (digit - 48)) 0 ds i 0 h
 
-in_range : (c : ℕ) → is_ascii_digit c ≡ true → (48 ≤ c) × (c ≤ 57)
+pub in_range : (c : ℕ) → is_ascii_digit c ≡ true → (48 ≤ c) × (c ≤ 57)
 in_range c h = grind (arith, nat_tests)
 
 -- each element of digits is a digit

@@ -1,5 +1,5 @@
 -- What a line asks of the fixed table.
-use Rattle.std.specs.Prelude.{ℕ, ◌+◌, ◌-◌, ◌*◌, Bool, ◌&&◌, ◌==◌, nat_le, if◌then◌else◌, List, length, take, drop, codes, bytes_eq, fold, Option, Some, None, option_map, option_and_then, ℤ, pos, neg_ℤ, slice_index, position, ⊤}
+use Rattle.std.specs.Prelude.{ℕ, ◌+◌, ◌-◌, ◌*◌, Bool, ◌&&◌, ◌==◌, nat_le, if◌then◌else◌, List, length, take, drop, codes, bytes_eq, fold, Option, Some, None, option_map, option_and_then, ℤ, pos, neg_ℤ, slice_index, position, ⊤, ◌≡◌, ◌⊎◌, ◌↔◌, ◌++◌, ◌∷◌, [], true}
 use Rattle.std.specs.List.{list_all}
 use Rattle.std.specs.Char.{is_ascii_digit}
 use Rattle.ts_top.specs.declared.fixed.samples.Sample.{Sample}
@@ -53,12 +53,20 @@ abbrev pub insert_or_other : Option Sample → Statement
 insert_or_other (Some row) = Insert row
 insert_or_other None = NotBuilt
 
+-- the text of the query
+abbrev pub rollup_text : List ℕ
+rollup_text = codes "a: SELECT time_bucket(10, time) AS b, count(*), sum(v) FROM m GROUP BY b"
+
+-- the front of an insert, which the values follow
+abbrev pub insert_front : List ℕ
+insert_front = codes "a: INSERT INTO m VALUES ("
+
 -- what a line asks for
 abbrev pub statement_of : List ℕ → Statement
 statement_of line =
     if length line == 0 then Blank
-    else if bytes_eq line (codes "a: SELECT time_bucket(10, time) AS b, count(*), sum(v) FROM m GROUP BY b") then Rollup
-    else insert_or_other (option_and_then sample_of (after (codes "a: INSERT INTO m VALUES (") line))
+    else if bytes_eq line rollup_text then Rollup
+    else insert_or_other (option_and_then sample_of (after insert_front line))
 
 -- P holds of the row that a statement inserts, if it does
 abbrev pub IfInsert : Statement → (Sample → Type 0) → Type 0
@@ -66,3 +74,22 @@ IfInsert Blank P = ⊤
 IfInsert (Insert row) P = P row
 IfInsert Rollup P = ⊤
 IfInsert NotBuilt P = ⊤
+
+-- a text of 1 to 18 digits, or a minus and such a text, writes this number
+abbrev pub IsNumber : List ℕ → ℤ → Type 0
+IsNumber text n = ((is_natural text ≡ true) × (n ≡ pos (digits_value text)))
+    ⊎ ((digits : List ℕ) × (text ≡ 45 ∷ digits) × (is_natural digits ≡ true) × (n ≡ neg_ℤ (pos (digits_value digits))))
+
+-- the insert of a time and a value that are written so
+abbrev pub insert_text : List ℕ → List ℕ → List ℕ
+insert_text time value = insert_front ++ (time ++ (codes ", " ++ (value ++ codes ")")))
+
+-- the line is an insert of this row
+abbrev pub IsInsert : List ℕ → Sample → Type 0
+IsInsert line row = (time : List ℕ) × (value : List ℕ) × (line ≡ insert_text time value) × IsNumber time row.time × IsNumber value row.value
+
+-- what a line asks for, in the words of the statements: nothing where it is empty, to insert a row where it is an insert of that row, and the rollup where it is the query
+pub record StatementLaw : Type 0 where
+  pub blank : (line : List ℕ) → (statement_of line ≡ Blank) ↔ (line ≡ [])
+  pub insert : (line : List ℕ) (row : Sample) → (statement_of line ≡ Insert row) ↔ IsInsert line row
+  pub rollup : (line : List ℕ) → (statement_of line ≡ Rollup) ↔ (line ≡ rollup_text)

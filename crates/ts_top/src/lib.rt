@@ -11,7 +11,7 @@ mod run;
 mod scripts;
 
 pub use endings::Status;
-pub use laws::rollup_law;
+pub use laws::{rollup_law, statement_law};
 pub use run::run_words;
 
 #[cfg(test)]

@@ -1,10 +1,10 @@
 //! What a line asks of the fixed table.
-ghost use Rattle.std.specs.Prelude.{◌≡◌, ◌<◌, ◌≤◌, ◌^◌, length, codes, IsTrue, IfSome, option_copied, option_and_then};
+ghost use Rattle.std.specs.Prelude.{◌≡◌, ◌<◌, ◌≤◌, ◌^◌, length, IsTrue, IfSome, option_copied, option_and_then};
 ghost use Rattle.std.specs.List.{list_all};
 ghost use Rattle.std.specs.Char.{is_ascii_digit};
 ghost use Rattle.ts_top.specs.Replies.{is_refused};
 ghost use Rattle.ts_top.specs.Rows.{IsShort, IsShortRow};
-ghost use Rattle.ts_top.specs.Statements.{IfInsert, is_natural, digits_value, natural_of, number_of, after, before, last_value_of, row_of, row_at, sample_of, statement_of};
+ghost use Rattle.ts_top.specs.Statements.{IfInsert, insert_front, is_natural, digits_value, natural_of, number_of, after, before, last_value_of, row_of, row_at, sample_of, statement_of};
 
 use crate::fixed::samples::Sample;
 use crate::lines::position_of;
@@ -143,7 +143,7 @@ fn sample(text: &[u8]) -> Option<Sample>
 
 /// The row that a line inserts.
 fn insert(line: &[u8]) -> Option<Sample>
-    ensures value { result ≡ option_and_then sample_of (after (codes "a: INSERT INTO m VALUES (") line.now) }
+    ensures value { result ≡ option_and_then sample_of (after insert_front line.now) }
     ensures short { IfSome result IsShortRow }
 {
     sample(after(INSERT, line)?)
