@@ -1,6 +1,6 @@
 //! Statements against a roster of one hypertable `m (time, dev, v)` and one aggregate `c (b, n)`.
 ghost use Rattle.std.specs.Prelude.{◌≡◌, pos as nonneg, length, IfOk};
-ghost use Rattle.stmt_check.specs.Check.{HasCountedFold, IsNumbered};
+ghost use Rattle.stmt_check.specs.Check.{IsNumbered};
 
 use crate::{Action, Checked, check};
 use std::alloc::Global;
@@ -76,9 +76,7 @@ fn values(alloc: Global, given: &[Option<i64>]) -> Result<Seq<Option<i64>>, Fail
     Ok(Seq::of(Vec::from_slice(alloc, given)?))
 }
 
-fn insert(alloc: Global, row: &[Option<i64>]) -> Result<Stmt, Fail>
-    ensures { IfOk result HasCountedFold }
-{
+fn insert(alloc: Global, row: &[Option<i64>]) -> Result<Stmt, Fail> {
     let mut rows = Seq::new(alloc);
     rows.push(values(alloc, row)?)?;
     Ok(Stmt::Insert {
