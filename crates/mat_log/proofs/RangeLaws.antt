@@ -106,8 +106,8 @@ changes_at_bucket w test x h one differs =
     let high : x <ℤ (bucket_of w x +ℤ w.step) = (bucket_of_meets w x h).end_above in
     by_lt_z (bucket_of w x) x
     (λ below.
-        let same : bucket_of w x ≡ bucket_of w (x -ℤ pos 1) = holds-one w (bucket_of w x) (x -ℤ pos 1) h (is_bucket-bucket_of w x h) (holds-from_parts w (bucket_of w x) (x -ℤ pos 1) (omega (arith, ints)) (omega (arith, ints))) in
-        absurd (differs (one (x -ℤ pos 1) ∙ ap test (sym same) ∙ sym (one x))))
+    let same : bucket_of w x ≡ bucket_of w (x -ℤ pos 1) = holds-one w (bucket_of w x) (x -ℤ pos 1) h (is_bucket-bucket_of w x h) (holds-from_parts w (bucket_of w x) (x -ℤ pos 1) (omega (arith, ints)) (omega (arith, ints))) in
+    absurd (differs (one (x -ℤ pos 1) ∙ ap test (sym same) ∙ sym (one x))))
     (λ above. let at : bucket_of w x ≡ x = omega (arith, ints) in subst (λ y. is_bucket w y ≡ true) at (is_bucket-bucket_of w x h))
 
 differ : (a b : Bool) → a ≡ false → b ≡ true → a ≡ b → ⊥
@@ -128,10 +128,11 @@ whole_from w test x (s ∷ ss) h one a b is =
     let before : in_ranges (s ∷ ss) (s.lo -ℤ pos 1) ≡ false = ap (λ c. c || in_ranges ss (s.lo -ℤ pos 1)) (out_below s (s.lo -ℤ pos 1) (omega (arith, ints))) ∙ before_none s.hi (s.lo -ℤ pos 1) ss a.1 a.2 (omega (arith, ints)) in
     let at_start : in_ranges (s ∷ ss) s.lo ≡ true = or_left (in_span s s.lo) (in_ranges ss s.lo) (in_span-from_ends s s.lo (omega (arith, ints)) size) in
     let at_last : in_ranges (s ∷ ss) (s.hi -ℤ pos 1) ≡ true = or_left (in_span s (s.hi -ℤ pos 1)) (in_ranges ss (s.hi -ℤ pos 1)) (in_span-from_ends s (s.hi -ℤ pos 1) (omega (arith, ints)) (omega (arith, ints))) in
-    let at_end : in_ranges (s ∷ ss) s.hi ≡ false = ap (λ c. c || in_ranges ss s.hi) (out_above s s.hi (omega (arith, ints))) ∙ before_none s.hi s.hi ss a.1 a.2 (omega (arith, ints)) in
-    ( changes_at_bucket w test s.lo h one (differ (test (s.lo -ℤ pos 1)) (test s.lo) (sym (is (s.lo -ℤ pos 1) (omega (arith, ints))) ∙ before) (sym (is s.lo (omega (arith, ints))) ∙ at_start))
-    , changes_at_bucket w test s.hi h one (differ' (test (s.hi -ℤ pos 1)) (test s.hi) (sym (is (s.hi -ℤ pos 1) (omega (arith, ints))) ∙ at_last) (sym (is s.hi (omega (arith, ints))) ∙ at_end))
-    , whole_from w test s.hi ss h one a.2 a.1 (λ t l. ap (λ c. c || in_ranges ss t) (sym (out_above s t l)) ∙ is t (omega (arith, ints))) )
+    let at_end : in_ranges (s ∷ ss) s.hi ≡ false = ap (λ c. c || in_ranges ss s.hi) (out_above s s.hi (omega (arith, ints))) ∙ before_none s.hi s.hi ss a.1 a.2 (omega (arith, ints)) in (
+      changes_at_bucket w test s.lo h one (differ (test (s.lo -ℤ pos 1)) (test s.lo) (sym (is (s.lo -ℤ pos 1) (omega (arith, ints))) ∙ before) (sym (is s.lo (omega (arith, ints))) ∙ at_start)),
+      changes_at_bucket w test s.hi h one (differ' (test (s.hi -ℤ pos 1)) (test s.hi) (sym (is (s.hi -ℤ pos 1) (omega (arith, ints))) ∙ at_last) (sym (is s.hi (omega (arith, ints))) ∙ at_end)),
+      whole_from w test s.hi ss h one a.2 a.1 (λ t l. ap (λ c. c || in_ranges ss t) (sym (out_above s t l)) ∙ is t (omega (arith, ints))),
+    )
 
 some_start : (lo : ℤ) (ss : List SpanValue) → (x : ℤ) × IsBeforeRanges x ss
 some_start lo [] = (lo, tt)
@@ -159,9 +160,11 @@ dirty_ranges w p r s pieces h whole end values rising =
     none : (a : Bool) (c : Bool) → false ≡ (a && false && c)
     none true c = refl
     none false c = refl
+
     pending_is : (v u : Option ℕ) → (is_some u || is_some v) ≡ true → is_some v ≡ (is_none u || is_some v)
     pending_is v None m = m
     pending_is v (Some x) m = refl
+
     by : (b : ℤ) (c : Bool) → in_span s b ≡ c → (c && is_some (p b)) ≡ (int_le (first_of w) b && c && (is_none (r b) || is_some (p b)))
     by b false e = none (int_le (first_of w) b) (is_none (r b) || is_some (p b))
     by b true e =
@@ -180,8 +183,8 @@ AreRanges-same w s s' test test' ranges same h = record {
   apart = h.apart;
   whole = h.whole;
   exact = λ b q. h.exact b q ∙ by_lt_z b (first_of w)
-    (λ below. let out : int_le (first_of w) b ≡ false = grind (arith, ints) in ap (λ c. c && in_span s b && test b) out ∙ sym (ap (λ c. c && in_span s' b && test' b) out))
-    (λ above. let from : int_le (first_of w) b ≡ true = grind (arith, ints) in ap (λ c. c && in_span s b && test b) from ∙ same b q above ∙ sym (ap (λ c. c && in_span s' b && test' b) from));
+      (λ below. let out : int_le (first_of w) b ≡ false = grind (arith, ints) in ap (λ c. c && in_span s b && test b) out ∙ sym (ap (λ c. c && in_span s' b && test' b) out))
+      (λ above. let from : int_le (first_of w) b ≡ true = grind (arith, ints) in ap (λ c. c && in_span s b && test b) from ∙ same b q above ∙ sym (ap (λ c. c && in_span s' b && test' b) from));
 }
 
 -- the same of results

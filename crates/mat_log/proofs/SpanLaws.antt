@@ -16,15 +16,16 @@ pub in_span-bucket : (w : WidthValue) (s : SpanValue) (t : ℤ) → IsWidth w �
 in_span-bucket w s t h p q =
     let at_or_below : bucket_of w t ≤ℤ t = (bucket_of_meets w t h).at_or_below in
     let end_above : t <ℤ (bucket_of w t +ℤ w.step) = (bucket_of_meets w t h).end_above in
-    same_from_decides {P = (s.lo ≤ℤ bucket_of w t) × (bucket_of w t <ℤ s.hi)} (in_span s t) (in_span s (bucket_of w t))
-    ( (λ held.
-        let ends = in_span-ends s t held in
-        let high : t <ℤ s.hi = ends.1 in
-        (bucket_of-last w s.lo t h p ends.0, omega (arith, ints)))
-    , (λ ends.
-        let low : s.lo ≤ℤ bucket_of w t = ends.0 in
-        let apart : (bucket_of w t +ℤ w.step) ≤ℤ s.hi = buckets_apart w (bucket_of w t) s.hi h (is_bucket-bucket_of w t h) q ends.1 in
-        in_span-from_ends s t (omega (arith, ints)) (omega (arith, ints))) )
+    same_from_decides {P = (s.lo ≤ℤ bucket_of w t) × (bucket_of w t <ℤ s.hi)} (in_span s t) (in_span s (bucket_of w t)) (
+      (λ held.
+          let ends = in_span-ends s t held in
+          let high : t <ℤ s.hi = ends.1 in
+          (bucket_of-last w s.lo t h p ends.0, omega (arith, ints))),
+      (λ ends.
+          let low : s.lo ≤ℤ bucket_of w t = ends.0 in
+          let apart : (bucket_of w t +ℤ w.step) ≤ℤ s.hi = buckets_apart w (bucket_of w t) s.hi h (is_bucket-bucket_of w t h) q ends.1 in
+          in_span-from_ends s t (omega (arith, ints)) (omega (arith, ints))),
+    )
     (in_span-ends s (bucket_of w t), λ ends. in_span-from_ends s (bucket_of w t) ends.0 ends.1)
 
 -- the buckets that a hull meets are a span of whole buckets
@@ -59,13 +60,14 @@ starts_exact w lo from hi b h above least p =
     let s : SpanValue = record { lo = start_from w from; hi = start_from w hi } in
     let start : from ≤ℤ start_from w from = start_from-above w from h in
     let end : hi ≤ℤ start_from w hi = start_from-above w hi h in
-    same_from_decides {P = (lo ≤ℤ b) × (b <ℤ hi)} (in_span s b) (int_le lo b && int_lt b hi)
-    ( (λ held.
-        let ends = in_span-ends s b held in
-        let low : start_from w from ≤ℤ b = ends.0 in
-        let high : b <ℤ start_from w hi = ends.1 in
-        (omega (arith, ints), by_lt_z b hi (λ less. less) (λ more. let first : start_from w hi ≤ℤ b = start_from-first w b hi h p more in absurd (omega (arith, ints)))))
-    , (λ ends. in_span-from_ends s b (start_from-first w b from h p (least ends.0)) (let high : b <ℤ hi = ends.1 in omega (arith, ints))) )
+    same_from_decides {P = (lo ≤ℤ b) × (b <ℤ hi)} (in_span s b) (int_le lo b && int_lt b hi) (
+      (λ held.
+          let ends = in_span-ends s b held in
+          let low : start_from w from ≤ℤ b = ends.0 in
+          let high : b <ℤ start_from w hi = ends.1 in
+          (omega (arith, ints), by_lt_z b hi (λ less. less) (λ more. let first : start_from w hi ≤ℤ b = start_from-first w b hi h p more in absurd (omega (arith, ints))))),
+      (λ ends. in_span-from_ends s b (start_from-first w b from h p (least ends.0)) (let high : b <ℤ hi = ends.1 in omega (arith, ints))),
+    )
     ((λ t. (grind (arith, ints), grind (arith, ints))), (λ ends. both b ends.0 ends.1))
   where
     both : (x : ℤ) → lo ≤ℤ x → x <ℤ hi → (int_le lo x && int_lt x hi) ≡ true

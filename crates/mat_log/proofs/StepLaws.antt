@@ -61,6 +61,7 @@ in_step-settled w p r p' r' s snap h lo hi e f = record {
     some_later : (v : Option ℕ) → is_some (later v (Some snap)) ≡ true
     some_later None = refl
     some_later (Some x) = refl
+
     still : (b : Bool) (v u : Option ℕ) → (is_some v || is_some u) ≡ true → (is_some (cond b (later v (Some snap)) v) || is_some (cond b (above snap u) u)) ≡ true
     still true v u m = ap (λ c. c || is_some (above snap u)) (some_later v)
     still false v u m = m

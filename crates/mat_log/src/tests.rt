@@ -14,12 +14,18 @@ fn refreshes_settle_what_is_pending_up_to_their_snapshots(rt: HostRuntime) -> Re
     log.settle(span, 5);
     log.reserve()?;
     log.feed(&Entry {
-        hull: Hull { least: 121, most: 121 },
+        hull: Hull {
+            least: 121,
+            most: 121,
+        },
         pos: 4,
     });
     log.reserve()?;
     log.feed(&Entry {
-        hull: Hull { least: 150, most: 150 },
+        hull: Hull {
+            least: 150,
+            most: 150,
+        },
         pos: 7,
     });
     let pending = Span { lo: 150, hi: 160 };
@@ -34,8 +40,14 @@ fn refreshes_settle_what_is_pending_up_to_their_snapshots(rt: HostRuntime) -> Re
     log.settle(span, 7);
     assert_eq!(rt; log.dirty(span)?.len(), 0);
     let around = [Span { lo: 80, hi: 100 }, Span { lo: 200, hi: 230 }];
-    assert_eq!(rt; log.copy()?.dirty(Span { lo: 80, hi: 230 })?.items(), around.as_slice());
-    assert_eq!(rt; log.stale(Span { lo: 85, hi: 205 }, Some(240))?.items(), [Span { lo: 90, hi: 100 }, Span { lo: 200, hi: 210 }].as_slice());
+    assert_eq!(rt;
+        log.copy()?.dirty(Span { lo: 80, hi: 230 })?.items(),
+        around.as_slice()
+    );
+    assert_eq!(rt;
+        log.stale(Span { lo: 85, hi: 205 }, Some(240))?.items(),
+        [Span { lo: 90, hi: 100 }, Span { lo: 200, hi: 210 }].as_slice()
+    );
     assert_eq!(rt; log.stale(span, None)?.len(), 0);
     Ok(())
 }

@@ -39,8 +39,8 @@ returns-in-Some-clause-exact c = λ b q f.
     let lo : cast_signed w64 (cast_unsigned w64 c.starts.inside.lo) ≡ c.args.starts.lo = omega (arith, ints) in
     let hi : cast_signed w64 (cast_unsigned w64 c.starts.inside.hi) ≡ c.args.starts.hi = omega (arith, ints) in
     let min : cast_signed w64 (cast_unsigned w64 c.min.result) ≡ int_min c.args.starts.hi c.in-Some.mark =
-        cast_is c.min.result (search rules) ∙ c.min.ensures.value
-        ∙ ap (λ x. int_min x (cast_signed w64 (cast_unsigned w64 c.in-Some.mark))) hi ∙ ap (int_min c.args.starts.hi) (cast_is c.in-Some.mark near.0) in
+    cast_is c.min.result (search rules) ∙ c.min.ensures.value
+    ∙ ap (λ x. int_min x (cast_signed w64 (cast_unsigned w64 c.in-Some.mark))) hi ∙ ap (int_min c.args.starts.hi) (cast_is c.in-Some.mark near.0) in
     c.buckets_between.ensures.exact b q f
     ∙ ap (λ x. int_le x b && int_lt b (cast_signed w64 (cast_unsigned w64 c.min.result))) lo
     ∙ under_both c.args.starts.lo c.args.starts.hi c.in-Some.mark (cast_signed w64 (cast_unsigned w64 c.min.result)) b min

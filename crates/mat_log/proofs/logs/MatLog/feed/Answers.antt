@@ -29,4 +29,4 @@ returns-clause-pending c =
     let position = c.args.entry.now.pos in
     let Fed : LogValue → Type 0 = λ log. (b : ℤ) → is_bucket log.width b ≡ true → at c.assign_above.new.self b ≡ cond (meets log.width b hull && is_before position (last_at log b)) (Some position) (pending_at log b) in
     subst Fed c.self.view_is (λ b q.
-        values c b ∙ ap (λ m. cond (m && is_before position (at c.self.inside.refreshed b)) (Some position) (at c.self.inside.pending b)) (sym (meets-between w b hull c.touched-span.ensures.bounds q)))
+    values c b ∙ ap (λ m. cond (m && is_before position (at c.self.inside.refreshed b)) (Some position) (at c.self.inside.pending b)) (sym (meets-between w b hull c.touched-span.ensures.bounds q)))

@@ -23,6 +23,6 @@ returns c =
     let exact : Exact log = subst Exact c.self.view_is c.buckets_below.ensures.exact in
     record {
       ranges = same_as log.width c.buckets_below.result c.args.starts (is_dirty log) (is_stale log c.args.mark) c.dirty.result
-        (λ b q f. ap (λ x. x && is_dirty log b) (exact b q f) ∙ and_assoc (in_span c.args.starts b) (is_under c.args.mark b) (is_dirty log b))
-        c.dirty.ensures.ranges
+          (λ b q f. ap (λ x. x && is_dirty log b) (exact b q f) ∙ and_assoc (in_span c.args.starts b) (is_under c.args.mark b) (is_dirty log b))
+          c.dirty.ensures.ranges;
     }
