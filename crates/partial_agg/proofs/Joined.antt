@@ -1,5 +1,5 @@
 -- The summary of two columns, one after the other, is their summaries joined.
-use Rattle.std.proofs.Common.{◌≡◌, List, [], ◌∷◌, ◌++◌, length, Option, None, Some, ℤ, sym, refl, ap, ◌∙◌, arith, length-append}
+use Rattle.std.proofs.Common.{◌≡◌, List, [], ◌∷◌, ◌++◌, length, Option, None, Some, ℤ, sym, refl, ap, ◌∙◌, arith, length-append, add_assoc, add_comm}
 use Rattle.std.specs.Prelude.{◌+ℤ◌}
 use Rattle.std.specs.Int.{int_min, int_max}
 use Rattle.std.proofs.lemmas.Int.{ints, clamps}
@@ -59,3 +59,37 @@ shown-summary Sum column = elim (values column) as (λ vs. sum_shown (length vs)
 shown-summary Min column = refl
 shown-summary Max column = refl
 shown-summary Avg column = elim (values column) as (λ vs. mean_shown (length vs) (sum_of vs) ≡ unless_empty vs (Ratio (lowest_terms (sum_of vs) (length vs)))) [ [] ↦ refl | v ∷ vs ↦ refl ]
+
+-- ---- the order in which summaries are joined plays no part
+
+pub joined_assoc : (a b c : Summary) → joined (joined a b) c ≡ joined a (joined b c)
+joined_assoc a b c =
+    rw (add_assoc a.count b.count c.count, add_assoc a.values b.values c.values, lesser_assoc a.least b.least c.least, greater_assoc a.most b.most c.most, sum_assoc a.sum b.sum c.sum) refl
+  where
+    sum_assoc : (x y z : ℤ) → (x +ℤ y) +ℤ z ≡ x +ℤ (y +ℤ z)
+    sum_assoc x y z = omega (arith, ints)
+
+lesser_comm : (a b : Option ℤ) → lesser a b ≡ lesser b a
+lesser_comm None None = refl
+lesser_comm None (Some y) = refl
+lesser_comm (Some x) None = refl
+lesser_comm (Some x) (Some y) = ap Some (int_min_comm x y)
+  where
+    int_min_comm : (x y : ℤ) → int_min x y ≡ int_min y x
+    int_min_comm x y = omega (arith, ints, clamps)
+
+greater_comm : (a b : Option ℤ) → greater a b ≡ greater b a
+greater_comm None None = refl
+greater_comm None (Some y) = refl
+greater_comm (Some x) None = refl
+greater_comm (Some x) (Some y) = ap Some (int_max_comm x y)
+  where
+    int_max_comm : (x y : ℤ) → int_max x y ≡ int_max y x
+    int_max_comm x y = omega (arith, ints, clamps)
+
+pub joined_comm : (a b : Summary) → joined a b ≡ joined b a
+joined_comm a b =
+    rw (add_comm a.count b.count, add_comm a.values b.values, lesser_comm a.least b.least, greater_comm a.most b.most, sum_comm a.sum b.sum) refl
+  where
+    sum_comm : (x y : ℤ) → x +ℤ y ≡ y +ℤ x
+    sum_comm x y = omega (arith, ints)
