@@ -1,5 +1,5 @@
 -- What may happen next: the window of a refresh, pending refreshes, allowed events, and jobs that fit.
-use Rattle.std.specs.Prelude.{◌≡◌, ℕ, suc, ◌+◌, ◌*◌, ◌^◌, ◌≤◌, Bool, true, false, ◌&&◌, ◌||◌, not, cond, nat_lt, nat_le, ◌==◌, List, [], ◌∷◌, ◌++◌, map, filter, length, remove, sum_by, ℤ, pos, ◌+ℤ◌, int_lt, int_le, Option, Some, None, is_some, is_none, IsTrue}
+use Rattle.std.specs.Prelude.{◌≡◌, ℕ, suc, ◌+◌, ◌*◌, ◌^◌, ◌≤◌, Bool, true, false, ◌&&◌, ◌||◌, not, cond, nat_lt, nat_le, ◌==◌, List, [], ◌∷◌, ◌++◌, map, filter, length, remove, sum_by, ℤ, pos, ◌+ℤ◌, int_lt, int_le, Option, Some, None, is_some, is_none}
 use Rattle.std.specs.List.{list_all, list_any}
 use Rattle.std.specs.Ordering.{int_eq}
 use Rattle.ts_num.specs.declared.values.Fun.{Fun}
@@ -30,6 +30,7 @@ use Rattle.ts_model.specs.declared.refreshes.Window.{Window}
 use Rattle.ts_model.specs.declared.refreshes.Window.TheVariants.{Whole, NoBucket, Nothing}
 use Rattle.ts_model.specs.declared.rosters.Roster.{Roster}
 use Rattle.ts_model.specs.declared.tables.Hyper.{Hyper as HyperInfo}
+use Rattle.ts_model.specs.declared.tables.TableDef.{TableDef}
 use Rattle.ts_model.specs.declared.tables.TableInfo.{TableInfo}
 use Rattle.ts_model.specs.declared.views.Agg.{Agg}
 use Rattle.ts_model.specs.declared.views.Fold.{Fold}
@@ -161,26 +162,26 @@ values_fit (c ∷ cs) [] = false
 values_fit (c ∷ cs) (v ∷ vs) = (not c.must || is_some v) && values_fit cs vs
 
 -- a row that may be inserted into a hypertable: its time is in range, and its values fit the other columns
-abbrev pub row_fits : TableInfo → HyperInfo → Row → Bool
-row_fits info hyper row = is_time row.at && values_fit (remove info.def.cols hyper.at) row.vals
+abbrev pub row_fits : TableDef → HyperInfo → Row → Bool
+row_fits def hyper row = is_time row.at && values_fit (remove def.cols hyper.at) row.vals
 
 -- at least one row, and each fits
-abbrev pub rows_fit : TableInfo → HyperInfo → List Row → Bool
-rows_fit info hyper new = nat_lt 0 (length new) && list_all (row_fits info hyper) new
+abbrev pub rows_fit : TableDef → HyperInfo → List Row → Bool
+rows_fit def hyper new = nat_lt 0 (length new) && list_all (row_fits def hyper) new
 
 -- the test holds of a table, where it is a hypertable
-abbrev pub of_hyper : (TableInfo → HyperInfo → Bool) → TableInfo → Option HyperInfo → Bool
-of_hyper test info None = false
-of_hyper test info (Some hyper) = test info hyper
+abbrev pub of_hyper : (TableDef → HyperInfo → Bool) → TableDef → Option HyperInfo → Bool
+of_hyper test def None = false
+of_hyper test def (Some hyper) = test def hyper
 
-abbrev pub of_table : (TableInfo → HyperInfo → Bool) → Option TableInfo → Bool
+abbrev pub of_table : (TableDef → HyperInfo → Bool) → Option TableInfo → Bool
 of_table test None = false
-of_table test (Some info) = of_hyper test info info.hyper
+of_table test (Some info) = of_hyper test info.def info.hyper
 
 -- an operation on a hypertable: rows that fit, or tests on its columns
 abbrev pub op_fits : Roster → Op → Bool
-op_fits r (Insert t new) = of_table (λ info hyper. rows_fit info hyper new) (table_of r t)
-op_fits r (Delete t tests) = of_table (λ info hyper. list_all (test_fits (length info.def.cols)) tests) (table_of r t)
+op_fits r (Insert t new) = of_table (λ def hyper. rows_fit def hyper new) (table_of r t)
+op_fits r (Delete t tests) = of_table (λ def hyper. list_all (test_fits (length def.cols)) tests) (table_of r t)
 
 -- 1 to 16 columns with different names
 abbrev pub columns_fit : List Column → Bool
@@ -192,8 +193,8 @@ hyper_fits hyper None = false
 hyper_fits hyper (Some info) = nat_lt hyper.at (length info.def.cols) && int_lt (pos 0) hyper.interval && int_le hyper.interval most_interval
 
 -- an aggregate over the columns of a hypertable: at least one function, at most 16 output columns, and as many different names
-abbrev pub view_fits : ViewDef → TableInfo → HyperInfo → Bool
-view_fits def info hyper = fold_fits (length info.def.cols) def.fold && nat_lt 0 (length def.fold.aggs) && nat_le (output_count def.fold) most_columns && length def.names == output_count def.fold && all_apart def.names
+abbrev pub view_fits : ViewDef → TableDef → HyperInfo → Bool
+view_fits def table hyper = fold_fits (length table.cols) def.fold && nat_lt 0 (length def.fold.aggs) && nat_le (output_count def.fold) most_columns && length def.names == output_count def.fold && all_apart def.names
 
 -- a span of whole buckets from the first on that isn't empty
 abbrev pub span_fits : Span → Option ViewDef → Bool
@@ -265,8 +266,8 @@ all_allowed (h ▸ e) = all_allowed h && allowed h e
 
 -- the hypertable, the aggregate and the columns of a query are there
 abbrev pub can_ask : Roster → Query → Bool
-can_ask r (Rows t tests) = of_table (λ info hyper. list_all (test_fits (length info.def.cols)) tests) (table_of r t)
-can_ask r (Buckets t fold) = of_table (λ info hyper. fold_fits (length info.def.cols) fold) (table_of r t)
+can_ask r (Rows t tests) = of_table (λ def hyper. list_all (test_fits (length def.cols)) tests) (table_of r t)
+can_ask r (Buckets t fold) = of_table (λ def hyper. fold_fits (length def.cols) fold) (table_of r t)
 can_ask r (Aggregate n starts) = is_some (view_of r n)
 
 -- ---- jobs
@@ -299,18 +300,20 @@ was_refreshed n (h ▸ Commit ops) b r = was_refreshed n h b r
 was_refreshed n (h ▸ Cut v span) b r = was_refreshed n h b r
 was_refreshed n (h ▸ Built cut snap) b r = was_refreshed n h b r || (snap == r && is_covered b (span_of_cut n h cut))
 
--- a job of a refresh of aggregate n fits a history. What its groups are the groups of is told by a fact of rows
-pub record Fits (n : ℕ) (def : ViewDef) (h : History) (cut snap : ℕ) (span : Span) (spans : List Span) (AreGroupsOf : List Row → Type 0) (top : Option ℤ) : Type 0 where
+-- the rows that the groups of a job are made of: those of its spans at its snapshot
+abbrev pub job_rows : ViewDef → History → ℕ → List Span → List Row
+job_rows def h snap spans = rows_of_spans def.fold spans (rows_at def.table h snap)
+
+-- a job of a refresh of aggregate n fits a history. The crate that makes groups says beside it that the job's groups are those of its rows
+pub record Fits (n : ℕ) (def : ViewDef) (h : History) (cut snap : ℕ) (span : Span) (spans : List Span) (top : Option ℤ) : Type 0 where
   -- its cut is a cut of the history with the job's span
   pub cut_is : span_of_cut n h cut ≡ Some span
   -- its snapshot is at or after the cut, and not after the history
   pub after_cut : cut ≤ snap
   pub taken : snap ≤ position h
   -- its spans are ranges of whole buckets of the span
-  pub whole : IsTrue (list_all (is_part_of def.fold.width span) spans)
-  -- its groups are those of the rows of its spans at the snapshot
-  pub groups : AreGroupsOf (rows_of_spans def.fold spans (rows_at def.table h snap))
+  pub whole : list_all (is_part_of def.fold.width span) spans ≡ true
   -- its top is the greatest end of a bucket with a group
-  pub top_is : top ≡ last_end def.fold.width (rows_of_spans def.fold spans (rows_at def.table h snap))
-  -- each other bucket of the span was refreshed at some r, and not touched between r and the snapshot
-  pub others : (b : ℤ) → IsTrue (is_bucket def.fold.width b) → IsTrue (in_span span b) → IsTrue (not (lies_in spans b)) → (r : ℕ) × (r ≤ snap) × IsTrue (was_refreshed n h b r) × IsTrue (not (is_above r (last_touch_at n def h snap b)))
+  pub top_is : top ≡ last_end def.fold.width (job_rows def h snap spans)
+  -- each other bucket of the span is covered by a finished refresh, and no commit touched it between that one's snapshot and this
+  pub others : (b : ℤ) → is_bucket def.fold.width b ≡ true → in_span span b ≡ true → lies_in spans b ≡ false → (r : ℕ) × (r ≤ snap) × (was_refreshed n h b r ≡ true) × (is_above r (last_touch_at n def h snap b) ≡ false)

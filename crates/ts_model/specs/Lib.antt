@@ -8,3 +8,4 @@ pub mod Answers
 pub mod Allowed
 pub mod Reads
 pub mod Calls
+pub mod Laws

@@ -14,6 +14,7 @@ use Rattle.ts_model.specs.declared.events.Op.{Op}
 use Rattle.ts_model.specs.declared.views.Fold.{Fold}
 use Rattle.ts_model.specs.declared.views.ViewDef.{ViewDef}
 use Rattle.ts_model.specs.History.{History, start, ◌▸◌, position}
+use Rattle.ts_model.specs.Roster.{roster, view_of}
 use Rattle.ts_model.specs.Rows.{rows}
 use Rattle.ts_model.specs.Effect.{hull_of_ops}
 
@@ -115,3 +116,19 @@ invalid n def h b = is_invalid n def h b (last n h b)
 -- a bucket is stale where it is below the watermark and has no last refresh or was touched after it
 abbrev pub stale : ℕ → ViewDef → History → ℤ → Bool
 stale n def h b = is_below b (watermark n def h) && invalid n def h b
+
+-- whether an aggregate is over table t
+abbrev pub is_over : ℕ → Option ViewDef → Bool
+is_over t None = false
+is_over t (Some def) = def.table == t
+
+-- the threshold of a table: the greatest end of a cut's span of an aggregate over it
+abbrev pub threshold : ℕ → History → Option ℤ
+threshold t start = None
+threshold t (h ▸ Table made) = threshold t h
+threshold t (h ▸ Hyper u hyper) = threshold t h
+threshold t (h ▸ View made) = threshold t h
+threshold t (h ▸ Mode v only) = threshold t h
+threshold t (h ▸ Commit ops) = threshold t h
+threshold t (h ▸ Cut v span) = greater (threshold t h) (cond (is_over t (view_of (roster h) v)) (Some span.hi) None)
+threshold t (h ▸ Built cut snap) = threshold t h

@@ -6,6 +6,7 @@
 mod backends;
 mod events;
 mod gates;
+pub mod laws;
 mod outcomes;
 mod queries;
 mod refreshes;
@@ -26,3 +27,6 @@ pub use scans::RowsAt;
 pub use snapshots::Shown;
 pub use tables::{Hyper, TableDef, TableInfo};
 pub use views::{Agg, Fold, ViewDef};
+
+#[cfg(test)]
+mod tests;
