@@ -1,0 +1,6 @@
+pub mod PositionLaws
+pub mod LogLaws
+pub mod ModelLaws
+pub mod StepLaws
+pub mod TellLaws
+pub mod WholeLaws
