@@ -4,3 +4,5 @@ pub mod ModelLaws
 pub mod StepLaws
 pub mod TellLaws
 pub mod WholeLaws
+pub mod TimeLaws
+pub mod WorkedRows

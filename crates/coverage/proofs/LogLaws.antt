@@ -1,8 +1,7 @@
 -- Laws of a log: what its hulls touch, and what feeding them makes pending.
-use Rattle.std.proofs.Common.{◌≡◌, ℕ, suc, ◌≤◌, max, Bool, true, false, ◌&&◌, ◌||◌, cond, nat_lt, nat_le, List, [], ◌∷◌, ◌++◌, ℤ, ◌+ℤ◌, ◌≤ℤ◌, int_lt, Option, Some, None, refl, sym, ap, ◌∙◌, arith}
+use Rattle.std.proofs.Common.{◌≡◌, ℕ, suc, ◌≤◌, max, true, false, ◌&&◌, cond, nat_lt, nat_le, List, [], ◌∷◌, ◌++◌, ℤ, ◌+ℤ◌, ◌≤ℤ◌, int_lt, Option, Some, None, refl, sym, ap, ◌∙◌, arith}
 use Rattle.std.specs.Prelude.{is_some}
-use Rattle.std.specs.List.{list_all}
-use Rattle.std.proofs.lemmas.Bool.{true≢false, and_parts, and_from, or_from, cond-true, cond-false}
+use Rattle.std.proofs.lemmas.Bool.{true≢false, and_parts, and_from}
 use Rattle.std.proofs.lemmas.Bool.Decides.{nat_tests}
 use Rattle.std.proofs.lemmas.Int.{ints}
 use Rattle.ts_bucket.specs.Positions.{later, is_above, is_before, above}
@@ -11,9 +10,9 @@ use Rattle.ts_bucket.specs.declared.spans.Hull.{Hull}
 use Rattle.ts_bucket.specs.declared.widths.Width.{Width}
 use Rattle.ts_bucket.proofs.PositionLaws.{later-none, later-assoc, above-later}
 use Rattle.ts_model.specs.Refreshes.{is_met}
-use Rattle.coverage.specs.Notes.{Noted, Notes, logged, fed_one, fed}
-use Rattle.coverage.specs.Coverage.{log_touch, above_last, pending_position, RisesFrom, is_upto}
-use Rattle.coverage.proofs.PositionLaws.{above-nothing, above-above_last, above_last-later, above_last-twice, above_last-before, above_last-nothing, is_above-at}
+use Rattle.coverage.specs.Notes.{Noted, logged, fed_one, fed}
+use Rattle.coverage.specs.Coverage.{log_touch, above_last, RisesFrom, is_upto}
+use Rattle.coverage.proofs.PositionLaws.{above-nothing, above-above_last, above_last-later, above_last-twice, above_last-before, above_last-nothing}
 
 -- ---- what a log touches
 

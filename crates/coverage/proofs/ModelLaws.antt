@@ -1,9 +1,7 @@
 -- Laws of histories that coverage needs: where cuts are, when an aggregate is there, and that nothing is from later.
-use Rattle.std.proofs.Common.{◌≡◌, ℕ, suc, ◌≤◌, Bool, true, false, ◌&&◌, ◌||◌, cond, nat_lt, nat_le, ◌==◌, List, [], ◌∷◌, ◌++◌, length, ℤ, ◌+ℤ◌, ◌<ℤ◌, ◌≤ℤ◌, Option, Some, None, ◌⊎◌, inl, inr, ⊎_elim, refl, sym, ap, ◌∙◌, subst, arith}
-use Rattle.std.specs.Prelude.{is_some, slice_get}
-use Rattle.std.proofs.lemmas.Bool.{true≢false, and_parts, or_from, eqb-true, leb-true, cond-false}
+use Rattle.std.proofs.Common.{◌≡◌, ℕ, suc, ◌≤◌, Bool, true, false, ◌&&◌, cond, ◌==◌, ℤ, ◌+ℤ◌, ◌≤ℤ◌, int_lt, Option, Some, None, ⊎_elim, refl, sym, ap, ◌∙◌, subst, arith}
+use Rattle.std.proofs.lemmas.Bool.{true≢false, and_parts, or_from, eqb-true, leb-true}
 use Rattle.std.proofs.lemmas.Bool.Decides.{nat_tests}
-use Rattle.std.proofs.lemmas.Int.{ints}
 use Rattle.ts_bucket.specs.Bucket.{IsWidth, is_bucket}
 use Rattle.ts_bucket.specs.Positions.{later, is_above}
 use Rattle.ts_bucket.specs.Spans.{in_span}
@@ -16,7 +14,7 @@ use Rattle.ts_model.specs.declared.events.Event.{Event}
 use Rattle.ts_model.specs.declared.events.Event.TheVariants.{Table, Hyper, View, Mode, Commit, Cut, Built}
 use Rattle.ts_model.specs.declared.views.ViewDef.{ViewDef}
 use Rattle.ts_model.specs.History.{History, start, ◌▸◌, position}
-use Rattle.ts_model.specs.Roster.{roster, view_of, set_only}
+use Rattle.ts_model.specs.Roster.{roster, view_of}
 use Rattle.ts_model.specs.Refreshes.{span_of_cut, is_covered, last, touches, last_touch}
 use Rattle.ts_model.specs.Allowed.{span_fits, sound, allowed, all_allowed}
 use Rattle.ts_model.specs.Laws.{KeepsView}
@@ -35,6 +33,10 @@ covering_span (Some span) b e = (span, refl, e)
 -- a bucket of a span that ends where a bucket does ends at or below the end of the span
 pub bucket_ends : (w : Width) (span : Span) (b : ℤ) → IsWidth w → is_bucket w b ≡ true → is_bucket w span.hi ≡ true → in_span span b ≡ true → (b +ℤ w.step) ≤ℤ span.hi
 bucket_ends w span b width bucket ends inside = buckets_apart w b span.hi width bucket ends (in_span-ends span b inside).1
+
+-- a span of whole buckets ends where a bucket does
+pub span_ends : (def : ViewDef) (span : Span) → span_fits span (Some def) ≡ true → is_bucket def.fold.width span.hi ≡ true
+span_ends def span fits = (and_parts _ _ (and_parts _ _ (and_parts (is_bucket def.fold.width span.lo && is_bucket def.fold.width span.hi && int_lt span.lo span.hi) _ fits).0).0).1
 
 -- ---- nothing is from later
 
@@ -87,6 +89,9 @@ built_after_cut h cut snap e =
     let is_sound = and_parts _ _ (and_parts (sound h (Built cut snap)) _ e).0 in
     leb-true cut snap (and_parts _ _ (and_parts _ _ is_sound.0).0).1
 
+up_to : (a b c : ℕ) → a ≤ b → b ≡ c → a ≤ c
+up_to a b c l e = omega arith
+
 pub last_was_cut : (n : ℕ) (h : History) (b : ℤ) (s : ℕ) → all_allowed h ≡ true → last n h b ≡ Some s → (k : ℕ) × (k ≤ s) × (is_covered b (span_of_cut n h k) ≡ true)
 last_was_cut n start b s ok e = absurd (cc)
 last_was_cut n (h ▸ Table made) b s ok e = last_was_cut n h b s (and_parts _ _ ok).0 e
@@ -103,7 +108,7 @@ last_was_cut n (h ▸ Built cut snap) b s ok e =
     (λ now.
     let this = covered_snap (is_covered b (span_of_cut n h cut)) snap s now in
     let l : cut ≤ snap = built_after_cut h cut snap (and_parts _ _ ok).1 in
-    (cut, omega (arith, this.1), this.0))
+    (cut, up_to cut snap s l this.1, this.0))
     (later_is (last n h b) (cond (is_covered b (span_of_cut n h cut)) (Some snap) None) s e)
 
 -- ---- an aggregate that isn't there

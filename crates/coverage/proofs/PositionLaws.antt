@@ -1,10 +1,10 @@
 -- Laws of positions: what is above one, and above a last refresh.
-use Rattle.std.proofs.Common.{◌≡◌, ℕ, suc, ◌≤◌, max, Bool, true, false, ◌||◌, cond, nat_lt, Option, Some, None, refl, sym, ap, ◌∙◌, arith}
+use Rattle.std.proofs.Common.{◌≡◌, ℕ, ◌≤◌, max, true, false, ◌||◌, cond, nat_lt, Option, Some, None, refl, sym, ap, ◌∙◌, arith}
 use Rattle.std.specs.Prelude.{is_some}
-use Rattle.std.proofs.lemmas.Bool.{cond-false, or_from, or_parts}
+use Rattle.std.proofs.lemmas.Bool.{cond-false}
 use Rattle.std.proofs.lemmas.Bool.Decides.{nat_tests}
 use Rattle.ts_bucket.specs.Positions.{later, is_above, is_before, above}
-use Rattle.ts_bucket.proofs.PositionLaws.{later-none, above-later, above-above, is_above-later}
+use Rattle.ts_bucket.proofs.PositionLaws.{above-later, above-above}
 use Rattle.coverage.specs.Coverage.{above_last}
 
 -- what isn't above a position isn't above a greater one

@@ -8,26 +8,23 @@ use Rattle.std.proofs.lemmas.Int.{ints}
 use Rattle.ts_bucket.specs.Bucket.{IsWidth, is_bucket}
 use Rattle.ts_bucket.specs.Positions.{later, is_above, above}
 use Rattle.ts_bucket.specs.Spans.{in_span}
-use Rattle.ts_bucket.specs.declared.spans.Hull.{Hull}
 use Rattle.ts_bucket.specs.declared.spans.Span.{Span}
-use Rattle.ts_bucket.specs.declared.widths.Width.{Width}
 use Rattle.ts_bucket.proofs.PositionLaws.{later-none, later-assoc, above-later, is_above-later}
 use Rattle.ts_model.specs.declared.events.Event.{Event}
 use Rattle.ts_model.specs.declared.events.Event.TheVariants.{Table, Hyper, View, Mode, Commit, Cut, Built}
-use Rattle.ts_model.specs.declared.events.Op.{Op}
 use Rattle.ts_model.specs.declared.views.ViewDef.{ViewDef}
-use Rattle.ts_model.specs.History.{History, start, ◌▸◌, position}
+use Rattle.ts_model.specs.History.{History, ◌▸◌, position}
 use Rattle.ts_model.specs.Roster.{roster, view_of, change_at, set_only}
 use Rattle.ts_model.specs.Rows.{rows}
 use Rattle.ts_model.specs.Effect.{hull_of_ops}
-use Rattle.ts_model.specs.Refreshes.{span_of_cut, is_covered, is_met, last, touches, last_touch}
-use Rattle.ts_model.specs.Allowed.{all_allowed}
-use Rattle.coverage.specs.Notes.{Noted, Notes, all_buckets, begun, logged, noted, fed, cut_to, settled, AreSame}
+use Rattle.ts_model.specs.Refreshes.{span_of_cut, is_covered, last, touches, last_touch}
+use Rattle.ts_model.specs.Allowed.{span_fits}
+use Rattle.coverage.specs.Notes.{Noted, Notes, all_buckets, fed, settled}
 use Rattle.coverage.specs.Coverage.{log_touch, above_last, pending_position, RisesFrom, is_upto, IsCovered}
-use Rattle.coverage.specs.Laws.{CommitsKeep, CutsKeep, FinishesKeep, QuietKeeps, is_quiet, BeginningsCover, SameCover, FinishesClear}
+use Rattle.coverage.specs.Laws.{CommitsKeep, CutsKeep, FinishesKeep, QuietKeeps, BeginningsCover, SameCover, FinishesClear}
 use Rattle.coverage.proofs.PositionLaws.{is_above-greater, above-nothing, above-lesser, is_above-above, is_before-above, above_last-raised, above-raised, at_or_below, is_above-at}
 use Rattle.coverage.proofs.LogLaws.{log_touch-logged, rises-logged, upto-logged, upto_next, above-fed, is_some-fed, fresh-fed, past-fed, above-pending, pending-alone, fresh-pending}
-use Rattle.coverage.proofs.ModelLaws.{covering_span, bucket_ends, touched_past, never_cut, never_refreshed}
+use Rattle.coverage.proofs.ModelLaws.{covering_span, span_ends, bucket_ends, touched_past, never_cut, never_refreshed}
 
 -- ---- a commit
 
@@ -35,7 +32,7 @@ use Rattle.coverage.proofs.ModelLaws.{covering_span, bucket_ends, touched_past, 
 reached : (n : ℕ) (def : ViewDef) (h : History) (notes : Notes) (b : ℤ) (k : ℕ) → IsWidth def.fold.width → IsCovered n def h notes → is_bucket def.fold.width b ≡ true → is_covered b (span_of_cut n h k) ≡ true → (b +ℤ def.fold.width.step) ≤ℤ notes.threshold
 reached n def h notes b k width covered bucket cut =
     let found = covering_span (span_of_cut n h k) b cut in
-    let ends : (b +ℤ def.fold.width.step) ≤ℤ found.0.hi = bucket_ends def.fold.width found.0 b width bucket (covered.whole k found.0 found.1) found.2 in
+    let ends : (b +ℤ def.fold.width.step) ≤ℤ found.0.hi = bucket_ends def.fold.width found.0 b width bucket (span_ends def found.0 (covered.whole k found.0 found.1)) found.2 in
     let below : found.0.hi ≤ℤ notes.threshold = covered.below k found.0 found.1 in
     omega (arith, ints)
 
@@ -107,7 +104,7 @@ cuts_keep n def h v span notes ends covered = record {
       ∙ cut_exact n def h v span notes b s k covered bucket cut at low;
   fresh = λ b bucket. fresh-fed def.fold.width b (notes.refreshed b) (notes.pending b) notes.log (covered.fresh b bucket);
   marked = λ b bucket there inside. still_marked (notes.refreshed b) (notes.pending b) (fed def.fold.width b (notes.refreshed b) notes.log (notes.pending b)) (λ e. is_some-fed def.fold.width b (notes.refreshed b) (notes.pending b) notes.log e) (covered.marked b bucket there inside);
-  whole = λ k other e. either_span (k == suc (position h) && v == n) span other (span_of_cut n h k) e (λ x. is_bucket def.fold.width x.hi ≡ true) (λ here. ends (and_parts _ _ here).1) (λ old. covered.whole k other old);
+  whole = λ k other e. either_span (k == suc (position h) && v == n) span other (span_of_cut n h k) e (λ x. span_fits x (Some def) ≡ true) (λ here. ends (and_parts _ _ here).1) (λ old. covered.whole k other old);
   below = λ k other e. either_span (k == suc (position h) && v == n) span other (span_of_cut n h k) e (λ x. x.hi ≤ℤ int_max notes.threshold span.hi) (λ here. raised_to notes.threshold span.hi) (λ old. raised_from notes.threshold span.hi other.hi (covered.below k other old));
   rising = λ b k bucket cut. tt;
   pending_past = λ b bucket. is_above-greater (position h) (suc (position h)) _ (omega arith) (past-fed (position h) def.fold.width b (notes.refreshed b) (notes.pending b) notes.log (covered.pending_past b bucket) covered.log_past);

@@ -1,6 +1,6 @@
 -- What notes that cover an aggregate tell.
-use Rattle.std.proofs.Common.{◌≡◌, ℕ, ◌≤◌, Bool, true, false, ◌&&◌, ◌||◌, ℤ, Option, Some, None, refl, sym, ap, ◌∙◌, subst, arith}
-use Rattle.std.specs.Prelude.{is_some}
+use Rattle.std.proofs.Common.{◌≡◌, ℕ, true, false, ◌&&◌, ◌||◌, ℤ, Option, Some, None, refl, sym, ap, ◌∙◌, arith}
+use Rattle.std.specs.Prelude.{is_some, is_none}
 use Rattle.std.proofs.lemmas.Bool.{or_left}
 use Rattle.ts_bucket.specs.Bucket.{is_bucket}
 use Rattle.ts_bucket.specs.Positions.{later, is_above, above}
@@ -12,7 +12,7 @@ use Rattle.ts_model.specs.Refreshes.{last, last_touch, is_below, watermark, is_i
 use Rattle.ts_model.specs.Allowed.{all_allowed}
 use Rattle.coverage.specs.Notes.{Notes, all_buckets}
 use Rattle.coverage.specs.Coverage.{log_touch, above_last, pending_position, IsCovered}
-use Rattle.coverage.specs.Laws.{Tells, CoveredTells}
+use Rattle.coverage.specs.Laws.{CoveredTells}
 use Rattle.coverage.proofs.PositionLaws.{is_above-at, is_some-above, is_some-later}
 use Rattle.coverage.proofs.LogLaws.{fresh-pending}
 use Rattle.coverage.proofs.ModelLaws.{last_was_cut}
@@ -39,11 +39,23 @@ tells_invalid n def h notes b None never touched =
 tells_invalid n def h notes b (Some s) never touched =
     ap is_some (touched s refl) ∙ is_some-above s (last_touch n def h b)
 
+-- what was never refreshed is pending, so what is dirty, or noted after the last refresh, is what has a pending position
+dirty_is : (last p q : Option ℕ) → (is_some last || is_some p) ≡ true → ((is_none last || is_some p) || is_some q) ≡ is_some (later p q)
+dirty_is None p q e = sym (is_some-later p q ∙ or_left _ _ e)
+dirty_is (Some s) p q e = sym (is_some-later p q)
+
+tells_exactly : (n : ℕ) (def : ViewDef) (h : History) (notes : Notes) (b : ℤ) → all_allowed h ≡ true → is_some (view_of (roster h) n) ≡ true → IsCovered n def h notes → is_bucket def.fold.width b ≡ true → in_span (all_buckets def.fold.width) b ≡ true → is_some (pending_position def.fold.width notes b) ≡ invalid n def h b
+tells_exactly n def h notes b ok there covered bucket inside =
+    tells_invalid n def h notes b (last n h b) (λ e. tells_never n def h notes b there covered bucket inside e) (λ s e. tells_touched n def h notes b s ok covered bucket e)
+
 pub covered_tells : CoveredTells
 covered_tells n def h notes ok there covered = record {
   refreshed = covered.refreshed;
   touched = λ b s bucket e. tells_touched n def h notes b s ok covered bucket e;
   never = λ b bucket inside e. tells_never n def h notes b there covered bucket inside e;
-  invalid = λ b bucket inside. tells_invalid n def h notes b (last n h b) (λ e. tells_never n def h notes b there covered bucket inside e) (λ s e. tells_touched n def h notes b s ok covered bucket e);
-  stale = λ b bucket inside. ap (λ t. is_below b (watermark n def h) && t) (tells_invalid n def h notes b (last n h b) (λ e. tells_never n def h notes b there covered bucket inside e) (λ s e. tells_touched n def h notes b s ok covered bucket e));
+  exact = λ b bucket inside. tells_exactly n def h notes b ok there covered bucket inside;
+  dirty = λ b bucket inside.
+      dirty_is (notes.refreshed b) (notes.pending b) (above_last (notes.refreshed b) (log_touch def.fold.width b notes.log)) (covered.marked b bucket there inside)
+      ∙ tells_exactly n def h notes b ok there covered bucket inside;
+  stale = λ b bucket inside. ap (λ t. is_below b (watermark n def h) && t) (tells_exactly n def h notes b ok there covered bucket inside);
 }

@@ -1,5 +1,5 @@
 -- Coverage of whole histories.
-use Rattle.std.proofs.Common.{◌≡◌, ◌≢◌, ℕ, suc, ◌≤◌, Bool, true, false, ◌&&◌, not, cond, ◌==◌, List, [], ◌∷◌, length, ℤ, pos, ◌+ℤ◌, ◌≤ℤ◌, ◌<ℤ◌, int_le, int_lt, Option, Some, None, refl, sym, ap, ◌∙◌, subst, arith}
+use Rattle.std.proofs.Common.{◌≡◌, ◌≢◌, ℕ, suc, ◌≤◌, Bool, true, false, ◌&&◌, not, cond, ◌==◌, length, ℤ, pos, ◌+ℤ◌, ◌≤ℤ◌, ◌<ℤ◌, int_le, int_lt, Option, Some, None, refl, sym, ap, ◌∙◌, subst, arith}
 use Rattle.std.specs.Prelude.{is_some}
 use Rattle.std.specs.Int.{int_max}
 use Rattle.std.proofs.lemmas.Bool.{true≢false, and_parts, eqb-true, eq-eqb}
@@ -8,18 +8,17 @@ use Rattle.std.proofs.lemmas.Int.{ints}
 use Rattle.std.proofs.lemmas.Option.{slice_get_past}
 use Rattle.ts_num.specs.Aggregates.{greater}
 use Rattle.ts_bucket.specs.Bucket.{IsWidth, is_bucket, bucket_of, first_of}
-use Rattle.ts_bucket.specs.Spans.{in_span}
 use Rattle.ts_bucket.specs.declared.spans.Span.{Span}
 use Rattle.ts_bucket.specs.declared.widths.Width.{Width}
 use Rattle.ts_bucket.proofs.BucketLaws.{bucket_of_meets, buckets_apart, is_bucket-bucket_of, bucket_of-last, is_bucket-next}
-use Rattle.ts_model.specs.declared.events.Event.{Event}
 use Rattle.ts_model.specs.declared.events.Event.TheVariants.{Table, Hyper, View, Mode, Commit, Cut, Built}
+use Rattle.ts_model.specs.declared.views.Fold.{Fold}
 use Rattle.ts_model.specs.declared.views.ViewDef.{ViewDef}
 use Rattle.ts_model.specs.History.{History, start, ◌▸◌, position}
 use Rattle.ts_model.specs.Roster.{roster, view_of}
-use Rattle.ts_model.specs.Refreshes.{span_of_cut, is_over, threshold}
+use Rattle.ts_model.specs.Refreshes.{is_over, threshold}
 use Rattle.ts_model.specs.Allowed.{span_fits, all_allowed}
-use Rattle.coverage.specs.Notes.{Notes, lowest, greatest, no_notes, all_buckets, begun, cut_to, notes_after, notes_of}
+use Rattle.coverage.specs.Notes.{Notes, lowest, greatest, no_notes, begun, cut_to, notes_after, notes_of}
 use Rattle.coverage.specs.Coverage.{IsCovered}
 use Rattle.coverage.specs.Laws.{IsOf, EventsKeep, HistoriesCovered, HistoriesTell, number_of, ThresholdsAre, ThresholdsReach, AllBucketsAre}
 use Rattle.coverage.proofs.ModelLaws.{cut_view, is_of_before, is_of_itself}
@@ -38,12 +37,12 @@ view_keeps n def h made notes ok covered =
       | false ↦ λ other. quiet_keeps n def h (View made) notes (ap not other) covered
     ] refl
 
--- a cut of the aggregate is of one over its table, and ends where a bucket does
-cut_of : (n : ℕ) (def : ViewDef) (span : Span) (o : Option ViewDef) → IsOf def o → span_fits span o ≡ true → (is_bucket def.fold.width span.hi ≡ true) × (is_over def.table o ≡ true)
+-- a cut of the aggregate is of one over its table, and has a span of whole buckets
+cut_of : (n : ℕ) (def : ViewDef) (span : Span) (o : Option ViewDef) → IsOf def o → span_fits span o ≡ true → (span_fits span (Some def) ≡ true) × (is_over def.table o ≡ true)
 cut_of n def span None i fits = absurd (true≢false (sym fits))
 cut_of n def span (Some d) i fits =
-    let ends : is_bucket d.fold.width span.hi ≡ true = (and_parts _ _ (and_parts _ _ (and_parts (is_bucket d.fold.width span.lo && is_bucket d.fold.width span.hi && int_lt span.lo span.hi) _ fits).0).0).1 in
-    (sym (ap (λ f. is_bucket f.width span.hi) i.1) ∙ ends, eq-eqb d.table def.table i.0)
+    let same_width : span_fits span (Some d) ≡ span_fits span (Some def) = ap (λ (f : Fold). is_bucket f.width span.lo && is_bucket f.width span.hi && int_lt span.lo span.hi && int_le (first_of f.width) span.lo) i.1 in
+    (sym same_width ∙ fits, eq-eqb d.table def.table i.0)
 
 not_same : (t : Bool) → t ≢ true → not t ≡ true
 not_same true e = absurd (e refl)
@@ -51,7 +50,7 @@ not_same false e = refl
 
 cut_keeps : (n : ℕ) (def : ViewDef) (h : History) (v : ℕ) (span : Span) (notes : Notes) → span_fits span (view_of (roster h) v) ≡ true → IsOf def (view_of (roster h) n) → IsCovered n def h notes → IsCovered n def (h ▸ Cut v span) (notes_after n def h (Cut v span) notes)
 cut_keeps n def h v span notes fits i covered =
-    let mine : (v == n) ≡ true → (is_bucket def.fold.width span.hi ≡ true) × (is_over def.table (view_of (roster h) v) ≡ true) = λ e.
+    let mine : (v == n) ≡ true → (span_fits span (Some def) ≡ true) × (is_over def.table (view_of (roster h) v) ≡ true) = λ e.
     let it : v ≡ n = eqb-true v n e in
     cut_of n def span (view_of (roster h) v) (subst (λ x. IsOf def (view_of (roster h) x)) (sym it) i) fits
     in

@@ -10,6 +10,7 @@ use Rattle.ts_model.specs.declared.views.ViewDef.{ViewDef}
 use Rattle.ts_model.specs.History.{History, position}
 use Rattle.ts_model.specs.Roster.{roster, view_of}
 use Rattle.ts_model.specs.Refreshes.{span_of_cut, is_covered, last, last_touch}
+use Rattle.ts_model.specs.Allowed.{span_fits}
 use Rattle.coverage.specs.Notes.{Noted, Notes, all_buckets}
 
 -- the greatest position of a noted hull that meets the bucket
@@ -45,8 +46,8 @@ pub record IsCovered (n : ℕ) (def : ViewDef) (h : History) (notes : Notes) : T
   pub fresh : (b : ℤ) → is_bucket def.fold.width b ≡ true → above_last (notes.refreshed b) (notes.pending b) ≡ notes.pending b
   -- once the aggregate is there, something is pending in each bucket that was never refreshed
   pub marked : (b : ℤ) → is_bucket def.fold.width b ≡ true → is_some (view_of (roster h) n) ≡ true → in_span (all_buckets def.fold.width) b ≡ true → (is_some (notes.refreshed b) || is_some (notes.pending b)) ≡ true
-  -- a span that was cut ends where a bucket does, at or below the threshold
-  pub whole : (k : ℕ) (span : Span) → span_of_cut n h k ≡ Some span → is_bucket def.fold.width span.hi ≡ true
+  -- a span that was cut is one of whole buckets from the first on, and ends at or below the threshold
+  pub whole : (k : ℕ) (span : Span) → span_of_cut n h k ≡ Some span → span_fits span (Some def) ≡ true
   pub below : (k : ℕ) (span : Span) → span_of_cut n h k ≡ Some span → span.hi ≤ℤ notes.threshold
   -- the log rises, from above what is pending in each bucket that was cut
   pub rising : (b : ℤ) (k : ℕ) → is_bucket def.fold.width b ≡ true → is_covered b (span_of_cut n h k) ≡ true → RisesFrom (notes.pending b) notes.log

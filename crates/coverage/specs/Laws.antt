@@ -1,9 +1,10 @@
 -- The laws: each event keeps the notes covering, so those of every allowed history cover, and what that means.
-use Rattle.std.specs.Prelude.{◌≡◌, ℕ, suc, Bool, true, false, not, ◌&&◌, ◌==◌, length, List, ℤ, ◌+ℤ◌, ◌≤ℤ◌, int_le, Option, Some, None, is_some}
+use Rattle.std.specs.Prelude.{◌≡◌, ℕ, suc, Bool, true, false, not, ◌&&◌, ◌==◌, length, List, ℤ, ◌+ℤ◌, ◌≤ℤ◌, int_le, Option, Some, None, is_some, is_none, ◌||◌}
 use Rattle.std.specs.Int.{int_max}
-use Rattle.ts_bucket.specs.Bucket.{IsWidth, is_bucket, first_of}
+use Rattle.ts_bucket.specs.Bucket.{IsWidth, is_bucket, first_of, min_time, max_time}
 use Rattle.ts_bucket.specs.Positions.{above}
 use Rattle.ts_bucket.specs.Spans.{in_span}
+use Rattle.ts_bucket.specs.declared.spans.Hull.{Hull}
 use Rattle.ts_bucket.specs.declared.spans.Span.{Span}
 use Rattle.ts_bucket.specs.declared.widths.Width.{Width}
 use Rattle.ts_model.specs.declared.events.Event.{Event}
@@ -15,9 +16,9 @@ use Rattle.ts_model.specs.Roster.{roster, view_of}
 use Rattle.ts_model.specs.Rows.{rows}
 use Rattle.ts_model.specs.Effect.{hull_of_ops}
 use Rattle.ts_model.specs.Refreshes.{span_of_cut, last, last_touch, is_below, watermark, invalid, stale, threshold}
-use Rattle.ts_model.specs.Allowed.{all_allowed}
+use Rattle.ts_model.specs.Allowed.{span_fits, all_allowed}
 use Rattle.coverage.specs.Notes.{Notes, lowest, greatest, all_buckets, begun, noted, cut_to, settled, notes_after, notes_of, AreSame}
-use Rattle.coverage.specs.Coverage.{is_upto, pending_position, IsCovered}
+use Rattle.coverage.specs.Coverage.{log_touch, above_last, is_upto, pending_position, IsCovered}
 
 -- ---- one step for each kind of event
 
@@ -25,9 +26,9 @@ use Rattle.coverage.specs.Coverage.{is_upto, pending_position, IsCovered}
 abbrev pub CommitsKeep : Type 0
 CommitsKeep = (n : ℕ) (def : ViewDef) (h : History) (ops : List Op) (notes : Notes) → IsWidth def.fold.width → IsCovered n def h notes → IsCovered n def (h ▸ Commit ops) (noted (hull_of_ops def.table ops (rows def.table h)) (suc (position h)) notes)
 
--- a cut of any aggregate over the table, where one of this aggregate ends where a bucket does
+-- a cut of any aggregate over the table, where one of this aggregate has a span of whole buckets
 abbrev pub CutsKeep : Type 0
-CutsKeep = (n : ℕ) (def : ViewDef) (h : History) (v : ℕ) (span : Span) (notes : Notes) → ((v == n) ≡ true → is_bucket def.fold.width span.hi ≡ true) → IsCovered n def h notes → IsCovered n def (h ▸ Cut v span) (cut_to def.fold.width span.hi notes)
+CutsKeep = (n : ℕ) (def : ViewDef) (h : History) (v : ℕ) (span : Span) (notes : Notes) → ((v == n) ≡ true → span_fits span (Some def) ≡ true) → IsCovered n def h notes → IsCovered n def (h ▸ Cut v span) (cut_to def.fold.width span.hi notes)
 
 -- a finish that settles the span of its cut
 abbrev pub FinishesKeep : Type 0
@@ -64,6 +65,12 @@ EventsKeep = (n : ℕ) (def : ViewDef) (h : History) (e : Event) (notes : Notes)
 abbrev pub SameCover : Type 0
 SameCover = (n : ℕ) (def : ViewDef) (h : History) (a b : Notes) → AreSame def.fold.width a b → IsCovered n def h a → IsCovered n def h b
 
+-- ---- what a note may ask for
+
+-- the hull of an allowed commit goes from a time to a time at or above it
+abbrev pub HullsAreOfTimes : Type 0
+HullsAreOfTimes = (t : ℕ) (h : History) (ops : List Op) (hull : Hull) → all_allowed (h ▸ Commit ops) ≡ true → hull_of_ops t ops (rows t h) ≡ Some hull → (min_time ≤ℤ hull.least) × (hull.least ≤ℤ hull.most) × (hull.most ≤ℤ max_time)
+
 -- ---- what coverage means
 
 -- what notes that cover tell
@@ -75,7 +82,9 @@ pub record Tells (n : ℕ) (def : ViewDef) (h : History) (notes : Notes) : Type 
   -- something is pending in a bucket without one
   pub never : (b : ℤ) → is_bucket def.fold.width b ≡ true → in_span (all_buckets def.fold.width) b ≡ true → last n h b ≡ None → is_some (notes.pending b) ≡ true
   -- exactly the buckets touched after their last refresh, or never refreshed, have a pending position
-  pub invalid : (b : ℤ) → is_bucket def.fold.width b ≡ true → in_span (all_buckets def.fold.width) b ≡ true → is_some (pending_position def.fold.width notes b) ≡ invalid n def h b
+  pub exact : (b : ℤ) → is_bucket def.fold.width b ≡ true → in_span (all_buckets def.fold.width) b ≡ true → is_some (pending_position def.fold.width notes b) ≡ invalid n def h b
+  -- these are the buckets that were never refreshed or have something pending, and those that a noted hull meets after their last refresh
+  pub dirty : (b : ℤ) → is_bucket def.fold.width b ≡ true → in_span (all_buckets def.fold.width) b ≡ true → ((is_none (notes.refreshed b) || is_some (notes.pending b)) || is_some (above_last (notes.refreshed b) (log_touch def.fold.width b notes.log))) ≡ invalid n def h b
   -- and those of them below the watermark are stale
   pub stale : (b : ℤ) → is_bucket def.fold.width b ≡ true → in_span (all_buckets def.fold.width) b ≡ true → (is_below b (watermark n def h) && is_some (pending_position def.fold.width notes b)) ≡ stale n def h b
 

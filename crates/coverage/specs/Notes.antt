@@ -1,5 +1,5 @@
 -- Notes of what is out of date: the log of a table, and what is pending and was refreshed of one aggregate over it, and what each event does to them.
-use Rattle.std.specs.Prelude.{◌≡◌, ℕ, suc, Bool, true, false, cond, ◌&&◌, ◌==◌, ◌-◌, ◌^◌, List, [], ◌∷◌, ◌++◌, length, ℤ, pos, negsuc, int_lt, Option, Some, None}
+use Rattle.std.specs.Prelude.{◌≡◌, ℕ, suc, true, cond, ◌&&◌, ◌==◌, ◌-◌, ◌^◌, List, [], ◌∷◌, ◌++◌, length, ℤ, pos, negsuc, int_lt, Option, Some, None}
 use Rattle.std.specs.Int.{int_max}
 use Rattle.ts_bucket.specs.Bucket.{is_bucket, bucket_of, first_of}
 use Rattle.ts_bucket.specs.Positions.{later, above, is_before}

@@ -1,6 +1,6 @@
 //! Laws over whole histories, made by any list of allowed events. Each is the clause of a function that
 //! does nothing.
-ghost use Rattle.coverage.specs.Laws.{AllBucketsAre, HistoriesCovered, HistoriesTell, ThresholdsAre, ThresholdsReach};
+ghost use Rattle.coverage.specs.Laws.{AllBucketsAre, HistoriesCovered, HistoriesTell, HullsAreOfTimes, ThresholdsAre, ThresholdsReach};
 
 /// The notes of each aggregate of an allowed history cover it, however many refreshes overlap.
 pub fn histories_are_covered()
@@ -27,4 +27,9 @@ pub fn thresholds_reach_each_cut()
 /// below the greatest number of 64 bits.
 pub fn all_buckets_are_marked()
     ensures { AllBucketsAre }
+{}
+
+/// The hull of an allowed commit goes from a time to a time.
+pub fn hulls_are_of_times()
+    ensures { HullsAreOfTimes }
 {}
