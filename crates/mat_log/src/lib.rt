@@ -4,7 +4,5 @@
 mod logs;
 mod ranges;
 mod spans;
-#[cfg(test)]
-mod tests;
 
 pub use logs::MatLog;
