@@ -1,10 +1,11 @@
 -- Laws of versions: what one more version adds to what is shown or taken.
-use Rattle.std.proofs.Common.{◌≡◌, ℕ, ◌<◌, ◌≤◌, ◌+◌, Bool, true, false, cond, ◌&&◌, Some, None, List, [], ◌∷◌, ◌++◌, length, get_or, take, drop, map, refl, sym, ◌∙◌, ap, subst, arith}
+use Rattle.std.proofs.Common.{◌≡◌, ℕ, ◌<◌, ◌≤◌, ◌+◌, Bool, true, false, cond, ◌&&◌, Some, None, ℤ, List, [], ◌∷◌, ◌++◌, length, get_or, take, drop, map, refl, sym, ◌∙◌, ap, subst, arith}
 use Rattle.std.specs.List.{filter, list_all}
 use Rattle.std.specs.Prelude.{nat_le}
 use Rattle.std.proofs.lemmas.List.Folds.{list_all-append}
 use Rattle.std.proofs.lemmas.List.Recursion.{and_at}
-use Rattle.std.proofs.lemmas.Bool.{leb-true}
+use Rattle.std.proofs.lemmas.Bool.{le-leb, leb-true}
+use Rattle.ts_schema.specs.declared.conditions.Cmp.{Cmp}
 use Rattle.std.proofs.lemmas.List.{append_assoc, append-nil, map-append, length-append, length-map, take_at, take-append-drop}
 use Rattle.std.proofs.lemmas.List.Elements.{filter_more, filter-append}
 use Rattle.std.proofs.lemmas.List.Sums.{length-filter, count_by-le-length}
@@ -137,3 +138,10 @@ pub ruleset parts = (rows_at-append, taken_at-append, latest_at-append, hull_of-
 -- a delete takes no more than there is
 pub taken_few : (p : ℕ) (tests : List Test) (vs : List Version) → length (taken_at p tests vs) ≤ length vs
 taken_few p tests vs = taken_at-length p tests vs
+
+-- a test of the time fits every version
+pub time_fits : (tests : List Test) (cmp : Cmp) (num : ℤ) → tests ≡ record { col = 0; cmp = cmp; num = num } ∷ [] → (vs : List Version) → TestsFit tests vs
+time_fits tests cmp num e [] = refl
+time_fits tests cmp num e (v ∷ vs) =
+    let here : has_columns tests v ≡ true = rw e (rw (le-leb 0 (length v.row.vals) (omega arith)) refl) in
+    rw here (time_fits tests cmp num e vs)

@@ -1,6 +1,6 @@
 //! Segments beside plain lists of versions.
-ghost use Rattle.std.specs.Prelude.{ℕ, ◌≤ℤ◌, IfOk};
-ghost use Rattle.ts_schema.specs.Conditions.{ColumnsAreThere};
+ghost use Rattle.std.specs.Prelude.{◌≤ℤ◌, List, IfOk};
+ghost use Rattle.seg_rows.specs.Versions.{Version, TestsFit};
 
 use crate::{Killed, Segment};
 use std::alloc::Global;
@@ -23,7 +23,7 @@ fn sealed(alloc: Global, times: &[i64], born: u64) -> Result<Segment, NoMemory> 
 
 /// The one test that a row's time is `cmp` a number.
 fn on_time(alloc: Global, cmp: Cmp, num: i64) -> Result<Seq<Test>, NoMemory>
-    ensures there { IfOk result (λ tests. (n : ℕ) → ColumnsAreThere n tests) }
+    ensures fit { IfOk result (λ tests. (versions : List Version) → TestsFit tests versions) }
 {
     let mut tests = Seq::new(alloc);
     tests.push(Test { col: 0, cmp, num })?;
