@@ -177,7 +177,9 @@ fn a_refresh_that_nobody_finished_has_no_tail_for_it(rt: HostRuntime) -> Result<
         },
         &mut out,
     )?;
-    assert!(rt; out.as_slice() == b"FAULT E19 no_refresh @3\nline 4: FAULT E03 no_session\n");
+    assert!(rt;
+        out.as_slice() == b"FAULT E19 no_refresh @3\nline 4: FAULT E03 no_session\n".as_slice()
+    );
     Ok(())
 }
 
@@ -219,7 +221,7 @@ fn a_log_has_a_line_for_each_event(rt: HostRuntime) -> Result<(), Fail> {
     put_event(2, &Event::Hyper { table: 0, hyper }, &roster, &mut out)?;
     put_event(9, &Event::Built { cut: 5, snap: 6 }, &roster, &mut out)?;
     let wanted = b"@1 TABLE m time! v\n@2 HYPER m time 100\n@9 BUILT 5 snap 6\n";
-    assert!(rt; out.as_slice() == wanted);
+    assert!(rt; out.as_slice() == wanted.as_slice());
     Ok(())
 }
 
@@ -234,7 +236,7 @@ fn a_history_and_what_is_pending_have_a_line_each(rt: HostRuntime) -> Result<(),
         -10,
         &mut out,
     )?;
-    assert!(rt; out.as_slice() == b"HISTORY @5\nPENDING 5 c min..130\n");
+    assert!(rt; out.as_slice() == b"HISTORY @5\nPENDING 5 c min..130\n".as_slice());
     Ok(())
 }
 
@@ -256,6 +258,6 @@ fn a_demonstration_has_a_summary(rt: HostRuntime) -> Result<(), Fail> {
     put_summary(&summary, &mut out)?;
     let wanted =
         b"DEMO 7\nevents 284\nrows 20001\ngroups 16000\ntotal 9990000\nstale 1000..1100\nreads 39600\n";
-    assert!(rt; out.as_slice() == wanted);
+    assert!(rt; out.as_slice() == wanted.as_slice());
     Ok(())
 }

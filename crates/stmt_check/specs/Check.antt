@@ -21,7 +21,7 @@ use Rattle.stmt_check.specs.declared.actions.Action.{Action}
 use Rattle.stmt_check.specs.declared.actions.Action.TheVariants as actions
 use Rattle.stmt_check.specs.declared.actions.Checked.{Checked}
 use Rattle.stmt_check.specs.declared.actions.Checked.TheVariants as checked
-use Rattle.stmt_check.specs.Folds.{IsCounted, fold_of, fold_refusal, output_names, tests_of, tests_refusal}
+use Rattle.stmt_check.specs.Folds.{fold_of, fold_refusal, output_names, tests_of, tests_refusal}
 use Rattle.stmt_check.specs.Queries.{bound_refusal, drop_test, starts_of, starts_refusal}
 use Rattle.stmt_check.specs.Refusals.{◌⊳◌, hypertable_refusal, name_refusal, number_of, plain_refusal, query_refusal, view_refusal}
 use Rattle.stmt_check.specs.Rows.{insert_refusal, inserted_rows}
@@ -144,23 +144,3 @@ pub record IsNumbered (roster : Roster) : Type 0 where
   pub columns : AllByRecursion (λ t. length t.def.cols < 2 ^ 32) roster.tables
   pub intervals : AllByRecursion (λ t. IsTrue (is_interval (interval_of t.hyper))) roster.tables
   pub outputs : AllByRecursion (λ v. length v.names < 2 ^ 32) roster.views
-
--- numbers of 32 bits serve for the output columns of a statement's fold
-abbrev pub HasCountedFold : Stmt → Type 0
-HasCountedFold (stmts.Table name cols) = ⊤
-HasCountedFold (stmts.Hyper table col interval) = ⊤
-HasCountedFold (stmts.View name only filled fold) = IsCounted fold
-HasCountedFold (stmts.Mode view only) = ⊤
-HasCountedFold (stmts.Insert table cols rows) = ⊤
-HasCountedFold (stmts.Delete table tests) = ⊤
-HasCountedFold (stmts.Drop table below) = ⊤
-HasCountedFold (stmts.Refresh view lo hi) = ⊤
-HasCountedFold (stmts.Cut view lo hi) = ⊤
-HasCountedFold (stmts.Snap cut) = ⊤
-HasCountedFold (stmts.Finish cut) = ⊤
-HasCountedFold stmts.Begin = ⊤
-HasCountedFold stmts.BeginRead = ⊤
-HasCountedFold stmts.Commit = ⊤
-HasCountedFold stmts.Rollback = ⊤
-HasCountedFold (stmts.Buckets fold) = IsCounted fold
-HasCountedFold (stmts.Rows table tests) = ⊤

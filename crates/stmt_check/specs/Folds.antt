@@ -7,6 +7,7 @@ use Rattle.ts_model.specs.declared.outcomes.Refusal.{Refusal}
 use Rattle.ts_model.specs.declared.tables.TableInfo.{TableInfo}
 use Rattle.ts_model.specs.declared.views.Agg.{Agg}
 use Rattle.ts_model.specs.declared.views.Fold.{Fold}
+use Rattle.ts_schema.specs.Counts.{raised_by}
 use Rattle.ts_schema.specs.declared.conditions.Test.{Test}
 use Rattle.ts_catalog.specs.Columns.{column_of}
 use Rattle.stmt_reader.specs.declared.statements.NamedAgg.{NamedAgg}
@@ -67,6 +68,10 @@ abbrev pub argument_refusal : ℕ → TableInfo → Option (List ℕ) → Option
 argument_refusal pos info None = None
 argument_refusal pos info (Some col) = missing pos 8 (column_of info col)
 
+-- how many output columns the bucket, so many keys and so many aggregates are, as a count of 64 bits
+abbrev pub columns_before : ℕ → ℕ → ℕ
+columns_before keys aggs = raised_by aggs (raised_by keys 1)
+
 -- one aggregate after so many columns, whose name is taken where it has to differ: its function's word, which names it without AS, its argument, the word after AS
 abbrev pub aggregate_refusal : ℕ → ℕ → TableInfo → ℕ → Bool → NamedAgg → Option Refusal
 aggregate_refusal pos count info others repeats a =
@@ -77,7 +82,7 @@ aggregate_refusal pos count info others repeats a =
 abbrev pub aggregates_refusal : ℕ → Bool → ℕ → TableInfo → List ℕ → List (List ℕ) → List NamedAgg → List NamedAgg → Option Refusal
 aggregates_refusal pos distinct count info bucket keys before [] = None
 aggregates_refusal pos distinct count info bucket keys before (a ∷ left) =
-    aggregate_refusal pos count info (1 + length keys + length before) (distinct && is_taken bucket keys before (aggregate_name a)) a
+    aggregate_refusal pos count info (columns_before (length keys) (length before)) (distinct && is_taken bucket keys before (aggregate_name a)) a
     ⊳ aggregates_refusal pos distinct count info bucket keys (before ++ a ∷ []) left
 
 -- one key after so many columns, whose name is taken where it has to differ
@@ -89,7 +94,7 @@ key_refusal pos count info others repeats key =
 abbrev pub keys_refusal : ℕ → Bool → ℕ → TableInfo → List ℕ → List (List ℕ) → List (List ℕ) → Option Refusal
 keys_refusal pos distinct count info bucket before [] = None
 keys_refusal pos distinct count info bucket before (k ∷ left) =
-    key_refusal pos count info (length before + 1) (distinct && is_key bucket before k) k
+    key_refusal pos count info (columns_before (length before) 0) (distinct && is_key bucket before k) k
     ⊳ keys_refusal pos distinct count info bucket (before ++ k ∷ []) left
 
 -- a step is from 1 to 2 ^ 40
@@ -110,12 +115,7 @@ output_names f = (bucket_column f ∷ f.keys) ++ map aggregate_name f.aggs
 
 -- how many output columns there are
 abbrev pub output_count : NamedFold → ℕ
-output_count f = 1 + length f.keys + length f.aggs
-
--- numbers of 32 bits serve for its output columns
-pub record IsCounted (f : NamedFold) : Type 0 where
-  pub keys : length f.keys < 2 ^ 32
-  pub aggs : length f.aggs < 2 ^ 32
+output_count f = columns_before (length f.keys) (length f.aggs)
 
 -- the column is the time column
 abbrev pub is_time_column : Option ℕ → Bool

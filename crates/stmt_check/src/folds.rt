@@ -2,7 +2,7 @@
 ghost use Rattle.std.specs.Prelude.{◌≡◌, ◌<◌, ◌+◌, ◌^◌, ◌&&◌, ◌++◌, [], length, map, unwrap_or, IfOk, IsTrue};
 ghost use Rattle.ts_schema.specs.Names.{is_name};
 ghost use Rattle.ts_num.specs.declared.values.Fun.{Fun};
-ghost use Rattle.stmt_check.specs.Folds.{aggregate_name, aggregate_of, aggregate_refusal, aggregates_refusal, argument_of, argument_refusal, bucket_column, is_aggregate, IsCounted, bucket_name, fold_of, fold_refusal, function_name, is_key, is_step, is_taken, is_time_column, key_refusal, keys_refusal, number_or_zero, output_count, output_names, test_of, tests_of, tests_refusal, width_refusal};
+ghost use Rattle.stmt_check.specs.Folds.{aggregate_name, aggregate_of, aggregate_refusal, aggregates_refusal, argument_of, argument_refusal, bucket_column, columns_before, is_aggregate, bucket_name, fold_of, fold_refusal, function_name, is_key, is_step, is_taken, is_time_column, key_refusal, keys_refusal, number_or_zero, output_count, output_names, test_of, tests_of, tests_refusal, width_refusal};
 ghost use Rattle.stmt_check.specs.Results.{Checks, Passes};
 ghost use Rattle.stmt_check.specs.Tables.{is_among};
 
@@ -52,8 +52,7 @@ pub(crate) fn check_fold(
     info: &TableInfo,
     fold: &NamedFold,
 ) -> Result<Fold, Stop>
-    requires columns { length info.now.def.cols < 2 ^ 32 }
-    requires counted { IsCounted fold.now }
+    requires { length info.now.def.cols < 2 ^ 32 }
     ensures { Checks (fold_refusal pos distinct info.now fold.now) (fold_of info.now fold.now) result }
 {
     let width = check_width(pos, info, fold)?;
@@ -111,8 +110,7 @@ fn check_keys(
     info: &TableInfo,
     fold: &NamedFold,
 ) -> Result<Seq<u32>, Stop>
-    requires columns { length info.now.def.cols < 2 ^ 32 }
-    requires counted { IsCounted fold.now }
+    requires { length info.now.def.cols < 2 ^ 32 }
     ensures { Checks (keys_refusal pos distinct (output_count fold.now) info.now (bucket_column fold.now) [] fold.now.keys) (map (number_or_zero info.now) fold.now.keys) result }
 {
     let keys = fold.keys.items();
@@ -121,7 +119,14 @@ fn check_keys(
     let mut numbers = Seq::new(alloc);
     for (place, key) in keys.iter().enumerate() {
         let taken = is_bucket_or_key(bucket, &keys[..place], key.bytes());
-        let number = check_key(pos, distinct && taken, count, info, place as u64 + 1, key)?;
+        let number = check_key(
+            pos,
+            distinct && taken,
+            count,
+            info,
+            columns_up_to(place, 0),
+            key,
+        )?;
         numbers.push(number)?;
     }
     Ok(numbers)
@@ -154,8 +159,7 @@ fn check_aggregates(
     info: &TableInfo,
     fold: &NamedFold,
 ) -> Result<Seq<Agg>, Stop>
-    requires columns { length info.now.def.cols < 2 ^ 32 }
-    requires counted { IsCounted fold.now }
+    requires { length info.now.def.cols < 2 ^ 32 }
     ensures { Checks (aggregates_refusal pos distinct (output_count fold.now) info.now (bucket_column fold.now) fold.now.keys [] fold.now.aggs) (map (aggregate_of info.now) fold.now.aggs) result }
 {
     let aggs = fold.aggs.items();
@@ -165,7 +169,7 @@ fn check_aggregates(
     let mut numbered = Seq::new(alloc);
     for (place, agg) in aggs.iter().enumerate() {
         let taken = is_output(bucket, keys, &aggs[..place], name_of_aggregate(agg));
-        let others = 1 + keys.len() as u64 + place as u64;
+        let others = columns_up_to(keys.len(), place);
         numbered.push(check_aggregate(pos, distinct && taken, count, info, others, agg)?)?;
     }
     Ok(numbered)
@@ -202,12 +206,18 @@ fn check_argument(pos: u64, info: &TableInfo, col: &Option<Name>) -> Result<u32,
     }
 }
 
+/// How many output columns the bucket, so many keys and so many aggregates are.
+fn columns_up_to(keys: usize, aggs: usize) -> u64
+    ensures { result ≡ columns_before keys aggs }
+{
+    1u64.saturating_add(keys as u64).saturating_add(aggs as u64)
+}
+
 /// How many output columns there are.
 fn count_columns(fold: &NamedFold) -> u64
-    requires { IsCounted fold.now }
     ensures { result ≡ output_count fold.now }
 {
-    1 + fold.keys.len() as u64 + fold.aggs.len() as u64
+    columns_up_to(fold.keys.len(), fold.aggs.len())
 }
 
 /// The name of the bucket's column.

@@ -1,8 +1,7 @@
 //! The check of a statement.
 ghost use Rattle.std.specs.Prelude.{◌≡◌};
 ghost use Rattle.stmt_reader.specs.declared.statements.Stmt.TheVariants as stmts;
-ghost use Rattle.stmt_check.specs.Check.{HasCountedFold, IsChecked, IsNumbered, action_of, interval_of, refusal_of, time_of};
-ghost use Rattle.stmt_check.specs.Folds.{IsCounted};
+ghost use Rattle.stmt_check.specs.Check.{IsChecked, IsNumbered, action_of, interval_of, refusal_of, time_of};
 ghost use Rattle.stmt_check.specs.Results.{Checks};
 
 use crate::actions::{Action, Checked, Stop};
@@ -21,8 +20,7 @@ use ts_schema::{Column, Name, Seq};
 /// What a statement asks for against a roster, or the first refusal of its names and values; `pos` is
 /// the position looked at.
 pub fn check(alloc: Global, stmt: &Stmt, roster: &Roster, pos: u64) -> Checked
-    requires numbered { IsNumbered roster.now }
-    requires counted { HasCountedFold stmt.now }
+    requires { IsNumbered roster.now }
     ensures checked { IsChecked pos roster.now stmt.now result }
 {
     match resolve(alloc, pos, roster, stmt) {
@@ -34,8 +32,7 @@ pub fn check(alloc: Global, stmt: &Stmt, roster: &Roster, pos: u64) -> Checked
 
 /// What a statement asks for, or why it stops.
 fn resolve(alloc: Global, pos: u64, roster: &Roster, stmt: &Stmt) -> Result<Action, Stop>
-    requires numbered { IsNumbered roster.now }
-    requires counted { HasCountedFold stmt.now }
+    requires { IsNumbered roster.now }
     ensures { Checks (refusal_of pos roster.now stmt.now) (action_of roster.now stmt.now) result }
 {
     match stmt {
@@ -105,8 +102,7 @@ fn view(
     filled: bool,
     fold: &NamedFold,
 ) -> Result<Action, Stop>
-    requires numbered { IsNumbered roster.now }
-    requires counted { IsCounted fold.now }
+    requires { IsNumbered roster.now }
     ensures { Checks (refusal_of pos roster.now (stmts.View name.now only filled fold.now)) (action_of roster.now (stmts.View name.now only filled fold.now)) result }
 {
     new_name(pos, roster, name, roster.views.len())?;
@@ -220,8 +216,7 @@ fn cut(
 
 /// A fold over a hypertable.
 fn buckets(alloc: Global, pos: u64, roster: &Roster, fold: &NamedFold) -> Result<Action, Stop>
-    requires numbered { IsNumbered roster.now }
-    requires counted { IsCounted fold.now }
+    requires { IsNumbered roster.now }
     ensures { Checks (refusal_of pos roster.now (stmts.Buckets fold.now)) (action_of roster.now (stmts.Buckets fold.now)) result }
 {
     let table = hypertable(pos, roster, &fold.table)?;

@@ -1,13 +1,13 @@
 //! Statements against a roster of one hypertable `m (time, dev, v)` and one aggregate `c (b, n)`.
 ghost use Rattle.std.specs.Prelude.{◌≡◌, pos as nonneg, length, IfOk};
-ghost use Rattle.stmt_check.specs.Check.{HasCountedFold, IsNumbered};
+ghost use Rattle.stmt_check.specs.Check.{IsNumbered};
 
 use crate::{Action, Checked, check};
 use std::alloc::Global;
 use std::test::Fail;
-use stmt_reader::Stmt;
+use stmt_reader::{ReadStmt, Stmt, read_stmt};
 use ts_bucket::width;
-use ts_model::{Fold, Hyper, Op, Refusal, Roster, TableDef, TableInfo, ViewDef};
+use ts_model::{Fold, Hyper, Op, Roster, TableDef, TableInfo, ViewDef};
 use ts_schema::{Cmp, Column, Name, Seq, Test};
 
 fn name(alloc: Global, text: &[u8]) -> Result<Name, Fail> {
@@ -29,7 +29,7 @@ fn table(alloc: Global) -> Result<TableInfo, Fail>
     let mut cols = Seq::new(alloc);
     cols.push(column(alloc, b"time", true)?)?;
     cols.push(column(alloc, b"dev", false)?)?;
-    cols.push(column(alloc, b"v", true)?)?;
+    cols.push(column(alloc, b"v", false)?)?;
     let name = name(alloc, b"m")?;
     let def = TableDef { name, cols };
     let hyper = Some(Hyper {
@@ -72,62 +72,105 @@ fn roster(alloc: Global) -> Result<Roster, Fail>
     Ok(Roster { tables, views })
 }
 
-fn values(alloc: Global, given: &[Option<i64>]) -> Result<Seq<Option<i64>>, Fail> {
-    Ok(Seq::of(Vec::from_slice(alloc, given)?))
-}
-
-fn insert(alloc: Global, row: &[Option<i64>]) -> Result<Stmt, Fail>
-    ensures { IfOk result HasCountedFold }
+/// The refusal of a statement's text, with its place or its count, or nothing where it has none.
+fn refusal(alloc: Global, roster: &Roster, text: &[u8]) -> Result<Option<(u8, u64)>, Fail>
+    requires { IsNumbered roster.now }
 {
-    let mut rows = Seq::new(alloc);
-    rows.push(values(alloc, row)?)?;
-    Ok(Stmt::Insert {
-        table: name(alloc, b"m")?,
-        cols: None,
-        rows,
-    })
+    if text.len() > 65_536 {
+        return Err("too long")?;
+    }
+    match read_stmt(alloc, text, 0) {
+        ReadStmt::Stmt(stmt) => of_check(check(alloc, &stmt, roster, 3)),
+        ReadStmt::NoToken(place) => Ok(Some((4, u64::from(place)))),
+        ReadStmt::Syntax(place) => Ok(Some((5, u64::from(place)))),
+        ReadStmt::BadNumber(place) => Ok(Some((10, u64::from(place)))),
+        ReadStmt::NoMemory => Err("no memory")?,
+    }
 }
 
-fn refused(code: u8, mark: u64) -> Checked {
-    Checked::Refused(Refusal { code, pos: 7, mark })
+/// The refusal that a check gave, if any.
+fn of_check(checked: Checked) -> Result<Option<(u8, u64)>, Fail> {
+    match checked {
+        Checked::Ready(_) => Ok(None),
+        Checked::Refused(refusal) => Ok(Some((refusal.code, refusal.mark))),
+        Checked::NoMemory => Err("no memory")?,
+    }
 }
 
 #[test]
-fn a_row_is_refused_at_its_first_wrong_value(rt: HostRuntime) -> Result<(), Fail> {
-    let alloc = rt.alloc();
-    let roster = roster(alloc)?;
-    for (row, code) in [
-        ([Some(1), None, None].as_slice(), 12),
-        (&[None, None, Some(1)], 12),
-        (&[Some(4_611_686_018_427_387_904), None, None], 9),
-        (&[Some(1), Some(2)], 11),
+fn each_statement_has_its_first_refusal(rt: HostRuntime) -> Result<(), Fail> {
+    let roster = roster(rt.alloc())?;
+    for (text, wanted) in [
+        (b"SELECT #".as_slice(), Some((4, 8))),
+        (b"SELEC", Some((5, 1))),
+        (b"SELECT * FROM z", Some((6, 0))),
+        (b"CREATE TABLE c (time BIGINT)", Some((7, 0))),
+        (b"CREATE TABLE t (a BIGINT, a BIGINT)", Some((7, 0))),
+        (b"DELETE FROM m WHERE w = 1", Some((8, 0))),
+        (
+            b"INSERT INTO m VALUES (4611686018427387904, 1, 1)",
+            Some((9, 0)),
+        ),
+        (
+            b"INSERT INTO m VALUES (9223372036854775808, 1, 1)",
+            Some((10, 23)),
+        ),
+        (b"INSERT INTO m VALUES (1, 2)", Some((11, 0))),
+        (b"INSERT INTO m VALUES (NULL, 1, 1)", Some((12, 0))),
+        (b"INSERT INTO m (v) VALUES (1)", Some((12, 0))),
+        (b"INSERT INTO c VALUES (1)", Some((13, 0))),
+        (
+            b"SELECT time_bucket(0, time) AS b, count(*) FROM m GROUP BY b",
+            Some((14, 0)),
+        ),
+        (
+            b"SELECT time_bucket(5, w) AS b, count(*) FROM m GROUP BY b",
+            Some((8, 0)),
+        ),
+        (
+            b"CALL refresh_continuous_aggregate('m', 1, 2)",
+            Some((22, 0)),
+        ),
+        (
+            b"SELECT create_hypertable('m', 'time', chunk_time_interval => 0)",
+            Some((7, 0)),
+        ),
+        (b"SELECT * FROM c WHERE n = 1", Some((8, 0))),
+        (b"select * from C where B >= 100;", None),
+        (b"INSERT INTO m (v, time) VALUES (7, 1), (8, 2)", None),
     ] {
-        let stmt = insert(alloc, row)?;
-        assert!(rt;
-            check(alloc, &stmt, &roster, 7) == refused(code, 0),
-            "{code}"
-        );
+        assert!(rt; refusal(rt.alloc(), &roster, text)? == wanted);
     }
     Ok(())
 }
 
 #[test]
+fn a_thousand_rows_are_inserted_and_not_one_more(rt: HostRuntime) -> Result<(), Fail> {
+    let roster = roster(rt.alloc())?;
+    let mut text = Vec::from_slice(rt.alloc(), b"INSERT INTO m VALUES (1, 1, 1)")?;
+    for _ in 1..1000 {
+        text.extend_from_slice(b", (1, 1, 1)")?;
+    }
+    assert!(rt; refusal(rt.alloc(), &roster, text.as_slice())? == None);
+    text.extend_from_slice(b", (1, 1, 1)")?;
+    assert!(rt; refusal(rt.alloc(), &roster, text.as_slice())? == Some((21, 1001)));
+    Ok(())
+}
+
+#[test]
 fn chunks_are_dropped_below_a_whole_chunk(rt: HostRuntime) -> Result<(), Fail> {
-    let alloc = rt.alloc();
-    let roster = roster(alloc)?;
+    let roster = roster(rt.alloc())?;
     for (below, start) in [(250, 200), (200, 200), (-1, -100), (0, 0)] {
-        let stmt = Stmt::Drop {
-            table: name(alloc, b"m")?,
-            below,
-        };
-        let mut tests = Seq::new(alloc);
+        let table = name(rt.alloc(), b"m")?;
+        let stmt = Stmt::Drop { table, below };
+        let mut tests = Seq::new(rt.alloc());
         tests.push(Test {
             col: 0,
             cmp: Cmp::Lt,
             num: start,
         })?;
         let wanted = Checked::Ready(Action::Change(Op::Delete { table: 0, tests }));
-        assert!(rt; check(alloc, &stmt, &roster, 7) == wanted, "{below}");
+        assert!(rt; check(rt.alloc(), &stmt, &roster, 3) == wanted, "{below}");
     }
     Ok(())
 }

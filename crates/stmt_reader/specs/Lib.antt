@@ -1,4 +1,10 @@
+pub mod Answers
 pub mod Bytes
+pub mod Cursor
+pub mod Forward
 pub mod Lines
-pub mod Tokens
+pub mod Reading
 pub mod Scan
+pub mod Streams
+pub mod Tokens
+pub mod Words

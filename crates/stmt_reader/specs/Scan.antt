@@ -1,4 +1,5 @@
-use Rattle.std.specs.Prelude.{ℕ, ◌+◌, ◌<◌, ◌≤◌, ℤ, if◌then◌else◌, List, Option, Some, None}
+use Rattle.std.specs.Prelude.{ℕ, ◌+◌, ◌<◌, ◌≤◌, ℤ, if◌then◌else◌, List, length, Option, Some, None, IsTrue}
+use Rattle.ts_schema.specs.Names.{is_name}
 use Rattle.stmt_reader.specs.Bytes.{lower}
 use Rattle.stmt_reader.specs.Tokens as spec
 use Rattle.stmt_reader.specs.Tokens.{is_i64}
@@ -77,3 +78,14 @@ abbrev pub SeenFits : ℕ → ℕ → SeenNext → Type 0
 SeenFits skip most (token t begin end) = (skip ≤ begin) × (begin < end) × (end ≤ most)
 SeenFits skip most ended = Unit {0}
 SeenFits skip most (nothing begin) = (skip ≤ begin) × (begin < most)
+
+-- a word or a quoted name is a name
+abbrev pub IsNamedToken : Seen → Type 0
+IsNamedToken (word w) = IsTrue (is_name w) × (length w ≤ 63)
+IsNamedToken (number z) = Unit {0}
+IsNamedToken (quoted w) = IsTrue (is_name w) × (length w ≤ 63)
+IsNamedToken (mark m) = Unit {0}
+
+abbrev pub IsNamed : Option Token → Type 0
+IsNamed None = Unit {0}
+IsNamed (Some t) = IsNamedToken (view t)

@@ -1,17 +1,20 @@
 //! Words, numbers, quoted names and marks.
-ghost use Rattle.std.specs.Prelude.{◌≡◌, ◌≤◌, ◌<◌, ◌+◌, ◌-◌, ◌^◌, length, Some, None, IsTrue};
+ghost use Rattle.std.specs.Prelude.{◌≡◌, ◌≤◌, ◌<◌, ◌+◌, ◌-◌, ◌^◌, length, Some, None, IsTrue, pos};
 ghost use Rattle.std.specs.List.{prefix_len};
 ghost use Rattle.std.specs.Char.{is_ascii_digit};
-ghost use Rattle.std.specs.Str.{IsUtf8};
+ghost use Rattle.std.specs.Ordering.{int_eq};
+ghost use Rattle.std.specs.Str.{IsUtf8, bytes_eq};
 ghost use Rattle.std.specs.Str.Parse.{IsNumeral, without_leading_sign, signed_digits_value};
-ghost use Rattle.stmt_reader.specs.Bytes.{is_space, begins_word, continues_word};
+ghost use Rattle.stmt_reader.specs.Bytes.{is_space, begins_word, continues_word, lower};
 ghost use Rattle.stmt_reader.specs.Tokens as spec;
+ghost use Rattle.stmt_reader.specs.Words.{mark_number, comparison_of_mark, is_keyword, is_mark, is_number, is_item, function_of, function_of_word, comparison_of, flag_of};
 ghost use Rattle.stmt_reader.specs.Scan.{view, view_lexeme, view_ahead, seen_lexeme, seen_next, SeenFits, i64_of, shown_token};
 
+use crate::keywords::Keyword;
+use crate::names::WORD_BYTES;
 use std::str::from_utf8;
-
-/// The greatest number of bytes of a word.
-const WORD_BYTES: usize = 63;
+use ts_num::Fun;
+use ts_schema::Cmp;
 
 /// What comes next in a text. `at` and `end` count bytes from 0: the token is `text[at..end]`. The
 /// other numbers are places, which count from 1.
@@ -69,6 +72,36 @@ pub enum Mark {
     Arrow,
 }
 
+impl Mark {
+    /// Its number in the order of the declaration.
+    pub fn number(self) -> u8
+        ensures { result ≡ mark_number self }
+    {
+        self as u8
+    }
+
+    /// The comparison that it stands for.
+    pub fn comparison(self) -> Option<Cmp>
+        ensures { result ≡ comparison_of_mark self }
+    {
+        match self {
+            Mark::Equal => Some(Cmp::Eq),
+            Mark::Differs | Mark::Unequal => Some(Cmp::Ne),
+            Mark::Less => Some(Cmp::Lt),
+            Mark::AtMost => Some(Cmp::Le),
+            Mark::Greater => Some(Cmp::Gt),
+            Mark::AtLeast => Some(Cmp::Ge),
+            Mark::Open
+            | Mark::Close
+            | Mark::Comma
+            | Mark::Semicolon
+            | Mark::Point
+            | Mark::Star
+            | Mark::Arrow => None,
+        }
+    }
+}
+
 /// A token, as it is written.
 #[derive(Clone, Copy, Debug)]
 pub enum Token<'a> {
@@ -79,6 +112,117 @@ pub enum Token<'a> {
     /// The word between two quotes.
     Quoted(&'a [u8]),
     Mark(Mark),
+}
+
+impl<'a> Token<'a> {
+    /// Whether it is this word of the grammar, in any case.
+    pub fn is_keyword(self, keyword: Keyword) -> bool
+        ensures { result ≡ is_keyword keyword (view self.entry) }
+    {
+        match self {
+            Token::Word(word) => is_text(word, keyword.text()),
+            Token::Number(_) | Token::Quoted(_) | Token::Mark(_) => false,
+        }
+    }
+
+    /// Whether it is this mark.
+    pub fn is_mark(self, mark: Mark) -> bool
+        ensures { result ≡ is_mark mark (view self.entry) }
+    {
+        match self {
+            Token::Mark(own) => own.number() == mark.number(),
+            Token::Word(_) | Token::Number(_) | Token::Quoted(_) => false,
+        }
+    }
+
+    /// Whether it is a number.
+    pub fn is_number(self) -> bool
+        ensures { result ≡ is_number (view self.entry) }
+    {
+        match self {
+            Token::Number(_) => true,
+            Token::Word(_) | Token::Quoted(_) | Token::Mark(_) => false,
+        }
+    }
+
+    /// Whether it is the output column that has `before` others before it: its number or its name.
+    pub fn is_item(self, before: usize, name: &[u8]) -> bool
+        requires { lower name.now ≡ name.now }
+        ensures { result ≡ is_item before name.now (view self.entry) }
+    {
+        match self {
+            Token::Word(word) => is_text(word, name),
+            Token::Number(Some(number)) => is_one_more(number, before),
+            Token::Number(None) | Token::Quoted(_) | Token::Mark(_) => false,
+        }
+    }
+
+    /// The function that it names.
+    pub fn function(self) -> Option<Fun>
+        ensures { result ≡ function_of (view self.entry) }
+    {
+        match self {
+            Token::Word(word) => function_named(word),
+            Token::Number(_) | Token::Quoted(_) | Token::Mark(_) => None,
+        }
+    }
+
+    /// The comparison that it stands for.
+    pub fn comparison(self) -> Option<Cmp>
+        ensures { result ≡ comparison_of (view self.entry) }
+    {
+        match self {
+            Token::Mark(mark) => mark.comparison(),
+            Token::Word(_) | Token::Number(_) | Token::Quoted(_) => None,
+        }
+    }
+
+    /// `true` or `false`
+    pub fn flag(self) -> Option<bool>
+        ensures { result ≡ flag_of (view self.entry) }
+    {
+        if self.is_keyword(Keyword::True) {
+            return Some(true);
+        }
+        if self.is_keyword(Keyword::False) {
+            return Some(false);
+        }
+        None
+    }
+}
+
+/// Whether a word is this text in lower case.
+fn is_text(word: &[u8], text: &[u8]) -> bool
+    requires { lower text.now ≡ text.now }
+    ensures { result ≡ bytes_eq (lower word.now) text.now }
+{
+    word.eq_ignore_ascii_case(text)
+}
+
+/// Whether a number is one more than another.
+fn is_one_more(number: i64, before: usize) -> bool
+    ensures { result ≡ int_eq number (pos (before + 1)) }
+{
+    number >= 1 && (number - 1) as u64 == before as u64
+}
+
+/// The function that a word names, in any case.
+pub fn function_named(word: &[u8]) -> Option<Fun>
+    ensures { result ≡ function_of_word (lower word.now) }
+{
+    if is_text(word, b"count") {
+        Some(Fun::Count)
+    } else if is_text(word, b"sum") {
+        Some(Fun::Sum)
+    } else if is_text(word, b"min") {
+        Some(Fun::Min)
+    } else if is_text(word, b"max") {
+        Some(Fun::Max)
+    } else if is_text(word, b"avg") {
+        Some(Fun::Avg)
+    } else {
+        None
+    }
 }
 
 /// A token and how many bytes it takes.
