@@ -1,5 +1,6 @@
 -- Laws of ranges: pieces joined where they touch are ranges of whole buckets, as long as can be.
 use Rattle.std.proofs.Common.{◌≡◌, ℕ, Bool, true, false, cond, ◌&&◌, ◌||◌, ℤ, pos, ◌+ℤ◌, ◌-ℤ◌, ◌≤ℤ◌, ◌<ℤ◌, int_le, int_lt, List, [], ◌∷◌, ◌++◌, Option, Some, None, is_some, is_none, Result, Ok, Err, IfOk, refl, sym, ap, ◌∙◌, subst, arith, true≢false}
+use Rattle.std.specs.List.{AllByRecursion}
 use Rattle.std.specs.Ordering.{int_eq}
 use Rattle.std.proofs.lemmas.Int.{ints, by_lt_z}
 use Rattle.std.proofs.lemmas.Bool.{false≢true}
@@ -12,9 +13,25 @@ use Rattle.span_map.specs.declared.pieces.Piece.{Piece}
 use Rattle.span_map.specs.Pieces.{piece_at, ArePieces}
 use Rattle.mat_log.specs.Spans.{IsWholeSpan, whole_span, greatest}
 use Rattle.mat_log.specs.Logs.{IsInStep}
-use Rattle.mat_log.specs.Ranges.{in_ranges, IsBeforeRanges, AreApart, AreWhole, AreRanges}
+use Rattle.ts_model.specs.Allowed.{lies_in}
+use Rattle.ts_model.specs.Laws.{is_asked, IsWholeRange, RiseApart, AreRangesOf}
 use Rattle.mat_log.specs.Joined.{open_after, closed_by, still_open, joined}
 use Rattle.mat_log.proofs.SpanLaws.{in_span-bucket}
+
+-- x is below the first of the ranges
+abbrev IsBeforeRanges : ℤ → List SpanValue → Type 0
+IsBeforeRanges x [] = Unit {0}
+IsBeforeRanges x (s ∷ ss) = x <ℤ s.lo
+
+-- none of the ranges is empty, and each ends below the next one's start
+abbrev AreApart : List SpanValue → Type 0
+AreApart [] = Unit {0}
+AreApart (s ∷ ss) = (s.lo <ℤ s.hi) × IsBeforeRanges s.hi ss × AreApart ss
+
+rise_apart : (ss : List SpanValue) → AreApart ss → RiseApart ss
+rise_apart [] a = tt
+rise_apart (s ∷ []) a = tt
+rise_apart (s ∷ t ∷ ss) a = (a.1, rise_apart (t ∷ ss) a.2)
 
 out_below : (s : SpanValue) (t : ℤ) → t <ℤ s.lo → in_span s t ≡ false
 out_below s t l = grind (arith, ints)
@@ -47,7 +64,7 @@ one_span s p t l g e = by_lt_z t s.hi
     (λ below. grind (arith, ints))
     (λ above. grind (arith, ints))
 
-touch_step : (s : SpanValue) (p : Piece) (ps : List Piece) (t : ℤ) (touching : Bool) → int_eq s.hi p.span.lo ≡ touching → s.lo <ℤ s.hi → p.span.lo <ℤ p.span.hi → ((o : SpanValue) → o.lo <ℤ o.hi → o.hi ≡ p.span.hi → in_ranges (joined (Some o) ps) t ≡ (in_span o t || is_some (piece_at ps t))) → in_ranges (cond touching [] (s ∷ []) ++ joined (Some (cond touching (record { lo = s.lo; hi = p.span.hi }) p.span)) ps) t ≡ (in_span s t || (in_span p.span t || is_some (piece_at ps t)))
+touch_step : (s : SpanValue) (p : Piece) (ps : List Piece) (t : ℤ) (touching : Bool) → int_eq s.hi p.span.lo ≡ touching → s.lo <ℤ s.hi → p.span.lo <ℤ p.span.hi → ((o : SpanValue) → o.lo <ℤ o.hi → o.hi ≡ p.span.hi → lies_in (joined (Some o) ps) t ≡ (in_span o t || is_some (piece_at ps t))) → lies_in (cond touching [] (s ∷ []) ++ joined (Some (cond touching (record { lo = s.lo; hi = p.span.hi }) p.span)) ps) t ≡ (in_span s t || (in_span p.span t || is_some (piece_at ps t)))
 touch_step s p ps t true e l g rest =
     let same : s.hi ≡ p.span.lo = (Decides-int_eq s.hi p.span.lo).0 e in
     rest (record { lo = s.lo; hi = p.span.hi }) (omega (arith, ints)) refl
@@ -56,13 +73,13 @@ touch_step s p ps t true e l g rest =
 touch_step s p ps t false e l g rest = ap (λ b. in_span s t || b) (rest p.span g refl)
 
 -- the ranges have the numbers of the open range and of the pieces
-in_ranges-joined : (range : Option SpanValue) (lo hi : ℤ) (ps : List Piece) (t : ℤ) → ArePieces lo hi ps → OpenFits range lo → in_ranges (joined range ps) t ≡ (in_open range t || is_some (piece_at ps t))
-in_ranges-joined None lo hi [] t a f = refl
-in_ranges-joined (Some s) lo hi [] t a f = refl
-in_ranges-joined None lo hi (p ∷ ps) t a f =
-    in_ranges-joined (Some p.span) p.span.hi hi ps t a.3 (a.1, omega (arith, ints)) ∙ sym (some_piece (in_span p.span t) p.pos (piece_at ps t))
-in_ranges-joined (Some s) lo hi (p ∷ ps) t a f =
-    touch_step s p ps t (int_eq s.hi p.span.lo) refl f.0 a.1 (λ o l e. in_ranges-joined (Some o) p.span.hi hi ps t a.3 (l, omega (arith, ints)))
+lies_in-joined : (range : Option SpanValue) (lo hi : ℤ) (ps : List Piece) (t : ℤ) → ArePieces lo hi ps → OpenFits range lo → lies_in (joined range ps) t ≡ (in_open range t || is_some (piece_at ps t))
+lies_in-joined None lo hi [] t a f = refl
+lies_in-joined (Some s) lo hi [] t a f = refl
+lies_in-joined None lo hi (p ∷ ps) t a f =
+    lies_in-joined (Some p.span) p.span.hi hi ps t a.3 (a.1, omega (arith, ints)) ∙ sym (some_piece (in_span p.span t) p.pos (piece_at ps t))
+lies_in-joined (Some s) lo hi (p ∷ ps) t a f =
+    touch_step s p ps t (int_eq s.hi p.span.lo) refl f.0 a.1 (λ o l e. lies_in-joined (Some o) p.span.hi hi ps t a.3 (l, omega (arith, ints)))
     ∙ ap (λ b. in_span s t || b) (sym (some_piece (in_span p.span t) p.pos (piece_at ps t)))
 
 before_step : (x : ℤ) (s : SpanValue) (p : Piece) (ps : List Piece) (touching : Bool) → x <ℤ s.lo → ((o : SpanValue) → x <ℤ o.lo → IsBeforeRanges x (joined (Some o) ps)) → IsBeforeRanges x (cond touching [] (s ∷ []) ++ joined (Some (cond touching (record { lo = s.lo; hi = p.span.hi }) p.span)) ps)
@@ -92,12 +109,12 @@ apart-joined (Some s) lo hi (p ∷ ps) a f =
 -- ---- whole buckets
 
 -- no number below the first range, or at its end before the next, is in a range
-pub before_none : (x t : ℤ) (ss : List SpanValue) → IsBeforeRanges x ss → AreApart ss → t ≤ℤ x → in_ranges ss t ≡ false
+pub before_none : (x t : ℤ) (ss : List SpanValue) → IsBeforeRanges x ss → AreApart ss → t ≤ℤ x → lies_in ss t ≡ false
 before_none x t [] b a l = refl
 before_none x t (s ∷ ss) b a l =
     let start : x <ℤ s.lo = b in
     let size : s.lo <ℤ s.hi = a.0 in
-    ap (λ c. c || in_ranges ss t) (out_below s t (omega (arith, ints))) ∙ before_none s.hi t ss a.1 a.2 (omega (arith, ints))
+    ap (λ c. c || lies_in ss t) (out_below s t (omega (arith, ints))) ∙ before_none s.hi t ss a.1 a.2 (omega (arith, ints))
 
 -- where a test that has one answer for a whole bucket changes, a bucket starts
 changes_at_bucket : (w : WidthValue) (test : ℤ → Bool) (x : ℤ) → IsWidth w → ((t : ℤ) → test t ≡ test (bucket_of w t)) → (test (x -ℤ pos 1) ≡ test x → ⊥) → is_bucket w x ≡ true
@@ -120,18 +137,21 @@ or_left : (a b : Bool) → a ≡ true → (a || b) ≡ true
 or_left a b e = ap (λ c. c || b) e
 
 -- ranges of such a test start and end where buckets do
-whole_from : (w : WidthValue) (test : ℤ → Bool) (x : ℤ) (ss : List SpanValue) → IsWidth w → ((t : ℤ) → test t ≡ test (bucket_of w t)) → AreApart ss → IsBeforeRanges x ss → ((t : ℤ) → x ≤ℤ t → in_ranges ss t ≡ test t) → AreWhole w ss
+whole_from : (w : WidthValue) (test : ℤ → Bool) (x : ℤ) (ss : List SpanValue) → IsWidth w → ((t : ℤ) → test t ≡ test (bucket_of w t)) → AreApart ss → IsBeforeRanges x ss → ((t : ℤ) → x ≤ℤ t → lies_in ss t ≡ test t) → AllByRecursion (IsWholeRange w) ss
 whole_from w test x [] h one a b is = tt
 whole_from w test x (s ∷ ss) h one a b is =
     let start : x <ℤ s.lo = b in
     let size : s.lo <ℤ s.hi = a.0 in
-    let before : in_ranges (s ∷ ss) (s.lo -ℤ pos 1) ≡ false = ap (λ c. c || in_ranges ss (s.lo -ℤ pos 1)) (out_below s (s.lo -ℤ pos 1) (omega (arith, ints))) ∙ before_none s.hi (s.lo -ℤ pos 1) ss a.1 a.2 (omega (arith, ints)) in
-    let at_start : in_ranges (s ∷ ss) s.lo ≡ true = or_left (in_span s s.lo) (in_ranges ss s.lo) (in_span-from_ends s s.lo (omega (arith, ints)) size) in
-    let at_last : in_ranges (s ∷ ss) (s.hi -ℤ pos 1) ≡ true = or_left (in_span s (s.hi -ℤ pos 1)) (in_ranges ss (s.hi -ℤ pos 1)) (in_span-from_ends s (s.hi -ℤ pos 1) (omega (arith, ints)) (omega (arith, ints))) in
-    let at_end : in_ranges (s ∷ ss) s.hi ≡ false = ap (λ c. c || in_ranges ss s.hi) (out_above s s.hi (omega (arith, ints))) ∙ before_none s.hi s.hi ss a.1 a.2 (omega (arith, ints)) in (
-      changes_at_bucket w test s.lo h one (differ (test (s.lo -ℤ pos 1)) (test s.lo) (sym (is (s.lo -ℤ pos 1) (omega (arith, ints))) ∙ before) (sym (is s.lo (omega (arith, ints))) ∙ at_start)),
-      changes_at_bucket w test s.hi h one (differ' (test (s.hi -ℤ pos 1)) (test s.hi) (sym (is (s.hi -ℤ pos 1) (omega (arith, ints))) ∙ at_last) (sym (is s.hi (omega (arith, ints))) ∙ at_end)),
-      whole_from w test s.hi ss h one a.2 a.1 (λ t l. ap (λ c. c || in_ranges ss t) (sym (out_above s t l)) ∙ is t (omega (arith, ints))),
+    let before : lies_in (s ∷ ss) (s.lo -ℤ pos 1) ≡ false = ap (λ c. c || lies_in ss (s.lo -ℤ pos 1)) (out_below s (s.lo -ℤ pos 1) (omega (arith, ints))) ∙ before_none s.hi (s.lo -ℤ pos 1) ss a.1 a.2 (omega (arith, ints)) in
+    let at_start : lies_in (s ∷ ss) s.lo ≡ true = or_left (in_span s s.lo) (lies_in ss s.lo) (in_span-from_ends s s.lo (omega (arith, ints)) size) in
+    let at_last : lies_in (s ∷ ss) (s.hi -ℤ pos 1) ≡ true = or_left (in_span s (s.hi -ℤ pos 1)) (lies_in ss (s.hi -ℤ pos 1)) (in_span-from_ends s (s.hi -ℤ pos 1) (omega (arith, ints)) (omega (arith, ints))) in
+    let at_end : lies_in (s ∷ ss) s.hi ≡ false = ap (λ c. c || lies_in ss s.hi) (out_above s s.hi (omega (arith, ints))) ∙ before_none s.hi s.hi ss a.1 a.2 (omega (arith, ints)) in (
+      record {
+        starts = changes_at_bucket w test s.lo h one (differ (test (s.lo -ℤ pos 1)) (test s.lo) (sym (is (s.lo -ℤ pos 1) (omega (arith, ints))) ∙ before) (sym (is s.lo (omega (arith, ints))) ∙ at_start));
+        ends = changes_at_bucket w test s.hi h one (differ' (test (s.hi -ℤ pos 1)) (test s.hi) (sym (is (s.hi -ℤ pos 1) (omega (arith, ints))) ∙ at_last) (sym (is s.hi (omega (arith, ints))) ∙ at_end));
+        some = size;
+      },
+      whole_from w test s.hi ss h one a.2 a.1 (λ t l. ap (λ c. c || lies_in ss t) (sym (out_above s t l)) ∙ is t (omega (arith, ints))),
     )
 
 some_start : (lo : ℤ) (ss : List SpanValue) → (x : ℤ) × IsBeforeRanges x ss
@@ -145,29 +165,25 @@ and_some true v = refl
 and_some false v = refl
 
 -- the joined pieces of what is pending within a span of whole buckets are the ranges of its dirty buckets
-pub dirty_ranges : (w : WidthValue) (p r : ℤ → Option ℕ) (s : SpanValue) (pieces : List Piece) → IsInStep w p r → IsWholeSpan w s → s.hi ≤ℤ greatest → ((t : ℤ) → piece_at pieces t ≡ cond (in_span s t) (p t) None) → ArePieces s.lo s.hi pieces → AreRanges w s (λ b. is_none (r b) || is_some (p b)) (joined None pieces)
+pub dirty_ranges : (w : WidthValue) (p r : ℤ → Option ℕ) (s : SpanValue) (pieces : List Piece) → IsInStep w p r → IsWholeSpan w s → s.hi ≤ℤ greatest → ((t : ℤ) → piece_at pieces t ≡ cond (in_span s t) (p t) None) → ArePieces s.lo s.hi pieces → AreRangesOf w s (λ b. is_none (r b) || is_some (p b)) (joined None pieces)
 dirty_ranges w p r s pieces h whole end values rising =
-    let is : (t : ℤ) → in_ranges (joined None pieces) t ≡ (in_span s t && is_some (p t)) = λ t. in_ranges-joined None s.lo s.hi pieces t rising tt ∙ ap is_some (values t) ∙ and_some (in_span s t) (p t) in
+    let is : (t : ℤ) → lies_in (joined None pieces) t ≡ (in_span s t && is_some (p t)) = λ t. lies_in-joined None s.lo s.hi pieces t rising tt ∙ ap is_some (values t) ∙ and_some (in_span s t) (p t) in
     let one : (t : ℤ) → (in_span s t && is_some (p t)) ≡ (in_span s (bucket_of w t) && is_some (p (bucket_of w t))) = λ t. ap (λ b. b && is_some (p t)) (in_span-bucket w s t h.bounds whole.starts whole.ends) ∙ ap (λ v. in_span s (bucket_of w t) && is_some v) (h.one_pending t) in
     let apart : AreApart (joined None pieces) = apart-joined None s.lo s.hi pieces rising tt in
     let start = some_start s.lo (joined None pieces) in
     record {
-      apart = apart;
       whole = whole_from w (λ t. in_span s t && is_some (p t)) start.0 (joined None pieces) h.bounds one apart start.1 (λ t l. is t);
-      exact = λ b q. is b ∙ by b (in_span s b) refl;
+      rising = rise_apart (joined None pieces) apart;
+      exact = λ b q. is b ∙ by b (in_span s b) refl q;
     }
   where
-    none : (a : Bool) (c : Bool) → false ≡ (a && false && c)
-    none true c = refl
-    none false c = refl
-
     pending_is : (v u : Option ℕ) → (is_some u || is_some v) ≡ true → is_some v ≡ (is_none u || is_some v)
     pending_is v None m = m
     pending_is v (Some x) m = refl
 
-    by : (b : ℤ) (c : Bool) → in_span s b ≡ c → (c && is_some (p b)) ≡ (int_le (first_of w) b && c && (is_none (r b) || is_some (p b)))
-    by b false e = none (int_le (first_of w) b) (is_none (r b) || is_some (p b))
-    by b true e =
+    by : (b : ℤ) (c : Bool) → in_span s b ≡ c → is_bucket w b ≡ true → (c && is_some (p b)) ≡ (c && (is_bucket w b && int_le (first_of w) b) && (is_none (r b) || is_some (p b)))
+    by b false e q = refl
+    by b true e q =
         let ends = in_span-ends s b e in
         let first : first_of w ≤ℤ s.lo = whole.from_first in
         let low : s.lo ≤ℤ b = ends.0 in
@@ -175,23 +191,38 @@ dirty_ranges w p r s pieces h whole end values rising =
         let last : s.hi ≤ℤ bucket_of w greatest = bucket_of-last w s.hi greatest h.bounds whole.ends end in
         let above : int_le (first_of w) b ≡ true = grind (arith, ints) in
         let inside : in_span (whole_span w) b ≡ true = in_span-from_ends (whole_span w) b (omega (arith, ints)) (omega (arith, ints)) in
-        pending_is (p b) (r b) (h.marked b inside) ∙ sym (ap (λ c. c && true && (is_none (r b) || is_some (p b))) above)
+        pending_is (p b) (r b) (h.marked b inside)
+        ∙ sym (ap (λ c. c && int_le (first_of w) b && (is_none (r b) || is_some (p b))) q ∙ ap (λ c. c && (is_none (r b) || is_some (p b))) above)
 
--- ranges by a test that says the same
-pub AreRanges-same : (w : WidthValue) (s s' : SpanValue) (test test' : ℤ → Bool) (ranges : List SpanValue) → ((b : ℤ) → is_bucket w b ≡ true → first_of w ≤ℤ b → (in_span s b && test b) ≡ (in_span s' b && test' b)) → AreRanges w s test ranges → AreRanges w s' test' ranges
-AreRanges-same w s s' test test' ranges same h = record {
-  apart = h.apart;
+regroup : (i k f t : Bool) → (i && (k && f) && t) ≡ (k && f && (i && t))
+regroup true true true t = refl
+regroup true true false t = refl
+regroup true false f t = refl
+regroup false true true t = refl
+regroup false true false t = refl
+regroup false false f t = refl
+
+shut : (k x y : Bool) → (k && false && x) ≡ (k && false && y)
+shut true x y = refl
+shut false x y = refl
+
+-- ranges by a test that says the same of each bucket from the first on
+pub ranges_same : (w : WidthValue) (s s' : SpanValue) (test test' : ℤ → Bool) (ranges : List SpanValue) → ((b : ℤ) → is_bucket w b ≡ true → first_of w ≤ℤ b → (in_span s b && test b) ≡ (in_span s' b && test' b)) → AreRangesOf w s test ranges → AreRangesOf w s' test' ranges
+ranges_same w s s' test test' ranges same h = record {
   whole = h.whole;
-  exact = λ b q. h.exact b q ∙ by_lt_z b (first_of w)
-      (λ below. let out : int_le (first_of w) b ≡ false = grind (arith, ints) in ap (λ c. c && in_span s b && test b) out ∙ sym (ap (λ c. c && in_span s' b && test' b) out))
-      (λ above. let from : int_le (first_of w) b ≡ true = grind (arith, ints) in ap (λ c. c && in_span s b && test b) from ∙ same b q above ∙ sym (ap (λ c. c && in_span s' b && test' b) from));
+  rising = h.rising;
+  exact = λ b q. h.exact b q ∙ regroup (in_span s b) (is_bucket w b) (int_le (first_of w) b) (test b) ∙ by b (int_le (first_of w) b) refl q ∙ sym (regroup (in_span s' b) (is_bucket w b) (int_le (first_of w) b) (test' b));
 }
+  where
+    by : (b : ℤ) (f : Bool) → int_le (first_of w) b ≡ f → is_bucket w b ≡ true → (is_bucket w b && f && (in_span s b && test b)) ≡ (is_bucket w b && f && (in_span s' b && test' b))
+    by b false e q = shut (is_bucket w b) (in_span s b && test b) (in_span s' b && test' b)
+    by b true e q = ap (λ x. is_bucket w b && true && x) (same b q (grind (arith, ints)))
 
 -- the same of results
-pub dirty_as : {E : Type 0} (w : WidthValue) (p r : ℤ → Option ℕ) (s : SpanValue) (pieces : List Piece) (found : Result (List SpanValue) E) → IsInStep w p r → IsWholeSpan w s → s.hi ≤ℤ greatest → ((t : ℤ) → piece_at pieces t ≡ cond (in_span s t) (p t) None) → ArePieces s.lo s.hi pieces → IfOk found (λ ranges. ranges ≡ joined None pieces) → IfOk found (AreRanges w s (λ b. is_none (r b) || is_some (p b)))
-dirty_as w p r s pieces (Ok ranges) h whole end values rising e = subst (AreRanges w s (λ b. is_none (r b) || is_some (p b))) (sym e) (dirty_ranges w p r s pieces h whole end values rising)
+pub dirty_as : {E : Type 0} (w : WidthValue) (p r : ℤ → Option ℕ) (s : SpanValue) (pieces : List Piece) (found : Result (List SpanValue) E) → IsInStep w p r → IsWholeSpan w s → s.hi ≤ℤ greatest → ((t : ℤ) → piece_at pieces t ≡ cond (in_span s t) (p t) None) → ArePieces s.lo s.hi pieces → IfOk found (λ ranges. ranges ≡ joined None pieces) → IfOk found (AreRangesOf w s (λ b. is_none (r b) || is_some (p b)))
+dirty_as w p r s pieces (Ok ranges) h whole end values rising e = subst (AreRangesOf w s (λ b. is_none (r b) || is_some (p b))) (sym e) (dirty_ranges w p r s pieces h whole end values rising)
 dirty_as w p r s pieces (Err x) h whole end values rising e = tt
 
-pub same_as : {E : Type 0} (w : WidthValue) (s s' : SpanValue) (test test' : ℤ → Bool) (found : Result (List SpanValue) E) → ((b : ℤ) → is_bucket w b ≡ true → first_of w ≤ℤ b → (in_span s b && test b) ≡ (in_span s' b && test' b)) → IfOk found (AreRanges w s test) → IfOk found (AreRanges w s' test')
-same_as w s s' test test' (Ok ranges) same h = AreRanges-same w s s' test test' ranges same h
+pub same_as : {E : Type 0} (w : WidthValue) (s s' : SpanValue) (test test' : ℤ → Bool) (found : Result (List SpanValue) E) → ((b : ℤ) → is_bucket w b ≡ true → first_of w ≤ℤ b → (in_span s b && test b) ≡ (in_span s' b && test' b)) → IfOk found (AreRangesOf w s test) → IfOk found (AreRangesOf w s' test')
+same_as w s s' test test' (Ok ranges) same h = ranges_same w s s' test test' ranges same h
 same_as w s s' test test' (Err x) same h = tt

@@ -1,4 +1,3 @@
 pub mod Logs
-pub mod Ranges
 pub mod Spans
 pub mod Joined

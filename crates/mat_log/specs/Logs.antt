@@ -1,7 +1,8 @@
 -- What is pending of an aggregate and what was refreshed, as two partial functions of its buckets.
-use Rattle.std.specs.Prelude.{◌≡◌, ℕ, ◌+◌, ◌*◌, ◌≤◌, Bool, true, false, ◌||◌, ◌&&◌, ℤ, int_lt, Option, Some, None, is_some, is_none}
+use Rattle.std.specs.Prelude.{◌≡◌, ℕ, ◌+◌, ◌*◌, ◌≤◌, Bool, true, false, ◌||◌, ◌&&◌, ℤ, Option, Some, None, is_some, is_none}
 use Rattle.ts_bucket.specs.Bucket.{WidthValue, IsWidth, bucket_of}
 use Rattle.ts_bucket.specs.Spans.{in_span}
+use Rattle.ts_model.specs.Refreshes.{is_below}
 use Rattle.span_map.specs.Maps.{MapValue, at, piece_count_of}
 use Rattle.mat_log.specs.Spans.{whole_span}
 
@@ -23,14 +24,9 @@ last_at log b = at log.refreshed b
 abbrev pub is_dirty : LogValue → ℤ → Bool
 is_dirty log b = is_none (last_at log b) || is_some (pending_at log b)
 
--- there is a mark, and b is below it
-abbrev pub is_under : Option ℤ → ℤ → Bool
-is_under None b = false
-is_under (Some mark) b = int_lt b mark
-
 -- the bucket that starts at b is dirty and below the mark
 abbrev pub is_stale : LogValue → Option ℤ → ℤ → Bool
-is_stale log mark b = is_under mark b && is_dirty log b
+is_stale log mark b = is_below b mark && is_dirty log b
 
 -- there is room for one entry to be fed, or one refresh to be settled
 pub record HasRoom (log : LogValue) : Type 0 where

@@ -7,7 +7,7 @@ ghost use Rattle.ts_bucket.specs.Positions.{later, above, is_before};
 ghost use Rattle.ts_bucket.specs.Spans.{in_span, meets};
 ghost use Rattle.mat_log.specs.Spans.{IsWholeSpan, IsWithin, IsMark, whole_span};
 ghost use Rattle.mat_log.specs.Logs.{pending_at, last_at, is_dirty, is_stale, HasRoom, IsSame};
-ghost use Rattle.mat_log.specs.Ranges.{AreRanges};
+ghost use Rattle.ts_model.specs.Laws.{AreRangesOf};
 
 use crate::ranges::join_pieces;
 use crate::spans::{all_buckets, buckets_below, touched};
@@ -117,7 +117,7 @@ impl MatLog {
     /// pending, as ranges that are as long as can be.
     pub fn dirty(&self, span: Span) -> Result<Seq<Span>, NoMemory>
         requires { IsWholeSpan self.now.width span }
-        ensures ranges { IfOk result (AreRanges self.now.width span (is_dirty self.now)) }
+        ensures ranges { IfOk result (AreRangesOf self.now.width span (is_dirty self.now)) }
     {
         // Reading the end tells that it is a number of 64 bits.
         let _end = span.hi;
@@ -128,7 +128,7 @@ impl MatLog {
     /// span, as ranges that are as long as can be. Below no mark there is none.
     pub fn stale(&self, starts: Span, mark: Option<i64>) -> Result<Seq<Span>, NoMemory>
         requires { ForSome mark (IsMark self.now.width) }
-        ensures ranges { IfOk result (AreRanges self.now.width starts (is_stale self.now mark)) }
+        ensures ranges { IfOk result (AreRangesOf self.now.width starts (is_stale self.now mark)) }
     {
         self.dirty(buckets_below(self.width, starts, mark))
     }

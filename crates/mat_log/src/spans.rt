@@ -6,7 +6,7 @@ ghost use Rattle.ts_bucket.specs.Bucket.{IsWidth, bucket_of, first_of, is_bucket
 ghost use Rattle.ts_bucket.specs.Spans.{touched_span, in_span};
 ghost use Rattle.ts_bucket.specs.Windows.{start_from};
 ghost use Rattle.mat_log.specs.Spans.{IsWithin, IsWholeSpan, IsMark, whole_span};
-ghost use Rattle.mat_log.specs.Logs.{is_under};
+ghost use Rattle.ts_model.specs.Refreshes.{is_below};
 
 use ts_bucket::{Hull, Span, Width, bucket, first};
 
@@ -97,7 +97,7 @@ fn buckets_between(w: Width, lo: i64, hi: i64) -> Span
 pub(crate) fn buckets_below(w: Width, starts: Span, mark: Option<i64>) -> Span
     requires { ForSome mark (IsMark w) }
     ensures whole { IsWholeSpan w result }
-    ensures exact { (b : ℤ) → is_bucket w b ≡ true → first_of w ≤ℤ b → in_span result b ≡ (in_span starts b && is_under mark b) }
+    ensures exact { (b : ℤ) → is_bucket w b ≡ true → first_of w ≤ℤ b → in_span result b ≡ (in_span starts b && is_below b mark) }
     ensures bounds { IsWidth w }
 {
     // Reading the step tells that it is within its bounds.

@@ -5,7 +5,7 @@ use Rattle.std.proofs.lemmas.Int.{ints, clamps}
 use Rattle.ts_bucket.specs.Bucket.{WidthValue, IsWidth, first_of, max_step, min_time, max_time}
 use Rattle.ts_bucket.specs.Spans.{SpanValue, in_span}
 use Rattle.mat_log.specs.Spans.{IsMark, IsWholeSpan}
-use Rattle.mat_log.specs.Logs.{is_under}
+use Rattle.ts_model.specs.Refreshes.{is_below}
 use Rattle.mat_log.proofs.SpanLaws.{under_both, none_whole}
 use Rattle.mat_log.proofs.spans.buckets_below.Goals as goal
 
@@ -44,7 +44,7 @@ returns-in-Some-clause-exact c = λ b q f.
     c.buckets_between.ensures.exact b q f
     ∙ ap (λ x. int_le x b && int_lt b (cast_signed w64 (cast_unsigned w64 c.min.result))) lo
     ∙ under_both c.args.starts.lo c.args.starts.hi c.in-Some.mark (cast_signed w64 (cast_unsigned w64 c.min.result)) b min
-    ∙ ap (λ o. in_span c.args.starts b && is_under o b) (sym c.in-Some.is)
+    ∙ ap (λ o. in_span c.args.starts b && is_below b o) (sym c.in-Some.is)
 
 pub returns-in-None-clause-whole : goal.returns-in-None-clause-whole
 returns-in-None-clause-whole c = subst (IsWholeSpan c.args.w) (sym c.no_buckets.ensures.value) (none_whole c.args.w c.no_buckets.ensures.bounds)

@@ -6,7 +6,7 @@ use Rattle.ts_bucket.specs.Spans.{SpanValue}
 use Rattle.span_map.specs.Maps.{at}
 use Rattle.mat_log.specs.Spans.{IsWholeSpan, greatest}
 use Rattle.mat_log.specs.Logs.{LogValue, is_dirty}
-use Rattle.mat_log.specs.Ranges.{AreRanges}
+use Rattle.ts_model.specs.Laws.{AreRangesOf}
 use Rattle.mat_log.proofs.RangeLaws.{dirty_as}
 use Rattle.mat_log.proofs.logs.MatLog.dirty.Goals as goal
 
@@ -16,6 +16,6 @@ returns c =
     let end : c.args.span.hi ≤ℤ greatest = omega (arith, ints) in
     let whole : IsWholeSpan c.self.inside.width c.args.span = subst (λ (log : LogValue). IsWholeSpan log.width c.args.span) (sym c.self.view_is) c.requires in
     record {
-      ranges = subst (λ (log : LogValue). IfOk c.join_pieces.result (AreRanges log.width c.args.span (is_dirty log))) c.self.view_is
+      ranges = subst (λ (log : LogValue). IfOk c.join_pieces.result (AreRangesOf log.width c.args.span (is_dirty log))) c.self.view_is
           (dirty_as c.self.inside.width (at c.self.inside.pending) (at c.self.inside.refreshed) c.args.span c.in_ok-ranges.field-0 c.join_pieces.result c.self.invariant whole end c.in_ok-ranges.ensures.values c.in_ok-ranges.ensures.rising c.join_pieces.ensures);
     }
