@@ -1,9 +1,9 @@
 -- Texts written in pieces.
-use Rattle.std.proofs.Common.{◌≡◌, ℕ, ◌-◌, List, [], length, ◌++◌, take, drop, refl, sym, ap, subst, ◌∙◌, append_assoc, append-nil, take-append-drop}
+use Rattle.std.proofs.Common.{◌≡◌, ℕ, ◌-◌, List, [], length, ◌++◌, take, drop, refl, sym, ap, ◌∙◌, append_assoc, take-append-drop}
 use Rattle.std.proofs.lemmas.List.{take_rest}
 use Rattle.std.specs.Prelude.{Option}
-use Rattle.std.specs.Io.KnownBytes.{Appends, Keeps}
-use Rattle.std.proofs.KnownBytes.{Appends-nil, Appends-trans, Appends-kept}
+use Rattle.std.specs.Io.KnownBytes.{Appends}
+use Rattle.std.proofs.KnownBytes.{Appends-nil, Appends-trans}
 use Rattle.ts_io.specs.Whole.{AppendsPart}
 
 -- all of the text but the rest was written
@@ -11,10 +11,6 @@ pub record AppendsSome (old new : Option (List ℕ)) (text rest : List ℕ) : Ty
   pub done : List ℕ
   pub split : text ≡ done ++ rest
   pub grew : Appends old new done
-
--- nothing is written yet
-pub AppendsSome-none : (old : Option (List ℕ)) (text : List ℕ) → AppendsSome old old text text
-AppendsSome-none old text = record { done = []; split = refl; grew = Appends-nil old }
 
 -- the first n bytes of the rest follow; what is left is written as the code cuts it
 pub AppendsSome-more : (old mid new : Option (List ℕ)) (text rest : List ℕ) (n : ℕ) → AppendsSome old mid text rest → Appends mid new (take n rest)
@@ -25,16 +21,6 @@ AppendsSome-more old mid new text rest n so_far more = record {
       ∙ ap (λ l. (so_far.done ++ take n rest) ++ l) (sym (take_rest rest n));
   grew = Appends-trans old mid new so_far.done (take n rest) so_far.grew more;
 }
-
--- nothing is left of the rest
-pub AppendsSome-all : (old new : Option (List ℕ)) (text rest : List ℕ) → AppendsSome old new text rest → rest ≡ [] → Appends old new text
-AppendsSome-all old new text rest so_far none =
-    subst (Appends old new) (sym (so_far.split ∙ ap (λ l. so_far.done ++ l) none ∙ append-nil so_far.done)) so_far.grew
-
--- a write that failed left it at that
-pub AppendsPart-some : (old mid new : Option (List ℕ)) (text rest : List ℕ) → AppendsSome old mid text rest → Keeps mid new → AppendsPart old new text
-AppendsPart-some old mid new text rest so_far kept =
-    record { done = so_far.done; todo = rest; split = so_far.split; grew = Appends-kept old mid new so_far.done so_far.grew kept }
 
 -- nothing was written
 pub AppendsPart-none : (old : Option (List ℕ)) (text : List ℕ) → AppendsPart old old text

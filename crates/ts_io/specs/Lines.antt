@@ -1,5 +1,5 @@
 -- The lines of a text.
-use Rattle.std.specs.Prelude.{ℕ, List, [], ◌∷◌, length, take, ◌==◌, if◌then◌else◌, nat_le}
+use Rattle.std.specs.Prelude.{◌≡◌, ℕ, ◌<◌, List, [], ◌∷◌, length, take, slice_index, ◌==◌, if◌then◌else◌, nat_le}
 
 -- the byte put in front of the first line, or a line of its own where there is none
 abbrev pub onto_first : ℕ → List (List ℕ) → List (List ℕ)
@@ -24,3 +24,7 @@ ended_lines (b ∷ text) = if b == 10 then [] ∷ ended_lines text else onto_end
 -- the lines that end within the first n bytes, by their LF or by the end of the text
 abbrev pub lines_within : ℕ → List ℕ → List (List ℕ)
 lines_within n text = if nat_le (length text) n then lines_of text else ended_lines (take n text)
+
+-- the first line end of the text stands at place n
+abbrev pub IsFirstEnd : List ℕ → ℕ → Type 0
+IsFirstEnd text n = (n < length text) × (slice_index text n ≡ 10) × (ended_lines (take n text) ≡ [])

@@ -1,5 +1,5 @@
 -- What a read does to the bytes that a source has left.
-use Rattle.std.specs.Prelude.{◌≡◌, ℕ, ◌<◌, ◌≤◌, List, Option, length, take, ⊤}
+use Rattle.std.specs.Prelude.{◌≡◌, ℕ, ◌+◌, ◌<◌, ◌≤◌, List, Option, length, take, drop, ⊤}
 use Rattle.std.specs.Io.KnownBytes.{Consumes, IsAtEnd, Keeps}
 use Rattle.ts_io.specs.declared.sources.Got.{Got}
 use Rattle.ts_io.specs.declared.sources.Got.TheVariants.{Bytes, Failed}
@@ -13,3 +13,9 @@ Gives old new Failed into = Keeps old new
 abbrev pub IfFailed : Got → Type 0 → Type 0
 IfFailed (Bytes n) P = ⊤
 IfFailed Failed P = P
+
+-- a read whose bytes were appended to those held: it took what they grew by, and nothing only at the end
+abbrev pub Fills : Option (List ℕ) → Option (List ℕ) → Got → List ℕ → List ℕ → Type 0
+Fills old new (Bytes n) before now = (take (length before) now ≡ before) × Consumes old new (drop (length before) now)
+    × (length now ≡ length before + n) × (n ≡ 0 → IsAtEnd new)
+Fills old new Failed before now = Keeps old new × (now ≡ before)

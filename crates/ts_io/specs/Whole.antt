@@ -1,11 +1,9 @@
 -- A whole input and a whole text.
-use Rattle.std.specs.Prelude.{◌≡◌, ℕ, ◌+◌, ◌<◌, ◌≤◌, List, ◌++◌, Option, Some, None, length, take, drop, ⊤}
+use Rattle.std.specs.Prelude.{◌≡◌, ℕ, ◌+◌, ◌<◌, List, ◌++◌, Option, Some, None, length, take, drop, ⊤}
 use Rattle.std.specs.Io.KnownBytes.{Appends, Consumes, IsAtEnd}
 use Rattle.ts_io.specs.declared.whole.TheConstants.{INPUT_LIMIT}
 use Rattle.ts_io.specs.declared.whole.AllEnd.{AllEnd}
 use Rattle.ts_io.specs.declared.whole.AllEnd.TheVariants.{End, InputLong, ReadFault, NoMemory}
-use Rattle.ts_io.specs.declared.whole.More.{More}
-use Rattle.ts_io.specs.declared.whole.More.TheVariants.{Bytes, Ended, Failed, Refused}
 
 -- the bytes written grew by a prefix of the text
 pub record AppendsPart (old new : Option (List ℕ)) (text : List ℕ) : Type 0 where
@@ -33,21 +31,3 @@ IfReadFault End P = ⊤
 IfReadFault InputLong P = ⊤
 IfReadFault ReadFault P = P
 IfReadFault NoMemory P = ⊤
-
--- whatever was taken before from some bytes, now more was, and what is held grew by it
-abbrev pub Extends : Option (List ℕ) → Option (List ℕ) → List ℕ → List ℕ → Type 0
-Extends old new before now = (start : Option (List ℕ)) → Consumes start old before → Consumes start new now
-
--- what one read into this much room brought to the bytes held
-abbrev pub Brings : More → Option (List ℕ) → Option (List ℕ) → List ℕ → List ℕ → ℕ → Type 0
-Brings Bytes old new before now room = Extends old new before now × (length before < length now) × (length now ≤ length before + room)
-Brings Ended old new before now room = Extends old new before now × IsAtEnd new × (now ≡ before)
-Brings Failed old new before now room = Extends old new before now × (now ≡ before)
-Brings Refused old new before now room = Extends old new before now × (now ≡ before)
-
--- P holds where the read failed
-abbrev pub IfMoreFailed : More → Type 0 → Type 0
-IfMoreFailed Bytes P = ⊤
-IfMoreFailed Ended P = ⊤
-IfMoreFailed Failed P = P
-IfMoreFailed Refused P = ⊤

@@ -2,8 +2,9 @@
 ghost use Rattle.std.specs.Prelude.{◌≡◌, ◌+◌, ◌<◌, ◌≤◌, [], ◌++◌, length, vec_len, vec_capacity, OnOk, OnErr};
 ghost use Rattle.std.specs.Io.KnownBytes.{Appends};
 ghost use Rattle.ts_schema.specs.Faults.{Rose};
-ghost use Rattle.ts_io.specs.Whole.{AppendsPart, ReadsAll, IfReadFault, Brings, IfMoreFailed};
+ghost use Rattle.ts_io.specs.Whole.{AppendsPart, ReadsAll, IfReadFault};
 
+use crate::pieces::{PIECE, read_into};
 use crate::sinks::{Put, Sink};
 use crate::sources::{Got, Source};
 
@@ -44,17 +45,6 @@ pub enum AllEnd {
     NoMemory,
 }
 
-/// How many bytes one read asks for at most.
-const PIECE: usize = 65_536;
-
-/// What one read brought.
-enum More {
-    Bytes,
-    Ended,
-    Failed,
-    Refused,
-}
-
 /// Reads a whole input into `out`, which is empty: all of it, or its first 67,108,864 bytes where it
 /// is longer. After a fault or for want of memory `out` holds all that was given before.
 pub fn read_all<S: Source>(source: &mut S, out: &mut Vec<u8>) -> AllEnd
@@ -67,45 +57,15 @@ pub fn read_all<S: Source>(source: &mut S, out: &mut Vec<u8>) -> AllEnd
     let mut piece = [0; PIECE];
     while out.len() <= INPUT_LIMIT {
         let room = (INPUT_LIMIT + 1 - out.len()).min(PIECE);
-        match read_piece(source, &mut piece[..room], out) {
-            More::Bytes => {}
-            More::Ended => return AllEnd::End,
-            More::Failed => return AllEnd::ReadFault,
-            More::Refused => return AllEnd::NoMemory,
+        if let Err(_) = out.reserve(room) {
+            return AllEnd::NoMemory;
+        }
+        match read_into(source, &mut piece, room, out) {
+            Got::Bytes(0) => return AllEnd::End,
+            Got::Bytes(_) => {}
+            Got::Failed => return AllEnd::ReadFault,
         }
     }
     out.truncate(INPUT_LIMIT);
     AllEnd::InputLong
-}
-
-/// Reads once, by way of `piece`, and appends what was given. The room is made first, so that no byte
-/// is lost for want of memory.
-fn read_piece<S: Source>(source: &mut S, piece: &mut [u8], out: &mut Vec<u8>) -> More
-    requires { 0 < length piece.old }
-    ensures more { Brings result (S.left source.old) (S.left source.new) out.old.items out.new.items (length piece.old) }
-    ensures never_falls { S.faults source.old ≤ S.faults source.new }
-    ensures cause { IfMoreFailed result (Rose (S.faults source.old) (S.faults source.new)) }
-{
-    if let Err(_) = out.reserve(piece.len()) {
-        return More::Refused;
-    }
-    match source.read(piece) {
-        Got::Bytes(0) => More::Ended,
-        Got::Bytes(n) => {
-            append_reserved(out, &piece[..n]);
-            More::Bytes
-        }
-        Got::Failed => More::Failed,
-    }
-}
-
-/// Appends bytes for which there is room.
-fn append_reserved(out: &mut Vec<u8>, bytes: &[u8])
-    requires { vec_len out.old + length bytes.now ≤ vec_capacity out.old }
-    ensures { out.new.items ≡ out.old.items ++ bytes.now }
-{
-    match out.extend_from_slice(bytes) {
-        Ok(()) => {}
-        Err(_) => unreachable!(),
-    }
 }

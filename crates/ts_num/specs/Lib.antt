@@ -1,1 +1,3 @@
+pub mod Aggregates
 pub mod Fractions
+pub mod Texts

@@ -16,6 +16,6 @@ pub use columns::Column;
 pub use conditions::{Cmp, Test, passes};
 pub use memory::NoMemory;
 pub use names::Name;
-pub use rows::{Row, field, row_order};
+pub use rows::{Row, field, row_order, value_order, values_order};
 pub use sequences::Seq;
 pub use steps::Steps;

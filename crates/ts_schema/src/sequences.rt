@@ -1,5 +1,5 @@
 //! A list of items, which contracts see as a plain list.
-ghost use Rattle.std.specs.Prelude.{◌≡◌, ◌==◌, ◌<◌, [], ◌∷◌, ◌++◌, length, slice_index_or, vec_len, IfOk, OnErr};
+ghost use Rattle.std.specs.Prelude.{◌≡◌, ◌==◌, ◌<◌, [], ◌∷◌, ◌++◌, length, slice_index_or, slice_set, vec_len, IfOk, OnErr};
 
 use crate::memory::NoMemory;
 use std::alloc::Global;
@@ -70,6 +70,16 @@ impl<T> Seq<T> {
         ensures item { result.now ≡ slice_index_or self.now i result.now }
     {
         &self.items.as_slice()[i]
+    }
+
+    /// Replaces the item at place `i`, counted from 0.
+    pub fn set(&mut self, i: usize, item: T)
+    where
+        T: Drop,
+        requires { i < length self.old }
+        ensures set { self.new ≡ slice_set self.old i item }
+    {
+        self.items[i] = item;
     }
 
     /// Puts an item at the end.

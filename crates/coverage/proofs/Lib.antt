@@ -1,0 +1,8 @@
+pub mod PositionLaws
+pub mod LogLaws
+pub mod ModelLaws
+pub mod StepLaws
+pub mod TellLaws
+pub mod WholeLaws
+pub mod TimeLaws
+pub mod WorkedRows

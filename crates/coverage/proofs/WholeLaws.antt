@@ -1,0 +1,149 @@
+-- Coverage of whole histories.
+use Rattle.std.proofs.Common.{◌≡◌, ◌≢◌, ℕ, suc, ◌≤◌, Bool, true, false, ◌&&◌, not, cond, ◌==◌, length, ℤ, pos, ◌+ℤ◌, ◌≤ℤ◌, ◌<ℤ◌, int_le, int_lt, Option, Some, None, refl, sym, ap, ◌∙◌, subst, arith}
+use Rattle.std.specs.Prelude.{is_some}
+use Rattle.std.specs.Int.{int_max}
+use Rattle.std.proofs.lemmas.Bool.{true≢false, and_parts, eqb-true, eq-eqb}
+use Rattle.std.proofs.lemmas.Bool.Decides.{same_from_decides}
+use Rattle.std.proofs.lemmas.Int.{ints}
+use Rattle.std.proofs.lemmas.Option.{slice_get_past}
+use Rattle.ts_num.specs.Aggregates.{greater}
+use Rattle.ts_bucket.specs.Bucket.{IsWidth, is_bucket, bucket_of, first_of}
+use Rattle.ts_bucket.specs.declared.spans.Span.{Span}
+use Rattle.ts_bucket.specs.declared.widths.Width.{Width}
+use Rattle.ts_bucket.proofs.BucketLaws.{bucket_of_meets, buckets_apart, is_bucket-bucket_of, bucket_of-last, is_bucket-next}
+use Rattle.ts_model.specs.declared.events.Event.TheVariants.{Table, Hyper, View, Mode, Commit, Cut, Built}
+use Rattle.ts_model.specs.declared.views.Fold.{Fold}
+use Rattle.ts_model.specs.declared.views.ViewDef.{ViewDef}
+use Rattle.ts_model.specs.History.{History, start, ◌▸◌, position}
+use Rattle.ts_model.specs.Roster.{roster, view_of}
+use Rattle.ts_model.specs.Refreshes.{is_over, threshold}
+use Rattle.ts_model.specs.Allowed.{span_fits, all_allowed}
+use Rattle.coverage.specs.Notes.{Notes, lowest, greatest, no_notes, begun, cut_to, notes_after, notes_of}
+use Rattle.coverage.specs.Coverage.{IsCovered}
+use Rattle.coverage.specs.Laws.{IsOf, EventsKeep, HistoriesCovered, HistoriesTell, number_of, ThresholdsAre, ThresholdsReach, AllBucketsAre}
+use Rattle.coverage.proofs.ModelLaws.{cut_view, is_of_before, is_of_itself}
+use Rattle.coverage.proofs.StepLaws.{commits_keep, cuts_keep, finishes_keep, quiet_keeps, beginnings_cover}
+use Rattle.coverage.proofs.TellLaws.{covered_tells}
+
+-- ---- each allowed event
+
+view_keeps : (n : ℕ) (def : ViewDef) (h : History) (made : ViewDef) (notes : Notes) → all_allowed h ≡ true → IsCovered n def h notes → IsCovered n def (h ▸ View made) (notes_after n def h (View made) notes)
+view_keeps n def h made notes ok covered =
+    elim (length (roster h).views == n) as (λ t. (length (roster h).views == n) ≡ t → IsCovered n def (h ▸ View made) (cond t (begun def.fold.width (suc (position h)) notes) notes)) [
+      | true ↦ λ this.
+          let at : length (roster h).views ≡ n = eqb-true (length (roster h).views) n this in
+          let l : length (roster h).views ≤ n = omega arith in
+          beginnings_cover n def h made notes ok (slice_get_past (roster h).views n l) covered.log_past
+      | false ↦ λ other. quiet_keeps n def h (View made) notes (ap not other) covered
+    ] refl
+
+-- a cut of the aggregate is of one over its table, and has a span of whole buckets
+cut_of : (n : ℕ) (def : ViewDef) (span : Span) (o : Option ViewDef) → IsOf def o → span_fits span o ≡ true → (span_fits span (Some def) ≡ true) × (is_over def.table o ≡ true)
+cut_of n def span None i fits = absurd (true≢false (sym fits))
+cut_of n def span (Some d) i fits =
+    let same_width : span_fits span (Some d) ≡ span_fits span (Some def) = ap (λ (f : Fold). is_bucket f.width span.lo && is_bucket f.width span.hi && int_lt span.lo span.hi && int_le (first_of f.width) span.lo) i.1 in
+    (sym same_width ∙ fits, eq-eqb d.table def.table i.0)
+
+not_same : (t : Bool) → t ≢ true → not t ≡ true
+not_same true e = absurd (e refl)
+not_same false e = refl
+
+cut_keeps : (n : ℕ) (def : ViewDef) (h : History) (v : ℕ) (span : Span) (notes : Notes) → span_fits span (view_of (roster h) v) ≡ true → IsOf def (view_of (roster h) n) → IsCovered n def h notes → IsCovered n def (h ▸ Cut v span) (notes_after n def h (Cut v span) notes)
+cut_keeps n def h v span notes fits i covered =
+    let mine : (v == n) ≡ true → (span_fits span (Some def) ≡ true) × (is_over def.table (view_of (roster h) v) ≡ true) = λ e.
+    let it : v ≡ n = eqb-true v n e in
+    cut_of n def span (view_of (roster h) v) (subst (λ x. IsOf def (view_of (roster h) x)) (sym it) i) fits
+    in
+    elim (is_over def.table (view_of (roster h) v)) as (λ t. is_over def.table (view_of (roster h) v) ≡ t → IsCovered n def (h ▸ Cut v span) (cond t (cut_to def.fold.width span.hi notes) notes)) [
+      | true ↦ λ _. cuts_keep n def h v span notes (λ e. (mine e).0) covered
+      | false ↦ λ other. quiet_keeps n def h (Cut v span) notes (not_same (v == n) (λ e. true≢false (sym (mine e).1 ∙ other))) covered
+    ] refl
+
+pub events_keep : EventsKeep
+events_keep n def h (Table made) notes width ok i covered = quiet_keeps n def h (Table made) notes refl covered
+events_keep n def h (Hyper t hyper) notes width ok i covered = quiet_keeps n def h (Hyper t hyper) notes refl covered
+events_keep n def h (View made) notes width ok i covered = view_keeps n def h made notes (and_parts _ _ ok).0 covered
+events_keep n def h (Mode v only) notes width ok i covered = quiet_keeps n def h (Mode v only) notes refl covered
+events_keep n def h (Commit ops) notes width ok i covered = commits_keep n def h ops notes width covered
+events_keep n def h (Cut v span) notes width ok i covered = cut_keeps n def h v span notes (cut_view h v span (and_parts _ _ ok).1) i covered
+events_keep n def h (Built cut snap) notes width ok i covered = finishes_keep n def h cut snap notes covered
+
+-- ---- whole histories
+
+start_covered : (n : ℕ) (def : ViewDef) → IsCovered n def start no_notes
+start_covered n def = record {
+  refreshed = λ b bucket. refl;
+  exact = λ b s k bucket cut at low. absurd (true≢false (sym cut));
+  fresh = λ b bucket. refl;
+  marked = λ b bucket there inside. absurd (true≢false (sym there));
+  whole = λ k span cut. absurd (cc);
+  below = λ k span cut. absurd (cc);
+  rising = λ b k bucket cut. tt;
+  pending_past = λ b bucket. refl;
+  log_past = refl;
+}
+
+covered_so_far : (n : ℕ) (def : ViewDef) (h : History) → IsWidth def.fold.width → all_allowed h ≡ true → IsOf def (view_of (roster h) n) → IsCovered n def h (notes_of n def h)
+covered_so_far n def start width ok i = start_covered n def
+covered_so_far n def (h ▸ e) width ok i =
+    let before = is_of_before def h e n i in
+    events_keep n def h e (notes_of n def h) width ok before (covered_so_far n def h width (and_parts _ _ ok).0 before)
+
+pub histories_covered : HistoriesCovered
+histories_covered n def h width ok there = covered_so_far n def h width ok (is_of_itself def (view_of (roster h) n) there)
+
+pub histories_tell : HistoriesTell
+histories_tell n def h width ok there = covered_tells n def h (notes_of n def h) ok (ap is_some there) (histories_covered n def h width ok there)
+
+-- ---- thresholds
+
+max_max : (a b c : ℤ) → int_max (int_max a b) c ≡ int_max a (int_max b c)
+max_max a b c = grind (arith, ints)
+
+number_raised : (o : Option ℤ) (over : Bool) (hi : ℤ) → cond over (int_max (number_of o) hi) (number_of o) ≡ number_of (greater o (cond over (Some hi) None))
+number_raised None true hi = refl
+number_raised None false hi = refl
+number_raised (Some x) true hi = max_max lowest x hi
+number_raised (Some x) false hi = refl
+
+pub thresholds_are : ThresholdsAre
+thresholds_are n def start = refl
+thresholds_are n def (h ▸ Table made) = thresholds_are n def h
+thresholds_are n def (h ▸ Hyper t hyper) = thresholds_are n def h
+thresholds_are n def (h ▸ View made) =
+    elim (length (roster h).views == n) as (λ t. (cond t (begun def.fold.width (suc (position h)) (notes_of n def h)) (notes_of n def h)).threshold ≡ number_of (threshold def.table h)) [ true ↦ thresholds_are n def h | false ↦ thresholds_are n def h ]
+thresholds_are n def (h ▸ Mode v only) = thresholds_are n def h
+thresholds_are n def (h ▸ Commit ops) = thresholds_are n def h
+thresholds_are n def (h ▸ Cut v span) =
+    elim (is_over def.table (view_of (roster h) v)) as (λ t. (cond t (cut_to def.fold.width span.hi (notes_of n def h)) (notes_of n def h)).threshold ≡ number_of (greater (threshold def.table h) (cond t (Some span.hi) None))) [
+      | true ↦ ap (λ x. int_max x span.hi) (thresholds_are n def h) ∙ number_raised (threshold def.table h) true span.hi
+      | false ↦ thresholds_are n def h ∙ number_raised (threshold def.table h) false span.hi
+    ]
+thresholds_are n def (h ▸ Built cut snap) = thresholds_are n def h
+
+pub thresholds_reach : ThresholdsReach
+thresholds_reach n v def other h k span width ok there same_table cut =
+    let below : span.hi ≤ℤ (notes_of v other h).threshold = (histories_covered v other h width ok there).below k span cut in
+    let same : (notes_of v other h).threshold ≡ (notes_of n def h).threshold = thresholds_are v other h ∙ (ap (λ t. number_of (threshold t h)) same_table ∙ sym (thresholds_are n def h)) in
+    let P : ℤ → Type 0 = λ x. span.hi ≤ℤ x in
+    subst P same below
+
+-- ---- the buckets of an aggregate
+
+in_whole : (w : Width) (b top : ℤ) → IsWidth w → is_bucket w b ≡ true → int_lt b (bucket_of w top) ≡ int_le (b +ℤ w.step) top
+in_whole w b top width bucket =
+    let positive : pos 0 <ℤ w.step = width.positive in
+    let at_or_below : bucket_of w top ≤ℤ top = (bucket_of_meets w top width).at_or_below in
+    let forth : int_lt b (bucket_of w top) ≡ true → (b +ℤ w.step) ≤ℤ top = λ below.
+    let l : b <ℤ bucket_of w top = grind (arith, ints) in
+    let apart : (b +ℤ w.step) ≤ℤ bucket_of w top = buckets_apart w b (bucket_of w top) width bucket (is_bucket-bucket_of w top width) l in
+    omega (arith, ints)
+    in
+    let back : (b +ℤ w.step) ≤ℤ top → int_lt b (bucket_of w top) ≡ true = λ ends.
+    let l : (b +ℤ w.step) ≤ℤ bucket_of w top = bucket_of-last w (b +ℤ w.step) top width (is_bucket-next w b width ∙ bucket) ends in
+    grind (arith, ints)
+    in
+    same_from_decides (int_lt b (bucket_of w top)) (int_le (b +ℤ w.step) top) (forth, back) (λ t. grind (arith, ints), λ l. grind (arith, ints))
+
+pub all_buckets_are : AllBucketsAre
+all_buckets_are w b width bucket = ap (λ t. int_le (first_of w) b && t) (in_whole w b greatest width bucket)

@@ -1,0 +1,11 @@
+pub mod AnyOrder
+pub mod Counts
+pub mod CutRows
+pub mod Insertions
+pub mod Laws
+pub mod Merges
+pub mod Occurring
+pub mod Parts
+pub mod Places
+pub mod Scratches
+pub mod Steps

@@ -1,0 +1,78 @@
+-- Lists of groups put together.
+use Rattle.std.specs.Prelude.{◌≡◌, ◌+◌, ◌^◌, ◌<◌, ◌≤◌, ℕ, cond, length, slice_index_or, slice_set, insert, Result, Ok, Err, List, [], ◌∷◌, ◌++◌}
+use Rattle.std.specs.List.{AllByRecursion, AllZip}
+use Rattle.std.specs.List.Sorted.{IsStrictlySortedBy}
+use Rattle.std.specs.Ordering.{match_ordering}
+use Rattle.std.specs.declared.cmp.Ordering.TheVariants.{Equal}
+use Rattle.ts_schema.specs.declared.rows.Row.{Row}
+use Rattle.ts_schema.specs.Conditions.{passes_all}
+use Rattle.ts_bucket.specs.Bucket.{IsWidth}
+use Rattle.ts_model.specs.declared.views.Fold.{Fold}
+use Rattle.group_fold.specs.Grouping.{row_group, groups_of}
+use Rattle.group_fold.specs.declared.joins.Next.{Next}
+use Rattle.group_fold.specs.declared.joins.Next.TheVariants.{Neither, Mine, Theirs, Both}
+use Rattle.partial_agg.specs.declared.groups.Group.{Group}
+use Rattle.partial_agg.specs.Summaries.{Summary, joined}
+use Rattle.partial_agg.specs.Groups.{group_cmp}
+
+-- partial aggregates joined, place by place
+abbrev pub joined_parts : List Summary → List Summary → List Summary
+joined_parts [] qs = []
+joined_parts (p ∷ ps) [] = []
+joined_parts (p ∷ ps) (q ∷ qs) = joined p q ∷ joined_parts ps qs
+
+-- a group that has taken in another of the same bucket and keys
+abbrev pub merged : Group → Group → Group
+merged g h = record { start = g.start; keys = g.keys; parts = joined_parts g.parts h.parts }
+
+-- groups in order, with one more in its place, or merged with the group that has the place
+abbrev pub with_group : Group → List Group → List Group
+with_group g [] = g ∷ []
+with_group g (x ∷ xs) = match_ordering (group_cmp g x) (g ∷ x ∷ xs) (merged g x ∷ xs) (x ∷ with_group g xs)
+
+-- groups in order, with these in their places
+abbrev pub with_groups : List Group → List Group → List Group
+with_groups [] hs = hs
+with_groups (g ∷ gs) hs = with_group g (with_groups gs hs)
+
+-- groups are in strict order by bucket and keys
+abbrev pub AreInOrder : List Group → Type 0
+AreInOrder groups = IsStrictlySortedBy group_cmp groups
+
+-- as many parts, whose counts are at each place together below 2^62
+abbrev pub PartsFit : List Summary → List Summary → Type 0
+PartsFit ps qs = AllZip (λ p q. p.count + q.count < 2 ^ 62) ps qs
+
+-- where groups of two lists fall together, they have as many parts, and the counts of these are together below 2^62
+abbrev pub FitTogether : List Group → List Group → Type 0
+FitTogether gs hs = AllByRecursion (λ g. AllByRecursion (λ h. group_cmp g h ≡ Equal → PartsFit g.parts h.parts) hs) gs
+
+-- two lists of groups can be put together: both are in strict order, and groups that fall together fit
+pub record CanJoin (gs hs : List Group) : Type 0 where
+  pub mine : AreInOrder gs
+  pub theirs : AreInOrder hs
+  pub fit : FitTogether gs hs
+
+-- where two lists of groups are those of two lists of rows, these are the groups of both
+abbrev pub AreGroupsOfBoth : List Group → List Group → List Group → Type 0
+AreGroupsOfBoth gs hs both = (fold : Fold) (xs ys : List Row) → IsWidth fold.width → gs ≡ groups_of fold xs → hs ≡ groups_of fold ys → both ≡ groups_of fold (xs ++ ys)
+
+-- a group has one part for each aggregate, and its counts are below a bound
+abbrev pub IsBelow : ℕ → Fold → Group → Type 0
+IsBelow bound fold g = (length g.parts ≡ length fold.aggs) × AllByRecursion (λ p. p.count < bound) g.parts
+
+-- where the next group of two lists in order comes from
+abbrev pub next_of_lists : List Group → List Group → Next
+next_of_lists [] [] = Neither
+next_of_lists [] (h ∷ hs) = Theirs
+next_of_lists (g ∷ gs) [] = Mine
+next_of_lists (g ∷ gs) (h ∷ hs) = match_ordering (group_cmp g h) Mine Both Theirs
+
+-- groups that have taken in one more row, where it passes every test
+abbrev pub taken : Fold → Row → List Group → List Group
+taken fold row groups = cond (passes_all row fold.tests) (with_group (row_group fold row) groups) groups
+
+-- where a group is merged in, or where it is put in
+abbrev pub IsPlaceOf : Group → List Group → Result ℕ ℕ → Type 0
+IsPlaceOf g groups (Ok at) = (at < length groups) × ((d : Group) → group_cmp (slice_index_or groups at d) g ≡ Equal) × ((d : Group) → with_group g groups ≡ slice_set groups at (merged g (slice_index_or groups at d)))
+IsPlaceOf g groups (Err at) = (at ≤ length groups) × (with_group g groups ≡ insert groups at g)

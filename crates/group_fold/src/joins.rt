@@ -1,0 +1,105 @@
+//! Two lists of groups put together.
+ghost use Rattle.std.specs.Prelude.{◌≡◌, ◌+◌, ◌<◌, IfOk, MatchOption, OnSome, List, [], ◌∷◌, length};
+ghost use Rattle.std.specs.VecDeque.{deque_len};
+ghost use Rattle.group_fold.specs.Merging.{AreGroupsOfBoth, CanJoin, PartsFit, joined_parts, next_of_lists, with_groups};
+
+use partial_agg::{Group, Partial, group_order};
+use std::alloc::Global;
+use std::cmp::Ordering;
+use std::collections::VecDeque;
+use ts_schema::{NoMemory, Seq};
+
+/// The groups of both lists in order, where groups of the same bucket and keys are merged. So the
+/// groups of two lists of rows become those of both together.
+pub fn join_parts(alloc: Global, a: &Seq<Group>, b: &Seq<Group>) -> Result<Seq<Group>, NoMemory>
+    requires { CanJoin a.now b.now }
+    ensures joined { IfOk result (λ groups. groups ≡ with_groups a.now b.now) }
+    ensures of_rows { IfOk result (AreGroupsOfBoth a.now b.now) }
+{
+    let mine = a.copy()?.into_items();
+    let theirs = b.copy()?.into_items();
+    Ok(Seq::of(join_lists(alloc, mine, theirs)?))
+}
+
+/// The same of lists that are given up. Groups move from one list to the other, and are not copied.
+pub(crate) fn join_lists(
+    alloc: Global,
+    a: Vec<Group>,
+    b: Vec<Group>,
+) -> Result<Vec<Group>, NoMemory>
+    requires { CanJoin a.items b.items }
+    ensures { IfOk result (λ groups. groups.items ≡ with_groups a.items b.items) }
+{
+    let mut groups = Vec::with_capacity(alloc, a.len() + b.len())?;
+    let mut mine = VecDeque::from(a);
+    let mut theirs = VecDeque::from(b);
+    while let Some(group) = take_next(&mut mine, &mut theirs) {
+        groups.push(group)?;
+    }
+    Ok(groups)
+}
+
+/// Where the next group comes from.
+#[derive(Clone, Copy)]
+enum Next {
+    Neither,
+    Mine,
+    Theirs,
+    Both,
+}
+
+/// Takes the next group from the list that has it, or from both.
+fn take_next(mine: &mut VecDeque<Group>, theirs: &mut VecDeque<Group>) -> Option<Group>
+    requires { CanJoin mine.old.items theirs.old.items }
+    ensures next { MatchOption result (with_groups mine.old.items theirs.old.items ≡ []) (λ group. with_groups mine.old.items theirs.old.items ≡ group ∷ with_groups mine.new.items theirs.new.items) }
+    ensures kept { CanJoin mine.new.items theirs.new.items }
+    ensures fewer { OnSome result (deque_len mine.new + deque_len theirs.new < deque_len mine.old + deque_len theirs.old) }
+{
+    match next_of(mine, theirs) {
+        Next::Neither => None,
+        Next::Mine => mine.pop_front(),
+        Next::Theirs => theirs.pop_front(),
+        Next::Both => merge_firsts(mine, theirs),
+    }
+}
+
+fn next_of(mine: &VecDeque<Group>, theirs: &VecDeque<Group>) -> Next
+    ensures { result ≡ next_of_lists mine.now.items theirs.now.items }
+{
+    match (mine.front(), theirs.front()) {
+        (None, None) => Next::Neither,
+        (None, Some(_)) => Next::Theirs,
+        (Some(_), None) => Next::Mine,
+        (Some(g), Some(h)) => match group_order(g, h) {
+            Ordering::Less => Next::Mine,
+            Ordering::Equal => Next::Both,
+            Ordering::Greater => Next::Theirs,
+        },
+    }
+}
+
+/// Merges the first groups of both lists, which have the same bucket and keys.
+fn merge_firsts(mine: &mut VecDeque<Group>, theirs: &mut VecDeque<Group>) -> Option<Group>
+    requires both { next_of_lists mine.old.items theirs.old.items ≡ Next.Both }
+    requires fit { CanJoin mine.old.items theirs.old.items }
+    ensures next { MatchOption result (with_groups mine.old.items theirs.old.items ≡ []) (λ group. with_groups mine.old.items theirs.old.items ≡ group ∷ with_groups mine.new.items theirs.new.items) }
+    ensures kept { CanJoin mine.new.items theirs.new.items }
+    ensures fewer { OnSome result (deque_len mine.new + deque_len theirs.new < deque_len mine.old + deque_len theirs.old) }
+{
+    let mut group = mine.pop_front()?;
+    let other = theirs.pop_front()?;
+    merge_parts(&mut group.parts, &other.parts);
+    Some(group)
+}
+
+/// Merges partial aggregates, place by place.
+fn merge_parts(mine: &mut Seq<Partial>, theirs: &Seq<Partial>)
+    requires { PartsFit mine.old theirs.now }
+    ensures { mine.new ≡ joined_parts mine.old theirs.now }
+{
+    for k in 0..theirs.len() {
+        let mut part = *mine.get(k);
+        part.merge(theirs.get(k));
+        mine.set(k, part);
+    }
+}

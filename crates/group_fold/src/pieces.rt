@@ -1,0 +1,102 @@
+//! The groups of rows that come in pieces, folded in several threads.
+ghost use Rattle.std.specs.Prelude.{◌≡◌, ◌+◌, ◌-◌, ◌*◌, ◌^◌, ◌<◌, ◌≤◌, IfOk, List, length, min};
+ghost use Rattle.std.specs.List.Sorted.{IsPermutation};
+ghost use Rattle.ts_schema.specs.declared.rows.Row.{Row};
+ghost use Rattle.ts_bucket.specs.Bucket.{IsWidth};
+ghost use Rattle.group_fold.specs.Grouping.{PiecesFit, ShowScratch, all_rows, groups_of};
+ghost use denote.Param.Send.{IsSync};
+
+use crate::folds::fold_rows;
+use crate::joins::join_lists;
+use partial_agg::Group;
+use rayon::{current_num_threads, join};
+use std::alloc::Global;
+use std::thread::Threads;
+use ts_model::Fold;
+use ts_schema::{NoMemory, Row, Seq};
+
+/// More rows than any memory holds. A count of rows stays below it.
+const MOST_ROWS: u64 = 4_611_686_018_427_387_904;
+
+/// The groups of the rows of all pieces, as `fold` gives them for the pieces joined. Each piece is
+/// a task, tasks are shared among as many threads as there are processors, and their groups are
+/// put together in pairs. Where a thread can't be started, the caller does its work.
+pub fn fold_pieces<R: Threads + Sync>(
+    rt: &R,
+    alloc: Global,
+    plan: &Fold,
+    pieces: &Seq<Seq<Row>>,
+) -> Result<Seq<Group>, NoMemory>
+    requires { PiecesFit plan.now pieces.now }
+    ensures groups { IfOk result (λ groups. groups ≡ groups_of plan.now (all_rows pieces.now)) }
+    ensures scratch { IfOk result (λ groups. ShowScratch plan.now (all_rows pieces.now) groups) }
+    ensures any_order { IfOk result (λ groups. (others : List Row) → IsPermutation (all_rows pieces.now) others → groups ≡ groups_of plan.now others) }
+    ensures bounds { IsWidth plan.now.width }
+{
+    let _step = plan.width.step;
+    if count_rows(pieces.items()) >= MOST_ROWS {
+        return Err(NoMemory);
+    }
+    let halvings = current_num_threads(rt).ilog2() + 1;
+    Ok(Seq::of(fold_in_threads(rt, alloc, plan, pieces.items(), halvings)?))
+}
+
+/// How many rows the pieces have; a count past 64 bits stands at their end.
+fn count_rows(pieces: &[Seq<Row>]) -> u64
+    ensures { result ≡ min (length (all_rows pieces.now)) (2 ^ 64 - 1) }
+{
+    let mut count = 0u64;
+    for piece in pieces {
+        count = count.saturating_add(piece.len() as u64);
+    }
+    count
+}
+
+/// The groups of some pieces, which are halved so often before a thread does its pieces alone.
+#[cycle(halves)]
+fn fold_in_threads<R: Threads + Sync>(
+    rt: &R,
+    alloc: Global,
+    plan: &Fold,
+    pieces: &[Seq<Row>],
+    halvings: u32,
+) -> Result<Vec<Group>, NoMemory>
+    requires fits { PiecesFit plan.now pieces.now }
+    requires width { IsWidth plan.now.width }
+    requires few { length (all_rows pieces.now) < 2 ^ 62 }
+    ensures { IfOk result (λ groups. groups.items ≡ groups_of plan.now (all_rows pieces.now)) }
+{
+    if halvings == 0 || pieces.len() < 2 {
+        return fold_each(alloc, plan, pieces);
+    }
+    let (front, back) = pieces.split_at(pieces.len() / 2);
+    let left = move || -> Result<Vec<Group>, NoMemory>
+        requires { IsSync R.row × (0 < halvings) × PiecesFit plan.now front.now × IsWidth plan.now.width × (length (all_rows front.now) < 2 ^ 62) }
+        ensures { IfOk result (λ groups. groups.items ≡ groups_of plan.entry.now (all_rows front.entry.now)) }
+    { fold_in_threads(rt, alloc, plan, front, halvings - 1) };
+    let right = move || -> Result<Vec<Group>, NoMemory>
+        requires { IsSync R.row × (0 < halvings) × PiecesFit plan.now back.now × IsWidth plan.now.width × (length (all_rows back.now) < 2 ^ 62) }
+        ensures { IfOk result (λ groups. groups.items ≡ groups_of plan.entry.now (all_rows back.entry.now)) }
+    { fold_in_threads(rt, alloc, plan, back, halvings - 1) };
+    let (mine, theirs) = join(rt, left, right);
+    join_lists(alloc, mine?, theirs?)
+}
+
+/// The groups of some pieces, in one thread.
+fn fold_each(alloc: Global, plan: &Fold, pieces: &[Seq<Row>]) -> Result<Vec<Group>, NoMemory>
+    requires fits { PiecesFit plan.now pieces.now }
+    requires width { IsWidth plan.now.width }
+    requires few { length (all_rows pieces.now) < 2 ^ 62 }
+    ensures { IfOk result (λ groups. groups.items ≡ groups_of plan.now (all_rows pieces.now)) }
+{
+    match pieces {
+        [] => Ok(Vec::new(alloc)),
+        [piece] => fold_rows(alloc, plan, piece.items()),
+        _ => {
+            let (front, back) = pieces.split_at(pieces.len() / 2);
+            let mine = fold_each(alloc, plan, front)?;
+            let theirs = fold_each(alloc, plan, back)?;
+            join_lists(alloc, mine, theirs)
+        }
+    }
+}

@@ -1,0 +1,56 @@
+//! What a group shows.
+ghost use Rattle.std.specs.Prelude.{◌≡◌, IfOk, map, ◌++◌};
+ghost use Rattle.ts_num.specs.Aggregates.{shown_or_null};
+ghost use Rattle.group_fold.specs.Grouping.{cells_of, shown_each};
+
+use partial_agg::{Group, Partial};
+use std::alloc::Global;
+use ts_model::{Agg, Fold};
+use ts_num::Datum;
+use ts_schema::{NoMemory, Seq};
+
+/// The result row of a group: the start of its bucket, its keys, and what each aggregate shows.
+pub fn cells(alloc: Global, plan: &Fold, group: &Group) -> Result<Seq<Datum>, NoMemory>
+    ensures cells { IfOk result (λ cells. cells ≡ cells_of plan.now group.now) }
+{
+    let mut cells = Vec::new(alloc);
+    cells.push(Datum::Int(i128::from(group.start)))?;
+    put_keys(group.keys.items(), &mut cells)?;
+    put_parts(plan.aggs.items(), group.parts.items(), &mut cells)?;
+    Ok(Seq::of(cells))
+}
+
+fn put_keys(keys: &[Option<i64>], cells: &mut Vec<Datum>) -> Result<(), NoMemory>
+    ensures { IfOk result (λ _. cells.new.items ≡ cells.old.items ++ map shown_or_null keys.now) }
+{
+    for key in keys {
+        cells.push(shown(*key))?;
+    }
+    Ok(())
+}
+
+/// A key, or NULL.
+fn shown(key: Option<i64>) -> Datum
+    ensures { result ≡ shown_or_null key }
+{
+    match key {
+        None => Datum::Null,
+        Some(key) => Datum::Int(i128::from(key)),
+    }
+}
+
+fn put_parts(aggs: &[Agg], parts: &[Partial], cells: &mut Vec<Datum>) -> Result<(), NoMemory>
+    ensures { IfOk result (λ _. cells.new.items ≡ cells.old.items ++ shown_each aggs.now parts.now) }
+{
+    let mut aggs_left = aggs;
+    let mut parts_left = parts;
+    while let [agg, more_aggs @ ..] = aggs_left {
+        let [part, more_parts @ ..] = parts_left else {
+            return Ok(());
+        };
+        cells.push(part.finish(agg.fun))?;
+        aggs_left = more_aggs;
+        parts_left = more_parts;
+    }
+    Ok(())
+}

@@ -1,0 +1,10 @@
+//! The log of invalidations of one table: which hulls of commits lie below what was refreshed.
+#![tactic(auto)]
+
+mod entries;
+mod logs;
+#[cfg(test)]
+mod tests;
+
+pub use entries::Entry;
+pub use logs::InvalLog;

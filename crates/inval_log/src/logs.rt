@@ -1,0 +1,111 @@
+//! The log.
+
+ghost use Rattle.std.specs.Prelude.{◌≡◌, ◌≤◌, [], IfOk, OnOk};
+ghost use Rattle.std.specs.Int.{int_max};
+ghost use Rattle.inval_log.specs.Logs.{lowest, begins_below, entries_noted};
+
+use crate::entries::Entry;
+use std::alloc::Global;
+use std::marker::Model;
+use std::mem;
+use ts_bucket::Hull;
+use ts_schema::{NoMemory, Seq};
+
+/// A threshold, and the hulls that were noted since the log was last emptied and that begin below
+/// it.
+#[derive(Drop, Debug)]
+pub struct InvalLog {
+    threshold: i64,
+    entries: Vec<Entry>,
+}
+
+impl Model for InvalLog {
+    ghost use Rattle.std.specs.Prelude.{◌-◌, vec_len, vec_capacity};
+    ghost use Rattle.inval_log.specs.Logs.{LogValue};
+
+    ghost Value = { LogValue };
+
+    ghost view = { λ log. record { threshold = log.threshold; entries = log.entries.items; room = vec_capacity log.entries - vec_len log.entries } };
+}
+
+impl InvalLog {
+    /// The empty log, whose threshold is below every time. It takes no memory.
+    pub fn new(alloc: Global) -> InvalLog
+        ensures threshold { result.threshold ≡ lowest }
+        ensures entries { result.entries ≡ [] }
+    {
+        InvalLog {
+            threshold: i64::MIN,
+            entries: Vec::new(alloc),
+        }
+    }
+
+    /// Hulls that begin below it are logged.
+    pub fn threshold(&self) -> i64
+        ensures threshold { result ≡ self.now.threshold }
+    {
+        self.threshold
+    }
+
+    /// The entries, in the order in which they were noted.
+    pub fn entries(&self) -> &[Entry]
+        ensures entries { result.now ≡ self.now.entries }
+    {
+        &self.entries
+    }
+
+    /// The same log again. Its room may differ.
+    pub fn copy(&self) -> Result<InvalLog, NoMemory>
+        ensures threshold { IfOk result (λ copy. copy.threshold ≡ self.now.threshold) }
+        ensures entries { IfOk result (λ copy. copy.entries ≡ self.now.entries) }
+    {
+        Ok(InvalLog {
+            threshold: self.threshold,
+            entries: self.entries.clone()?,
+        })
+    }
+
+    /// Makes room for one entry.
+    pub fn reserve(&mut self) -> Result<(), NoMemory>
+        ensures room { OnOk result (1 ≤ self.new.room) }
+        ensures threshold { self.new.threshold ≡ self.old.threshold }
+        ensures entries { self.new.entries ≡ self.old.entries }
+    {
+        self.entries.reserve(1)?;
+        Ok(())
+    }
+
+    /// Logs the hull of the commit at this position where it begins below the threshold, and says
+    /// whether it does.
+    pub fn note(&mut self, hull: Hull, pos: u64) -> bool
+        requires { 1 ≤ self.old.room }
+        ensures logged { result ≡ begins_below hull self.old.threshold }
+        ensures threshold { self.new.threshold ≡ self.old.threshold }
+        ensures entries { self.new.entries ≡ entries_noted self.old hull pos }
+    {
+        let logged = hull.least < self.threshold;
+        if logged {
+            self.entries.push_reserved(Entry { hull, pos });
+        }
+        logged
+    }
+
+    /// Moves the threshold up to `hi`, where that is higher.
+    pub fn raise(&mut self, hi: i64)
+        ensures threshold { self.new.threshold ≡ int_max self.old.threshold hi }
+        ensures entries { self.new.entries ≡ self.old.entries }
+        ensures room { self.new.room ≡ self.old.room }
+    {
+        self.threshold = self.threshold.max(hi);
+    }
+
+    /// Empties the log, and gives the entries that it had.
+    pub fn drain(&mut self) -> Seq<Entry>
+        ensures drained { result ≡ self.old.entries }
+        ensures entries { self.new.entries ≡ [] }
+        ensures threshold { self.new.threshold ≡ self.old.threshold }
+    {
+        let empty = Vec::new(*self.entries.allocator());
+        Seq::of(mem::replace(&mut self.entries, empty))
+    }
+}

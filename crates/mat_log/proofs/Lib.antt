@@ -1,0 +1,4 @@
+mod Computed
+mod SpanLaws
+pub mod StepLaws
+pub mod RangeLaws

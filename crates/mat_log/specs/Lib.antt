@@ -1,0 +1,4 @@
+pub mod Logs
+pub mod Ranges
+pub mod Spans
+pub mod Joined

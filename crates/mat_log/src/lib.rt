@@ -1,0 +1,8 @@
+//! What is out of date of one aggregate: which buckets were touched since their last refresh.
+#![tactic(auto)]
+
+mod logs;
+mod ranges;
+mod spans;
+
+pub use logs::MatLog;

@@ -1,0 +1,62 @@
+-- What a column sums up to, for every aggregate function at once.
+use Rattle.std.specs.Prelude.{ℕ, zero, suc, ◌+◌, ◌-◌, ◌*◌, ◌^◌, ◌<◌, ◌≤◌, List, length, Option, ℤ, pos, ◌+ℤ◌, ◌≤ℤ◌, neg_ℤ}
+use Rattle.ts_num.specs.Aggregates.{values as values_in, sum_of, least_of, greatest_of, lesser, greater, shown_or_null}
+use Rattle.ts_num.specs.Fractions.{lowest_terms}
+use Rattle.ts_num.specs.declared.values.Fun.{Fun}
+use Rattle.ts_num.specs.declared.values.Fun.TheVariants.{CountAll, Count, Sum, Min, Max, Avg}
+use Rattle.ts_num.specs.declared.values.Datum.{Datum}
+use Rattle.ts_num.specs.declared.values.Datum.TheVariants.{Null, Int, Ratio}
+
+-- the numbers of rows and of values that aren't NULL, and the sum, the least and the greatest of these values
+pub record Summary : Type 0 where
+  pub count : ℕ
+  pub values : ℕ
+  pub sum : ℤ
+  pub least : Option ℤ
+  pub most : Option ℤ
+
+-- the summary of a column, which has one value for each row
+abbrev pub summary : List (Option ℤ) → Summary
+summary column = record {
+  count = length column;
+  values = length (values_in column);
+  sum = sum_of (values_in column);
+  least = least_of (values_in column);
+  most = greatest_of (values_in column);
+}
+
+-- the summary of the rows of both
+abbrev pub joined : Summary → Summary → Summary
+joined a b = record {
+  count = a.count + b.count;
+  values = a.values + b.values;
+  sum = a.sum +ℤ b.sum;
+  least = lesser a.least b.least;
+  most = greater a.most b.most;
+}
+
+-- the sum of so many values, NULL where there are none
+abbrev pub sum_shown : ℕ → ℤ → Datum
+sum_shown zero sum = Null
+sum_shown (suc n) sum = Int sum
+
+-- the mean of so many values with this sum, NULL where there are none
+abbrev pub mean_shown : ℕ → ℤ → Datum
+mean_shown zero sum = Null
+mean_shown (suc n) sum = Ratio (lowest_terms sum (suc n))
+
+-- what an aggregate function shows of the rows that were summed up
+abbrev pub shown : Fun → Summary → Datum
+shown CountAll s = Int (pos s.count)
+shown Count s = Int (pos s.values)
+shown Sum s = sum_shown s.values s.sum
+shown Min s = shown_or_null s.least
+shown Max s = shown_or_null s.most
+shown Avg s = mean_shown s.values s.sum
+
+-- there are no more values than rows and fewer than 2^62 rows, and the sum is one of so many 64-bit values
+pub record IsBounded (count values : ℕ) (sum : ℤ) : Type 0 where
+  pub counted : values ≤ count
+  pub fewer : count < 2 ^ 62
+  pub low : neg_ℤ (pos (2 ^ 63 * values)) ≤ℤ sum
+  pub high : sum ≤ℤ pos ((2 ^ 63 - 1) * values)

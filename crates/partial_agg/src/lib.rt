@@ -1,0 +1,15 @@
+//! Partial aggregates: what a column of values sums up to, for every aggregate function at once, so
+//! that what was aggregated in parts can be put together.
+//!
+//! - `partials`: the partial aggregate of a column, and what a function shows of it.
+//! - `groups`: a group of rows with its bucket, its keys and its partial aggregates.
+#![tactic(auto)]
+
+mod groups;
+mod partials;
+
+pub use groups::{Group, group_order};
+pub use partials::Partial;
+
+#[cfg(test)]
+mod tests;

@@ -1,0 +1,69 @@
+//! The cut.
+
+ghost use Rattle.std.specs.Prelude.{◌≡◌, [], IfOk};
+ghost use Rattle.std.specs.Int.{int_max};
+ghost use Rattle.std.specs.List.{All};
+ghost use Rattle.refresh_cut.specs.Feeding.{IsFed, AreFed, AreWithin};
+
+use inval_log::{Entry, InvalLog};
+use mat_log::MatLog;
+use std::alloc::Global;
+use ts_schema::{NoMemory, Seq};
+
+/// The log of a table and the logs of its aggregates after a cut.
+#[derive(Drop, Debug)]
+pub struct CutParts {
+    pub log: InvalLog,
+    pub mats: Seq<MatLog>,
+}
+
+/// The log of an aggregate after the entries were fed to it.
+fn fed(mat: &MatLog, entries: &[Entry]) -> Result<MatLog, NoMemory>
+    requires { AreWithin entries.now mat.now }
+    ensures fed { IfOk result (IsFed entries.now mat.now) }
+{
+    let mut fed = mat.copy()?;
+    for entry in entries {
+        fed.reserve()?;
+        fed.feed(entry);
+    }
+    Ok(fed)
+}
+
+/// The logs of aggregates after the entries were fed to each.
+fn fed_logs(alloc: Global, mats: &[MatLog], entries: &[Entry]) -> Result<Seq<MatLog>, NoMemory>
+    requires { All (AreWithin entries.now) mats.now }
+    ensures fed { IfOk result (AreFed entries.now mats.now) }
+{
+    let mut all = Vec::new(alloc);
+    for mat in mats {
+        all.push(fed(mat, entries)?)?;
+    }
+    Ok(Seq::of(all))
+}
+
+/// An empty log whose threshold is that of a log, or `hi` where that is higher.
+fn emptied(alloc: Global, log: &InvalLog, hi: i64) -> InvalLog
+    ensures threshold { result.threshold ≡ int_max log.now.threshold hi }
+    ensures entries { result.entries ≡ [] }
+{
+    let mut emptied = InvalLog::new(alloc);
+    emptied.raise(log.threshold().max(hi));
+    emptied
+}
+
+/// What a cut of a span that ends at `hi` makes of the log of a table and of the logs of all its
+/// aggregates: the threshold moves up to `hi`, where that is higher, the log is emptied, and every
+/// entry is fed to every aggregate.
+pub fn cut(alloc: Global, log: &InvalLog, mats: &Seq<MatLog>, hi: i64) -> Result<CutParts, NoMemory>
+    requires { All (AreWithin log.now.entries) mats.now }
+    ensures threshold { IfOk result (λ parts. parts.log.threshold ≡ int_max log.now.threshold hi) }
+    ensures emptied { IfOk result (λ parts. parts.log.entries ≡ []) }
+    ensures fed { IfOk result (λ parts. AreFed log.now.entries mats.now parts.mats) }
+{
+    let mats = fed_logs(alloc, mats.items(), log.entries())?;
+    Ok(CutParts {
+        log: emptied(alloc, log, hi),
+        mats,
+    })
+}

@@ -1,0 +1,7 @@
+use Rattle.std.proofs.Common.{◌≡◌, ◌++◌, drop}
+use Rattle.result_text.specs.Answers.{more_cells}
+use Rattle.result_text.proofs.answers.put_more.Given as goal
+
+-- what is written and what is left make the whole
+abbrev pub invariant-loop-datum : goal.invariant-loop-datum
+invariant-loop-datum l = l.initial.text.items ++ more_cells l.fn.more ≡ l.text.items ++ more_cells (drop l.datum-index l.fn.more)

@@ -1,0 +1,71 @@
+-- The texts of a log and of what is pending.
+use Rattle.std.specs.Prelude.{ℕ, ℤ, Bool, List, [], ◌∷◌, ◌++◌, length, codes, decimal, Option, Some, None, if◌then◌else◌, slice_get}
+use Rattle.std.specs.Fmt.{signed_decimal}
+use Rattle.ts_bucket.specs.Bucket.{first_of}
+use Rattle.ts_bucket.specs.declared.spans.Span.{Span}
+use Rattle.ts_schema.specs.declared.columns.Column.{Column}
+use Rattle.ts_model.specs.declared.events.Event.{Event}
+use Rattle.ts_model.specs.declared.events.Event.TheVariants.{Table, Hyper, View, Mode, Commit, Cut, Built}
+use Rattle.ts_model.specs.declared.rosters.Roster.{Roster}
+use Rattle.ts_model.specs.declared.tables.Hyper.{Hyper as HyperInfo}
+use Rattle.ts_model.specs.declared.tables.TableInfo.{TableInfo}
+use Rattle.ts_model.specs.declared.views.ViewDef.{ViewDef}
+use Rattle.ts_model.specs.Roster.{table_of, view_of}
+use Rattle.result_text.specs.Spans.{span_end, span_text}
+
+-- a column, with ! where it is NOT NULL
+abbrev pub column_text : Column → List ℕ
+column_text c = codes " " ++ c.name ++ (if c.must then codes "!" else codes "")
+
+abbrev pub columns_text : List Column → List ℕ
+columns_text [] = []
+columns_text (c ∷ cs) = column_text c ++ columns_text cs
+
+-- the name of a column, where it is there
+abbrev pub column_name : Option Column → List ℕ
+column_name None = []
+column_name (Some c) = c.name
+
+-- a table becomes a hypertable by a column and an interval
+abbrev pub hyper_text : HyperInfo → Option TableInfo → List ℕ
+hyper_text hyper None = []
+hyper_text hyper (Some info) = (codes "HYPER " ++ info.def.name) ++ (codes " " ++ column_name (slice_get info.def.cols hyper.at)) ++ (codes " " ++ signed_decimal hyper.interval)
+
+-- an aggregate over a table
+abbrev pub view_text : ViewDef → Option TableInfo → List ℕ
+view_text def None = []
+view_text def (Some info) = (codes "VIEW " ++ def.name) ++ (codes " " ++ info.def.name) ++ (codes " " ++ signed_decimal def.fold.width.step) ++ (codes " " ++ signed_decimal def.fold.width.shift)
+
+-- a mode, where 1 is materialised only
+abbrev pub mode_word : Bool → List ℕ
+mode_word only = if only then codes " 1" else codes " 0"
+
+abbrev pub mode_text : Bool → Option ViewDef → List ℕ
+mode_text only None = []
+mode_text only (Some def) = (codes "MODE " ++ def.name) ++ mode_word only
+
+abbrev pub cut_text : Span → Option ViewDef → List ℕ
+cut_text span None = []
+cut_text span (Some def) = (codes "CUT " ++ def.name) ++ (codes " " ++ span_text (first_of def.fold.width) span)
+
+-- what an event is, by the names of a roster
+abbrev pub event_text : Roster → Event → List ℕ
+event_text roster (Table def) = codes "TABLE " ++ def.name ++ columns_text def.cols
+event_text roster (Hyper t hyper) = hyper_text hyper (table_of roster t)
+event_text roster (View def) = view_text def (table_of roster def.table)
+event_text roster (Mode v only) = mode_text only (view_of roster v)
+event_text roster (Commit ops) = codes "COMMIT ops " ++ decimal (length ops)
+event_text roster (Cut v span) = cut_text span (view_of roster v)
+event_text roster (Built cut snap) = codes "BUILT " ++ decimal cut ++ codes " snap " ++ decimal snap
+
+-- a line of the log
+abbrev pub log_text : ℕ → Roster → Event → List ℕ
+log_text number roster event = codes "@" ++ decimal number ++ codes " " ++ event_text roster event ++ codes "\n"
+
+-- the position of a history
+abbrev pub history_text : ℕ → List ℕ
+history_text pos = codes "HISTORY @" ++ decimal pos ++ codes "\n"
+
+-- a refresh of an aggregate that waits
+abbrev pub pending_text : ℕ → List ℕ → Span → ℤ → List ℕ
+pending_text cut name span min = (codes "PENDING " ++ decimal cut ++ codes " " ++ name) ++ span_end min span

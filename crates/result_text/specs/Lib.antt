@@ -1,0 +1,6 @@
+pub mod Answers
+pub mod Events
+pub mod Refusals
+pub mod Replies
+pub mod Spans
+pub mod Summaries

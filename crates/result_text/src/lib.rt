@@ -1,0 +1,20 @@
+//! The texts that the program writes: replies, answers, refusals, the lines of a log, what is pending,
+//! and the summary of a demonstration. Each is appended whole, or, where memory runs out, the buffer is
+//! as before.
+#![tactic(auto)]
+
+mod answers;
+mod events;
+mod pieces;
+mod refusals;
+mod replies;
+mod spans;
+mod summaries;
+#[cfg(test)]
+mod tests;
+
+pub use answers::put_answer;
+pub use events::{put_event, put_history, put_pending};
+pub use refusals::put_refusal;
+pub use replies::{Said, put_line_fault, put_reply};
+pub use summaries::{Summary, put_summary};

@@ -1,0 +1,4 @@
+pub mod HullLaws
+pub mod LifeLaws
+pub mod StepLaws
+pub mod VersionLaws

@@ -1,0 +1,51 @@
+-- Laws of rows with their lives.
+use Rattle.std.proofs.Common.{◌≡◌, ℕ, suc, zero, ◌<◌, ◌+◌, List, [], ◌∷◌, ◌++◌, length, get_or, take, map, replicate, refl, sym, ◌∙◌, ap, arith}
+use Rattle.std.proofs.lemmas.List.{take_more, length-take-le}
+use Rattle.ts_schema.specs.declared.rows.Row.{Row}
+use Rattle.seg_rows.specs.declared.lives.Life.{Life}
+use Rattle.seg_rows.specs.Versions.{Version, newborn}
+use Rattle.seg_rows.specs.declared.lives.Lives.{Lives}
+use Rattle.seg_rows.specs.Lives.{Covers, lives_of, unharmed, with_life, with_lives, versions_of}
+
+pub length-with_lives : (rows : List Row) (lives : List Life) → length lives ≡ length rows → length (with_lives rows lives) ≡ length rows
+length-with_lives [] lives e = refl
+length-with_lives (r ∷ rows) [] e = absurd (omega (arith, e))
+length-with_lives (r ∷ rows) (l ∷ lives) e = ap suc (length-with_lives rows lives (omega (arith, e)))
+
+-- version i is row i with life i
+pub get_or-with_lives : (rows : List Row) (lives : List Life) (i : ℕ) (r : Row) (l : Life) (d : Version)
+    → length lives ≡ length rows → i < length rows → get_or (with_lives rows lives) i d ≡ with_life (get_or rows i r) (get_or lives i l)
+get_or-with_lives [] lives i r l d e h = absurd (omega arith)
+get_or-with_lives (x ∷ rows) [] i r l d e h = absurd (omega (arith, e))
+get_or-with_lives (x ∷ rows) (y ∷ lives) zero r l d e h = refl
+get_or-with_lives (x ∷ rows) (y ∷ lives) (suc i) r l d e h = get_or-with_lives rows lives i r l d (omega (arith, e)) (omega arith)
+
+-- rows that were born together
+pub with_lives-together : (rows : List Row) (p : ℕ) → with_lives rows (replicate (length rows) (unharmed p)) ≡ map (newborn p) rows
+with_lives-together [] p = refl
+with_lives-together (r ∷ rows) p = ap (λ vs. newborn p r ∷ vs) (with_lives-together rows p)
+
+pub with_lives-append : (rows more : List Row) (lives others : List Life)
+    → length lives ≡ length rows → with_lives (rows ++ more) (lives ++ others) ≡ with_lives rows lives ++ with_lives more others
+with_lives-append [] more [] others e = refl
+with_lives-append [] more (l ∷ lives) others e = absurd (omega (arith, e))
+with_lives-append (r ∷ rows) more [] others e = absurd (omega (arith, e))
+with_lives-append (r ∷ rows) more (l ∷ lives) others e =
+    ap (λ vs. with_life r l ∷ vs) (with_lives-append rows more lives others (omega (arith, e)))
+
+-- one row more, with its life
+pub with_lives-more : (rows : List Row) (lives : List Life) (i : ℕ) (r : Row) (l : Life)
+    → i < length rows → length lives ≡ i → with_lives (take (i + 1) rows) (lives ++ l ∷ []) ≡ with_lives (take i rows) lives ++ with_life (get_or rows i r) l ∷ []
+with_lives-more rows lives i r l h e =
+    ap (λ rs. with_lives rs (lives ++ l ∷ [])) (take_more rows i r h)
+    ∙ with_lives-append (take i rows) (get_or rows i r ∷ []) lives (l ∷ []) (e ∙ sym (length-take-le i rows (omega arith)))
+
+-- there are as many versions as rows
+pub length-versions_of : (rows : List Row) (lives : Lives) → Covers (length rows) lives → length (versions_of rows lives) ≡ length rows
+length-versions_of rows lives h = length-with_lives rows (lives_of (length rows) lives) h
+
+-- the version of a row and a life that were read
+pub version_read : (rows : List Row) (lives : Lives) (i : ℕ) (r : Row) (l : Life) (d : Version)
+    → Covers (length rows) lives → i < length rows → r ≡ get_or rows i r → l ≡ get_or (lives_of (length rows) lives) i l → get_or (versions_of rows lives) i d ≡ with_life r l
+version_read rows lives i r l d covers h e f =
+    get_or-with_lives rows (lives_of (length rows) lives) i r l d covers h ∙ (ap (λ x. with_life x (get_or (lives_of (length rows) lives) i l)) (sym e) ∙ ap (with_life r) (sym f))

@@ -1,0 +1,38 @@
+-- How the positions of a segment's versions are kept.
+use Rattle.std.specs.Prelude.{◌≡◌, ℕ, Bool, not, ◌&&◌, nat_le, List, [], ◌∷◌, length, replicate, None}
+use Rattle.ts_schema.specs.declared.rows.Row.{Row}
+use Rattle.seg_rows.specs.Versions.{Version, is_dead_at}
+use Rattle.seg_rows.specs.declared.lives.Life.{Life}
+use Rattle.seg_rows.specs.declared.lives.Lives.{Lives}
+use Rattle.seg_rows.specs.declared.lives.Lives.TheVariants.{Together, Each}
+
+-- born at p and never died
+abbrev pub unharmed : ℕ → Life
+unharmed p = record { born = p; died = None }
+
+-- such a version is visible at p
+abbrev pub is_alive_at : ℕ → Life → Bool
+is_alive_at p life = nat_le life.born p && not (is_dead_at p life.died)
+
+-- the lives of n rows
+abbrev pub lives_of : ℕ → Lives → List Life
+lives_of n (Together p) = replicate n (unharmed p)
+lives_of n (Each lives) = lives
+
+-- there is a life for each of n rows
+abbrev pub Covers : ℕ → Lives → Type 0
+Covers n lives = length (lives_of n lives) ≡ n
+
+-- a row with its life
+abbrev pub with_life : Row → Life → Version
+with_life row life = record { row = row; born = life.born; died = life.died }
+
+-- rows with their lives
+abbrev pub with_lives : List Row → List Life → List Version
+with_lives [] lives = []
+with_lives (row ∷ rows) [] = []
+with_lives (row ∷ rows) (life ∷ lives) = with_life row life ∷ with_lives rows lives
+
+-- the versions of these rows
+abbrev pub versions_of : List Row → Lives → List Version
+versions_of rows lives = with_lives rows (lives_of (length rows) lives)

@@ -1,0 +1,78 @@
+-- Versions of rows: a row with the positions at which it was born and died, and what a position sees.
+use Rattle.std.specs.Prelude.{ℕ, Bool, false, true, cond, not, ◌&&◌, nat_le, List, [], ◌∷◌, map, filter, length, count_by, ◌≡◌, ℤ, Option, Some, None}
+use Rattle.std.specs.Int.{int_max}
+use Rattle.std.specs.List.{list_all}
+use Rattle.ts_bucket.specs.Spans.{SpanValue, in_span}
+use Rattle.ts_schema.specs.declared.rows.Row.{Row}
+use Rattle.ts_schema.specs.declared.conditions.Test.{Test}
+use Rattle.ts_schema.specs.Conditions.{passes_all}
+
+-- a row, the position at which it was born, and the position at which it died, if it did
+pub record Version : Type 0 where
+  pub row : Row
+  pub born : ℕ
+  pub died : Option ℕ
+
+-- died at or before position p
+abbrev pub is_dead_at : ℕ → Option ℕ → Bool
+is_dead_at p None = false
+is_dead_at p (Some d) = nat_le d p
+
+-- a version is visible at p where it was born at or before p and hasn't died at or before p
+abbrev pub visible_at : ℕ → Version → Bool
+visible_at p v = nat_le v.born p && not (is_dead_at p v.died)
+
+-- a version is visible at p and its time lies in the span
+abbrev pub shown_at : ℕ → SpanValue → Version → Bool
+shown_at p s v = visible_at p v && in_span s v.row.at
+
+-- the rows of these versions
+abbrev pub rows_of : List Version → List Row
+rows_of vs = map (λ v. v.row) vs
+
+-- the rows of the span that are visible at p
+abbrev pub rows_at : ℕ → SpanValue → List Version → List Row
+rows_at p s vs = rows_of (filter (shown_at p s) vs)
+
+-- a row born at p
+abbrev pub newborn : ℕ → Row → Version
+newborn p row = record { row = row; born = p; died = None }
+
+-- a delete at p takes a version away: it is visible there and its row passes every test
+abbrev pub is_taken : ℕ → List Test → Version → Bool
+is_taken p tests v = visible_at p v && passes_all v.row tests
+
+-- the rows that a delete at p takes away
+abbrev pub taken_at : ℕ → List Test → List Version → List Row
+taken_at p tests vs = rows_of (filter (is_taken p tests) vs)
+
+-- a version after a delete at p: it died there where it is taken away, and stays as it was elsewhere
+abbrev pub after_kill : ℕ → List Test → Version → Version
+after_kill p tests v = cond (is_taken p tests v) (record { row = v.row; born = v.born; died = Some p }) v
+
+-- the greater of two times, where there is no time below all others
+abbrev pub later_time : Option ℤ → Option ℤ → Option ℤ
+later_time None b = b
+later_time (Some x) None = Some x
+later_time (Some x) (Some y) = Some (int_max x y)
+
+-- the greatest time of these rows
+abbrev pub latest_of : List Row → Option ℤ
+latest_of [] = None
+latest_of (row ∷ rows) = later_time (Some row.at) (latest_of rows)
+
+-- the greatest time that is visible at p
+abbrev pub latest_at : ℕ → List Version → Option ℤ
+latest_at p vs = latest_of (rows_of (filter (visible_at p) vs))
+
+-- each test is on a column that the row of this version has
+abbrev pub has_columns : List Test → Version → Bool
+has_columns tests v = list_all (λ t. nat_le t.col (length v.row.vals)) tests
+
+-- each test is on a column that every row has
+abbrev pub TestsFit : List Test → List Version → Type 0
+TestsFit tests vs = list_all (has_columns tests) vs ≡ true
+
+-- the same items, each as often, in some order: every test passes as many of both
+abbrev pub AsOften : {X : Type 0} → List X → List X → Type 0
+AsOften {X} xs ys = (test : X → Bool) → count_by test xs ≡ count_by test ys

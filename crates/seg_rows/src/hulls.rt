@@ -1,0 +1,30 @@
+//! Hulls of the times of rows.
+ghost use Rattle.std.specs.Prelude.{◌≡◌};
+ghost use Rattle.seg_rows.specs.Hulls.{hull_at, joined_hull};
+
+use ts_bucket::Hull;
+use ts_schema::Row;
+
+/// The least hull that holds what either holds.
+pub fn join_hulls(a: Option<Hull>, b: Option<Hull>) -> Option<Hull>
+    ensures joined { result ≡ joined_hull a b }
+{
+    match (a, b) {
+        (None, other) => other,
+        (Some(g), None) => Some(g),
+        (Some(g), Some(h)) => Some(Hull {
+            least: g.least.min(h.least),
+            most: g.most.max(h.most),
+        }),
+    }
+}
+
+/// The hull of the time of a row.
+pub fn point(row: &Row) -> Option<Hull>
+    ensures point { result ≡ hull_at row.now.at }
+{
+    Some(Hull {
+        least: row.at,
+        most: row.at,
+    })
+}

@@ -1,0 +1,58 @@
+//! Segments joined into one.
+ghost use Rattle.std.specs.Prelude.{◌≡◌, ◌++◌, length, IfOk, OnOk};
+ghost use Rattle.seg_rows.specs.Lives.{Covers, lives_of};
+ghost use Rattle.seg_rows.specs.declared.lives.Lives.TheVariants.{Each};
+
+use crate::lives::{Life, Lives};
+use crate::scans::copy_of;
+use std::alloc::Global;
+use ts_schema::{NoMemory, Row, Seq};
+
+/// Copies of these rows, one list after the other.
+pub fn joined_rows(alloc: Global, first: &[Row], second: &[Row]) -> Result<Seq<Row>, NoMemory>
+    ensures rows { IfOk result (λ rows. rows ≡ first.now ++ second.now) }
+{
+    let mut rows = Vec::with_capacity(alloc, first.len().saturating_add(second.len()))?;
+    append_rows(&mut rows, first)?;
+    append_rows(&mut rows, second)?;
+    Ok(Seq::of(rows))
+}
+
+/// Appends copies of these rows.
+fn append_rows(into: &mut Vec<Row>, rows: &[Row]) -> Result<(), NoMemory>
+    ensures { OnOk result (into.new.items ≡ into.old.items ++ rows.now) }
+{
+    for row in rows {
+        into.push(copy_of(row)?)?;
+    }
+    Ok(())
+}
+
+/// The lives of `first_count` versions and then those of `second_count` others.
+pub fn joined_lives(
+    alloc: Global,
+    first: &Lives,
+    first_count: usize,
+    second: &Lives,
+    second_count: usize,
+) -> Result<Lives, NoMemory>
+    requires first { Covers first_count first.now }
+    requires second { Covers second_count second.now }
+    ensures lives { IfOk result (λ lives. lives ≡ Each (lives_of first_count first.now ++ lives_of second_count second.now)) }
+{
+    let mut lives = Vec::with_capacity(alloc, first_count.saturating_add(second_count))?;
+    append_lives(&mut lives, first, first_count)?;
+    append_lives(&mut lives, second, second_count)?;
+    Ok(Lives::Each(Seq::of(lives)))
+}
+
+/// Appends the lives of so many versions.
+fn append_lives(into: &mut Vec<Life>, lives: &Lives, count: usize) -> Result<(), NoMemory>
+    requires covers { Covers count lives.now }
+    ensures { OnOk result (into.new.items ≡ into.old.items ++ lives_of count lives.now) }
+{
+    for i in 0..count {
+        into.push(lives.at(i, count))?;
+    }
+    Ok(())
+}

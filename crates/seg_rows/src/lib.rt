@@ -1,0 +1,19 @@
+//! Sealed segments: rows that never change, each with the position at which it was born and the
+//! position at which it died.
+//!
+//! A change makes a new segment that shares the rows of the old one, and every position keeps
+//! seeing what it saw.
+#![tactic(auto)]
+
+mod hulls;
+mod joins;
+mod kills;
+mod lives;
+mod scans;
+mod segments;
+#[cfg(test)]
+mod tests;
+
+pub use hulls::join_hulls;
+pub use scans::later;
+pub use segments::{Killed, Segment};

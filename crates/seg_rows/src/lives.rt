@@ -1,0 +1,59 @@
+//! Positions of versions: when each was born and when it died.
+ghost use Rattle.std.specs.Prelude.{◌≡◌, ◌<◌, length, slice_index_or};
+ghost use Rattle.seg_rows.specs.Lives.{Covers, is_alive_at, lives_of};
+ghost use Rattle.seg_rows.specs.Versions.{is_dead_at};
+
+use ts_schema::Seq;
+
+/// The positions of one version.
+#[derive(Clone, Copy, Debug)]
+pub struct Life {
+    pub born: u64,
+    pub died: Option<u64>,
+}
+
+/// The positions of a segment's versions.
+#[derive(Drop, Debug)]
+pub enum Lives {
+    /// All were born together, and none has died.
+    Together(u64),
+    /// One life for each.
+    Each(Seq<Life>),
+}
+
+impl Life {
+    /// Whether such a version is visible at a position: it was born at or before it and hasn't died
+    /// at or before it.
+    pub fn is_visible(&self, pos: u64) -> bool
+        ensures visible { result ≡ is_alive_at pos self.now }
+    {
+        self.born <= pos && !self.is_dead(pos)
+    }
+
+    /// Whether such a version died at or before a position.
+    fn is_dead(&self, pos: u64) -> bool
+        ensures { result ≡ is_dead_at pos self.now.died }
+    {
+        match self.died {
+            None => false,
+            Some(died) => died <= pos,
+        }
+    }
+}
+
+impl Lives {
+    /// The life of version `i` of `count`.
+    pub fn at(&self, i: usize, count: usize) -> Life
+        requires covers { Covers count self.now }
+        requires within { i < count }
+        ensures life { result ≡ slice_index_or (lives_of count self.now) i result }
+    {
+        match self {
+            Lives::Together(born) => Life {
+                born: *born,
+                died: None,
+            },
+            Lives::Each(lives) => *lives.get(i),
+        }
+    }
+}

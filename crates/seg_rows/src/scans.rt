@@ -1,0 +1,103 @@
+//! What a position sees of a segment.
+ghost use Rattle.std.specs.Prelude.{◌≡◌, ◌≤◌, ◌++◌, ◌∷◌, [], cond, length, OnOk, OnErr, IfOk, ℕ, take};
+ghost use Rattle.ts_bucket.specs.Spans.{in_span};
+ghost use Rattle.ts_schema.specs.Counts.{raised_by};
+ghost use Rattle.seg_rows.specs.Lives.{Covers, versions_of, with_life};
+ghost use Rattle.seg_rows.specs.Versions.{latest_at, later_time, rows_at, shown_at, visible_at};
+
+use crate::lives::{Life, Lives};
+use ts_bucket::Span;
+use ts_schema::{NoMemory, Row, Seq, Steps};
+
+/// Appends the rows of the span that are visible at a position. Ticks once per version.
+pub fn scan_rows<L>(
+    rows: &[Row],
+    lives: &Lives,
+    pos: u64,
+    span: Span,
+    out: &mut Seq<Row>,
+    steps: &mut Steps<L>,
+) -> Result<(), NoMemory>
+    requires covers { Covers (length rows.now) lives.now }
+    ensures rows { OnOk result (out.new ≡ out.old ++ rows_at pos span (versions_of rows.now lives.now)) }
+    ensures part { OnErr result ((k : ℕ) × (out.new ≡ out.old ++ take k (rows_at pos span (versions_of rows.now lives.now)))) }
+    ensures ticks { OnOk result (steps.new ≡ raised_by (length rows.now) steps.old) }
+    ensures at_most { OnErr result (steps.new ≤ raised_by (length rows.now) steps.old) }
+{
+    let _so_far = steps.count();
+    for (i, row) in rows.iter().enumerate() {
+        steps.tick();
+        let shown = is_shown(row, lives.at(i, rows.len()), pos, span);
+        push_if(shown, row, out)?;
+    }
+    Ok(())
+}
+
+/// Whether a version is visible at a position and its time lies in a span.
+fn is_shown(row: &Row, life: Life, pos: u64, span: Span) -> bool
+    ensures { result ≡ shown_at pos span (with_life row.now life) }
+{
+    life.is_visible(pos) && span_holds(span, row)
+}
+
+/// Whether a span holds the time of a row.
+fn span_holds(span: Span, row: &Row) -> bool
+    ensures { result ≡ in_span span row.now.at }
+{
+    span.lo <= row.at && row.at < span.hi
+}
+
+/// Appends a copy of a row where it is shown.
+fn push_if(shown: bool, row: &Row, out: &mut Seq<Row>) -> Result<(), NoMemory>
+    ensures pushed { OnOk result (out.new ≡ out.old ++ cond shown (row.now ∷ []) []) }
+    ensures kept { OnErr result (out.new ≡ out.old) }
+{
+    if shown {
+        out.push(copy_of(row)?)?;
+    }
+    Ok(())
+}
+
+/// The same row again.
+pub fn copy_of(row: &Row) -> Result<Row, NoMemory>
+    ensures same { IfOk result (λ copy. copy ≡ row.now) }
+{
+    Ok(Row {
+        at: row.at,
+        vals: row.vals.copy()?,
+    })
+}
+
+/// The greatest time that is visible at a position.
+pub fn last_time(rows: &[Row], lives: &Lives, pos: u64) -> Option<i64>
+    requires covers { Covers (length rows.now) lives.now }
+    ensures last { result ≡ latest_at pos (versions_of rows.now lives.now) }
+{
+    let mut last = None;
+    for (i, row) in rows.iter().enumerate() {
+        last = later(last, seen_time(row, lives.at(i, rows.len()), pos));
+    }
+    last
+}
+
+/// The time of a version, where it is visible at a position.
+fn seen_time(row: &Row, life: Life, pos: u64) -> Option<i64>
+    ensures { result ≡ cond (visible_at pos (with_life row.now life)) (Some row.now.at) None }
+{
+    if life.is_visible(pos) {
+        Some(row.at)
+    } else {
+        None
+    }
+}
+
+/// The greater of two times, where there is no time below all others.
+pub fn later(a: Option<i64>, b: Option<i64>) -> Option<i64>
+    ensures later { result ≡ later_time a b }
+{
+    match (a, b) {
+        (None, other) => other,
+        (Some(x), None) => Some(x),
+        (Some(x), Some(y)) => Some(x.max(y)),
+    }
+}

@@ -1,0 +1,165 @@
+//! Segments.
+ghost use Rattle.std.specs.Prelude.{◌≡◌, ◌≤◌, ◌+◌, ◌-◌, ◌^◌, ◌<◌, ◌++◌, length, map, take, ℕ, IfOk, OnOk, OnErr};
+ghost use Rattle.seg_rows.specs.Hulls.{hull_of};
+ghost use Rattle.seg_rows.specs.Versions.{after_kill, latest_at, newborn, rows_at, taken_at, TestsFit};
+ghost use Rattle.ts_schema.specs.Counts.{raised_by};
+
+use crate::joins::{joined_lives, joined_rows};
+use crate::kills::{lives_after, taken_by};
+use crate::lives::Lives;
+use crate::scans::{last_time, scan_rows};
+use std::alloc::Global;
+use std::marker::Model;
+use std::sync::Arc;
+use ts_bucket::{Hull, Span};
+use ts_schema::{NoMemory, Row, Seq, Steps, Test};
+
+/// Rows that never change, with their positions. Contracts see it as the list of its versions.
+///
+/// Segments share rows and positions: a copy takes no memory but the count of its sharers.
+#[derive(Drop)]
+pub struct Segment {
+    alloc: Global,
+    rows: Arc<Seq<Row>>,
+    lives: Arc<Lives>,
+}
+
+impl Model for Segment {
+    ghost use Rattle.std.specs.Prelude.{List, length};
+    ghost use Rattle.seg_rows.specs.Versions.{Version};
+
+    ghost Value = { List Version };
+
+    ghost use Rattle.seg_rows.specs.Lives.{Covers, versions_of};
+
+    ghost view = { λ s. versions_of s.rows.value s.lives.value };
+
+    ghost invariant = { λ s. Covers (length s.rows.value) s.lives.value };
+}
+
+/// What a delete made of a segment.
+#[derive(Drop)]
+pub struct Killed {
+    /// The segment after it.
+    pub segment: Segment,
+    /// How many versions died.
+    pub removed: u64,
+    /// The hull of their times.
+    pub hull: Option<Hull>,
+}
+
+impl Segment {
+    /// The segment of rows that are born at a position.
+    pub fn seal(alloc: Global, rows: Seq<Row>, born: u64) -> Result<Segment, NoMemory>
+        ensures born { IfOk result (λ s. s ≡ map (newborn born) rows) }
+    {
+        Ok(Segment {
+            alloc,
+            rows: Arc::new(alloc, rows)?,
+            lives: Arc::new(alloc, Lives::Together(born))?,
+        })
+    }
+
+    /// How many versions there are.
+    pub fn count(&self) -> u64
+        ensures count { result ≡ length self.now }
+    {
+        self.rows.len() as u64
+    }
+
+    /// The same segment again.
+    pub fn copy(&self) -> Result<Segment, NoMemory>
+        ensures same { IfOk result (λ copy. copy ≡ self.now) }
+    {
+        Ok(Segment {
+            alloc: self.alloc,
+            rows: Arc::try_clone(&self.rows)?,
+            lives: Arc::try_clone(&self.lives)?,
+        })
+    }
+
+    /// The versions of this segment and then those of another.
+    pub fn join(&self, other: &Segment) -> Result<Segment, NoMemory>
+        ensures joined { IfOk result (λ both. both ≡ self.now ++ other.now) }
+    {
+        let rows = joined_rows(self.alloc, self.rows.items(), other.rows.items())?;
+        let lives = joined_lives(
+            self.alloc,
+            &self.lives,
+            self.rows.len(),
+            &other.lives,
+            other.rows.len(),
+        )?;
+        Ok(Segment {
+            alloc: self.alloc,
+            rows: Arc::new(self.alloc, rows)?,
+            lives: Arc::new(self.alloc, lives)?,
+        })
+    }
+
+    /// A delete at a position, which is at least those of the earlier changes: the versions that are
+    /// visible there and pass every test die there. Every version stays.
+    pub fn kill(&self, tests: &Seq<Test>, pos: u64) -> Result<Killed, NoMemory>
+        requires fit { TestsFit tests.now self.now }
+        ensures after { IfOk result (λ k. k.segment ≡ map (after_kill pos tests.now) self.now) }
+        ensures removed { IfOk result (λ k. k.removed ≡ length (taken_at pos tests.now self.now)) }
+        ensures hull { IfOk result (λ k. k.hull ≡ hull_of (taken_at pos tests.now self.now)) }
+    {
+        let taken = taken_by(self.rows.items(), &self.lives, tests, pos);
+        Ok(Killed {
+            segment: self.after(taken.removed, tests, pos)?,
+            removed: taken.removed,
+            hull: taken.hull,
+        })
+    }
+
+    /// The segment after a delete at a position that takes so many versions.
+    fn after(&self, removed: u64, tests: &Seq<Test>, pos: u64) -> Result<Segment, NoMemory>
+        requires fit { TestsFit tests.now self.now }
+        requires counted { removed ≡ length (taken_at pos tests.now self.now) }
+        ensures after { IfOk result (λ s. s ≡ map (after_kill pos tests.now) self.now) }
+    {
+        if removed == 0 {
+            self.copy()
+        } else {
+            self.with_deaths(tests, pos)
+        }
+    }
+
+    /// The same rows after a delete at a position.
+    fn with_deaths(&self, tests: &Seq<Test>, pos: u64) -> Result<Segment, NoMemory>
+        requires fit { TestsFit tests.now self.now }
+        ensures after { IfOk result (λ s. s ≡ map (after_kill pos tests.now) self.now) }
+    {
+        let lives = lives_after(self.alloc, self.rows.items(), &self.lives, tests, pos)?;
+        Ok(Segment {
+            alloc: self.alloc,
+            rows: Arc::try_clone(&self.rows)?,
+            lives: Arc::new(self.alloc, Lives::Each(lives))?,
+        })
+    }
+
+    /// Appends the rows of the span that are visible at a position, in the order of the versions.
+    /// Ticks once per version. After want of memory `out` has gained the first of these rows.
+    pub fn scan<L>(
+        &self,
+        pos: u64,
+        span: Span,
+        out: &mut Seq<Row>,
+        steps: &mut Steps<L>,
+    ) -> Result<(), NoMemory>
+        ensures rows { OnOk result (out.new ≡ out.old ++ rows_at pos span self.now) }
+        ensures part { OnErr result ((k : ℕ) × (out.new ≡ out.old ++ take k (rows_at pos span self.now))) }
+        ensures ticks { OnOk result (steps.new ≡ raised_by (length self.now) steps.old) }
+        ensures at_most { OnErr result (steps.new ≤ raised_by (length self.now) steps.old) }
+    {
+        scan_rows(self.rows.items(), &self.lives, pos, span, out, steps)
+    }
+
+    /// The greatest time that is visible at a position, and `None` exactly where no version is.
+    pub fn last(&self, pos: u64) -> Option<i64>
+        ensures last { result ≡ latest_at pos self.now }
+    {
+        last_time(self.rows.items(), &self.lives, pos)
+    }
+}

@@ -1,0 +1,5 @@
+mod Places
+mod EdgeLaws
+mod ChangeLaws
+mod FloorLaws
+mod PieceLaws

@@ -1,0 +1,27 @@
+-- Changes of the values within a span.
+use Rattle.std.specs.Prelude.{◌≡◌, ℕ, cond, ℤ, List, Option, Some, None, int_lt, [], ◌∷◌}
+use Rattle.ts_bucket.specs.Positions.{later, above}
+use Rattle.ts_bucket.specs.Spans.{SpanValue, in_span}
+use Rattle.span_map.specs.Edges.{value_from}
+use Rattle.span_map.specs.declared.edges.Edge.{Edge}
+use Rattle.span_map.specs.declared.changes.Change.{Change}
+use Rattle.span_map.specs.declared.changes.Change.TheVariants.{Set, ClearUpto, Raise}
+
+-- what a change makes of a value
+abbrev pub changed : Change → Option ℕ → Option ℕ
+changed (Set p) v = Some p
+changed (ClearUpto p) v = above p v
+changed (Raise p) v = later v (Some p)
+
+-- what a change within a span makes of an edge
+abbrev pub edge_changed : SpanValue → Change → Edge → Edge
+edge_changed s c e = record { from = e.from; value = cond (in_span s e.from) (changed c e.value) e.value }
+
+-- the edges with one at t more, where there was none, that changes no value
+abbrev pub with_edge : Option ℕ → ℤ → List Edge → List Edge
+with_edge v t [] = record { from = t; value = v } ∷ []
+with_edge v t (e ∷ es) = cond (int_lt t e.from) (record { from = t; value = v } ∷ e ∷ es) (cond (int_lt e.from t) (e ∷ with_edge e.value t es) (e ∷ es))
+
+-- within the span each value of the new edges is what the change makes of the old value, and elsewhere it is the old value
+abbrev pub ChangesValues : SpanValue → Change → List Edge → List Edge → Type 0
+ChangesValues s c old new = (t : ℤ) → value_from None new t ≡ cond (in_span s t) (changed c (value_from None old t)) (value_from None old t)

@@ -1,0 +1,5 @@
+pub mod Edges
+pub mod Changes
+pub mod Maps
+pub mod Pieces
+pub mod Floors

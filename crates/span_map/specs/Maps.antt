@@ -1,0 +1,17 @@
+-- A map as a partial function from whole numbers to positions, and its room.
+use Rattle.std.specs.Prelude.{ℕ, ℤ, List, Option, None}
+use Rattle.span_map.specs.declared.edges.Edge.{Edge}
+use Rattle.span_map.specs.Edges.{value_from, piece_count}
+
+-- what contracts see of a `SpanMap`: its edges, and how many more there is room for
+pub record MapValue : Type 0 where
+  pub edges : List Edge
+  pub room : ℕ
+
+-- the value of the map at t, if it has one
+abbrev pub at : MapValue → ℤ → Option ℕ
+at m t = value_from None m.edges t
+
+-- how many pieces the map has
+abbrev pub piece_count_of : MapValue → ℕ
+piece_count_of m = piece_count m.edges

@@ -1,0 +1,29 @@
+//! Changes of the values within a span.
+
+ghost use Rattle.std.specs.Prelude.{◌≡◌};
+ghost use Rattle.span_map.specs.Changes.{changed};
+
+/// What becomes of a value.
+#[derive(Clone, Copy, Debug)]
+pub(crate) enum Change {
+    /// It becomes this position.
+    Set(u64),
+    /// It goes where it is at most this position.
+    ClearUpto(u64),
+    /// It becomes this position where it was below or wasn't there.
+    Raise(u64),
+}
+
+/// What the change makes of a value.
+pub(crate) fn applied(change: Change, value: Option<u64>) -> Option<u64>
+    ensures { result ≡ changed change value }
+{
+    match change {
+        Change::Set(pos) => Some(pos),
+        Change::ClearUpto(pos) => value.filter(|old| pos < *old),
+        Change::Raise(pos) => match value {
+            Some(old) => Some(old.max(pos)),
+            None => Some(pos),
+        },
+    }
+}

@@ -1,0 +1,154 @@
+//! Edges: the numbers at which the value of a map changes, in rising order.
+
+ghost use Rattle.std.specs.Prelude.{◌≡◌, ◌+◌, ◌<◌, ◌≤◌, None, MatchOption, length, map, take, drop, insert, vec_len, vec_capacity};
+ghost use Rattle.std.specs.List.{dedup};
+ghost use Rattle.span_map.specs.Changes.{edge_changed, with_edge, ChangesValues};
+ghost use Rattle.span_map.specs.Edges.{IsRising, value_from, last_value, place_upto, place_below, begins_at, same_value, piece_count};
+
+use crate::changes::{Change, applied};
+use ts_bucket::Span;
+
+/// From this number on, up to the next edge, the map has this value.
+#[derive(Clone, Copy, Debug, PartialEq, Eq)]
+pub(crate) struct Edge {
+    pub from: i64,
+    pub value: Option<u64>,
+}
+
+/// How many edges are at or below `t`.
+pub(crate) fn places_upto(edges: &[Edge], t: i64) -> usize
+    requires { IsRising edges.now }
+    ensures place { result ≡ place_upto t edges.now }
+    ensures bound { result ≤ length edges.now }
+{
+    edges.partition_point(|edge| edge.from <= t)
+}
+
+/// How many edges are below `t`.
+pub(crate) fn places_below(edges: &[Edge], t: i64) -> usize
+    requires { IsRising edges.now }
+    ensures place { result ≡ place_below t edges.now }
+    ensures bound { result ≤ length edges.now }
+{
+    edges.partition_point(|edge| edge.from < t)
+}
+
+/// The value that the first `count` edges end with.
+pub(crate) fn value_after(edges: &[Edge], count: usize) -> Option<u64>
+    requires { count ≤ length edges.now }
+    ensures { result ≡ last_value None (take count edges.now) }
+{
+    if count == 0 {
+        None
+    } else {
+        edges[count - 1].value
+    }
+}
+
+/// How many pieces the edges begin.
+pub(crate) fn count_pieces(edges: &[Edge]) -> usize
+    ensures { result ≡ piece_count edges.now }
+{
+    edges.iter().filter(|edge| edge.value.is_some()).count()
+}
+
+/// The value of the edges at `t`.
+pub(crate) fn value_at(edges: &[Edge], t: i64) -> Option<u64>
+    requires { IsRising edges.now }
+    ensures { result ≡ value_from None edges.now t }
+{
+    value_after(edges, places_upto(edges, t))
+}
+
+/// Whether the edge at place `i` is there and at `t`.
+fn is_at(edges: &[Edge], i: usize, t: i64) -> bool
+    ensures { result ≡ begins_at t (drop i edges.now) }
+{
+    i < edges.len() && edges[i].from == t
+}
+
+/// The edge that is missing at `t`, which changes no value, and its place.
+fn missing_edge(edges: &[Edge], t: i64) -> Option<(usize, Edge)>
+    requires { IsRising edges.now }
+    ensures { MatchOption result (with_edge None t edges.now ≡ edges.now) (λ missing. (missing.0 ≤ length edges.now) × (insert edges.now missing.0 missing.1 ≡ with_edge None t edges.now)) }
+{
+    let place = places_below(edges, t);
+    if is_at(edges, place, t) {
+        return None;
+    }
+    let value = value_after(edges, place);
+    Some((place, Edge { from: t, value }))
+}
+
+/// Inserts an edge, for which there is room.
+fn put(edges: &mut Vec<Edge>, place: usize, edge: Edge)
+    requires within { place ≤ vec_len edges.old }
+    requires room { vec_len edges.old < vec_capacity edges.old }
+    ensures items { edges.new.items ≡ insert edges.old.items place edge }
+    ensures len { vec_len edges.new ≡ vec_len edges.old + 1 }
+    ensures capacity { vec_capacity edges.new ≡ vec_capacity edges.old }
+{
+    let _ = edges.insert(place, edge);
+}
+
+/// Puts an edge at `t` where there is none, which changes no value.
+fn split(edges: &mut Vec<Edge>, t: i64)
+    requires rising { IsRising edges.old.items }
+    requires room { vec_len edges.old < vec_capacity edges.old }
+    ensures items { edges.new.items ≡ with_edge None t edges.old.items }
+    ensures len { vec_len edges.new ≤ vec_len edges.old + 1 }
+    ensures capacity { vec_capacity edges.new ≡ vec_capacity edges.old }
+{
+    if let Some((place, edge)) = missing_edge(edges, t) {
+        put(edges, place, edge);
+    }
+}
+
+/// The edge after a change within a span.
+fn changed_edge(edge: Edge, span: Span, change: Change) -> Edge
+    ensures { result ≡ edge_changed span change edge }
+{
+    if span.lo <= edge.from && edge.from < span.hi {
+        Edge {
+            from: edge.from,
+            value: applied(change, edge.value),
+        }
+    } else {
+        edge
+    }
+}
+
+/// Changes the value of each edge within the span.
+fn change_within(edges: &mut [Edge], span: Span, change: Change)
+    ensures { edges.new ≡ map (edge_changed span change) edges.old }
+{
+    for edge in edges.iter_mut() {
+        *edge = changed_edge(*edge, span, change);
+    }
+}
+
+/// Drops each edge that begins the value that was there before it.
+fn merge(edges: &mut Vec<Edge>)
+    ensures items { edges.new.items ≡ dedup same_value edges.old.items }
+    ensures len { vec_len edges.new ≤ vec_len edges.old }
+    ensures capacity { vec_capacity edges.new ≡ vec_capacity edges.old }
+{
+    edges.dedup_by_key(|edge| edge.value);
+}
+
+/// Changes the value of each number within the span.
+pub(crate) fn change_values(edges: &mut Vec<Edge>, span: Span, change: Change)
+    requires rising { IsRising edges.old.items }
+    requires room { vec_len edges.old + 2 ≤ vec_capacity edges.old }
+    ensures values { ChangesValues span change edges.old.items edges.new.items }
+    ensures rising { IsRising edges.new.items }
+    ensures len { vec_len edges.new ≤ vec_len edges.old + 2 }
+    ensures capacity { vec_capacity edges.new ≡ vec_capacity edges.old }
+{
+    if span.lo < span.hi {
+        split(edges, span.lo);
+        split(edges, span.hi);
+        change_within(edges, span, change);
+        merge(edges);
+    }
+}

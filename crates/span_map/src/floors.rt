@@ -1,0 +1,93 @@
+//! Assigning where another map, the floor, has nothing or less.
+
+ghost use Rattle.std.specs.Prelude.{◌≡◌, ℤ, ◌+◌, ◌*◌, ◌≤◌, ◌&&◌, cond, vec_len, vec_capacity};
+ghost use Rattle.ts_bucket.specs.Positions.{is_before};
+ghost use Rattle.ts_bucket.specs.Spans.{in_span};
+ghost use Rattle.span_map.specs.Edges.{IsRising, value_from, piece_count, has_value};
+ghost use Rattle.span_map.specs.Floors.{run_filled, run_past, value_past};
+
+use crate::changes::Change;
+use crate::edges::{Edge, change_values};
+use ts_bucket::Span;
+
+/// Whether there is no position, or one below `pos`.
+fn is_lower(value: Option<u64>, pos: u64) -> bool
+    ensures { result ≡ is_before pos value }
+{
+    match value {
+        Some(old) => old < pos,
+        None => true,
+    }
+}
+
+/// Assigns the numbers of an open run: those from its start on and below `end`.
+fn close_run(edges: &mut Vec<Edge>, run: Option<i64>, end: i64, pos: u64)
+    requires rising { IsRising edges.old.items }
+    requires room { vec_len edges.old + 2 ≤ vec_capacity edges.old }
+    ensures values { (t : ℤ) → value_from None edges.new.items t ≡ run_filled run end pos (value_from None edges.old.items t) t }
+    ensures rising { IsRising edges.new.items }
+    ensures len { vec_len edges.new ≤ vec_len edges.old + 2 }
+    ensures capacity { vec_capacity edges.new ≡ vec_capacity edges.old }
+{
+    match run {
+        Some(from) => assign_between(edges, from, end, pos),
+        None => {}
+    }
+}
+
+/// Assigns the numbers from `from` on and below `end`, if there are any.
+fn assign_between(edges: &mut Vec<Edge>, from: i64, end: i64, pos: u64)
+    requires rising { IsRising edges.old.items }
+    requires room { vec_len edges.old + 2 ≤ vec_capacity edges.old }
+    ensures values { (t : ℤ) → value_from None edges.new.items t ≡ run_filled (Some from) end pos (value_from None edges.old.items t) t }
+    ensures rising { IsRising edges.new.items }
+    ensures len { vec_len edges.new ≤ vec_len edges.old + 2 }
+    ensures capacity { vec_capacity edges.new ≡ vec_capacity edges.old }
+{
+    if from < end {
+        change_values(edges, Span { lo: from, hi: end }, Change::Set(pos));
+    }
+}
+
+/// Where a run is open after an edge of the floor.
+fn run_after(run: Option<i64>, edge: Edge, span: Span, pos: u64) -> Option<i64>
+    ensures { result ≡ run_past span pos run edge }
+{
+    if !is_lower(edge.value, pos) {
+        return None;
+    }
+    match run {
+        Some(from) => Some(from),
+        None => Some(edge.from.max(span.lo)),
+    }
+}
+
+/// Assigns what is left of a run where an edge of the floor ends it.
+fn pass_edge(edges: &mut Vec<Edge>, run: Option<i64>, edge: Edge, span: Span, pos: u64)
+    requires rising { IsRising edges.old.items }
+    requires room { vec_len edges.old + 2 ≤ vec_capacity edges.old }
+    ensures values { (t : ℤ) → value_from None edges.new.items t ≡ value_past span pos run edge (value_from None edges.old.items t) t }
+    ensures rising { IsRising edges.new.items }
+    ensures len { vec_len edges.new ≤ vec_len edges.old + 2 * cond (has_value edge) 1 0 }
+    ensures capacity { vec_capacity edges.new ≡ vec_capacity edges.old }
+{
+    if !is_lower(edge.value, pos) {
+        close_run(edges, run, edge.from.min(span.hi), pos);
+    }
+}
+
+/// Assigns `pos` to each number of the span at which the floor has nothing or less.
+pub(crate) fn assign_above_floor(edges: &mut Vec<Edge>, span: Span, pos: u64, floor: &[Edge])
+    requires rising { IsRising edges.old.items }
+    requires floor_rising { IsRising floor.now }
+    requires room { vec_len edges.old + 2 * (piece_count floor.now + 1) ≤ vec_capacity edges.old }
+    ensures values { (t : ℤ) → value_from None edges.new.items t ≡ cond (in_span span t && is_before pos (value_from None floor.now t)) (Some pos) (value_from None edges.old.items t) }
+    ensures rising { IsRising edges.new.items }
+{
+    let mut run = Some(span.lo);
+    for edge in floor {
+        pass_edge(edges, run, *edge, span, pos);
+        run = run_after(run, *edge, span, pos);
+    }
+    close_run(edges, run, span.hi, pos);
+}

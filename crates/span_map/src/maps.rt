@@ -1,0 +1,134 @@
+//! The map.
+
+ghost use Rattle.std.specs.Prelude.{◌≡◌, ◌==◌, ℤ, ◌+◌, ◌*◌, ◌^◌, ◌<◌, ◌≤◌, ◌&&◌, cond, IfOk, OnOk};
+ghost use Rattle.ts_bucket.specs.Positions.{later, above, is_before};
+ghost use Rattle.ts_bucket.specs.Spans.{in_span};
+ghost use Rattle.span_map.specs.Maps.{at, piece_count_of};
+ghost use Rattle.span_map.specs.Pieces.{piece_at, ArePieces};
+
+use crate::changes::Change;
+use crate::edges::{Edge, change_values, count_pieces, value_at};
+use crate::floors::assign_above_floor;
+use crate::pieces::{Piece, pieces_within};
+use std::alloc::Global;
+use std::marker::Model;
+use ts_bucket::Span;
+use ts_schema::{NoMemory, Seq};
+
+/// A partial function from whole numbers to positions.
+#[derive(Drop, Debug)]
+pub struct SpanMap {
+    edges: Vec<Edge>,
+}
+
+impl Model for SpanMap {
+    ghost use Rattle.std.specs.Prelude.{◌-◌, vec_len, vec_capacity};
+    ghost use Rattle.span_map.specs.Edges.{IsRising};
+    ghost use Rattle.span_map.specs.Maps.{MapValue};
+
+    ghost Value = { MapValue };
+
+    ghost view = { λ m. record { edges = m.edges.items; room = vec_capacity m.edges - vec_len m.edges } };
+
+    ghost invariant = { λ m. IsRising m.edges.items };
+}
+
+impl SpanMap {
+    /// The map with no value. It takes no memory.
+    pub fn new(alloc: Global) -> SpanMap
+        ensures values { (t : ℤ) → at result t ≡ None }
+        ensures pieces { piece_count_of result ≡ 0 }
+    {
+        SpanMap {
+            edges: Vec::new(alloc),
+        }
+    }
+
+    /// How many pieces the map has.
+    pub fn len(&self) -> usize
+        ensures pieces { result ≡ piece_count_of self.now }
+        ensures small { result < 2 ^ 63 }
+    {
+        count_pieces(&self.edges)
+    }
+
+    /// Whether the map has no value.
+    pub fn is_empty(&self) -> bool
+        ensures pieces { result ≡ (piece_count_of self.now == 0) }
+    {
+        self.len() == 0
+    }
+
+    /// The value at `t`, if there is one.
+    pub fn at(&self, t: i64) -> Option<u64>
+        ensures value { result ≡ at self.now t }
+    {
+        value_at(&self.edges, t)
+    }
+
+    /// The same map again. Its room may differ.
+    pub fn copy(&self) -> Result<SpanMap, NoMemory>
+        ensures values { IfOk result (λ copy. (t : ℤ) → at copy t ≡ at self.now t) }
+        ensures pieces { IfOk result (λ copy. piece_count_of copy ≡ piece_count_of self.now) }
+    {
+        Ok(SpanMap {
+            edges: self.edges.clone()?,
+        })
+    }
+
+    /// Makes the spare room at least `n`. The values stay.
+    pub fn reserve(&mut self, n: usize) -> Result<(), NoMemory>
+        ensures room { OnOk result (n ≤ self.new.room) }
+        ensures values { (t : ℤ) → at self.new t ≡ at self.old t }
+        ensures pieces { piece_count_of self.new ≡ piece_count_of self.old }
+        ensures small { self.new.room < 2 ^ 63 }
+    {
+        self.edges.reserve(n)?;
+        Ok(())
+    }
+
+    /// Gives each number of the span this position.
+    pub fn assign(&mut self, span: Span, pos: u64)
+        requires { 2 ≤ self.old.room }
+        ensures values { (t : ℤ) → at self.new t ≡ cond (in_span span t) (Some pos) (at self.old t) }
+        ensures room { self.old.room ≤ self.new.room + 2 }
+    {
+        change_values(&mut self.edges, span, Change::Set(pos));
+    }
+
+    /// Takes away the values of the span that are at most `pos`.
+    pub fn clear_upto(&mut self, span: Span, pos: u64)
+        requires { 2 ≤ self.old.room }
+        ensures values { (t : ℤ) → at self.new t ≡ cond (in_span span t) (above pos (at self.old t)) (at self.old t) }
+        ensures room { self.old.room ≤ self.new.room + 2 }
+    {
+        change_values(&mut self.edges, span, Change::ClearUpto(pos));
+    }
+
+    /// Gives each number of the span the later of its position and `pos`.
+    pub fn raise(&mut self, span: Span, pos: u64)
+        requires { 3 + piece_count_of self.old ≤ self.old.room }
+        ensures values { (t : ℤ) → at self.new t ≡ cond (in_span span t) (later (at self.old t) (Some pos)) (at self.old t) }
+        ensures room { self.old.room ≤ self.new.room + 2 }
+    {
+        change_values(&mut self.edges, span, Change::Raise(pos));
+    }
+
+    /// Gives each number of the span at which `floor` has nothing, or less than `pos`, this
+    /// position.
+    pub fn assign_above(&mut self, span: Span, pos: u64, floor: &SpanMap)
+        requires { 3 * (piece_count_of floor.now + 1) ≤ self.old.room }
+        ensures values { (t : ℤ) → at self.new t ≡ cond (in_span span t && is_before pos (at floor.now t)) (Some pos) (at self.old t) }
+    {
+        assign_above_floor(&mut self.edges, span, pos, &floor.edges);
+    }
+
+    /// The pieces within the span: each number of the span that has a value is in one of them, and
+    /// in no other, and has its value. They rise.
+    pub fn ranges(&self, span: Span) -> Result<Seq<Piece>, NoMemory>
+        ensures values { IfOk result (λ pieces. (t : ℤ) → piece_at pieces t ≡ cond (in_span span t) (at self.now t) None) }
+        ensures rising { IfOk result (λ pieces. ArePieces span.lo span.hi pieces) }
+    {
+        pieces_within(*self.edges.allocator(), &self.edges, span)
+    }
+}

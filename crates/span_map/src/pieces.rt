@@ -1,0 +1,78 @@
+//! Pieces of a map: spans with one value each.
+
+ghost use Rattle.std.specs.Prelude.{◌≡◌, ℤ, ◌++◌, cond, IfOk};
+ghost use Rattle.ts_bucket.specs.Spans.{in_span};
+ghost use Rattle.span_map.specs.Edges.{IsRising, value_from};
+ghost use Rattle.span_map.specs.Pieces.{piece_of, pieces_from, piece_at, ArePieces};
+
+use crate::edges::{Edge, places_below, places_upto, value_after};
+use std::alloc::Global;
+use ts_bucket::Span;
+use ts_schema::{NoMemory, Seq};
+
+/// A span all of whose numbers have the same value.
+#[derive(Clone, Copy, Debug, PartialEq, Eq)]
+pub struct Piece {
+    pub span: Span,
+    pub pos: u64,
+}
+
+/// Appends the piece from one edge to the next, where it has numbers and a value.
+fn push_piece(pieces: &mut Vec<Piece>, start: Edge, end: Edge) -> Result<(), NoMemory>
+    ensures { IfOk result (λ _. pieces.new.items ≡ pieces.old.items ++ piece_of start.from end.from start.value) }
+{
+    match start.value {
+        Some(pos) if start.from < end.from => {
+            let span = Span {
+                lo: start.from,
+                hi: end.from,
+            };
+            pieces.push(Piece { span, pos })?;
+            Ok(())
+        }
+        _ => Ok(()),
+    }
+}
+
+/// The pieces from the start on and below the end, where the edges are those between the two.
+fn pieces_between(
+    alloc: Global,
+    start: Edge,
+    edges: &[Edge],
+    end: Edge,
+) -> Result<Seq<Piece>, NoMemory>
+    ensures { IfOk result (λ pieces. pieces ≡ pieces_from start.from end.from start.value edges.now) }
+{
+    let mut pieces = Vec::new(alloc);
+    let mut last = start;
+    for edge in edges {
+        push_piece(&mut pieces, last, *edge)?;
+        last = *edge;
+    }
+    push_piece(&mut pieces, last, end)?;
+    Ok(Seq::of(pieces))
+}
+
+/// The pieces of these edges within the span.
+pub(crate) fn pieces_within(
+    alloc: Global,
+    edges: &[Edge],
+    span: Span,
+) -> Result<Seq<Piece>, NoMemory>
+    requires { IsRising edges.now }
+    ensures values { IfOk result (λ pieces. (t : ℤ) → piece_at pieces t ≡ cond (in_span span t) (value_from None edges.now t) None) }
+    ensures rising { IfOk result (λ pieces. ArePieces span.lo span.hi pieces) }
+{
+    let first = places_upto(edges, span.lo);
+    let (_, later) = edges.split_at(first);
+    let (between, _) = later.split_at(places_below(later, span.hi));
+    let start = Edge {
+        from: span.lo,
+        value: value_after(edges, first),
+    };
+    let end = Edge {
+        from: span.hi,
+        value: None,
+    };
+    pieces_between(alloc, start, between, end)
+}

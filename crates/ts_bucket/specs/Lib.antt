@@ -1,0 +1,4 @@
+pub mod Bucket
+pub mod Spans
+pub mod Windows
+pub mod Positions

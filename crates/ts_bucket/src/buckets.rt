@@ -1,0 +1,53 @@
+//! Widths, and the bucket of a time.
+
+ghost use Rattle.std.specs.Prelude.{◌≡◌, ◌↔◌, IsTrue, IsSome, IfSome};
+ghost use Rattle.ts_bucket.specs.Bucket.{IsWidth, IsBucketOf, IsNearTimes, IsWithinReach, bucket_of, first_of};
+
+use crate::times::MIN_TIME;
+use crate::widths::Width;
+
+/// The greatest step of a width.
+const MAX_STEP: i64 = 1_099_511_627_776;
+
+/// The width with this step and this shift, or `None` where they break its bounds.
+pub fn width(step: i64, shift: i64) -> Option<Width>
+    ensures within { IsSome result ↔ IsWidth (record { step = step; shift = shift }) }
+    ensures value { IfSome result (λ w. w ≡ record { step = step; shift = shift }) }
+{
+    if 0 < step && step <= MAX_STEP && 0 <= shift && shift < step {
+        Some(Width { step, shift })
+    } else {
+        None
+    }
+}
+
+/// The start of the bucket that holds `t`, which lies a little further outside the range of times
+/// than `bucket` allows.
+pub(crate) fn bucket_start(w: Width, t: i64) -> i64
+    requires { IsWithinReach t }
+    ensures bucket { IsBucketOf w t result }
+    ensures value { result ≡ bucket_of w t }
+    ensures bounds { IsWidth w }
+{
+    t - (t - w.shift).rem_euclid(w.step)
+}
+
+/// The start of the bucket that holds `t`, which lies within 2^41 of the range of times. Negative
+/// times round down, as all others do.
+pub fn bucket(w: Width, t: i64) -> i64
+    requires { IsNearTimes t }
+    ensures bucket { IsBucketOf w t result }
+    ensures value { result ≡ bucket_of w t }
+    ensures bounds { IsWidth w }
+{
+    bucket_start(w, t)
+}
+
+/// The start of the first bucket: the one that holds the least time.
+pub fn first(w: Width) -> i64
+    ensures bucket { IsBucketOf w MIN_TIME result }
+    ensures value { result ≡ first_of w }
+    ensures bounds { IsWidth w }
+{
+    bucket_start(w, MIN_TIME)
+}

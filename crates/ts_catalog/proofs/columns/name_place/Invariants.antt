@@ -1,0 +1,12 @@
+use Rattle.std.proofs.Common.{◌≡◌, ◌+◌, length}
+use Rattle.ts_catalog.specs.Columns.{place_from}
+use Rattle.ts_catalog.proofs.columns.name_place.Given as goal
+
+-- what is left decides
+abbrev pub invariant-loop-left : goal.invariant-loop-left
+invariant-loop-left l =
+    (place_from l.fn.name 0 l.fn.names ≡ place_from l.fn.name l.place l.left)
+    × (l.place + length l.left ≡ length l.fn.names)
+
+abbrev pub decreases-loop-left : goal.decreases-loop-left
+decreases-loop-left l = length l.left

@@ -1,0 +1,19 @@
+-- The line began with bytes that are gone, goes on with those held, and is too long already.
+use Rattle.std.proofs.Common.{◌≡◌, ◌<◌, ◌≤◌, true, [], length, take}
+use Rattle.std.specs.Io.KnownBytes.{prepend_known}
+use Rattle.ts_io.specs.Lines.{ended_lines}
+use Rattle.ts_io.proofs.Skipping.{Skips}
+use Rattle.ts_io.proofs.line_reader.Lines.skip_line.Given as goal
+
+abbrev pub invariant-loop-self : goal.invariant-loop-self
+invariant-loop-self g l = record {
+  skips : Skips (prepend_known l.initial.self.held (g.S.Source.left l.initial.source)) (prepend_known l.self.held (g.S.Source.left l.source))
+      l.initial.self.allowed l.self.allowed (length l.self.held);
+  none : ended_lines (take l.self.allowed l.self.held) ≡ [];
+  some : 0 < length l.self.held;
+  is_open : l.self.is_open ≡ true;
+  no_fall : g.S.Source.faults l.initial.source ≤ g.S.Source.faults l.source;
+}
+
+abbrev pub decreases-loop-self : goal.decreases-loop-self
+decreases-loop-self g l = l.self.allowed

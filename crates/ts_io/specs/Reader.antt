@@ -1,0 +1,56 @@
+-- A reader of lines over a source.
+use Rattle.std.specs.Prelude.{◌≡◌, ℕ, ◌+◌, ◌<◌, ◌≤◌, Bool, true, false, List, [], ◌∷◌, length, Option, None, Some, ⊤}
+use Rattle.ts_io.specs.Lines.{lines_within}
+use Rattle.ts_io.specs.declared.line_reader.TheConstants.{LINE_LIMIT}
+use Rattle.ts_io.specs.declared.line_reader.LineEnd.{LineEnd}
+use Rattle.ts_io.specs.declared.line_reader.LineEnd.TheVariants.{Line, LineLong, End, InputLong, ReadFault}
+
+-- the bytes taken and not yet given, how many bytes from these on lie within the limit of the input, the line given last, and whether there may be another
+pub record Reading : Type 0 where
+  pub held : List ℕ
+  pub allowed : ℕ
+  pub line : List ℕ
+  pub is_open : Bool
+
+-- the first of the lines is too long, and these follow
+abbrev pub SkipsLong : List (List ℕ) → List (List ℕ) → Type 0
+SkipsLong [] rest = ⊥
+SkipsLong (line ∷ lines) rest = (LINE_LIMIT < length line) × (lines ≡ rest)
+
+-- what each answer says of the text to come, of which n bytes were allowed, and of the text to come after it, of which m bytes are
+abbrev pub Answers : LineEnd → ℕ → List ℕ → ℕ → List ℕ → List ℕ → Type 0
+Answers Line n text m rest line = (lines_within n text ≡ line ∷ lines_within m rest) × (length line ≤ LINE_LIMIT)
+Answers LineLong n text m rest line = SkipsLong (lines_within n text) (lines_within m rest)
+Answers End n text m rest line = (lines_within n text ≡ []) × (text ≡ []) × (rest ≡ [])
+Answers InputLong n text m rest line = (lines_within n text ≡ []) × (n < length text)
+Answers ReadFault n text m rest line = ⊤
+
+-- the same, where the text to come is told
+abbrev pub ReadsLine : LineEnd → ℕ → Option (List ℕ) → ℕ → Option (List ℕ) → List ℕ → Type 0
+ReadsLine end n None m new line = ⊤
+ReadsLine end n (Some text) m None line = ⊥
+ReadsLine end n (Some text) m (Some rest) line = Answers end n text m rest line
+
+-- a line takes at least a byte and at least its own bytes of those that were allowed, and a line that is too long more than a line may have
+abbrev pub Spends : LineEnd → ℕ → ℕ → List ℕ → Type 0
+Spends Line n m line = (length line ≤ LINE_LIMIT) × (m < n) × (m + length line ≤ n)
+Spends LineLong n m line = m + LINE_LIMIT < n
+Spends End n m line = ⊤
+Spends InputLong n m line = ⊤
+Spends ReadFault n m line = ⊤
+
+-- whether another line may follow
+abbrev pub goes_on : LineEnd → Bool
+goes_on Line = true
+goes_on LineLong = true
+goes_on End = false
+goes_on InputLong = false
+goes_on ReadFault = false
+
+-- P holds where a read failed
+abbrev pub IfReadFault : LineEnd → Type 0 → Type 0
+IfReadFault Line P = ⊤
+IfReadFault LineLong P = ⊤
+IfReadFault End P = ⊤
+IfReadFault InputLong P = ⊤
+IfReadFault ReadFault P = P

@@ -1,0 +1,305 @@
+//! A reader of lines, which holds a bounded number of bytes at a time.
+ghost use Rattle.std.specs.Prelude.{◌≡◌, ◌≢◌, ℕ, ◌+◌, ◌-◌, ◌<◌, ◌≤◌, List, [], Option, true, false, length, take, drop, nat_lt, vec_len, vec_capacity, IfOk, IfSome, MatchOption};
+ghost use Rattle.std.specs.Io.KnownBytes.{Consumes, IsAtEnd, prepend_known};
+ghost use Rattle.ts_schema.specs.Faults.{Rose};
+ghost use Rattle.ts_io.specs.Source.{Fills, IfFailed};
+ghost use Rattle.ts_io.specs.Lines.{ended_lines, IsFirstEnd};
+ghost use Rattle.ts_io.specs.Reader.{ReadsLine, Spends, goes_on, IfReadFault};
+ghost use Rattle.ts_io.specs.declared.whole.TheConstants.{INPUT_LIMIT};
+ghost use Rattle.ts_io.specs.declared.pieces.TheConstants.{PIECE};
+
+use crate::line_ends::first_end_after;
+use crate::pieces::{PIECE, read_into};
+use crate::sources::{Got, Source};
+use crate::whole::INPUT_LIMIT;
+use std::alloc::Global;
+use std::marker::Model;
+use ts_schema::NoMemory;
+
+/// How many bytes a line may have before its line end.
+pub const LINE_LIMIT: usize = 65_536;
+
+/// How many bytes a reader of lines holds at most.
+pub const HELD_LIMIT: usize = LINE_LIMIT + PIECE;
+
+/// What a reader of lines found.
+#[derive(Clone, Copy, Debug, PartialEq, Eq)]
+pub enum LineEnd {
+    /// The next line, which `Lines::line` gives.
+    Line,
+    /// The next line ends within the limit of the input and has more than 65,536 bytes. It is skipped.
+    LineLong,
+    /// The input came to its end, and no line is left.
+    End,
+    /// The source gave a byte beyond the limit of the input, and no line that ends within it is left.
+    InputLong,
+    /// A read failed, and the source's count of faults rose.
+    ReadFault,
+}
+
+/// A reader of lines. A line ends with the byte LF, and bytes after the last one form a line where
+/// there are any. At most 67,108,864 bytes of the input are read as lines.
+#[derive(Drop)]
+pub struct Lines {
+    /// The bytes taken: those before `start` were given, and the others are held.
+    bytes: Vec<u8>,
+    start: usize,
+    /// Where the line given last stands in `bytes`.
+    line_from: usize,
+    line_to: usize,
+    /// How many bytes from those held on lie within the limit of the input. One more may be held.
+    allowed: usize,
+    is_open: bool,
+    /// What one read fills.
+    piece: Vec<u8>,
+}
+
+impl Model for Lines {
+    ghost use Rattle.std.specs.Prelude.{◌≡◌, ◌+◌, ◌≤◌, drop, slice_range, vec_len, vec_capacity};
+    ghost use Rattle.ts_io.specs.declared.whole.TheConstants.{INPUT_LIMIT};
+    ghost use Rattle.ts_io.specs.declared.pieces.TheConstants.{PIECE};
+    ghost use Rattle.ts_io.specs.declared.line_reader.TheConstants.{HELD_LIMIT};
+    ghost use Rattle.ts_io.specs.Reader.{Reading};
+
+    ghost Value = { Reading };
+
+    ghost view = { λ s. record {
+      held = drop s.start s.bytes.items;
+      allowed = s.allowed;
+      line = slice_range s.bytes.items s.line_from s.line_to;
+      is_open = s.is_open;
+    } };
+
+    ghost invariant = { λ s. (s.start ≤ vec_len s.bytes) × (s.line_from ≤ s.line_to) × (s.line_to ≤ vec_len s.bytes)
+        × (vec_len s.piece ≡ PIECE) × (vec_len s.bytes ≤ s.start + s.allowed + 1) × (s.allowed ≤ INPUT_LIMIT)
+        × (vec_len s.bytes ≤ HELD_LIMIT) × (HELD_LIMIT ≤ vec_capacity s.bytes) };
+}
+
+impl Lines {
+    /// A reader that has taken nothing yet. This takes all the memory that it ever needs.
+    pub fn new(alloc: Global) -> Result<Lines, NoMemory>
+        ensures fresh { IfOk result (λ lines. (lines.held ≡ []) × (lines.allowed ≡ INPUT_LIMIT) × (lines.is_open ≡ true)) }
+    {
+        Ok(Lines {
+            bytes: Vec::with_capacity(alloc, HELD_LIMIT)?,
+            start: 0,
+            line_from: 0,
+            line_to: 0,
+            allowed: INPUT_LIMIT,
+            is_open: true,
+            piece: vec![in alloc; 0; PIECE]?,
+        })
+    }
+
+    /// The line of the last `Line`, without its line end.
+    pub fn line(&self) -> &[u8]
+        ensures line { result.now ≡ self.now.line }
+    {
+        &self.bytes[self.line_from..self.line_to]
+    }
+
+    /// The next line. It asks the source only where it holds no whole line, and takes no memory. After
+    /// `End`, `InputLong` or `ReadFault` there is no other.
+    pub fn next<S: Source>(&mut self, source: &mut S) -> LineEnd
+        requires { self.old.is_open ≡ true }
+        ensures line { ReadsLine result self.old.allowed (prepend_known self.old.held (S.left source.old))
+            self.new.allowed (prepend_known self.new.held (S.left source.new)) self.new.line }
+        ensures spends { Spends result self.old.allowed self.new.allowed self.new.line }
+        ensures is_open { self.new.is_open ≡ goes_on result }
+        ensures asks_late { ended_lines (take self.old.allowed self.old.held) ≢ [] → source.new ≡ source.old }
+        ensures bounded { length self.new.held ≤ HELD_LIMIT }
+        ensures never_falls { S.faults source.old ≤ S.faults source.new }
+        ensures cause { IfReadFault result (Rose (S.faults source.old) (S.faults source.new)) }
+    {
+        match self.first_end(0) {
+            Some(n) => self.give(n),
+            None => self.read_line(source),
+        }
+    }
+
+    /// Reads until the next line ends, where no whole line is held.
+    fn read_line<S: Source>(&mut self, source: &mut S) -> LineEnd
+        requires is_open { self.old.is_open ≡ true }
+        requires none { ended_lines (take self.old.allowed self.old.held) ≡ [] }
+        ensures line { ReadsLine result self.old.allowed (prepend_known self.old.held (S.left source.old))
+            self.new.allowed (prepend_known self.new.held (S.left source.new)) self.new.line }
+        ensures spends { Spends result self.old.allowed self.new.allowed self.new.line }
+        ensures is_open { self.new.is_open ≡ goes_on result }
+        ensures bounded { length self.new.held ≤ HELD_LIMIT }
+        ensures never_falls { S.faults source.old ≤ S.faults source.new }
+        ensures cause { IfReadFault result (Rose (S.faults source.old) (S.faults source.new)) }
+    {
+        while self.held().len() <= LINE_LIMIT {
+            if self.is_over() {
+                return self.stop(LineEnd::InputLong);
+            }
+            let searched = self.held().len();
+            match self.ask(source) {
+                Got::Bytes(0) => return self.give_last(),
+                Got::Bytes(_) => match self.first_end(searched) {
+                    Some(n) => return self.give(n),
+                    None => {}
+                },
+                Got::Failed => return self.stop(LineEnd::ReadFault),
+            }
+        }
+        self.skip_line(source)
+    }
+
+    /// Skips the next line, of which more than a line may have is held, up to its end.
+    fn skip_line<S: Source>(&mut self, source: &mut S) -> LineEnd
+        requires is_open { self.old.is_open ≡ true }
+        requires none { ended_lines (take self.old.allowed self.old.held) ≡ [] }
+        requires long { LINE_LIMIT < length self.old.held }
+        ensures line { ReadsLine result self.old.allowed (prepend_known self.old.held (S.left source.old))
+            self.new.allowed (prepend_known self.new.held (S.left source.new)) self.new.line }
+        ensures spends { Spends result self.old.allowed self.new.allowed self.new.line }
+        ensures is_open { self.new.is_open ≡ goes_on result }
+        ensures bounded { length self.new.held ≤ HELD_LIMIT }
+        ensures never_falls { S.faults source.old ≤ S.faults source.new }
+        ensures cause { IfReadFault result (Rose (S.faults source.old) (S.faults source.new)) }
+    {
+        while !self.is_over() {
+            let skipped = self.held().len();
+            self.advance(0, skipped);
+            match self.ask(source) {
+                Got::Bytes(0) => return LineEnd::LineLong,
+                Got::Bytes(_) => match self.first_end(0) {
+                    Some(n) => {
+                        self.advance(0, n + 1);
+                        return LineEnd::LineLong;
+                    }
+                    None => {}
+                },
+                Got::Failed => return self.stop(LineEnd::ReadFault),
+            }
+        }
+        self.stop(LineEnd::InputLong)
+    }
+
+    /// Gives the line that ends at place `n` of the bytes held, or skips it where it is too long.
+    fn give(&mut self, n: usize) -> LineEnd
+        requires is_open { self.old.is_open ≡ true }
+        requires end { IsFirstEnd (take self.old.allowed self.old.held) n }
+        requires small { n < INPUT_LIMIT }
+        ensures line { (start left : Option (List ℕ)) → Consumes start (prepend_known self.old.held left) []
+            → ReadsLine result self.old.allowed start self.new.allowed (prepend_known self.new.held left) self.new.line }
+        ensures spends { Spends result self.old.allowed self.new.allowed self.new.line }
+        ensures is_open { self.new.is_open ≡ goes_on result }
+        ensures not_failed { IfReadFault result ⊥ }
+        ensures bounded { length self.new.held ≤ HELD_LIMIT }
+    {
+        self.advance(n, n + 1);
+        if n > LINE_LIMIT {
+            LineEnd::LineLong
+        } else {
+            LineEnd::Line
+        }
+    }
+
+    /// Gives the bytes held as the last line, where there are any, at the end of the input.
+    fn give_last(&mut self) -> LineEnd
+        requires is_open { self.old.is_open ≡ true }
+        requires none { ended_lines self.old.held ≡ [] }
+        requires allowed { length self.old.held ≤ self.old.allowed }
+        requires short { length self.old.held ≤ LINE_LIMIT }
+        ensures line { (start left : Option (List ℕ)) → IsAtEnd left → Consumes start (prepend_known self.old.held left) []
+            → ReadsLine result self.old.allowed start self.new.allowed (prepend_known self.new.held left) self.new.line }
+        ensures spends { Spends result self.old.allowed self.new.allowed self.new.line }
+        ensures is_open { self.new.is_open ≡ goes_on result }
+        ensures not_failed { IfReadFault result ⊥ }
+        ensures bounded { length self.new.held ≤ HELD_LIMIT }
+    {
+        let last = self.held().len();
+        self.advance(last, last);
+        if last == 0 {
+            return self.stop(LineEnd::End);
+        }
+        LineEnd::Line
+    }
+
+    /// Answers that there is no other line.
+    fn stop(&mut self, end: LineEnd) -> LineEnd
+        ensures end { result ≡ end }
+        ensures closed { self.new ≡ record self.old { is_open = false } }
+        ensures bounded { length self.new.held ≤ HELD_LIMIT }
+    {
+        self.is_open = false;
+        end
+    }
+
+    /// The bytes taken and not yet given.
+    fn held(&self) -> &[u8]
+        ensures { result.now ≡ self.now.held }
+    {
+        &self.bytes[self.start..]
+    }
+
+    /// Whether a byte beyond the limit of the input is held.
+    fn is_over(&self) -> bool
+        ensures over { result ≡ nat_lt self.now.allowed (length self.now.held) }
+        ensures by_one { length self.now.held ≤ self.now.allowed + 1 }
+    {
+        self.held().len() > self.allowed
+    }
+
+    /// The place of the first line end within the limit of the input, where none stands among the first
+    /// `searched` bytes held.
+    fn first_end(&self, searched: usize) -> Option<usize>
+        requires held { searched ≤ length self.now.held }
+        requires allowed { searched ≤ self.now.allowed }
+        requires none { ended_lines (take searched self.now.held) ≡ [] }
+        ensures end { MatchOption result (ended_lines (take self.now.allowed self.now.held) ≡ [])
+            (IsFirstEnd (take self.now.allowed self.now.held)) }
+        ensures small { IfSome result (λ n. n < INPUT_LIMIT) }
+    {
+        let held = self.held();
+        first_end_after(&held[..self.allowed.min(held.len())], searched)
+    }
+
+    /// Gives the first `line` bytes held as the line, and moves past the first `past`.
+    fn advance(&mut self, line: usize, past: usize)
+        requires within { line ≤ past }
+        requires held { past ≤ length self.old.held }
+        requires allowed { past ≤ self.old.allowed }
+        ensures line { self.new.line ≡ take line self.old.held }
+        ensures held { self.new.held ≡ drop past self.old.held }
+        ensures allowed { self.new.allowed ≡ self.old.allowed - past }
+        ensures is_open { self.new.is_open ≡ self.old.is_open }
+        ensures bounded { length self.new.held ≤ HELD_LIMIT }
+    {
+        self.line_from = self.start;
+        self.line_to = self.start + line;
+        self.start += past;
+        self.allowed -= past;
+    }
+
+    /// Reads once behind the bytes held, one byte beyond the limit of the input at most.
+    fn ask<S: Source>(&mut self, source: &mut S) -> Got
+        requires allowed { length self.old.held ≤ self.old.allowed }
+        requires short { length self.old.held ≤ LINE_LIMIT }
+        ensures filled { Fills (S.left source.old) (S.left source.new) result self.old.held self.new.held }
+        ensures allowed { self.new.allowed ≡ self.old.allowed }
+        ensures is_open { self.new.is_open ≡ self.old.is_open }
+        ensures bounded { length self.new.held ≤ HELD_LIMIT }
+        ensures never_falls { S.faults source.old ≤ S.faults source.new }
+        ensures cause { IfFailed result (Rose (S.faults source.old) (S.faults source.new)) }
+    {
+        drop_front(&mut self.bytes, self.start);
+        self.start = 0;
+        self.line_from = 0;
+        self.line_to = 0;
+        let room = (self.allowed + 1 - self.bytes.len()).min(PIECE);
+        read_into(source, self.piece.as_mut_slice(), room, &mut self.bytes)
+    }
+}
+
+/// Takes the first `n` bytes away.
+fn drop_front(bytes: &mut Vec<u8>, n: usize)
+    requires { n ≤ vec_len bytes.old }
+    ensures items { bytes.new.items ≡ drop n bytes.old.items }
+    ensures capacity { vec_capacity bytes.new ≡ vec_capacity bytes.old }
+{
+    bytes.rotate_left(n);
+    bytes.truncate(bytes.len() - n);
+}

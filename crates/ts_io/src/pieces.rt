@@ -1,0 +1,41 @@
+//! One read of a piece into room that is there.
+ghost use Rattle.std.specs.Prelude.{◌≡◌, ◌+◌, ◌<◌, ◌≤◌, ◌++◌, length, vec_len, vec_capacity};
+ghost use Rattle.ts_schema.specs.Faults.{Rose};
+ghost use Rattle.ts_io.specs.Source.{Fills, IfFailed};
+
+use crate::sources::{Got, Source};
+
+/// How many bytes one read asks for at most.
+pub const PIECE: usize = 65_536;
+
+/// Reads at most `most` bytes once, by way of `piece`, and appends what was given to `out`, which has
+/// the room.
+pub fn read_into<S: Source>(source: &mut S, piece: &mut [u8], most: usize, out: &mut Vec<u8>) -> Got
+    requires asks { 0 < most }
+    requires fits { most ≤ length piece.old }
+    requires room { vec_len out.old + most ≤ vec_capacity out.old }
+    ensures filled { Fills (S.left source.old) (S.left source.new) result out.old.items out.new.items }
+    ensures within { length out.new.items ≤ length out.old.items + most }
+    ensures capacity { vec_capacity out.old ≤ vec_capacity out.new }
+    ensures never_falls { S.faults source.old ≤ S.faults source.new }
+    ensures cause { IfFailed result (Rose (S.faults source.old) (S.faults source.new)) }
+{
+    let front = &mut piece[..most];
+    let got = source.read(front);
+    if let Got::Bytes(n) = got {
+        append_reserved(out, &front[..n]);
+    }
+    got
+}
+
+/// Appends bytes for which there is room.
+fn append_reserved(out: &mut Vec<u8>, bytes: &[u8])
+    requires { vec_len out.old + length bytes.now ≤ vec_capacity out.old }
+    ensures items { out.new.items ≡ out.old.items ++ bytes.now }
+    ensures capacity { vec_capacity out.old ≤ vec_capacity out.new }
+{
+    match out.extend_from_slice(bytes) {
+        Ok(()) => {}
+        Err(_) => unreachable!(),
+    }
+}

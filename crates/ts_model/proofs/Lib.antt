@@ -1,0 +1,14 @@
+pub mod WorkedRows
+pub mod HistoryLaws
+pub mod CallLaws
+pub mod UntouchedLaws
+pub mod RefreshLaws
+pub mod RosterLaws
+pub mod AllowedLaws
+pub mod MadeLaws
+pub mod RangeLaws
+pub mod OrderLaws
+pub mod SumLaws
+pub mod RowLaws
+pub mod SameRanges
+pub mod ReadLaws

@@ -1,0 +1,11 @@
+pub mod History
+pub mod Roster
+pub mod Rows
+pub mod Effect
+pub mod Scratch
+pub mod Refreshes
+pub mod Answers
+pub mod Allowed
+pub mod Reads
+pub mod Calls
+pub mod Laws

@@ -1,0 +1,32 @@
+//! What `tsctl` promises: tables, aggregates, events and histories; queries and their answers by
+//! folding rows; refreshes, staleness and windows; and the traits that every store and snapshot meets.
+//! The definitions are in `specs/`, one idea a module.
+#![tactic(auto)]
+
+mod backends;
+mod events;
+mod gates;
+pub mod laws;
+mod outcomes;
+mod queries;
+mod refreshes;
+mod rosters;
+mod scans;
+mod snapshots;
+mod tables;
+mod views;
+
+pub use backends::Backend;
+pub use events::{Event, Op};
+pub use gates::{Gate, NoGate};
+pub use outcomes::{Committed, CutDone, Outcome, Refusal};
+pub use queries::{Answer, Query};
+pub use refreshes::{Pending, Waiting, Window};
+pub use rosters::Roster;
+pub use scans::RowsAt;
+pub use snapshots::Shown;
+pub use tables::{Hyper, TableDef, TableInfo};
+pub use views::{Agg, Fold, ViewDef};
+
+#[cfg(test)]
+mod tests;

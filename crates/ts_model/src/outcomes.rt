@@ -1,0 +1,46 @@
+//! What calls of a store answer.
+use ts_bucket::Span;
+
+/// Why a statement was refused.
+#[derive(Clone, Copy, Debug, PartialEq, Eq)]
+pub struct Refusal {
+    /// The number of the refusal, as 7 for `E07`.
+    pub code: u8,
+    /// The position looked at.
+    pub pos: u64,
+    /// The place, count or finish that the reply prints, or 0.
+    pub mark: u64,
+}
+
+/// What a call that may make an event answers.
+#[derive(Drop, Debug, PartialEq, Eq)]
+pub enum Outcome<T> {
+    /// It did what it is for.
+    Done(T),
+    /// It was refused, and nothing changed.
+    Refused(Refusal),
+    /// The disk failed, and the store is stopped from now on.
+    DiskFault,
+    /// There was no memory, and nothing changed.
+    NoMemory,
+}
+
+/// What a commit did.
+#[derive(Clone, Copy, Debug, PartialEq, Eq)]
+pub struct Committed {
+    /// The number of its event.
+    pub pos: u64,
+    /// How many rows it inserted, over all tables.
+    pub inserted: u64,
+    /// How many rows it removed, over all tables.
+    pub removed: u64,
+}
+
+/// What a cut did.
+#[derive(Clone, Copy, Debug, PartialEq, Eq)]
+pub enum CutDone {
+    /// The refresh with this number was begun, over these whole buckets.
+    Cut { pos: u64, span: Span },
+    /// There was nothing to refresh at this position.
+    Nothing { pos: u64 },
+}

@@ -1,0 +1,28 @@
+//! The tables and aggregates that there are.
+ghost use Rattle.std.specs.Prelude.{◌≡◌, IfOk};
+
+use crate::tables::TableInfo;
+use crate::views::ViewDef;
+use ts_schema::{NoMemory, Seq};
+
+/// The tables and aggregates that there are. Both are numbered from 0 in the order in which they were
+/// made.
+#[derive(Drop, Debug, Clone, PartialEq, Eq)]
+pub struct Roster {
+    /// The tables.
+    pub tables: Seq<TableInfo>,
+    /// The aggregates, each with its present mode.
+    pub views: Seq<ViewDef>,
+}
+
+impl Roster {
+    /// The same roster again.
+    pub fn copy(&self) -> Result<Roster, NoMemory>
+        ensures same { IfOk result (λ copy. copy ≡ self.now) }
+    {
+        Ok(Roster {
+            tables: self.tables.copy()?,
+            views: self.views.copy()?,
+        })
+    }
+}

@@ -1,0 +1,69 @@
+//! Snapshots of a history.
+use crate::queries::{Answer, Query};
+use crate::refreshes::Pending;
+use crate::rosters::Roster;
+use std::thread::Threads;
+use ts_schema::{NoMemory, Steps};
+
+/// A snapshot of a history. It need not store one: that it stands for a history is a relation between
+/// what it holds and that history, and each of its promises is for every history that it stands for.
+pub trait Shown {
+    ghost use Rattle.std.specs.Prelude.{◌≡◌, ℕ, ◌≤◌, IsTrue, IfOk, MatchResult};
+    ghost use Rattle.ts_schema.specs.Counts.{raised_by};
+    ghost use Rattle.ts_model.specs.declared.events.Event.TheVariants.{Built};
+    ghost use Rattle.ts_model.specs.History.{History, position, Begins};
+    ghost use Rattle.ts_model.specs.Roster.{roster};
+    ghost use Rattle.ts_model.specs.Answers.{answer};
+    ghost use Rattle.ts_model.specs.Allowed.{can_ask, is_waiting, pending, sound};
+    ghost use Rattle.ts_model.specs.Reads.{reads, job_reads};
+
+    /// What a snapshot makes for a refresh that waits, and a store takes to finish it.
+    type Job;
+
+    ghost stands: { Self → History → Type 0 };
+
+    ghost fits: { Self.Job → History → Type 0 };
+
+    ghost cut_of: { Self.Job → ℕ };
+
+    ghost snap_of: { Self.Job → ℕ };
+
+    /// The position of the history.
+    fn position(&self) -> u64
+        ensures { (h : History) → stands self.now h → result ≡ position h };
+
+    /// Its tables and aggregates.
+    fn roster(&self) -> &Roster
+        ensures { (h : History) → stands self.now h → result.now ≡ roster h };
+
+    /// What became of the refresh with this number.
+    fn pending(&self, cut: u64) -> Pending
+        ensures { (h : History) → stands self.now h → result ≡ pending h cut };
+
+    /// What the query shows. It counts one step for each stored row that it looks at.
+    fn answer<R: Threads + Sync, L>(
+        &self,
+        rt: &R,
+        query: &Query,
+        steps: &mut Steps<L>,
+    ) -> Result<Answer, NoMemory>
+        requires { (h : History) → stands self.now h → IsTrue (can_ask (roster h) query.now) }
+        ensures shown { (h : History) → stands self.now h → IfOk result (λ a. a ≡ answer query.now h) }
+        ensures read { (h : History) → stands self.now h → MatchResult result (λ _. steps.new ≡ raised_by (reads query.now h) steps.old) (λ _. steps.new ≤ raised_by (reads query.now h) steps.old) };
+
+    /// A job for the refresh with this number, which waits, from the rows of this snapshot. It counts
+    /// one step for each stored row that it looks at.
+    fn start_job<R: Threads + Sync, L>(
+        &self,
+        rt: &R,
+        cut: u64,
+        steps: &mut Steps<L>,
+    ) -> Result<Self::Job, NoMemory>
+        requires { (h : History) → stands self.now h → IsTrue (is_waiting (pending h cut)) }
+        ensures job { (h : History) → stands self.now h → IfOk result (λ job. fits job h × (cut_of job ≡ cut) × (snap_of job ≡ position h)) }
+        ensures read { (h : History) → stands self.now h → MatchResult result (λ _. steps.new ≡ raised_by (job_reads h cut) steps.old) (λ _. steps.new ≤ raised_by (job_reads h cut) steps.old) };
+
+    ghost fits_on: { (job : Self.Job) (g h : History) → Begins g h → fits job g → fits job h };
+
+    ghost fits_soundly: { (job : Self.Job) (h : History) → fits job h → IsTrue (sound h (Built (cut_of job) (snap_of job))) };
+}

@@ -1,0 +1,9 @@
+mod EndingLemmas
+mod LineLemmas
+mod NumberLemmas
+mod RollupLaws
+mod RollupLemmas
+mod ScriptLemmas
+mod StatementLaws
+mod TextLemmas
+mod Writing

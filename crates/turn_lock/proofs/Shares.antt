@@ -1,0 +1,186 @@
+-- The steps of sharing keep the rule: a split, a join, and the look back that follows it.
+use Rattle.std.proofs.Common.{◌≡◌, ◌⊎◌, ℕ, suc, ◌<◌, ◌≤◌, ◌||◌, Bool, true, false, cond, List, [], ◌∷◌, ◌++◌, length, set, refl, sym, ap, ◌∙◌, subst, inl, inr, ⊎_elim, arith}
+use Rattle.std.specs.Prelude.{Option, Some, nat_lt}
+use Rattle.std.proofs.lemmas.Bool.Decides.{nat_tests}
+use Rattle.std.proofs.lemmas.List.Sums.{sum_by-append}
+use mathlib.Core.Logic.{dite}
+use mathlib.Core.Option.{none, some}
+use mathlib.Core.List.{IsPrefix}
+use native.Mathlib.Decide.{ℕ_discrete, dec_le}
+use lib.ListN.{get_elem?}
+use Rattle.atomic_table.specs.Table.{State, Me, keeps, step, Allows, Splits, Joins}
+use Rattle.atomic_table.proofs.Lists.{set_else, at_longer, at_snoc}
+use Rattle.turn_lock.specs.declared.view.Stage.{Stage}
+use Rattle.turn_lock.specs.declared.view.Stage.TheVariants.{Idle}
+use Rattle.turn_lock.specs.declared.view.Knows.{Knows}
+use Rattle.turn_lock.specs.declared.opening.Opening.{Opening}
+use Rattle.turn_lock.specs.Pass.{longer}
+use Rattle.turn_lock.specs.Positions.{times}
+use Rattle.turn_lock.specs.Steps.{shorter, spent, left_with, given, joined, Counts}
+use Rattle.turn_lock.specs.Rule.{HasTicket, HasTurn, InPlace, Rules, Fits, Newest, Kept}
+use Rattle.turn_lock.proofs.Lists.{one_at, set_at, all_set, prefix_none, prefix_length, prefix_shorter, prefix_whole, sum_at}
+use Rattle.turn_lock.proofs.Numbers.{times-append}
+use Rattle.turn_lock.proofs.Views.{Leads, queues_set, rules_set, leads_set, shares_set, made_set, same_made, spent_fits, stands_as, rests}
+
+module _ {E : Type 0} where
+  -- either the second is the longer, or the first is at least as long
+  pub longer_cases : (xs ys : List E) → ((length xs < length ys) × (longer xs ys ≡ ys) × (shorter xs ys ≡ xs)) ⊎ ((length ys ≤ length xs) × (longer xs ys ≡ xs) × (shorter xs ys ≡ ys))
+  longer_cases xs ys = dite (dec_le (suc (length xs)) (length ys))
+      (λ lt. let t : nat_lt (length xs) (length ys) ≡ true = grind (arith, nat_tests) in inl (omega arith, ap (λ b. cond b ys xs) t, ap (λ b. cond b xs ys) t))
+      (λ ge. let t : nat_lt (length xs) (length ys) ≡ false = grind (arith, nat_tests) in inr (omega arith, ap (λ b. cond b ys xs) t, ap (λ b. cond b xs ys) t))
+
+  pub longer_begins : (xs ys log : List E) → IsPrefix xs log → IsPrefix ys log → IsPrefix (longer xs ys) log
+  longer_begins xs ys log p q = ⊎_elim (λ c. subst (λ l. IsPrefix l log) (sym c.1) q) (λ c. subst (λ l. IsPrefix l log) (sym c.1) p) (longer_cases xs ys)
+
+  shorter_begins : (xs ys log : List E) → IsPrefix xs log → IsPrefix ys log → IsPrefix (shorter xs ys) log
+  shorter_begins xs ys log p q = ⊎_elim (λ c. subst (λ l. IsPrefix l log) (sym c.2) p) (λ c. subst (λ l. IsPrefix l log) (sym c.2) q) (longer_cases xs ys)
+
+  -- where one of two beginnings is the whole, the longer is
+  longer_all : (xs ys log : List E) → IsPrefix xs log → IsPrefix ys log → (xs ≡ log) ⊎ (ys ≡ log) → longer xs ys ≡ log
+  longer_all xs ys log p q one =
+      let a = prefix_length xs log p in let b = prefix_length ys log q in
+      let short : (length log ≤ length xs) ⊎ (length log ≤ length ys) = ⊎_elim (λ e. let l = ap length e in inl (omega arith)) (λ e. let l = ap length e in inr (omega arith)) one in
+      ⊎_elim
+      (λ c. c.1 ∙ prefix_whole ys log q (let lt = c.0 in ⊎_elim {C = length log ≤ length ys} (λ h. omega arith) (λ h. h) short))
+      (λ c. c.1 ∙ prefix_whole xs log p (let le = c.0 in ⊎_elim {C = length log ≤ length xs} (λ h. h) (λ h. omega arith) short))
+      (longer_cases xs ys)
+
+or_cases : (a b : Bool) → (a || b) ≡ true → (a ≡ true) ⊎ (b ≡ true)
+or_cases true b e = inl refl
+or_cases false b e = inr e
+
+or_same : (a b c : Bool) → a ≡ c → (b ≡ true → c ≡ true) → (a || b) ≡ c
+or_same true b c e f = e
+or_same false true c e f = sym (f refl)
+or_same false false c e f = e
+
+or_same_right : (a b c : Bool) → b ≡ c → (a ≡ true → c ≡ true) → (a || b) ≡ c
+or_same_right true b c e f = sym (f refl)
+or_same_right false b c e f = e
+
+module _ {V B E : Type 0} (base : V → B) (first : B → ℕ) (events : V → List E) (closed : V → Bool) (key : Opening V) where
+  abbrev St : Type 0
+  St = State (Option V) (Knows B E)
+
+  abbrev Holds : St → Type 0
+  Holds = Kept base first events closed key
+
+  abbrev root : B
+  root = base key.value.value
+
+  given_place : (next serving : ℕ) (holder : ℕ → ℕ) (log : List E) (shut : Bool) (away : Type 0) (n j : ℕ) (v u : Knows B E) → given n v ≡ u → InPlace next serving holder log shut away j u.stage
+  given_place next serving holder log shut away n j v u e = subst (λ (q : Knows B E). InPlace next serving holder log shut away j q.stage) e tt
+
+  pub splits : (id : ℕ) (v : Knows B E) (n : ℕ) → 0 < n → n < v.shares → Splits Holds id v (left_with n v) (given n v)
+  splits id v n pos less s r at =
+      let left = left_with n v in let right = given n v in
+      let views = set s.views id left in
+      let f = r.fits id v at in
+      let live : (v.base ≡ Some root) × (v.other_base ≡ Some root) = f.live (omega arith) in
+      let left_fits : Fits root r.log r.shut left = record { seen = f.seen; other_seen = f.other_seen; closed = f.closed; live = λ _. live; gone = λ e. absurd (omega arith) } in
+      let right_fits : Fits root r.log r.shut right = record { seen = f.seen; other_seen = prefix_none r.log; closed = f.closed; live = λ _. (live.0, live.0); gone = λ e. absurd (omega arith) } in
+      let newest = leads_set s.views id r.last r.log r.shut v left at (λ h. record { live = omega arith; seen = h.seen; closed = h.closed }) r.newest in
+      record {
+        next = r.next;
+        serving = r.serving;
+        holder = r.holder;
+        home = r.home;
+        log = r.log;
+        shut = r.shut;
+        last = r.last;
+        words = r.words;
+        homes = r.homes;
+        ahead = r.ahead;
+        queue = λ m le lt. let q = queues_set s.views id (r.holder m) m v left at (λ h. h) (r.queue m le lt) in (q.0, at_longer views (right ∷ []) (r.holder m) q.0 q.1, q.2);
+        places = λ j u e. ⊎_elim
+            (λ a. all_set (λ k (x : Knows B E). InPlace r.next r.serving r.holder r.log r.shut (r.home ≡ none) k x.stage) s.views id left (r.places id v at) (λ k x ne b. r.places k x b) j u a)
+            (λ is. given_place r.next r.serving r.holder r.log r.shut (r.home ≡ none) n j v u is)
+            (at_snoc views right u j e);
+        fits = λ j u e. ⊎_elim
+            (λ a. all_set (λ k. Fits root r.log r.shut) s.views id left left_fits (λ k x ne b. r.fits k x b) j u a)
+            (λ is. subst (Fits root r.log r.shut) is right_fits)
+            (at_snoc views right u j e);
+        stands = stands_as base events closed root r.log r.shut (Rules s.views (r.holder r.serving)) (Rules (views ++ right ∷ []) (r.holder r.serving)) r.home
+            (λ out h. let q = rules_set s.views id (r.holder r.serving) v left at (λ k. k) h in (q.0, at_longer views (right ∷ []) (r.holder r.serving) q.0 q.1, q.2)) r.stands;
+        newest = (newest.0, at_longer views (right ∷ []) r.last newest.0 newest.1, newest.2);
+        shares = let a = shares_set s.views id v left at in let b = sum_by-append (λ (u : Knows B E). u.shares) views (right ∷ []) in let c = r.shares in omega (arith, a, b, c);
+        few = r.few;
+        longer = r.longer;
+        made = λ p. let a = same_made p s.views id v left at refl in let b = sum_by-append (λ (u : Knows B E). times p u.made) views (right ∷ []) in let c = r.made p in omega (arith, a, b, c);
+      }
+
+  pub joins : (id : ℕ) (v : Knows B E) (other : ℕ) (w : Knows B E) → v.stage ≡ Idle → w.stage ≡ Idle → 0 < v.shares → 0 < w.shares → Joins Holds id v other w (joined v w) spent
+  joins id v other w idle idle' live live' s r at ne at' =
+      let both = joined v w in
+      let one = set s.views id both in
+      let views = set one other spent in
+      let there : get_elem? s.views other ≡ some w = sym (set_else s.views id other both ne) ∙ at' in
+      let f = r.fits id v at in
+      let g = r.fits other w there in
+      let no_ticket : (u x : Knows B E) → u.stage ≡ Idle → (n : ℕ) → HasTicket u.stage n → HasTicket x.stage n = λ u x is n h. absurd (subst (λ (q : Stage E). HasTicket q n) is h) in
+      let no_turn : (u x : Knows B E) → u.stage ≡ Idle → HasTurn u.stage → HasTurn x.stage = λ u x is h. absurd (subst HasTurn is h) in
+      let both_fits : Fits root r.log r.shut both = record {
+        seen = longer_begins v.seen w.seen r.log f.seen g.seen;
+        other_seen = shorter_begins v.seen w.seen r.log f.seen g.seen;
+        closed = λ e. ⊎_elim
+            (λ t. let c = f.closed t in (longer_all v.seen w.seen r.log f.seen g.seen (inl c.0), c.1))
+            (λ t. let c = g.closed t in (longer_all v.seen w.seen r.log f.seen g.seen (inr c.0), c.1))
+            (or_cases v.shut w.shut e);
+        live = λ _. ((f.live live).0, (g.live live').0);
+        gone = λ e. absurd (omega arith);
+      } in
+      let left_newest : Newest r.log r.shut v → Newest r.log r.shut both = λ h. record {
+        live = omega arith;
+        seen = longer_all v.seen w.seen r.log f.seen g.seen (inl h.seen);
+        closed = or_same v.shut w.shut r.shut h.closed (λ t. (g.closed t).1);
+      } in
+      let right_newest : Newest r.log r.shut w → Newest r.log r.shut both = λ h. record {
+        live = omega arith;
+        seen = longer_all v.seen w.seen r.log f.seen g.seen (inr h.seen);
+        closed = or_same_right v.shut w.shut r.shut h.closed (λ t. (f.closed t).1);
+      } in
+      let here : get_elem? views id ≡ some both = set_else one other id spent (λ e. ne (sym e)) ∙ set_at s.views id v both at in
+      let newest : (j : ℕ) × Leads views j r.log r.shut = dite (ℕ_discrete r.last other)
+      (λ e. (id, (both, here, right_newest (subst (Newest r.log r.shut) (one_at s.views other r.newest.0 w (subst (λ k. get_elem? s.views k ≡ some r.newest.0) e r.newest.1) there) r.newest.2))))
+      (λ apart. let h = leads_set s.views id r.last r.log r.shut v both at left_newest r.newest in (r.last, (h.0, set_else one other r.last spent apart ∙ h.1, h.2))) in
+      record {
+        next = r.next;
+        serving = r.serving;
+        holder = r.holder;
+        home = r.home;
+        log = r.log;
+        shut = r.shut;
+        last = newest.0;
+        words = r.words;
+        homes = r.homes;
+        ahead = r.ahead;
+        queue = λ n le lt. queues_set one other (r.holder n) n w spent at' (no_ticket w spent idle' n) (queues_set s.views id (r.holder n) n v both at (no_ticket v both idle n) (r.queue n le lt));
+        places = all_set (λ k (x : Knows B E). InPlace r.next r.serving r.holder r.log r.shut (r.home ≡ none) k x.stage) one other spent tt
+            (λ j u apart a. all_set (λ k (x : Knows B E). InPlace r.next r.serving r.holder r.log r.shut (r.home ≡ none) k x.stage) s.views id both tt (λ k x _ b. r.places k x b) j u a);
+        fits = all_set (λ k. Fits root r.log r.shut) one other spent (spent_fits root r.log r.shut)
+            (λ j u apart a. all_set (λ k. Fits root r.log r.shut) s.views id both both_fits (λ k x _ b. r.fits k x b) j u a);
+        stands = stands_as base events closed root r.log r.shut (Rules s.views (r.holder r.serving)) (Rules views (r.holder r.serving)) r.home
+            (λ out h. rules_set one other (r.holder r.serving) w spent at' (no_turn w spent idle') (rules_set s.views id (r.holder r.serving) v both at (no_turn v both idle) h)) r.stands;
+        newest = newest.1;
+        shares = let a = shares_set s.views id v both at in let b = shares_set one other w spent at' in let c = r.shares in omega (arith, a, b, c);
+        few = r.few;
+        longer = r.longer;
+        made = λ p. let a = made_set p s.views id v both at in let b = made_set p one other w spent at' in let c = times-append p v.made w.made in let d = r.made p in omega (arith, a, b, c, d);
+      }
+
+  pub counts : (n id : ℕ) (me : Me (Option V) (Knows B E)) → 0 < me.0.shares → Allows Holds n id me 0 (λ y. y) (Counts (step n 0 0 0 none) me)
+  counts n id me live s r wide at small =
+      let f = r.fits id me.0 at in (
+        me.0,
+        keeps,
+        tt,
+        rests base first events closed key s 0 id me.0 at r,
+        (
+          refl,
+          record {
+            fits = let a = sum_at (λ (u : Knows B E). u.shares) s.views id me.0 at in let b = r.shares in let c = r.few in omega (arith, a, b, c);
+            one_base = (f.live live).1 ∙ sym (f.live live).0;
+            begins = λ le. prefix_shorter me.0.other_seen me.0.seen r.log f.other_seen f.seen le;
+          },
+        ),
+      )

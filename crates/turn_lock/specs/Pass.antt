@@ -1,0 +1,106 @@
+-- What clauses say of a lock, of its passes, and of a turn.
+use Rattle.std.specs.Prelude.{◌≡◌, ℕ, ◌+◌, ◌<◌, ◌^◌, ◌||◌, Bool, true, false, cond, nat_lt, Option, Some, None, List, [], ◌∷◌, length, fold}
+use Rattle.atomic_table.specs.Seated.{TableId}
+use Rattle.turn_lock.specs.declared.view.Stage.{Stage}
+use Rattle.turn_lock.specs.declared.view.Stage.TheVariants.{Idle, Waiting, Turn}
+use Rattle.turn_lock.specs.declared.view.Knows.{Knows}
+use Rattle.turn_lock.specs.declared.held.Held.{Held}
+
+-- a pass as clauses see it: which lock it is of, what it knows, and what it has taken out of the lock
+pub record Carried (V B E : Type 0) : Type 0 where
+  pub lock : TableId
+  pub knows : Knows B E
+  pub taken : List (ℕ × Option V)
+
+-- a lock as clauses see it: which one it is, and the value and the number of shares that it was made with
+pub record Guarded (V : Type 0) : Type 0 where
+  pub lock : TableId
+  pub opened : V
+  pub shares : ℕ
+
+-- where a base ends; without a base that is 0
+abbrev pub start_of : {B : Type 0} → (B → ℕ) → Option B → ℕ
+start_of first None = 0
+start_of first (Some b) = first b
+
+-- what a turn found, and nothing without a turn
+abbrev pub found_at : {E : Type 0} → Stage E → List E
+found_at Idle = []
+found_at (Waiting t) = []
+found_at (Turn t xs c) = xs
+
+-- whether a turn found the value closed
+abbrev pub found_closed_at : {E : Type 0} → Stage E → Bool
+found_closed_at Idle = false
+found_closed_at (Waiting t) = false
+found_closed_at (Turn t xs c) = c
+
+-- the longer of two lists, and the first where neither is longer
+abbrev pub longer : {E : Type 0} → List E → List E → List E
+longer xs ys = cond (nat_lt (length xs) (length ys)) ys xs
+
+module _ {V B E : Type 0} where
+  -- the number of its shares
+  abbrev pub shares_of : Carried V B E → ℕ
+  shares_of pass = pass.knows.shares
+
+  -- the base that all passes of its lock have
+  abbrev pub base_of : Carried V B E → Option B
+  base_of pass = pass.knows.base
+
+  -- the events that it has seen
+  abbrev pub seen_of : Carried V B E → List E
+  seen_of pass = pass.knows.seen
+
+  -- whether it has seen the value closed with these events
+  abbrev pub closed_of : Carried V B E → Bool
+  closed_of pass = pass.knows.shut
+
+  -- the positions that it, or a pass joined into it, added
+  abbrev pub made_of : Carried V B E → List ℕ
+  made_of pass = pass.knows.made
+
+  -- the pass came from the lock
+  abbrev pub IsPassOf : Guarded V → Carried V B E → Type 0
+  IsPassOf lock pass = pass.lock ≡ lock.lock
+
+  -- the pass holds no turn
+  abbrev pub IsIdle : Carried V B E → Type 0
+  IsIdle pass = (pass.knows.stage ≡ Idle) × (pass.taken ≡ [])
+
+  -- the events that its turn found
+  abbrev pub found_of : Carried V B E → List E
+  found_of pass = found_at pass.knows.stage
+
+  -- whether its turn found the value closed
+  abbrev pub found_closed_of : Carried V B E → Bool
+  found_closed_of pass = found_closed_at pass.knows.stage
+
+  -- the pass holds the turn that `held` came from
+  abbrev pub IsTurnOf : Carried V B E → Held V → Type 0
+  IsTurnOf pass held = (pass.knows.stage ≡ Turn held.ticket (found_of pass) (found_closed_of pass)) × (pass.taken ≡ (0, None) ∷ []) × (held.ticket + 1 < 2 ^ 64)
+
+  -- but for its turn the pass is as it was: its lock, shares and base, and what it has seen and made
+  pub record IsSamePass (old new : Carried V B E) : Type 0 where
+    pub lock : new.lock ≡ old.lock
+    pub shares : shares_of new ≡ shares_of old
+    pub base : base_of new ≡ base_of old
+    pub seen : seen_of new ≡ seen_of old
+    pub closed : closed_of new ≡ closed_of old
+    pub made : made_of new ≡ made_of old
+
+  -- the pass, but for the number of its shares
+  abbrev pub with_shares : ℕ → Carried V B E → Carried V B E
+  with_shares n pass = record pass { knows = record pass.knows { shares = n } }
+
+  -- the longest list that one of the passes has seen
+  abbrev pub longest_seen : Carried V B E → List (Carried V B E) → List E
+  longest_seen pass others = fold (λ xs other. longer xs (seen_of other)) (seen_of pass) others
+
+  -- whether one of the passes has seen the value closed
+  abbrev pub any_closed : Carried V B E → List (Carried V B E) → Bool
+  any_closed pass others = fold (λ c other. c || closed_of other) (closed_of pass) others
+
+-- what was closed before is closed now, with the same events
+abbrev pub StaysClosed : {E : Type 0} → Bool → List E → Bool → List E → Type 0
+StaysClosed was before «is» after = was ≡ true → («is» ≡ true) × (after ≡ before)

@@ -1,0 +1,19 @@
+-- Positions, which number events: the event number p leads from position p - 1 to position p.
+use Rattle.std.specs.Prelude.{ℕ, zero, suc, ◌+◌, ◌-◌, ◌==◌, List, [], ◌∷◌, length, count_by}
+
+-- the n positions after p, in rising order
+abbrev pub positions_after : ℕ → ℕ → List ℕ
+positions_after p zero = []
+positions_after p (suc n) = (p + 1) ∷ positions_after (p + 1) n
+
+-- the positions after p, up to q
+abbrev pub positions_between : ℕ → ℕ → List ℕ
+positions_between p q = positions_after p (q - p)
+
+-- how often p stands among the positions
+abbrev pub times : ℕ → List ℕ → ℕ
+times p ps = count_by (λ q. q == p) ps
+
+-- the position at which events end that stand on a base which ends at p
+abbrev pub end_of : {E : Type 0} → ℕ → List E → ℕ
+end_of p events = p + length events

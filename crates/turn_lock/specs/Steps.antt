@@ -1,0 +1,85 @@
+-- What each step of the lock makes of a view, and what it tells its pass.
+use Rattle.std.specs.Prelude.{◌≡◌, ◌≢◌, ℕ, ◌+◌, ◌-◌, ◌<◌, ◌≤◌, ◌^◌, ◌||◌, Bool, true, false, cond, nat_lt, Option, Some, None, List, [], ◌∷◌, ◌++◌, length}
+use mathlib.Core.List.{IsPrefix}
+use Rattle.atomic_table.specs.Table.{Me, Step, rest}
+use Rattle.turn_lock.specs.declared.view.Stage.{Stage}
+use Rattle.turn_lock.specs.declared.view.Stage.TheVariants.{Idle, Waiting, Turn}
+use Rattle.turn_lock.specs.declared.view.Knows.{Knows}
+use Rattle.turn_lock.specs.Positions.{positions_between, end_of}
+use Rattle.turn_lock.specs.Pass.{longer}
+
+-- the list that is not the longer one
+abbrev pub shorter : {E : Type 0} → List E → List E → List E
+shorter xs ys = cond (nat_lt (length xs) (length ys)) xs ys
+
+module _ {B E : Type 0} where
+  -- the first pass: all shares, the base and the events of the value
+  abbrev pub fresh : ℕ → B → List E → Bool → Knows B E
+  fresh n b xs c = record { stage = Idle; shares = n; base = Some b; seen = xs; shut = c; made = []; other_base = Some b; other_seen = [] }
+
+  -- what is left of a pass that was joined into another
+  abbrev pub spent : Knows B E
+  spent = record { stage = Idle; shares = 0; base = None; seen = []; shut = false; made = []; other_base = None; other_seen = [] }
+
+  abbrev pub at_stage : Stage E → Knows B E → Knows B E
+  at_stage g k = record k { stage = g }
+
+  -- the pass has published the events xs, which a turn found as ys, over a base that ends at p
+  abbrev pub published : ℕ → ℕ → List E → List E → Bool → Knows B E → Knows B E
+  published t p ys xs c k = record k { stage = Turn t xs c; seen = xs; shut = c; made = k.made ++ positions_between (end_of p ys) (end_of p xs) }
+
+  abbrev pub left_with : ℕ → Knows B E → Knows B E
+  left_with n k = record k { shares = k.shares - n }
+
+  abbrev pub given : ℕ → Knows B E → Knows B E
+  given n k = record { stage = Idle; shares = n; base = k.base; seen = k.seen; shut = k.shut; made = []; other_base = k.base; other_seen = [] }
+
+  -- one view of two; it keeps the other's base and the shorter list, of which the next step tells
+  abbrev pub joined : Knows B E → Knows B E → Knows B E
+  joined k l = record { stage = Idle; shares = k.shares + l.shares; base = k.base; seen = longer k.seen l.seen; shut = k.shut || l.shut; made = k.made ++ l.made; other_base = l.base; other_seen = shorter k.seen l.seen }
+
+  -- a draw gives the ticket where the word was still the one expected
+  abbrev pub Draws : {S : Type 0} → Step S → Me S (Knows B E) → ℕ → Me S (Knows B E) → Type 0
+  Draws s m found n = (found ≡ s.first → n ≡ (at_stage (Waiting s.first) m.0, m.1)) × (found ≢ s.first → n ≡ m)
+
+  -- a count tells that the shares fit a u32, that the two bases were one, and that the shorter list begins the longer
+  pub record IsCounted (k : Knows B E) : Type 0 where
+    pub fits : k.shares < 2 ^ 32
+    pub one_base : k.other_base ≡ k.base
+    pub begins : length k.other_seen ≤ length k.seen → IsPrefix k.other_seen k.seen
+
+  abbrev pub Counts : {S : Type 0} → Step S → Me S (Knows B E) → ℕ → Me S (Knows B E) → Type 0
+  Counts s m found n = (n ≡ m) × IsCounted m.0
+
+  -- the turn is over, and the value is back
+  abbrev pub Advances : {S : Type 0} → Step S → Me S (Knows B E) → ℕ → Me S (Knows B E) → Type 0
+  Advances s m found n = n ≡ (at_stage Idle m.0, rest m.1)
+
+module _ {V B E : Type 0} (base : V → B) (events : V → List E) (closed : V → Bool) where
+  -- the turn by ticket t, in which the value v was found
+  pub record Found (t : ℕ) (m n : Me (Option V) (Knows B E)) (v : V) : Type 0 where
+    pub after : n ≡ (at_stage (Turn t (events v) (closed v)) m.0, (0, Some v) ∷ m.1)
+    pub one_base : m.0.base ≡ Some (base v)
+    pub begins : IsPrefix m.0.seen (events v)
+    pub stays : m.0.shut ≡ true → (closed v ≡ true) × (events v ≡ m.0.seen)
+
+  -- a look finds the turn where the word is the ticket
+  abbrev pub LooksAt : Stage E → Me (Option V) (Knows B E) → ℕ → Me (Option V) (Knows B E) → Type 0
+  LooksAt Idle m found n = Unit {0}
+  LooksAt (Waiting t) m found n = (found ≡ t → (v : V) × Found t m n v) × (found ≢ t → n ≡ m)
+  LooksAt (Turn t xs c) m found n = Unit {0}
+
+  abbrev pub Looks : Step (Option V) → Me (Option V) (Knows B E) → ℕ → Me (Option V) (Knows B E) → Type 0
+  Looks s m found n = LooksAt m.0.stage m found n
+
+module _ {V B E : Type 0} (base : V → B) (first : B → ℕ) (events : V → List E) (closed : V → Bool) where
+  -- the value that is out has become what the pass has seen
+  abbrev pub PostsAt : Stage E → List (ℕ × Option V) → Me (Option V) (Knows B E) → Me (Option V) (Knows B E) → Type 0
+  PostsAt Idle taken m n = Unit {0}
+  PostsAt (Waiting t) taken m n = Unit {0}
+  PostsAt (Turn t xs c) [] m n = Unit {0}
+  PostsAt (Turn t xs c) ((i, None) ∷ taken) m n = Unit {0}
+  PostsAt (Turn t xs c) ((i, Some v) ∷ taken) m n = n ≡ (published t (first (base v)) xs (events v) (closed v) m.0, m.1)
+
+  abbrev pub Posts : Step (Option V) → Me (Option V) (Knows B E) → ℕ → Me (Option V) (Knows B E) → Type 0
+  Posts s m found n = PostsAt m.0.stage m.1 m n

@@ -1,0 +1,27 @@
+//! What the lock asks of the value that it guards.
+ghost use Rattle.std.specs.Prelude.{◌≡◌, ◌+◌, ℕ, Bool, List, length};
+
+/// A value that is a base and the events after it. Each event raises its position by one.
+pub trait Grown {
+    /// What the events stand on.
+    type Base;
+
+    /// One event.
+    type Entry;
+
+    // What the events of a value stand on.
+    ghost base: { Self → Self.Base };
+
+    // The position at which a base ends, before the first event.
+    ghost first: { Self.Base → ℕ };
+
+    // The events after the base, in order.
+    ghost events: { Self → List Self.Entry };
+
+    // Whether the events stay as they are from now on.
+    ghost closed: { Self → Bool };
+
+    /// The position at which the events end.
+    fn position(&self) -> u64
+        ensures { result ≡ first (base self.now) + length (events self.now) };
+}

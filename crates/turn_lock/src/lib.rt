@@ -1,0 +1,26 @@
+//! A lock that serves its holders in the order of their tickets, round one value whose events only grow.
+//! A pass carries what its holder has seen of the value, and which events it added.
+#![tactic(auto)]
+
+mod ending;
+mod grown;
+mod held;
+mod laws;
+mod lock;
+mod making;
+mod opening;
+mod pass;
+mod plays;
+mod sharing;
+mod steps;
+#[cfg(test)]
+mod tests;
+mod turns;
+mod view;
+
+pub use grown::Grown;
+pub use held::Held;
+pub use laws::every_moment;
+pub use lock::TurnLock;
+pub use making::MadeLock;
+pub use pass::Pass;

@@ -1,0 +1,35 @@
+//! The lock: three words and one slot of a table.
+use crate::grown::Grown;
+use crate::opening::Opening;
+use crate::plays::Turns;
+use crate::view::Knows;
+use atomic_table::Table;
+use std::alloc::Global;
+use std::marker::Model;
+
+// The word that has the next ticket to draw, the word that has the ticket served, and the word that has the position at which the events end.
+pub(crate) const NEXT: usize = 0;
+
+pub(crate) const SERVING: usize = 1;
+
+pub(crate) const END: usize = 2;
+
+// The slot that has the value.
+pub(crate) const VALUE: usize = 0;
+
+/// A lock round one value, which serves its passes in the order of their tickets.
+#[derive(Drop)]
+pub struct TurnLock<V: Grown> {
+    pub(crate) table: Table<Option<V>, Knows<V::Base, V::Entry>, Opening<V>, Turns, Global>,
+}
+
+impl<V: Grown> Model for TurnLock<V> {
+    ghost use Rattle.std.specs.Prelude.{◌≡◌};
+    ghost use Rattle.turn_lock.specs.Pass.{Guarded};
+
+    ghost Value = { Guarded V };
+
+    ghost view = { λ l. record { lock = l.table.shared.table_id; opened = l.table.shared.key.value.value; shares = l.table.shared.key.shares } };
+
+    ghost invariant = { λ l. (l.table.shared.table_id.words ≡ 3) × (l.table.shared.table_id.slots ≡ 1) };
+}

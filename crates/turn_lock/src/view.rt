@@ -1,0 +1,26 @@
+//! What a pass knows, for the proofs alone. No value of these types is made.
+use std::collections::LinkedList;
+
+/// How far a pass is on its way to its turn.
+pub enum Stage<E> {
+    Idle,
+    /// It has this ticket.
+    Waiting(u64),
+    /// It has the turn by this ticket. With it, the events of the value as the others know them, and whether it is closed.
+    Turn(u64, LinkedList<E>, bool),
+}
+
+/// What a pass knows and has done.
+pub struct Knows<B, E> {
+    pub stage: Stage<E>,
+    pub shares: u32,
+    pub base: Option<B>,
+    pub seen: LinkedList<E>,
+    /// Whether it has seen the value closed with the events seen.
+    pub shut: bool,
+    pub made: LinkedList<u64>,
+    /// The base of the pass that was joined last.
+    pub other_base: Option<B>,
+    /// The shorter list of the two at that join.
+    pub other_seen: LinkedList<E>,
+}
