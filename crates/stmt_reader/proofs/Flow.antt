@@ -1,12 +1,11 @@
 -- The tokens of a text, one after the other.
-use Rattle.std.proofs.Common.{◌≡◌, ◌≢◌, ℕ, zero, suc, ◌+◌, ◌<◌, ◌≤◌, Bool, true, false, cond, List, [], ◌∷◌, length, drop, Option, Some, None, refl, sym, ap, subst, ◌∙◌, arith}
+use Rattle.std.proofs.Common.{◌≡◌, ℕ, zero, suc, ◌+◌, ◌<◌, ◌≤◌, Bool, true, false, List, [], length, drop, Option, Some, None, refl, sym, ap, subst, ◌∙◌, arith}
 use Rattle.std.proofs.lemmas.List.{length-drop, nil_from_length}
 use Rattle.stmt_reader.specs.Tokens.{Next, token, ended, nothing, next, next_here, blank_len}
 use Rattle.stmt_reader.specs.Scan as scan
 use Rattle.stmt_reader.specs.Scan.{Seen, SeenNext, seen_next}
 use Rattle.stmt_reader.specs.Cursor.{Cursor, ahead}
-use Rattle.stmt_reader.specs.Streams.{Placed, Stream, ends, stops, ◌then◌, scan as scan_from, stream, seen_ahead, is_end, place, tail, refused}
-use Rattle.stmt_reader.specs.declared.faults.Fault.{Fault}
+use Rattle.stmt_reader.specs.Streams.{Stream, ends, stops, ◌then◌, scan as scan_from, stream, seen_ahead, is_end, place, tail, refused}
 use Rattle.stmt_reader.specs.declared.faults.Fault.TheVariants.{NoToken, Syntax}
 use Rattle.stmt_reader.proofs.Lexemes.{NextFits, next_fits}
 

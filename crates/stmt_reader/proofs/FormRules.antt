@@ -1,7 +1,7 @@
 -- Each statement's reading reads its rule of the grammar.
-use Rattle.std.proofs.Common.{◌≡◌, ℕ, zero, suc, Bool, true, false, List, [], ◌∷◌, ◌++◌, Option, Some, None, refl, sym, subst, ap, ◌∙◌, ℤ, pos, inl, inr}
-use Rattle.std.specs.Prelude.{codes, ◌⊎◌}
-use Rattle.stmt_reader.specs.Tokens.{Token, word, number, quoted, mark}
+use Rattle.std.proofs.Common.{◌≡◌, ℕ, Bool, true, false, List, [], ◌∷◌, ◌++◌, Some, None, refl, sym, subst, ap, ◌∙◌, ℤ, inl, inr}
+use Rattle.std.specs.Prelude.{codes}
+use Rattle.stmt_reader.specs.Tokens.{Token, number, mark}
 use Rattle.stmt_reader.specs.Scan as scan
 use Rattle.stmt_reader.specs.Scan.{Seen, seen}
 use Rattle.stmt_reader.specs.Words.{is_keyword, is_mark, is_number}
@@ -10,14 +10,13 @@ use Rattle.stmt_reader.specs.Reading as read
 use Rattle.stmt_reader.specs.Reading.{parts}
 use Rattle.stmt_reader.specs.Grammar as rule
 use Rattle.stmt_reader.specs.Grammar.{Rule, says, sequence, either}
-use Rattle.stmt_reader.specs.declared.keywords.Keyword.{Keyword}
 use Rattle.stmt_reader.specs.declared.keywords.Keyword.TheVariants as kw
 use Rattle.stmt_reader.specs.declared.tokens.Mark.TheVariants as marks
 use Rattle.stmt_reader.specs.declared.phrases.Separator.TheVariants as separators
 use Rattle.stmt_reader.specs.declared.statements.Stmt.{Stmt}
 use Rattle.stmt_reader.specs.declared.statements.Stmt.TheVariants as stmt
-use Rattle.stmt_reader.proofs.Placed.{splits, single, onto-append}
-use Rattle.stmt_reader.proofs.Rules.{Reads, none, heads-none, any, heads-any, Avoids, Alike, alike-refl, reads_alike, reads_gives, reads_bind, reads_then}
+use Rattle.stmt_reader.proofs.Placed.{splits, onto-append}
+use Rattle.stmt_reader.proofs.Rules.{Reads, none, any, heads-any, Avoids, alike-refl, reads_alike, reads_gives, reads_bind, reads_then}
 use Rattle.stmt_reader.proofs.RuleTokens.{behind, Leads, reads_keyword, reads_mark, reads_number, reads_choose, takes_keyword, takes_mark, mark_only, avoids_says, avoids_keyword, avoids_mark, avoids_number, avoids_sequence, avoids_either}
 use Rattle.stmt_reader.proofs.RuleLists.{reads_listed}
 use Rattle.stmt_reader.proofs.PartRules.{reads_last, avoids_end, reads_name, reads_quoted, reads_flag, reads_value, reads_row, reads_column, reads_source, on_filters, on_aggregates, on_as, reads_bucket, reads_grouping}

@@ -1,5 +1,5 @@
 -- Lists, as the loops of the code read them.
-use Rattle.std.proofs.Common.{◌≡◌, ℕ, zero, suc, ◌+◌, ◌<◌, ◌≤◌, Bool, true, false, cond, List, [], ◌∷◌, ◌++◌, Option, Some, None, Result, Ok, Err, refl, sym, ap, subst, ◌∙◌, arith, inl, inr}
+use Rattle.std.proofs.Common.{◌≡◌, ℕ, zero, suc, ◌<◌, ◌≤◌, Bool, true, false, cond, List, [], ◌∷◌, ◌++◌, Result, Ok, Err, refl, sym, ap, subst, ◌∙◌, arith}
 use Rattle.std.proofs.Common.{get_or, drop, length, drop-cons}
 use Rattle.ts_num.specs.declared.values.Fun.{Fun}
 use Rattle.stmt_reader.specs.Scan.{Seen}
@@ -10,7 +10,7 @@ use Rattle.stmt_reader.specs.declared.faults.Fault.{Fault}
 use Rattle.stmt_reader.specs.declared.faults.ReadError.{ReadError}
 use Rattle.stmt_reader.specs.declared.faults.ReadError.TheVariants as errors
 use Rattle.stmt_reader.specs.declared.tokens.Mark.TheVariants as marks
-use Rattle.stmt_reader.specs.Forward.{Forward, forward-name, forward-wanted}
+use Rattle.stmt_reader.specs.Forward.{Forward, forward-name}
 
 abbrev left_of : {A : Type 0} → Stream → Result (A × Stream) Fault → Stream
 left_of d (Ok x) = x.1

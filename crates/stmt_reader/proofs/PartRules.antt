@@ -1,18 +1,18 @@
 -- Each reading reads its rule of the grammar.
-use Rattle.std.proofs.Common.{◌≡◌, ℕ, zero, suc, Bool, true, false, List, [], ◌∷◌, Option, Some, None, refl, sym, subst, ℤ, pos, inl, inr}
-use Rattle.std.specs.Prelude.{codes, ◌⊎◌}
+use Rattle.std.proofs.Common.{◌≡◌, ℕ, Bool, true, false, List, [], ◌∷◌, Option, Some, None, refl, sym, subst, pos, inl, inr}
+use Rattle.std.specs.Prelude.{codes}
 use Rattle.std.proofs.lemmas.Bool.{both_ways}
 use Rattle.ts_num.specs.declared.values.Fun.{Fun}
 use Rattle.ts_num.specs.declared.values.Fun.TheVariants as fun
 use Rattle.ts_schema.specs.declared.conditions.Cmp.TheVariants as cmp
 use Rattle.ts_schema.specs.declared.conditions.Cmp.{Cmp}
-use Rattle.stmt_reader.specs.Tokens.{Token, word, number, quoted, mark}
+use Rattle.stmt_reader.specs.Tokens.{Token, word, quoted, mark}
 use Rattle.stmt_reader.specs.Scan as scan
 use Rattle.stmt_reader.specs.Scan.{Seen, seen}
-use Rattle.stmt_reader.specs.Words.{is_keyword, is_mark, is_number, word_of, quoted_of, flag_of, comparison_of, function_of, is_star_of, is_item, bucket_name}
+use Rattle.stmt_reader.specs.Words.{is_keyword, is_mark, word_of, quoted_of, flag_of, comparison_of, function_of, is_star_of, is_item, bucket_name}
 use Rattle.stmt_reader.specs.Reading as read
 use Rattle.stmt_reader.specs.Reading.{takes, parts}
-use Rattle.stmt_reader.specs.Streams.{Placed, Stream, ends, stops, ◌then◌, onto, plain, seen_ahead, heads, tail}
+use Rattle.stmt_reader.specs.Streams.{Stream, ends, stops, ◌then◌, onto, heads}
 use Rattle.stmt_reader.specs.Grammar as rule
 use Rattle.stmt_reader.specs.Grammar.{Rule, sequence, either}
 use Rattle.stmt_reader.specs.Refusals.{Begins}
@@ -24,7 +24,7 @@ use Rattle.stmt_reader.specs.declared.folds.Bucket.{Bucket}
 use Rattle.stmt_reader.specs.declared.statements.NamedAgg.{NamedAgg}
 use Rattle.stmt_reader.proofs.Placed.{nothing_placed}
 use Rattle.stmt_reader.proofs.Rules.{Reads, none, heads-none, any, Avoids, alike-refl, reads_alike, reads_gives, reads_bind, reads_then}
-use Rattle.stmt_reader.proofs.RuleTokens.{behind, reads_one, reads_wanted, reads_keyword, reads_mark, reads_number, reads_choose, reads_takes, takes_keyword, takes_mark, inner_of, same_text, same_mark, keyword_only, mark_only, avoids_says, avoids_keyword, avoids_mark, avoids_one, avoids_number, avoids_sequence, avoids_either}
+use Rattle.stmt_reader.proofs.RuleTokens.{behind, reads_one, reads_wanted, reads_keyword, reads_mark, reads_number, reads_takes, takes_keyword, takes_mark, inner_of, same_text, keyword_only, mark_only, avoids_says, avoids_keyword, avoids_mark, avoids_one, avoids_number, avoids_sequence}
 use Rattle.stmt_reader.proofs.RuleLists.{reads_listed, reads_rest, avoids_rest, reads_items_from}
 
 begins_one : {A : Type 0} (f : Seen → Option A) (t : Token) (a : A) → f (seen t) ≡ Some a → Begins (rule.one f) []

@@ -1,13 +1,13 @@
 -- Readings of lists.
-use Rattle.std.proofs.Common.{◌≡◌, ℕ, zero, suc, ◌+◌, ◌<◌, ◌≤◌, Bool, true, false, cond, ◌||◌, List, [], ◌∷◌, ◌++◌, length, Option, Some, None, Result, Ok, Err, refl, sym, ap, subst, ◌∙◌, append_assoc, arith, inl, inr}
+use Rattle.std.proofs.Common.{◌≡◌, ℕ, zero, suc, Bool, true, false, ◌||◌, List, [], ◌∷◌, ◌++◌, None, refl, sym, ap, subst, ◌∙◌, append_assoc, arith, inl, inr}
 use Rattle.std.specs.Prelude.{◌⊎◌}
 use Rattle.std.proofs.lemmas.Bool.{cases_Bool}
 use Rattle.std.proofs.lemmas.List.{append-nil}
 use Rattle.stmt_reader.specs.Tokens.{Token, word}
 use Rattle.stmt_reader.specs.Scan as scan
 use Rattle.stmt_reader.specs.Scan.{Seen, seen}
-use Rattle.stmt_reader.specs.Streams.{Placed, Stream, ends, stops, ◌then◌, onto, plain, size, heads, tail}
-use Rattle.stmt_reader.specs.Reading.{Parser, gives, go_on, bind, takes, more, listed, parts, items_from}
+use Rattle.stmt_reader.specs.Streams.{Placed, Stream, ends, stops, ◌then◌, onto, plain, size, heads}
+use Rattle.stmt_reader.specs.Reading.{Parser, gives, bind, takes, more, listed, parts, items_from}
 use Rattle.stmt_reader.specs.Words.{is_item}
 use Rattle.stmt_reader.specs.Grammar as rule
 use Rattle.stmt_reader.specs.Grammar.{Rule, says, sequence, either, many}
@@ -16,8 +16,8 @@ use Rattle.stmt_reader.specs.Forward.{Forward}
 use Rattle.stmt_reader.specs.declared.phrases.Separator.{Separator}
 use Rattle.stmt_reader.specs.declared.tokens.Mark.TheVariants as marks
 use Rattle.stmt_reader.proofs.Loops.{more_ends, more_goes}
-use Rattle.stmt_reader.proofs.Placed.{size-onto, nothing_placed, single, splits}
-use Rattle.stmt_reader.proofs.Rules.{Found, Failed, Agrees, Reads, none, any, heads-any, or_false, Avoids, Alike, alike-refl, reads_alike, reads_gives, reads_bind, reads_then}
+use Rattle.stmt_reader.proofs.Placed.{size-onto, nothing_placed}
+use Rattle.stmt_reader.proofs.Rules.{Reads, none, any, heads-any, or_false, Avoids, Alike, reads_alike, reads_gives, reads_bind, reads_then}
 use Rattle.stmt_reader.proofs.RuleTokens.{Inner, behind, reads_takes, reads_mark, reads_wanted, same_text, avoids_says}
 
 -- a reading that reads a rule never goes back

@@ -1,6 +1,6 @@
 -- Readings of one token, and of one way or another by the token that comes next.
-use Rattle.std.proofs.Common.{◌≡◌, ℕ, zero, suc, ◌+◌, ◌<◌, ◌≤◌, Bool, true, false, cond, ◌||◌, eqb, List, [], ◌∷◌, ◌++◌, length, Option, Some, None, Result, Ok, Err, refl, sym, ap, subst, ◌∙◌, length-append, ℤ, pos, arith, inl, inr}
-use Rattle.std.specs.Prelude.{◌⊎◌, option_and_then}
+use Rattle.std.proofs.Common.{◌≡◌, ℕ, zero, suc, ◌+◌, ◌<◌, ◌≤◌, Bool, true, false, cond, eqb, List, [], ◌∷◌, ◌++◌, length, Option, Some, None, Result, Ok, Err, refl, sym, ap, subst, ◌∙◌, length-append, ℤ, pos, arith, inl, inr}
+use Rattle.std.specs.Prelude.{◌⊎◌}
 use Rattle.std.specs.Str.{bytes_eq}
 use Rattle.std.proofs.lemmas.Bool.{cases_Bool, eqb-true, eq-eqb}
 use Rattle.std.proofs.lemmas.Slice.Eq.{bytes_eq-Decides}
@@ -15,12 +15,12 @@ use Rattle.stmt_reader.specs.Grammar as rule
 use Rattle.stmt_reader.specs.Grammar.{Rule, says, sequence, either}
 use Rattle.stmt_reader.specs.Refusals.{is_fit, Begins}
 use Rattle.stmt_reader.specs.declared.faults.Fault.{Fault}
-use Rattle.stmt_reader.specs.declared.faults.Fault.TheVariants.{NoToken, Syntax, BadNumber}
+use Rattle.stmt_reader.specs.declared.faults.Fault.TheVariants.{BadNumber}
 use Rattle.stmt_reader.specs.declared.keywords.Keyword.{Keyword}
 use Rattle.stmt_reader.specs.declared.tokens.Mark.{Mark}
 use Rattle.stmt_reader.specs.declared.tokens.Mark.TheVariants as marks
 use Rattle.stmt_reader.proofs.Loops.{wanted_less, ok_unit}
-use Rattle.stmt_reader.proofs.Placed.{AllFit, MisfitIn, Single, single, nothing_placed, Splits, splits, onto-append, heads_alike, heads_onto}
+use Rattle.stmt_reader.proofs.Placed.{single, nothing_placed, splits, onto-append, heads_onto}
 use Rattle.stmt_reader.proofs.Rules.{left_of, Found, Failed, StuckAt, Stuck, Agrees, Reads, none, heads-none, any, heads-any, Avoids, Went, unbound, unbound_fails, found_both, failed_first, failed_second, agrees_bind, Alike, alike-refl, reads_alike}
 
 -- ---- results

@@ -1,18 +1,15 @@
 -- A reading reads a rule: what it finds is in the rule, what the rule has is found, and a fault is the first one.
-use Rattle.std.proofs.Common.{◌≡◌, ℕ, zero, suc, ◌+◌, ◌<◌, ◌≤◌, Bool, true, false, cond, ◌||◌, List, [], ◌∷◌, ◌++◌, length, Option, Some, None, Result, Ok, Err, refl, sym, ap, subst, ◌∙◌, append_assoc, length-append, arith, inl, inr}
+use Rattle.std.proofs.Common.{◌≡◌, ℕ, ◌+◌, ◌≤◌, Bool, true, false, ◌||◌, List, [], ◌∷◌, ◌++◌, length, Result, Ok, Err, refl, sym, ap, subst, ◌∙◌, append_assoc, length-append, arith, inl, inr}
 use Rattle.std.specs.Prelude.{◌⊎◌}
-use Rattle.std.proofs.lemmas.Bool.{cases_Bool}
-use Rattle.std.proofs.lemmas.List.{append-nil}
 use Rattle.stmt_reader.specs.Tokens.{Token}
 use Rattle.stmt_reader.specs.Scan.{Seen, seen}
-use Rattle.stmt_reader.specs.Streams.{Placed, Stream, ends, stops, ◌then◌, onto, plain, size, seen_ahead, heads, tail}
+use Rattle.stmt_reader.specs.Streams.{Placed, Stream, ends, stops, ◌then◌, onto, plain, size, seen_ahead, heads}
 use Rattle.stmt_reader.specs.Reading.{Parser, gives, go_on, bind}
-use Rattle.stmt_reader.specs.Grammar as rule
-use Rattle.stmt_reader.specs.Grammar.{Rule, says, sequence, either}
+use Rattle.stmt_reader.specs.Grammar.{Rule, says, sequence}
 use Rattle.stmt_reader.specs.Refusals.{is_fit, Begins}
 use Rattle.stmt_reader.specs.declared.faults.Fault.{Fault}
 use Rattle.stmt_reader.specs.declared.faults.Fault.TheVariants.{NoToken, Syntax, BadNumber}
-use Rattle.stmt_reader.proofs.Placed.{AllFit, MisfitIn, misfit_left, misfit_right, fit-append, onto-append, plain-append, size-onto, Splits, splits, nothing_placed, ahead_onto, heads_onto}
+use Rattle.stmt_reader.proofs.Placed.{AllFit, MisfitIn, misfit_left, misfit_right, fit-append, onto-append, plain-append, size-onto, splits, nothing_placed, ahead_onto}
 
 -- what was found: tokens of the rule, whose numbers are i64; and nothing behind them but the next token matters
 pub record Found {A : Type 0} (p : Parser A) (L : Rule A) (s : Stream) (a : A) (left : Stream) : Type 0 where

@@ -1,5 +1,5 @@
 -- The keys and aggregates of a SELECT list: a word is a key unless an opening parenthesis follows it.
-use Rattle.std.proofs.Common.{◌≡◌, ℕ, zero, suc, ◌+◌, ◌<◌, ◌≤◌, Bool, true, false, cond, List, [], ◌∷◌, ◌++◌, length, Option, Some, None, Result, Ok, Err, refl, sym, ap, subst, ◌∙◌, append_assoc, arith, inl, inr}
+use Rattle.std.proofs.Common.{◌≡◌, ℕ, zero, suc, Bool, true, false, cond, List, [], ◌∷◌, ◌++◌, Option, Some, None, Result, Ok, Err, refl, sym, ap, subst, ◌∙◌, append_assoc, inl, inr}
 use Rattle.std.specs.Prelude.{◌⊎◌, codes}
 use Rattle.std.proofs.lemmas.Bool.{cases_Bool}
 use Rattle.std.proofs.lemmas.List.{append-nil}
@@ -9,7 +9,7 @@ use Rattle.stmt_reader.specs.Tokens.{Token, word, number, quoted, mark}
 use Rattle.stmt_reader.specs.Scan as scan
 use Rattle.stmt_reader.specs.Scan.{Seen, seen}
 use Rattle.stmt_reader.specs.Words.{is_mark, word_of, function_of, function_of_word}
-use Rattle.stmt_reader.specs.Streams.{Placed, Stream, ends, stops, ◌then◌, onto, plain, size, heads, tail, refused}
+use Rattle.stmt_reader.specs.Streams.{Stream, ends, stops, ◌then◌, plain, heads, refused}
 use Rattle.stmt_reader.specs.Reading as read
 use Rattle.stmt_reader.specs.Reading.{Parser, gives, go_on, bind, wanted, choose, known, keys_and_function}
 use Rattle.stmt_reader.specs.Grammar as rule
@@ -19,8 +19,7 @@ use Rattle.stmt_reader.specs.declared.faults.Fault.{Fault}
 use Rattle.stmt_reader.specs.declared.tokens.Mark.TheVariants as marks
 use Rattle.stmt_reader.specs.declared.statements.NamedAgg.{NamedAgg}
 use Rattle.stmt_reader.proofs.Loops.{keys_body, keys_go, after_word}
-use Rattle.stmt_reader.proofs.Placed.{splits, single, nothing_placed}
-use Rattle.stmt_reader.proofs.Rules.{Reads, none, any, heads-any, Avoids, Alike, alike-refl, reads_alike, reads_gives, reads_bind, reads_then}
+use Rattle.stmt_reader.proofs.Rules.{Reads, none, Avoids, Alike, alike-refl, reads_alike, reads_gives, reads_then}
 use Rattle.stmt_reader.proofs.RuleTokens.{Inner, behind, reads_mark, reads_choose_on, reads_past, leads_behind, mark_only, avoids_mark, avoids_sequence}
 use Rattle.stmt_reader.proofs.PartRules.{reads_name, reads_last, reads_aggregates, aggregates_of, on_aggregates}
 

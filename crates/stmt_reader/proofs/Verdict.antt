@@ -1,11 +1,10 @@
 -- What reading answers is what the grammar says, and a fault is the first thing that is wrong.
-use Rattle.std.proofs.Common.{◌≡◌, ℕ, zero, suc, ◌+◌, ◌<◌, ◌≤◌, Bool, true, false, List, [], ◌∷◌, ◌++◌, length, Option, Some, None, Result, Ok, Err, refl, sym, ap, subst, ◌∙◌, append_assoc, arith, inl, inr}
+use Rattle.std.proofs.Common.{◌≡◌, ℕ, zero, suc, ◌+◌, ◌<◌, ◌≤◌, true, false, List, [], ◌∷◌, ◌++◌, length, Result, Ok, Err, refl, sym, ap, subst, ◌∙◌, append_assoc, arith, inl, inr}
 use Rattle.std.specs.Prelude.{◌⊎◌}
 use Rattle.std.proofs.lemmas.Bool.{both_ways}
 use Rattle.std.proofs.lemmas.List.{append-nil}
 use Rattle.stmt_reader.specs.Tokens.{Token, Next, token, ended, nothing, next}
-use Rattle.stmt_reader.specs.Scan.{seen}
-use Rattle.stmt_reader.specs.Streams.{Placed, Stream, ends, stops, ◌then◌, onto, plain, size, seen_ahead, heads, tail, place, is_end, refused, scan, stream}
+use Rattle.stmt_reader.specs.Streams.{Placed, Stream, ends, stops, ◌then◌, onto, plain, size, place, scan, stream}
 use Rattle.stmt_reader.specs.Reading as read
 use Rattle.stmt_reader.specs.Reading.{gives, go_on, bind}
 use Rattle.stmt_reader.specs.Grammar.{statement}
@@ -19,9 +18,9 @@ use Rattle.stmt_reader.specs.declared.faults.Fault.TheVariants.{NoToken, Syntax,
 use Rattle.stmt_reader.specs.declared.statements.Stmt.{Stmt}
 use Rattle.stmt_reader.proofs.Flow.{flow, scan_is_flow}
 use Rattle.stmt_reader.proofs.Lexemes.{NextFits, next_fits}
-use Rattle.stmt_reader.proofs.Placed.{AllFit, MisfitIn, no_misfit, misfit_is_bad_number, onto-append, plain-append, size-onto, placed, plain-placed}
-use Rattle.stmt_reader.proofs.Rules.{Found, Failed, StuckAt, Stuck, Agrees, Reads}
-use Rattle.stmt_reader.proofs.FormRules.{whole, on_statement, reads_whole}
+use Rattle.stmt_reader.proofs.Placed.{AllFit, no_misfit, misfit_is_bad_number, onto-append, plain-append, placed, plain-placed}
+use Rattle.stmt_reader.proofs.Rules.{Found, Stuck, Agrees}
+use Rattle.stmt_reader.proofs.FormRules.{whole, reads_whole}
 
 -- ---- places rise
 

@@ -1,13 +1,10 @@
 -- Reading never goes back: the tokens that are left are at most as many as there were.
-use Rattle.std.proofs.Common.{◌≡◌, ℕ, zero, suc, ◌+◌, ◌<◌, ◌≤◌, Bool, true, false, cond, List, [], ◌∷◌, ◌++◌, Option, Some, None, Result, Ok, Err, refl, sym, ap, subst, ◌∙◌, arith, inl, inr}
+use Rattle.std.proofs.Common.{◌≡◌, ℕ, zero, suc, ◌≤◌, Bool, true, false, cond, List, [], ◌∷◌, ◌++◌, Option, Some, None, Result, Ok, Err, refl, ap, subst, arith}
 use Rattle.std.specs.Prelude.{option_and_then}
-use Rattle.std.proofs.lemmas.Bool.{cases_Bool}
-use Rattle.ts_num.specs.declared.values.Fun.{Fun}
-use Rattle.ts_num.specs.declared.values.Fun.TheVariants as fun
 use Rattle.stmt_reader.specs.Scan.{Seen}
-use Rattle.stmt_reader.specs.Words.{is_keyword, is_mark, word_of, number_of, is_star_of}
-use Rattle.stmt_reader.specs.Streams.{Stream, ends, stops, ◌then◌, size, heads, tail, seen_ahead, refused, place}
-use Rattle.stmt_reader.specs.Reading.{Parser, gives, go_on, bind, takes, choose, said, one, wanted, fitting, number, repeat, more, parts, listed, value, row, not_null, column, null_test, number_test, test, alias, argument, aggregate_rest, aggregate, name, keyword, mark, comparison}
+use Rattle.stmt_reader.specs.Words.{word_of, number_of}
+use Rattle.stmt_reader.specs.Streams.{Stream, ends, stops, ◌then◌, size, heads, tail, seen_ahead, refused}
+use Rattle.stmt_reader.specs.Reading.{Parser, gives, go_on, bind, takes, choose, said, one, wanted, fitting, number, repeat, more, parts, listed, value, row, not_null, column, null_test, number_test, test, alias, argument, aggregate_rest, aggregate, name}
 use Rattle.stmt_reader.specs.declared.faults.Fault.{Fault}
 
 pub record Forward {A : Type 0} (p : Parser A) : Type 0 where

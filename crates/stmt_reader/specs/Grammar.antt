@@ -17,7 +17,6 @@ use Rattle.stmt_reader.specs.declared.statements.NamedTest.{NamedTest}
 use Rattle.ts_num.specs.declared.values.Fun.{Fun}
 use Rattle.ts_num.specs.declared.values.Fun.TheVariants as fun
 use Rattle.ts_schema.specs.declared.columns.Column.{Column}
-use Rattle.ts_schema.specs.declared.conditions.Cmp.{Cmp}
 use Rattle.ts_schema.specs.declared.conditions.Cmp.TheVariants as cmp
 
 -- these tokens say this

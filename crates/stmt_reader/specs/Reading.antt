@@ -1,4 +1,4 @@
-use Rattle.std.specs.Prelude.{◌≡◌, ℕ, zero, suc, ◌+◌, ℤ, Bool, true, false, if◌then◌else◌, List, [], ◌∷◌, ◌++◌, Option, Some, None, option_and_then, Result, Ok, Err, pos}
+use Rattle.std.specs.Prelude.{◌≡◌, ℕ, zero, suc, ℤ, Bool, true, false, if◌then◌else◌, List, [], ◌∷◌, ◌++◌, Option, Some, None, option_and_then, Result, Ok, Err, pos}
 use Rattle.stmt_reader.specs.Scan.{Seen}
 use Rattle.stmt_reader.specs.Words.{is_keyword, is_mark, is_number, word_of, quoted_of, number_of, flag_of, comparison_of, function_of, function_of_word, is_star_of, is_item, bucket_name}
 use Rattle.stmt_reader.specs.Streams.{Stream, size, seen_ahead, heads, tail, place, is_end, refused}

@@ -1,5 +1,5 @@
 use Rattle.std.specs.Prelude.{ℕ, zero, suc, ◌+◌, Bool, true, false, List, [], ◌∷◌, length, map, Option, Some, None}
-use Rattle.stmt_reader.specs.Tokens.{Token, Next, token, ended, nothing, next}
+use Rattle.stmt_reader.specs.Tokens.{Token, token, ended, nothing, next}
 use Rattle.stmt_reader.specs.Scan.{Seen, seen}
 use Rattle.stmt_reader.specs.declared.faults.Fault.{Fault}
 use Rattle.stmt_reader.specs.declared.faults.Fault.TheVariants.{NoToken, Syntax}

@@ -1,4 +1,4 @@
-use Rattle.std.proofs.Common.{length, sym, ap, subst, ◌∙◌, arith}
+use Rattle.std.proofs.Common.{length, sym, ap, subst, ◌∙◌}
 use Rattle.stmt_reader.specs.Cursor.{ahead}
 use Rattle.stmt_reader.specs.Streams.{stream}
 use Rattle.stmt_reader.specs.Scan.{view_ahead, SeenFits}

@@ -1,4 +1,4 @@
-use Rattle.std.proofs.Common.{◌≡◌, ℕ, suc, ◌∷◌, drop, sym, ap, subst, ◌∙◌, add-one, refl}
+use Rattle.std.proofs.Common.{◌≡◌, ℕ, suc, drop, subst, add-one}
 use Rattle.std.specs.Prelude.{Ok}
 use Rattle.std.proofs.lemmas.Result.{err_from_is_err_and}
 use Rattle.stmt_reader.specs.Cursor.{ahead}

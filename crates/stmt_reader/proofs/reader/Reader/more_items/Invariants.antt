@@ -1,4 +1,4 @@
-use Rattle.std.proofs.Common.{◌≡◌, suc, drop, length}
+use Rattle.std.proofs.Common.{◌≡◌, suc, drop}
 use Rattle.stmt_reader.specs.Cursor.{ahead}
 use Rattle.stmt_reader.specs.Reading.{items_from}
 use Rattle.stmt_reader.proofs.reader.Reader.more_items.Given as goal

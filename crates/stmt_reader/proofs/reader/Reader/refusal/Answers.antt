@@ -1,4 +1,4 @@
-use Rattle.std.proofs.Common.{ℕ, sym, ap, subst, ◌∙◌}
+use Rattle.std.proofs.Common.{ℕ, ap, subst, ◌∙◌}
 use Rattle.stmt_reader.specs.Cursor.{ahead}
 use Rattle.stmt_reader.specs.Scan.{view_ahead}
 use Rattle.stmt_reader.specs.declared.faults.Fault.TheVariants.{Syntax, NoToken}
