@@ -11,7 +11,8 @@ use ts_schema::{NoMemory, Seq};
 ///
 /// Contracts see the history that it has seen, whether the store stands still at the end of it after a
 /// disk fault, whether it is alone, and a count of faults beside the count that it was made with. Each
-/// call finds a history that begins with the one seen, and makes at most one event.
+/// call finds a history that begins with the one seen, and makes at most one event. The history seen is
+/// an allowed one at every moment.
 pub trait Backend {
     ghost use Rattle.std.specs.Prelude.{◌≡◌, ℕ, Bool, false, ◌&&◌, IsTrue, IsSome, IfOk};
     ghost use Rattle.std.specs.Option.{ForSome};
@@ -19,7 +20,7 @@ pub trait Backend {
     ghost use Rattle.ts_model.specs.declared.events.Event.TheVariants.{Table, Hyper as HyperMade, View, Mode, Commit};
     ghost use Rattle.ts_model.specs.History.{History, position};
     ghost use Rattle.ts_model.specs.Roster.{roster, view_of};
-    ghost use Rattle.ts_model.specs.Allowed.{sound};
+    ghost use Rattle.ts_model.specs.Allowed.{all_allowed, sound};
     ghost use Rattle.ts_model.specs.Calls.{Called, Looked, Counted, is_disk_fault, stop_of, making_table, making_hyper, making_view, setting_mode, committing, cutting, finishing};
 
     /// What finishes a refresh.
@@ -98,4 +99,6 @@ pub trait Backend {
     /// The position at which the store stopped, as the last call found or left it.
     fn stopped(&self) -> Option<u64>
         ensures { result ≡ stop_of (halted self.now) (seen self.now) };
+
+    ghost seen_is_allowed: { (s : Self) → IsTrue (all_allowed (seen s)) };
 }
