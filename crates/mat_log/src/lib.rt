@@ -4,5 +4,7 @@
 mod logs;
 mod ranges;
 mod spans;
+#[cfg(test)]
+mod tests;
 
 pub use logs::MatLog;
