@@ -9,6 +9,7 @@ use ts_schema::{NoMemory, Steps};
 /// what it holds and that history, and each of its promises is for every history that it stands for.
 pub trait Shown {
     ghost use Rattle.std.specs.Prelude.{◌≡◌, ℕ, ◌≤◌, IsTrue, IfOk, MatchResult};
+    ghost use Rattle.std.specs.Thread.{IsSync};
     ghost use Rattle.ts_schema.specs.Counts.{raised_by};
     ghost use Rattle.ts_model.specs.declared.events.Event.TheVariants.{Built};
     ghost use Rattle.ts_model.specs.History.{History, position, Begins};
@@ -47,7 +48,8 @@ pub trait Shown {
         query: &Query,
         steps: &mut Steps<L>,
     ) -> Result<Answer, NoMemory>
-        requires { (h : History) → stands self.now h → IsTrue (can_ask (roster h) query.now) }
+        requires sync { IsSync R.row }
+        requires asks { (h : History) → stands self.now h → IsTrue (can_ask (roster h) query.now) }
         ensures shown { (h : History) → stands self.now h → IfOk result (λ a. a ≡ answer query.now h) }
         ensures read { (h : History) → stands self.now h → MatchResult result (λ _. steps.new ≡ raised_by (reads query.now h) steps.old) (λ _. steps.new ≤ raised_by (reads query.now h) steps.old) };
 
@@ -59,7 +61,8 @@ pub trait Shown {
         cut: u64,
         steps: &mut Steps<L>,
     ) -> Result<Self::Job, NoMemory>
-        requires { (h : History) → stands self.now h → IsTrue (is_waiting (pending h cut)) }
+        requires sync { IsSync R.row }
+        requires waits { (h : History) → stands self.now h → IsTrue (is_waiting (pending h cut)) }
         ensures job { (h : History) → stands self.now h → IfOk result (λ job. fits job h × (cut_of job ≡ cut) × (snap_of job ≡ position h)) }
         ensures read { (h : History) → stands self.now h → MatchResult result (λ _. steps.new ≡ raised_by (job_reads h cut) steps.old) (λ _. steps.new ≤ raised_by (job_reads h cut) steps.old) };
 
