@@ -1,0 +1,16 @@
+//! A statement's names and values against the roster: what it asks for, or its first refusal.
+#![tactic(auto)]
+
+mod actions;
+mod folds;
+mod inserts;
+mod queries;
+mod refusals;
+mod relations;
+mod statements;
+mod tables;
+#[cfg(test)]
+mod tests;
+
+pub use actions::{Action, Checked};
+pub use statements::check;
