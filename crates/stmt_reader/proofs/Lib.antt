@@ -11,3 +11,7 @@ pub mod RuleTokens
 pub mod Rules
 pub mod SelectRules
 pub mod Verdict
+pub mod WrittenForms
+pub mod WrittenLaws
+pub mod WrittenParts
+pub mod Yields

@@ -10,3 +10,4 @@ pub mod Scan
 pub mod Streams
 pub mod Tokens
 pub mod Words
+pub mod Written

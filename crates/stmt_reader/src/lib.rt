@@ -26,6 +26,6 @@ mod tests;
 mod tokens;
 
 pub use lines::{LineKind, split_line};
-pub use reading::{ReadStmt, one_reading_law, read_stmt};
+pub use reading::{ReadStmt, one_reading_law, read_stmt, statements_are_written_law};
 pub use statements::{NamedAgg, NamedFold, NamedTest, Stmt};
 pub use tokens::{TokenAt, TokenKind, next_token};

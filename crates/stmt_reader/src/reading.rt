@@ -4,6 +4,7 @@ ghost use Rattle.stmt_reader.specs.Streams.{stream};
 ghost use Rattle.stmt_reader.specs.Answers.{Answers};
 ghost use Rattle.stmt_reader.specs.Reading.{statement};
 ghost use Rattle.stmt_reader.specs.Refusals.{Judges, OneReading};
+ghost use Rattle.stmt_reader.specs.Written.{IsWritten, OfStatement, StatementsAreWritten};
 
 use crate::faults::{Fault, ReadError};
 use crate::reader::Reader;
@@ -38,6 +39,9 @@ pub fn read_stmt(alloc: Global, text: &[u8], skip: u32) -> ReadStmt
 
     // What the grammar says: the statement where nothing is wrong, and else the first thing that is.
     ensures judged { Judges (stream text.now skip) result }
+
+    // A statement is whole, and no longer than its text.
+    ensures written { OfStatement (IsWritten (length text.now)) result }
 {
     answer(alloc, text, skip)
 }
@@ -59,4 +63,9 @@ fn answer(alloc: Global, text: &[u8], skip: u32) -> ReadStmt
 /// States that the tokens of a statement say one thing. It does nothing.
 pub fn one_reading_law()
     ensures { OneReading }
+{}
+
+/// States that every statement of a text is whole and no longer than the text. It does nothing.
+pub fn statements_are_written_law()
+    ensures { StatementsAreWritten }
 {}
