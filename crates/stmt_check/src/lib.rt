@@ -4,6 +4,7 @@
 mod actions;
 mod folds;
 mod inserts;
+mod laws;
 mod queries;
 mod refusals;
 mod relations;
@@ -13,4 +14,5 @@ mod tables;
 mod tests;
 
 pub use actions::{Action, Checked};
+pub use laws::{actions_are_sound_law, queues_are_sound_law, rosters_are_numbered_law};
 pub use statements::check;
