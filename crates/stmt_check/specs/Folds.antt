@@ -1,0 +1,155 @@
+-- Tests and folds over a hypertable.
+use Rattle.std.specs.Prelude.{ℕ, ◌==◌, Bool, false, not, ◌||◌, ◌&&◌, nat_le, ℤ, pos as nonneg, List, [], ◌∷◌, ◌++◌, length, map, Option, Some, None, is_none, is_some, unwrap_or, int_le, int_lt, codes}
+use Rattle.ts_num.specs.declared.values.Fun.{Fun}
+use Rattle.ts_num.specs.declared.values.Fun.TheVariants.{CountAll, Count, Sum, Min, Max, Avg}
+use Rattle.ts_bucket.specs.Bucket.{max_step}
+use Rattle.ts_model.specs.declared.outcomes.Refusal.{Refusal}
+use Rattle.ts_model.specs.declared.tables.TableInfo.{TableInfo}
+use Rattle.ts_model.specs.declared.views.Agg.{Agg}
+use Rattle.ts_model.specs.declared.views.Fold.{Fold}
+use Rattle.ts_schema.specs.Counts.{raised_by}
+use Rattle.ts_schema.specs.declared.conditions.Test.{Test}
+use Rattle.ts_catalog.specs.Columns.{column_of}
+use Rattle.stmt_reader.specs.declared.statements.NamedAgg.{NamedAgg}
+use Rattle.stmt_reader.specs.declared.statements.NamedFold.{NamedFold}
+use Rattle.stmt_reader.specs.declared.statements.NamedTest.{NamedTest}
+use Rattle.stmt_check.specs.Refusals.{◌⊳◌, marked, missing, refused}
+use Rattle.std.specs.List.{list_any}
+use Rattle.ts_model.specs.Roster.{same_name}
+use Rattle.stmt_check.specs.Tables.{is_among}
+
+-- the number of a column, where it is there
+abbrev pub number_or_zero : TableInfo → List ℕ → ℕ
+number_or_zero info name = unwrap_or (column_of info name) 0
+
+-- tests from left to right: each column is there
+abbrev pub tests_refusal : ℕ → TableInfo → List NamedTest → Option Refusal
+tests_refusal pos info [] = None
+tests_refusal pos info (t ∷ ts) = missing pos 8 (column_of info t.col) ⊳ tests_refusal pos info ts
+
+-- a test with the number of its column
+abbrev pub test_of : TableInfo → NamedTest → Test
+test_of info t = record { col = number_or_zero info t.col; cmp = t.cmp; num = t.num }
+
+abbrev pub tests_of : TableInfo → List NamedTest → List Test
+tests_of info tests = map (test_of info) tests
+
+-- the name of a function, which names its column where no other name is given
+abbrev pub function_name : Fun → List ℕ
+function_name CountAll = codes "count"
+function_name Count = codes "count"
+function_name Sum = codes "sum"
+function_name Min = codes "min"
+function_name Max = codes "max"
+function_name Avg = codes "avg"
+
+-- the name of the bucket where no other name is given
+abbrev pub bucket_name : List ℕ
+bucket_name = codes "time_bucket"
+
+-- the name of an aggregate's column
+abbrev pub aggregate_name : NamedAgg → List ℕ
+aggregate_name a = unwrap_or a.name (function_name a.fun)
+
+-- a name is that of the bucket's column or of one of these keys
+abbrev pub is_key : List ℕ → List (List ℕ) → List ℕ → Bool
+is_key bucket keys name = same_name bucket name || is_among name keys
+
+-- a name is that of one of these aggregates
+abbrev pub is_aggregate : List NamedAgg → List ℕ → Bool
+is_aggregate aggs name = list_any (λ a. same_name (aggregate_name a) name) aggs
+
+-- a name is that of the bucket's column, of a key or of one of these aggregates
+abbrev pub is_taken : List ℕ → List (List ℕ) → List NamedAgg → List ℕ → Bool
+is_taken bucket keys before name = is_key bucket keys name || is_aggregate before name
+
+-- an aggregate's argument is there
+abbrev pub argument_refusal : ℕ → TableInfo → Option (List ℕ) → Option Refusal
+argument_refusal pos info None = None
+argument_refusal pos info (Some col) = missing pos 8 (column_of info col)
+
+-- how many output columns the bucket, so many keys and so many aggregates are, as a count of 64 bits
+abbrev pub columns_before : ℕ → ℕ → ℕ
+columns_before keys aggs = raised_by aggs (raised_by keys 1)
+
+-- one aggregate after so many columns, whose name is taken where it has to differ: its function's word, which names it without AS, its argument, the word after AS
+abbrev pub aggregate_refusal : ℕ → ℕ → TableInfo → ℕ → Bool → NamedAgg → Option Refusal
+aggregate_refusal pos count info others repeats a =
+    refused pos 7 (is_none a.name && repeats) ⊳ marked pos 21 count (nat_le 16 others) ⊳ argument_refusal pos info a.col
+    ⊳ refused pos 7 (is_some a.name && repeats)
+
+-- the aggregates from left to right, after a bucket, keys and the aggregates before; `distinct` where names have to differ
+abbrev pub aggregates_refusal : ℕ → Bool → ℕ → TableInfo → List ℕ → List (List ℕ) → List NamedAgg → List NamedAgg → Option Refusal
+aggregates_refusal pos distinct count info bucket keys before [] = None
+aggregates_refusal pos distinct count info bucket keys before (a ∷ left) =
+    aggregate_refusal pos count info (columns_before (length keys) (length before)) (distinct && is_taken bucket keys before (aggregate_name a)) a
+    ⊳ aggregates_refusal pos distinct count info bucket keys (before ++ a ∷ []) left
+
+-- one key after so many columns, whose name is taken where it has to differ
+abbrev pub key_refusal : ℕ → ℕ → TableInfo → ℕ → Bool → List ℕ → Option Refusal
+key_refusal pos count info others repeats key =
+    refused pos 7 repeats ⊳ missing pos 8 (column_of info key) ⊳ marked pos 21 count (nat_le 16 others)
+
+-- the keys from left to right, after a bucket and the keys before
+abbrev pub keys_refusal : ℕ → Bool → ℕ → TableInfo → List ℕ → List (List ℕ) → List (List ℕ) → Option Refusal
+keys_refusal pos distinct count info bucket before [] = None
+keys_refusal pos distinct count info bucket before (k ∷ left) =
+    key_refusal pos count info (columns_before (length before) 0) (distinct && is_key bucket before k) k
+    ⊳ keys_refusal pos distinct count info bucket (before ++ k ∷ []) left
+
+-- a step is from 1 to 2 ^ 40
+abbrev pub is_step : ℤ → Bool
+is_step n = int_lt (nonneg 0) n && int_le n max_step
+
+-- an offset is from 0 to one less than the step
+abbrev pub is_shift : ℤ → ℤ → Bool
+is_shift step n = int_le (nonneg 0) n && int_lt n step
+
+-- the name of the bucket's column
+abbrev pub bucket_column : NamedFold → List ℕ
+bucket_column f = unwrap_or f.name bucket_name
+
+-- the names of the output columns
+abbrev pub output_names : NamedFold → List (List ℕ)
+output_names f = (bucket_column f ∷ f.keys) ++ map aggregate_name f.aggs
+
+-- how many output columns there are
+abbrev pub output_count : NamedFold → ℕ
+output_count f = columns_before (length f.keys) (length f.aggs)
+
+-- the column is the time column
+abbrev pub is_time_column : Option ℕ → Bool
+is_time_column None = false
+is_time_column (Some n) = n == 0
+
+-- the width, the time column and the offset
+abbrev pub width_refusal : ℕ → TableInfo → NamedFold → Option Refusal
+width_refusal pos info f =
+    refused pos 14 (not (is_step f.step))
+    ⊳ refused pos 8 (not (is_time_column (column_of info f.at)))
+    ⊳ refused pos 14 (not (is_shift f.step f.shift))
+
+-- a fold over a hypertable, from left to right; `distinct` where its output names have to differ
+abbrev pub fold_refusal : ℕ → Bool → TableInfo → NamedFold → Option Refusal
+fold_refusal pos distinct info f =
+    width_refusal pos info f
+    ⊳ keys_refusal pos distinct (output_count f) info (bucket_column f) [] f.keys
+    ⊳ aggregates_refusal pos distinct (output_count f) info (bucket_column f) f.keys [] f.aggs
+    ⊳ tests_refusal pos info f.tests
+
+-- the column that an aggregate reads; `count(*)` has column 0
+abbrev pub argument_of : TableInfo → Option (List ℕ) → ℕ
+argument_of info None = 0
+argument_of info (Some col) = number_or_zero info col
+
+abbrev pub aggregate_of : TableInfo → NamedAgg → Agg
+aggregate_of info a = record { fun = a.fun; col = argument_of info a.col }
+
+-- a fold with the numbers of its columns
+abbrev pub fold_of : TableInfo → NamedFold → Fold
+fold_of info f = record {
+  width = record { step = f.step; shift = f.shift };
+  keys = map (number_or_zero info) f.keys;
+  aggs = map (aggregate_of info) f.aggs;
+  tests = tests_of info f.tests;
+}

@@ -1,0 +1,9 @@
+pub mod Check
+pub mod Folds
+pub mod Queried
+pub mod Queries
+pub mod Refusals
+pub mod Results
+pub mod Rows
+pub mod Sound
+pub mod Tables

@@ -1,0 +1,71 @@
+-- Refusals in the order of the things looked at.
+use Rattle.std.specs.Prelude.{ℕ, Bool, true, false, not, nat_le, List, Option, Some, None, if◌then◌else◌, is_none}
+use Rattle.ts_model.specs.declared.outcomes.Refusal.{Refusal}
+use Rattle.ts_model.specs.declared.rosters.Roster.{Roster}
+use Rattle.ts_catalog.specs.declared.relations.Found.{Found}
+use Rattle.ts_catalog.specs.declared.relations.Found.TheVariants as found
+use Rattle.ts_catalog.specs.Relations.{found_in}
+
+infixr 4 ◌⊳◌
+-- a, or b where a is nothing: what is looked at first is refused first
+abbrev pub ◌⊳◌ : Option Refusal → Option Refusal → Option Refusal
+None ⊳ b = b
+(Some r) ⊳ b = Some r
+
+-- the refusal with this number and mark, where something is wrong
+abbrev pub marked : ℕ → ℕ → ℕ → Bool → Option Refusal
+marked pos code mark wrong = if wrong then Some (record { code = code; pos = pos; mark = mark }) else None
+
+-- the refusal with this number, where something is wrong
+abbrev pub refused : ℕ → ℕ → Bool → Option Refusal
+refused pos code wrong = marked pos code 0 wrong
+
+-- something that has to be there and isn't
+abbrev pub missing : {T : Type 0} → ℕ → ℕ → Option T → Option Refusal
+missing pos code o = refused pos code (is_none o)
+
+abbrev pub finds_nothing : Found → Bool
+finds_nothing found.None = true
+finds_nothing (found.Plain n) = false
+finds_nothing (found.Hyper n) = false
+finds_nothing (found.View n) = false
+
+-- a relation to be made has a new name, and of its kind there are fewer than 64
+abbrev pub name_refusal : ℕ → Roster → List ℕ → ℕ → Option Refusal
+name_refusal pos roster name there =
+    refused pos 7 (not (finds_nothing (found_in roster name))) ⊳ marked pos 21 65 (nat_le 64 there)
+
+-- where a hypertable is needed: the name stands for nothing, or for something else
+abbrev pub hypertable_refusal : ℕ → Found → Option Refusal
+hypertable_refusal pos found.None = refused pos 6 true
+hypertable_refusal pos (found.Plain n) = refused pos 13 true
+hypertable_refusal pos (found.Hyper n) = None
+hypertable_refusal pos (found.View n) = refused pos 13 true
+
+-- where a table is to become a hypertable: the name stands for nothing, for an aggregate, or for a hypertable
+abbrev pub plain_refusal : ℕ → Found → Option Refusal
+plain_refusal pos found.None = refused pos 6 true
+plain_refusal pos (found.Plain n) = None
+plain_refusal pos (found.Hyper n) = refused pos 7 true
+plain_refusal pos (found.View n) = refused pos 13 true
+
+-- where an aggregate is needed
+abbrev pub view_refusal : ℕ → Found → Option Refusal
+view_refusal pos found.None = refused pos 6 true
+view_refusal pos (found.Plain n) = refused pos 22 true
+view_refusal pos (found.Hyper n) = refused pos 22 true
+view_refusal pos (found.View n) = None
+
+-- where something that can be queried is needed
+abbrev pub query_refusal : ℕ → Found → Option Refusal
+query_refusal pos found.None = refused pos 6 true
+query_refusal pos (found.Plain n) = refused pos 13 true
+query_refusal pos (found.Hyper n) = None
+query_refusal pos (found.View n) = None
+
+-- the number of what was found
+abbrev pub number_of : Found → ℕ
+number_of found.None = 0
+number_of (found.Plain n) = n
+number_of (found.Hyper n) = n
+number_of (found.View n) = n

@@ -1,0 +1,35 @@
+-- Tables and hypertables to be made.
+use Rattle.std.specs.Prelude.{ℕ, Bool, not, nat_le, ℤ, pos as nonneg, List, [], ◌∷◌, ◌++◌, length, Option, None, ◌^◌, int_le, ◌&&◌}
+use Rattle.std.specs.List.{list_any}
+use Rattle.ts_model.specs.declared.outcomes.Refusal.{Refusal}
+use Rattle.ts_model.specs.declared.rosters.Roster.{Roster}
+use Rattle.ts_schema.specs.declared.columns.Column.{Column}
+use Rattle.ts_catalog.specs.Columns.{column_from}
+use Rattle.ts_model.specs.Roster.{same_name}
+use Rattle.stmt_check.specs.Refusals.{◌⊳◌, marked, missing, name_refusal, refused}
+
+-- a name is among these
+abbrev pub is_among : List ℕ → List (List ℕ) → Bool
+is_among name names = list_any (λ other. same_name other name) names
+
+-- a name is that of one of these columns
+abbrev pub is_column : List ℕ → List Column → Bool
+is_column name cols = list_any (λ c. same_name c.name name) cols
+
+-- the columns of a table, in order after those before: none is named twice, and there are at most 16
+abbrev pub columns_refusal : ℕ → ℕ → List Column → List Column → Option Refusal
+columns_refusal pos count before [] = None
+columns_refusal pos count before (c ∷ cs) =
+    refused pos 7 (is_column c.name before) ⊳ marked pos 21 count (nat_le 16 (length before)) ⊳ columns_refusal pos count (before ++ c ∷ []) cs
+
+-- CREATE TABLE
+abbrev pub table_refusal : ℕ → Roster → List ℕ → List Column → Option Refusal
+table_refusal pos roster name cols = name_refusal pos roster name (length roster.tables) ⊳ columns_refusal pos (length cols) [] cols
+
+-- an interval is from 1 to 2 ^ 50
+abbrev pub is_interval : ℤ → Bool
+is_interval n = int_le (nonneg 1) n && int_le n (nonneg (2 ^ 50))
+
+-- the column and the interval of create_hypertable
+abbrev pub hyper_refusal : ℕ → List Column → List ℕ → ℤ → Option Refusal
+hyper_refusal pos cols col interval = missing pos 8 (column_from col 0 cols) ⊳ refused pos 14 (not (is_interval interval))

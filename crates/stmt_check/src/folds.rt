@@ -1,0 +1,336 @@
+//! Tests and folds over a hypertable.
+ghost use Rattle.std.specs.Prelude.{◌≡◌, ◌<◌, ◌+◌, ◌^◌, ◌&&◌, ◌++◌, [], length, map, unwrap_or, IfOk, IsTrue};
+ghost use Rattle.ts_schema.specs.Names.{is_name};
+ghost use Rattle.ts_num.specs.declared.values.Fun.{Fun};
+ghost use Rattle.stmt_check.specs.Folds.{aggregate_name, aggregate_of, aggregate_refusal, aggregates_refusal, argument_of, argument_refusal, bucket_column, columns_before, is_aggregate, bucket_name, fold_of, fold_refusal, function_name, is_key, is_step, is_taken, is_time_column, key_refusal, keys_refusal, number_or_zero, output_count, output_names, test_of, tests_of, tests_refusal, width_refusal};
+ghost use Rattle.stmt_check.specs.Results.{Checks, Passes};
+ghost use Rattle.stmt_check.specs.Tables.{is_among};
+
+use crate::actions::Stop;
+use crate::refusals::{present, refuse_if, refuse_marked};
+use std::alloc::Global;
+use stmt_reader::{NamedAgg, NamedFold, NamedTest};
+use ts_bucket::{Width, width};
+use ts_catalog::column;
+use ts_model::{Agg, Fold, Refusal, TableInfo};
+use ts_num::Fun;
+use ts_schema::{Name, NoMemory, Seq, Test};
+
+/// The greatest number of output columns.
+const MAX_COLUMNS: u64 = 16;
+
+/// The greatest step of a width.
+const MAX_STEP: i64 = 1_099_511_627_776;
+
+/// The tests with the numbers of their columns.
+pub(crate) fn check_tests(
+    alloc: Global,
+    pos: u64,
+    info: &TableInfo,
+    tests: &[NamedTest],
+) -> Result<Seq<Test>, Stop>
+    requires { length info.now.def.cols < 2 ^ 32 }
+    ensures { Checks (tests_refusal pos info.now tests.now) (tests_of info.now tests.now) result }
+{
+    let mut numbered = Seq::new(alloc);
+    for test in tests {
+        let col = present(pos, 8, column(info, &test.col))?;
+        numbered.push(Test {
+            col,
+            cmp: test.cmp,
+            num: test.num,
+        })?;
+    }
+    Ok(numbered)
+}
+
+/// The fold with the numbers of its columns; `distinct` where its output names have to differ.
+pub(crate) fn check_fold(
+    alloc: Global,
+    pos: u64,
+    distinct: bool,
+    info: &TableInfo,
+    fold: &NamedFold,
+) -> Result<Fold, Stop>
+    requires { length info.now.def.cols < 2 ^ 32 }
+    ensures { Checks (fold_refusal pos distinct info.now fold.now) (fold_of info.now fold.now) result }
+{
+    let width = check_width(pos, info, fold)?;
+    let keys = check_keys(alloc, pos, distinct, info, fold)?;
+    let aggs = check_aggregates(alloc, pos, distinct, info, fold)?;
+    let tests = check_tests(alloc, pos, info, fold.tests.items())?;
+    Ok(Fold {
+        width,
+        keys,
+        aggs,
+        tests,
+    })
+}
+
+/// The width, where it is in range and the column is the time column.
+fn check_width(pos: u64, info: &TableInfo, fold: &NamedFold) -> Result<Width, Stop>
+    requires { length info.now.def.cols < 2 ^ 32 }
+    ensures { Checks (width_refusal pos info.now fold.now) (record { step = fold.now.step; shift = fold.now.shift }) result }
+{
+    refuse_if(pos, 14, !is_step_in_range(fold.step))?;
+    refuse_if(pos, 8, !is_time(column(info, &fold.at)))?;
+    match width(fold.step, fold.shift) {
+        Some(width) => Ok(width),
+        None => Err(Stop::Refused(Refusal {
+            code: 14,
+            pos,
+            mark: 0,
+        })),
+    }
+}
+
+/// Whether a step is in range.
+fn is_step_in_range(step: i64) -> bool
+    ensures { result ≡ is_step step }
+{
+    0 < step && step <= MAX_STEP
+}
+
+/// Whether a column is the time column.
+fn is_time(column: Option<u32>) -> bool
+    ensures { result ≡ is_time_column column }
+{
+    match column {
+        Some(number) => number == 0,
+        None => false,
+    }
+}
+
+/// The numbers of the keys' columns.
+#[tactic(auto, using(crate::proofs::Steps::keys_step))]
+fn check_keys(
+    alloc: Global,
+    pos: u64,
+    distinct: bool,
+    info: &TableInfo,
+    fold: &NamedFold,
+) -> Result<Seq<u32>, Stop>
+    requires { length info.now.def.cols < 2 ^ 32 }
+    ensures { Checks (keys_refusal pos distinct (output_count fold.now) info.now (bucket_column fold.now) [] fold.now.keys) (map (number_or_zero info.now) fold.now.keys) result }
+{
+    let keys = fold.keys.items();
+    let count = count_columns(fold);
+    let bucket = name_of_bucket(fold);
+    let mut numbers = Seq::new(alloc);
+    for (place, key) in keys.iter().enumerate() {
+        let taken = is_bucket_or_key(bucket, &keys[..place], key.bytes());
+        let number = check_key(
+            pos,
+            distinct && taken,
+            count,
+            info,
+            columns_up_to(place, 0),
+            key,
+        )?;
+        numbers.push(number)?;
+    }
+    Ok(numbers)
+}
+
+/// The number of a key's column, after so many columns; whether its name is taken and has to differ.
+fn check_key(
+    pos: u64,
+    repeats: bool,
+    count: u64,
+    info: &TableInfo,
+    others: u64,
+    key: &Name,
+) -> Result<u32, Stop>
+    requires { length info.now.def.cols < 2 ^ 32 }
+    ensures { Checks (key_refusal pos count info.now others repeats key.now) (number_or_zero info.now key.now) result }
+{
+    refuse_if(pos, 7, repeats)?;
+    let number = present(pos, 8, column(info, key))?;
+    refuse_marked(pos, 21, count, others >= MAX_COLUMNS)?;
+    Ok(number)
+}
+
+/// The aggregates with the numbers of their columns.
+#[tactic(auto, using(crate::proofs::Steps::aggregates_step))]
+fn check_aggregates(
+    alloc: Global,
+    pos: u64,
+    distinct: bool,
+    info: &TableInfo,
+    fold: &NamedFold,
+) -> Result<Seq<Agg>, Stop>
+    requires { length info.now.def.cols < 2 ^ 32 }
+    ensures { Checks (aggregates_refusal pos distinct (output_count fold.now) info.now (bucket_column fold.now) fold.now.keys [] fold.now.aggs) (map (aggregate_of info.now) fold.now.aggs) result }
+{
+    let aggs = fold.aggs.items();
+    let keys = fold.keys.items();
+    let count = count_columns(fold);
+    let bucket = name_of_bucket(fold);
+    let mut numbered = Seq::new(alloc);
+    for (place, agg) in aggs.iter().enumerate() {
+        let taken = is_output(bucket, keys, &aggs[..place], name_of_aggregate(agg));
+        let others = columns_up_to(keys.len(), place);
+        numbered.push(check_aggregate(pos, distinct && taken, count, info, others, agg)?)?;
+    }
+    Ok(numbered)
+}
+
+/// An aggregate with the number of its column, after so many columns; whether its name is taken and
+/// has to differ.
+fn check_aggregate(
+    pos: u64,
+    repeats: bool,
+    count: u64,
+    info: &TableInfo,
+    others: u64,
+    agg: &NamedAgg,
+) -> Result<Agg, Stop>
+    requires { length info.now.def.cols < 2 ^ 32 }
+    ensures { Checks (aggregate_refusal pos count info.now others repeats agg.now) (aggregate_of info.now agg.now) result }
+{
+    refuse_if(pos, 7, agg.name.is_none() && repeats)?;
+    refuse_marked(pos, 21, count, others >= MAX_COLUMNS)?;
+    let col = check_argument(pos, info, &agg.col)?;
+    refuse_if(pos, 7, agg.name.is_some() && repeats)?;
+    Ok(Agg { fun: agg.fun, col })
+}
+
+/// The number of an aggregate's column.
+fn check_argument(pos: u64, info: &TableInfo, col: &Option<Name>) -> Result<u32, Stop>
+    requires { length info.now.def.cols < 2 ^ 32 }
+    ensures { Checks (argument_refusal pos info.now col.now) (argument_of info.now col.now) result }
+{
+    match col {
+        None => Ok(0),
+        Some(col) => present(pos, 8, column(info, col)),
+    }
+}
+
+/// How many output columns the bucket, so many keys and so many aggregates are.
+fn columns_up_to(keys: usize, aggs: usize) -> u64
+    ensures { result ≡ columns_before keys aggs }
+{
+    1u64.saturating_add(keys as u64).saturating_add(aggs as u64)
+}
+
+/// How many output columns there are.
+fn count_columns(fold: &NamedFold) -> u64
+    ensures { result ≡ output_count fold.now }
+{
+    columns_up_to(fold.keys.len(), fold.aggs.len())
+}
+
+/// The name of the bucket's column.
+fn name_of_bucket(fold: &NamedFold) -> &[u8]
+    ensures { result.now ≡ bucket_column fold.now }
+{
+    match &fold.name {
+        Some(name) => name.bytes(),
+        None => b"time_bucket",
+    }
+}
+
+/// The name of an aggregate's column.
+fn name_of_aggregate(agg: &NamedAgg) -> &[u8]
+    ensures { result.now ≡ aggregate_name agg.now }
+{
+    match &agg.name {
+        Some(name) => name.bytes(),
+        None => name_of_function(agg.fun),
+    }
+}
+
+/// The name of a function.
+fn name_of_function(fun: Fun) -> &'static [u8]
+    ensures text { result.now ≡ function_name fun }
+    ensures name { IsTrue (is_name result.now) }
+{
+    match fun {
+        Fun::CountAll | Fun::Count => b"count",
+        Fun::Sum => b"sum",
+        Fun::Min => b"min",
+        Fun::Max => b"max",
+        Fun::Avg => b"avg",
+    }
+}
+
+/// Whether a name is that of the bucket's column or of one of these keys.
+fn is_bucket_or_key(bucket: &[u8], keys: &[Name], name: &[u8]) -> bool
+    ensures { result ≡ is_key bucket.now keys.now name.now }
+{
+    bucket == name || has_key(keys, name)
+}
+
+/// Whether a name is that of one of these keys.
+fn has_key(keys: &[Name], name: &[u8]) -> bool
+    ensures { result ≡ is_among name.now keys.now }
+{
+    keys.iter().any(|key| key.bytes() == name)
+}
+
+/// Whether a name is that of the bucket's column, of a key or of one of these aggregates.
+fn is_output(bucket: &[u8], keys: &[Name], aggs: &[NamedAgg], name: &[u8]) -> bool
+    ensures { result ≡ is_taken bucket.now keys.now aggs.now name.now }
+{
+    is_bucket_or_key(bucket, keys, name) || has_aggregate(aggs, name)
+}
+
+/// Whether a name is that of one of these aggregates.
+fn has_aggregate(aggs: &[NamedAgg], name: &[u8]) -> bool
+    ensures { result ≡ is_aggregate aggs.now name.now }
+{
+    aggs.iter().any(|agg| name_of_aggregate(agg) == name)
+}
+
+/// The names of the output columns.
+pub(crate) fn names_of_outputs(alloc: Global, fold: &NamedFold) -> Result<Seq<Name>, NoMemory>
+    ensures { IfOk result (λ names. names ≡ output_names fold.now) }
+{
+    let mut names = Seq::new(alloc);
+    names.push(output_name(alloc, &fold.name, b"time_bucket")?)?;
+    push_keys(&mut names, fold.keys.items())?;
+    push_aggregates(alloc, &mut names, fold.aggs.items())?;
+    Ok(names)
+}
+
+/// Appends the names of keys.
+fn push_keys(names: &mut Seq<Name>, keys: &[Name]) -> Result<(), NoMemory>
+    ensures { IfOk result (λ _. names.new ≡ names.old ++ keys.now) }
+{
+    for key in keys {
+        names.push(key.copy()?)?;
+    }
+    Ok(())
+}
+
+/// Appends the names of aggregates' columns.
+fn push_aggregates(alloc: Global, names: &mut Seq<Name>, aggs: &[NamedAgg]) -> Result<(), NoMemory>
+    ensures { IfOk result (λ _. names.new ≡ names.old ++ map aggregate_name aggs.now) }
+{
+    for agg in aggs {
+        names.push(output_name(alloc, &agg.name, name_of_function(agg.fun))?)?;
+    }
+    Ok(())
+}
+
+/// The name that is given, or this word.
+fn output_name(alloc: Global, given: &Option<Name>, word: &[u8]) -> Result<Name, NoMemory>
+    requires { IsTrue (is_name word.now) }
+    ensures { IfOk result (λ name. name ≡ unwrap_or given.now word.now) }
+{
+    match given {
+        Some(name) => name.copy(),
+        None => read_word(alloc, word),
+    }
+}
+
+/// The name that a word is.
+fn read_word(alloc: Global, word: &[u8]) -> Result<Name, NoMemory>
+    requires { IsTrue (is_name word.now) }
+    ensures { IfOk result (λ name. name ≡ word.now) }
+{
+    match Name::read(alloc, word)? {
+        Some(name) => Ok(name),
+        None => unreachable!(),
+    }
+}

@@ -1,0 +1,327 @@
+//! Rows to be inserted.
+ghost use Rattle.std.specs.Prelude.{◌≡◌, ◌<◌, ◌^◌, ◌==◌, ◌||◌, [], length, map, take, slice_index_or, None, IfOk};
+ghost use Rattle.ts_catalog.specs.Columns.{place_from};
+ghost use Rattle.stmt_check.specs.Results.{Checks, Passes};
+ghost use Rattle.stmt_check.specs.Rows.{no_column, leaves_out, list_refusal, list_refusal_of, other_places, picked, place_in, row_of, row_refusal, rows_of, rows_refusal, rule_at, rule_of, rules_from, shape_of, time_place, value_refusal, value_rules, values_refusal, insert_refusal, inserted_rows};
+ghost use Rattle.stmt_check.specs.Tables.{is_among};
+
+use crate::actions::Stop;
+use crate::refusals::{present, refuse_if, refuse_marked};
+use std::alloc::Global;
+use ts_bucket::{MAX_TIME, MIN_TIME};
+use ts_catalog::column_place;
+use ts_schema::{Column, Name, NoMemory, Row, Seq};
+
+/// The greatest number of rows of one INSERT.
+const MAX_ROWS: usize = 1000;
+
+/// What a value has to meet.
+#[derive(Clone, Copy, Debug, PartialEq, Eq)]
+pub(crate) struct Rule {
+    /// Whether it is a time.
+    time: bool,
+    /// Whether it must not be NULL.
+    must: bool,
+}
+
+/// What the values of an INSERT's rows stand for.
+#[derive(Drop, Debug)]
+pub(crate) struct Shape {
+    /// The rule of each value.
+    rules: Seq<Rule>,
+    /// Whether a column is left out that must not be NULL.
+    left_out: bool,
+    /// How many rows there are.
+    count: u64,
+    /// The place of the time.
+    time: Option<usize>,
+    /// The places of the other columns' values, in declared order.
+    others: Seq<Option<usize>>,
+}
+
+/// The rows that an INSERT gives.
+pub(crate) fn check_rows(
+    alloc: Global,
+    pos: u64,
+    at: u32,
+    columns: &[Column],
+    names: &Option<Seq<Name>>,
+    rows: &Seq<Seq<Option<i64>>>,
+) -> Result<Seq<Row>, Stop>
+    requires { length columns.now < 2 ^ 32 }
+    ensures { Checks (insert_refusal pos at columns.now names.now rows.now) (inserted_rows at columns.now names.now rows.now) result }
+{
+    check_list(pos, columns, names)?;
+    let shape = shape_for(alloc, at, columns, names, rows.len() as u64)?;
+    check_each(alloc, pos, &shape, rows.items())
+}
+
+/// That the column list names no column twice, and each is there.
+fn check_list(pos: u64, columns: &[Column], names: &Option<Seq<Name>>) -> Result<(), Stop>
+    requires { length columns.now < 2 ^ 32 }
+    ensures { Passes (list_refusal_of pos columns.now names.now) result }
+{
+    match names {
+        None => Ok(()),
+        Some(names) => check_names(pos, columns, names.items()),
+    }
+}
+
+/// That no column is named twice, and each is there.
+#[tactic(auto, using(crate::proofs::Steps::list_step))]
+fn check_names(pos: u64, columns: &[Column], names: &[Name]) -> Result<(), Stop>
+    requires { length columns.now < 2 ^ 32 }
+    ensures { Passes (list_refusal pos columns.now [] names.now) result }
+{
+    for (place, name) in names.iter().enumerate() {
+        refuse_if(pos, 7, has_name(&names[..place], name))?;
+        present(pos, 8, column_place(columns, name))?;
+    }
+    Ok(())
+}
+
+/// Whether a name is among these.
+pub(crate) fn has_name(names: &[Name], name: &Name) -> bool
+    ensures { result ≡ is_among name.now names.now }
+{
+    names.iter().any(|other| *other == *name)
+}
+
+/// What the values stand for.
+fn shape_for(
+    alloc: Global,
+    at: u32,
+    columns: &[Column],
+    names: &Option<Seq<Name>>,
+    count: u64,
+) -> Result<Shape, NoMemory>
+    requires { length columns.now < 2 ^ 32 }
+    ensures { IfOk result (λ s. s ≡ shape_of at columns.now names.now count) }
+{
+    Ok(Shape {
+        rules: rules(alloc, at, columns, names)?,
+        left_out: leaves_one_out(at, columns, names),
+        count,
+        time: place_of_time(at, columns, names),
+        others: places_of_others(alloc, at, columns, names)?,
+    })
+}
+
+/// The rule of each value.
+fn rules(
+    alloc: Global,
+    at: u32,
+    columns: &[Column],
+    names: &Option<Seq<Name>>,
+) -> Result<Seq<Rule>, NoMemory>
+    requires { length columns.now < 2 ^ 32 }
+    ensures { IfOk result (λ r. r ≡ value_rules at columns.now names.now) }
+{
+    match names {
+        None => rules_in_order(alloc, at, columns),
+        Some(names) => rules_listed(alloc, at, columns, names.items()),
+    }
+}
+
+/// The rules of all columns in declared order.
+fn rules_in_order(alloc: Global, at: u32, columns: &[Column]) -> Result<Seq<Rule>, NoMemory>
+    ensures { IfOk result (λ r. r ≡ rules_from at 0 columns.now) }
+{
+    let mut rules = Seq::new(alloc);
+    for (place, column) in columns.iter().enumerate() {
+        rules.push(rule_for(at as usize, column.must, place))?;
+    }
+    Ok(rules)
+}
+
+/// The rules of the columns with these names.
+fn rules_listed(
+    alloc: Global,
+    at: u32,
+    columns: &[Column],
+    names: &[Name],
+) -> Result<Seq<Rule>, NoMemory>
+    requires { length columns.now < 2 ^ 32 }
+    ensures { IfOk result (λ r. r ≡ map (rule_of at columns.now) names.now) }
+{
+    let mut rules = Seq::new(alloc);
+    for name in names {
+        rules.push(rule_named(at, columns, name))?;
+    }
+    Ok(rules)
+}
+
+/// The rule of the column at a place.
+fn rule_for(at: usize, must: bool, place: usize) -> Rule
+    ensures { result ≡ record { time = at == place; must = must || at == place } }
+{
+    Rule {
+        time: at == place,
+        must: must || at == place,
+    }
+}
+
+/// The rule of the column with a name.
+fn rule_named(at: u32, columns: &[Column], name: &Name) -> Rule
+    requires { length columns.now < 2 ^ 32 }
+    ensures { result ≡ rule_of at columns.now name.now }
+{
+    let place = column_place(columns, name).unwrap_or(0) as usize;
+    rule_for(at as usize, must_at(columns, place), place)
+}
+
+/// Whether the column at a place must not be NULL.
+fn must_at(columns: &[Column], place: usize) -> bool
+    ensures { result ≡ (slice_index_or columns.now place no_column).must }
+{
+    if place < columns.len() {
+        columns[place].must
+    } else {
+        false
+    }
+}
+
+/// Whether a column is left out that must not be NULL.
+fn leaves_one_out(at: u32, columns: &[Column], names: &Option<Seq<Name>>) -> bool
+    ensures { result ≡ leaves_out at names.now 0 columns.now }
+{
+    for (place, column) in columns.iter().enumerate() {
+        if (column.must || at as usize == place) && place_of(names, place, column).is_none() {
+            return true;
+        }
+    }
+    false
+}
+
+/// The place of a column's value among those of a row.
+fn place_of(names: &Option<Seq<Name>>, place: usize, column: &Column) -> Option<usize>
+    ensures { result ≡ place_in names.now place column.now }
+{
+    match names {
+        None => Some(place),
+        Some(names) => place_among(names.items(), &column.name),
+    }
+}
+
+/// The place of the first of these names that is this one.
+fn place_among(names: &[Name], name: &Name) -> Option<usize>
+    ensures { result ≡ place_from name.now 0 names.now }
+{
+    for (place, other) in names.iter().enumerate() {
+        if *other == *name {
+            return Some(place);
+        }
+    }
+    None
+}
+
+/// The place of the time.
+fn place_of_time(at: u32, columns: &[Column], names: &Option<Seq<Name>>) -> Option<usize>
+    ensures { result ≡ time_place at names.now 0 columns.now }
+{
+    for (place, column) in columns.iter().enumerate() {
+        if at as usize == place {
+            return place_of(names, place, column);
+        }
+    }
+    None
+}
+
+/// The places of the other columns' values, in declared order.
+fn places_of_others(
+    alloc: Global,
+    at: u32,
+    columns: &[Column],
+    names: &Option<Seq<Name>>,
+) -> Result<Seq<Option<usize>>, NoMemory>
+    ensures { IfOk result (λ places. places ≡ other_places at names.now 0 columns.now) }
+{
+    let mut places = Seq::new(alloc);
+    for (place, column) in columns.iter().enumerate() {
+        if at as usize != place {
+            places.push(place_of(names, place, column))?;
+        }
+    }
+    Ok(places)
+}
+
+/// The rows, each checked in its turn.
+fn check_each(
+    alloc: Global,
+    pos: u64,
+    shape: &Shape,
+    rows: &[Seq<Option<i64>>],
+) -> Result<Seq<Row>, Stop>
+    ensures { Checks (rows_refusal pos shape.now 0 rows.now) (rows_of shape.now rows.now) result }
+{
+    let mut made = Seq::new(alloc);
+    for (place, values) in rows.iter().enumerate() {
+        check_row(pos, shape, place, values.items())?;
+        made.push(make_row(alloc, shape, values.items())?)?;
+    }
+    Ok(made)
+}
+
+/// That a row has as many values as it must, and each meets its rule.
+fn check_row(pos: u64, shape: &Shape, place: usize, values: &[Option<i64>]) -> Result<(), Stop>
+    ensures { Passes (row_refusal pos shape.now place values.now) result }
+{
+    refuse_marked(pos, 21, shape.count, place >= MAX_ROWS)?;
+    refuse_if(pos, 11, values.len() != shape.rules.len())?;
+    refuse_if(pos, 12, shape.left_out)?;
+    check_values(pos, shape.rules.items(), values)
+}
+
+/// That each value meets its rule.
+fn check_values(pos: u64, rules: &[Rule], values: &[Option<i64>]) -> Result<(), Stop>
+    ensures { Passes (values_refusal pos rules.now values.now) result }
+{
+    match rules {
+        [] => Ok(()),
+        [rule, rules @ ..] => match values {
+            [] => Ok(()),
+            [value, values @ ..] => {
+                check_value(pos, *rule, *value)?;
+                check_values(pos, rules, values)
+            }
+        },
+    }
+}
+
+/// That a time lies in the range of times, and NULL stands only where it may.
+fn check_value(pos: u64, rule: Rule, value: Option<i64>) -> Result<(), Stop>
+    ensures { Passes (value_refusal pos rule value) result }
+{
+    match value {
+        None => refuse_if(pos, 12, rule.must),
+        Some(number) => refuse_if(
+            pos,
+            9,
+            rule.time && !(MIN_TIME <= number && number <= MAX_TIME),
+        ),
+    }
+}
+
+/// The row that these values give.
+fn make_row(alloc: Global, shape: &Shape, values: &[Option<i64>]) -> Result<Row, NoMemory>
+    ensures { IfOk result (λ row. row ≡ row_of shape.now.time shape.now.others values.now) }
+{
+    let mut vals = Seq::new(alloc);
+    for place in shape.others.items() {
+        vals.push(value_at(values, *place))?;
+    }
+    Ok(Row {
+        at: value_at(values, shape.time).unwrap_or(0),
+        vals,
+    })
+}
+
+/// The value at a place, or NULL where a column is left out.
+fn value_at(values: &[Option<i64>], place: Option<usize>) -> Option<i64>
+    ensures { result ≡ picked values.now place }
+{
+    match place {
+        Some(place) if place < values.len() => values[place],
+        _ => None,
+    }
+}

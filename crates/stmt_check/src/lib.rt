@@ -1,0 +1,18 @@
+//! A statement's names and values against the roster: what it asks for, or its first refusal.
+#![tactic(auto)]
+
+mod actions;
+mod folds;
+mod inserts;
+mod laws;
+mod queries;
+mod refusals;
+mod relations;
+mod statements;
+mod tables;
+#[cfg(test)]
+mod tests;
+
+pub use actions::{Action, Checked};
+pub use laws::{actions_are_sound_law, queues_are_sound_law, rosters_are_numbered_law};
+pub use statements::check;

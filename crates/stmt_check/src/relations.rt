@@ -1,0 +1,124 @@
+//! The relation that a statement names.
+ghost use Rattle.std.specs.Prelude.{◌≡◌, ◌<◌, ◌^◌, length, slice_index_or, IfOk, IsTrue};
+ghost use Rattle.ts_catalog.specs.Relations.{found_in};
+ghost use Rattle.stmt_check.specs.Check.{IsNumbered, interval_of, no_table, no_view};
+ghost use Rattle.stmt_check.specs.Refusals.{hypertable_refusal, name_refusal, finds_nothing, number_of, plain_refusal, view_refusal};
+ghost use Rattle.stmt_check.specs.Queried.{Finds, IsInRoster};
+ghost use Rattle.stmt_check.specs.Tables.{is_interval};
+ghost use Rattle.stmt_check.specs.Results.{Checks, Passes};
+
+use crate::actions::Stop;
+use crate::refusals::{refuse_if, refuse_marked};
+use ts_catalog::{Found, find};
+use ts_model::{Refusal, Roster, TableInfo, ViewDef};
+use ts_schema::Name;
+
+/// The refusal with this number.
+fn stop(pos: u64, code: u8) -> Stop
+    ensures { result ≡ Stop.Refused (record { code = code; pos = pos; mark = 0 }) }
+{
+    Stop::Refused(Refusal { code, pos, mark: 0 })
+}
+
+/// That a relation to be made has a new name, and that there are fewer than 64 of its kind.
+pub(crate) fn new_name(pos: u64, roster: &Roster, name: &Name, there: usize) -> Result<(), Stop>
+    requires { IsNumbered roster.now }
+    ensures { Passes (name_refusal pos roster.now name.now there) result }
+{
+    refuse_if(pos, 7, !is_nothing(find(roster, name)))?;
+    refuse_marked(pos, 21, 65, there >= 64)
+}
+
+/// Whether nothing was found.
+fn is_nothing(found: Found) -> bool
+    ensures { result ≡ finds_nothing found }
+{
+    match found {
+        Found::None => true,
+        Found::Plain(_) | Found::Hyper(_) | Found::View(_) => false,
+    }
+}
+
+/// The number of the hypertable with this name.
+pub(crate) fn hypertable(pos: u64, roster: &Roster, name: &Name) -> Result<u32, Stop>
+    requires { IsNumbered roster.now }
+    ensures number { Checks (hypertable_refusal pos (found_in roster.now name.now)) (number_of (found_in roster.now name.now)) result }
+    ensures there { IfOk result (λ n. n < length roster.now.tables) }
+{
+    match find(roster, name) {
+        Found::None => Err(stop(pos, 6)),
+        Found::Plain(_) | Found::View(_) => Err(stop(pos, 13)),
+        Found::Hyper(number) => Ok(number),
+    }
+}
+
+/// The number of the plain table with this name.
+pub(crate) fn plain_table(pos: u64, roster: &Roster, name: &Name) -> Result<u32, Stop>
+    requires { IsNumbered roster.now }
+    ensures number { Checks (plain_refusal pos (found_in roster.now name.now)) (number_of (found_in roster.now name.now)) result }
+    ensures there { IfOk result (λ n. n < length roster.now.tables) }
+{
+    match find(roster, name) {
+        Found::None => Err(stop(pos, 6)),
+        Found::Plain(number) => Ok(number),
+        Found::Hyper(_) => Err(stop(pos, 7)),
+        Found::View(_) => Err(stop(pos, 13)),
+    }
+}
+
+/// The number of the aggregate with this name.
+pub(crate) fn aggregate(pos: u64, roster: &Roster, name: &Name) -> Result<u32, Stop>
+    requires { IsNumbered roster.now }
+    ensures number { Checks (view_refusal pos (found_in roster.now name.now)) (number_of (found_in roster.now name.now)) result }
+    ensures there { IfOk result (λ n. n < length roster.now.views) }
+{
+    match find(roster, name) {
+        Found::None => Err(stop(pos, 6)),
+        Found::Plain(_) | Found::Hyper(_) => Err(stop(pos, 22)),
+        Found::View(number) => Ok(number),
+    }
+}
+
+/// What can be queried by name.
+#[derive(Clone, Copy, Debug, PartialEq, Eq)]
+pub(crate) enum Queried {
+    /// The hypertable with this number.
+    Table(u32),
+    /// The aggregate with this number.
+    View(u32),
+}
+
+/// The hypertable or the aggregate with this name.
+pub(crate) fn queryable(pos: u64, roster: &Roster, name: &Name) -> Result<Queried, Stop>
+    requires { IsNumbered roster.now }
+    ensures found { Finds pos (found_in roster.now name.now) result }
+    ensures there { IfOk result (IsInRoster roster.now) }
+{
+    match find(roster, name) {
+        Found::None => Err(stop(pos, 6)),
+        Found::Plain(_) => Err(stop(pos, 13)),
+        Found::Hyper(number) => Ok(Queried::Table(number)),
+        Found::View(number) => Ok(Queried::View(number)),
+    }
+}
+
+/// The table with this number.
+pub(crate) fn table_info(roster: &Roster, number: u32) -> &TableInfo
+    requires there { number < length roster.now.tables }
+    requires numbered { IsNumbered roster.now }
+    ensures table { result.now ≡ slice_index_or roster.now.tables number no_table }
+    ensures columns { length result.now.def.cols < 2 ^ 32 }
+    ensures interval { IsTrue (is_interval (interval_of result.now.hyper)) }
+{
+    roster.tables.get(number as usize)
+}
+
+/// The aggregate with this number.
+pub(crate) fn view_def(roster: &Roster, number: u32) -> &ViewDef
+    requires there { number < length roster.now.views }
+    requires numbered { IsNumbered roster.now }
+    ensures view { result.now ≡ slice_index_or roster.now.views number no_view }
+    ensures names { length result.now.names < 2 ^ 32 }
+{
+    roster.views.get(number as usize)
+}

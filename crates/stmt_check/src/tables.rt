@@ -1,0 +1,54 @@
+//! Tables and hypertables to be made.
+ghost use Rattle.std.specs.Prelude.{◌≡◌, ◌<◌, ◌≤◌, ◌^◌, ◌++◌, [], length, take, unwrap_or};
+ghost use Rattle.ts_catalog.specs.Columns.{column_from};
+ghost use Rattle.stmt_check.specs.Results.{Checks, Passes};
+ghost use Rattle.stmt_check.specs.Tables.{columns_refusal, hyper_refusal, is_column, is_interval};
+
+use crate::actions::Stop;
+use crate::refusals::{present, refuse_if, refuse_marked};
+use ts_catalog::column_place;
+use ts_schema::{Column, Name};
+
+/// The greatest interval of a hypertable.
+const MAX_INTERVAL: i64 = 1_125_899_906_842_624;
+
+/// Whether a name is among those of these columns.
+fn has_column(columns: &[Column], name: &Name) -> bool
+    ensures { result ≡ is_column name.now columns.now }
+{
+    columns.iter().any(|column| column.name == *name)
+}
+
+/// The columns of a table: none is named twice, and there are at most 16.
+#[tactic(auto, using(crate::proofs::Steps::columns_step))]
+pub(crate) fn check_columns(pos: u64, columns: &[Column]) -> Result<(), Stop>
+    ensures { Passes (columns_refusal pos (length columns.now) [] columns.now) result }
+{
+    for (place, column) in columns.iter().enumerate() {
+        refuse_if(pos, 7, has_column(&columns[..place], &column.name))?;
+        refuse_marked(pos, 21, columns.len() as u64, place >= 16)?;
+    }
+    Ok(())
+}
+
+/// The declared place of the time column, where the interval is in range.
+pub(crate) fn check_hyper(
+    pos: u64,
+    columns: &[Column],
+    name: &Name,
+    interval: i64,
+) -> Result<u32, Stop>
+    requires { length columns.now < 2 ^ 32 }
+    ensures { Checks (hyper_refusal pos columns.now name.now interval) (unwrap_or (column_from name.now 0 columns.now) 0) result }
+{
+    let place = present(pos, 8, column_place(columns, name))?;
+    refuse_if(pos, 14, !is_in_range(interval))?;
+    Ok(place)
+}
+
+/// Whether an interval is in range.
+fn is_in_range(interval: i64) -> bool
+    ensures { result ≡ is_interval interval }
+{
+    1 <= interval && interval <= MAX_INTERVAL
+}

@@ -1,0 +1,17 @@
+pub mod Flow
+pub mod FormRules
+pub mod Lexemes
+pub mod Loops
+pub mod Named
+pub mod Numerals
+pub mod PartRules
+pub mod Placed
+pub mod RuleLists
+pub mod RuleTokens
+pub mod Rules
+pub mod SelectRules
+pub mod Verdict
+pub mod WrittenForms
+pub mod WrittenLaws
+pub mod WrittenParts
+pub mod Yields

@@ -1,0 +1,459 @@
+-- The grammar: which tokens are which statement. A rule relates some tokens to what they say.
+use Rattle.std.specs.Prelude.{◌≡◌, ℕ, suc, ℤ, pos, Bool, true, false, ◌⊎◌, List, [], ◌∷◌, ◌++◌, Option, Some, None}
+use Rattle.stmt_reader.specs.Tokens.{Token, number as number_token}
+use Rattle.stmt_reader.specs.Scan.{Seen, seen}
+use Rattle.stmt_reader.specs.Words.{is_keyword, is_mark, word_of, quoted_of, flag_of, comparison_of, function_of, is_star_of, is_item, bucket_name}
+use Rattle.stmt_reader.specs.declared.keywords.Keyword.{Keyword}
+use Rattle.stmt_reader.specs.declared.keywords.Keyword.TheVariants as kw
+use Rattle.stmt_reader.specs.declared.tokens.Mark.{Mark}
+use Rattle.stmt_reader.specs.declared.tokens.Mark.TheVariants as marks
+use Rattle.stmt_reader.specs.declared.folds.Bucket.{Bucket}
+use Rattle.stmt_reader.specs.declared.forms.Window.{Window}
+use Rattle.stmt_reader.specs.declared.statements.Stmt.{Stmt}
+use Rattle.stmt_reader.specs.declared.statements.Stmt.TheVariants as stmt
+use Rattle.stmt_reader.specs.declared.statements.NamedFold.{NamedFold}
+use Rattle.stmt_reader.specs.declared.statements.NamedAgg.{NamedAgg}
+use Rattle.stmt_reader.specs.declared.statements.NamedTest.{NamedTest}
+use Rattle.ts_num.specs.declared.values.Fun.{Fun}
+use Rattle.ts_num.specs.declared.values.Fun.TheVariants as fun
+use Rattle.ts_schema.specs.declared.columns.Column.{Column}
+use Rattle.ts_schema.specs.declared.conditions.Cmp.TheVariants as cmp
+
+-- these tokens say this
+abbrev pub Rule : Type 0 → Type 1
+Rule A = List Token → A → Type 0
+
+-- ---- how rules are put together
+
+-- no token
+unfoldable pub says : {A : Type 0} → A → Rule A
+says a ts b = (ts ≡ []) × (a ≡ b)
+
+-- one rule and then another, which may depend on what the first one says
+unfoldable pub sequence : {A B : Type 0} → Rule A → (A → Rule B) → Rule B
+sequence {A} L M ts b = (us : List Token) × (vs : List Token) × (a : A) × (ts ≡ us ++ vs) × L us a × M a vs b
+
+infixr 10 ◌>>=◌
+abbrev pub ◌>>=◌ : {A B : Type 0} → Rule A → (A → Rule B) → Rule B
+L >>= M = sequence L M
+
+infixr 10 ◌>>◌
+abbrev pub ◌>>◌ : {A B : Type 0} → Rule A → Rule B → Rule B
+L >> M = sequence L (λ _. M)
+
+-- one rule or another
+unfoldable pub either : {A : Type 0} → Rule A → Rule A → Rule A
+either L M ts a = L ts a ⊎ M ts a
+
+-- a rule, or no token and this
+abbrev pub optional : {A : Type 0} → Rule A → A → Rule A
+optional L d = either L (says d)
+
+-- a rule from zero times on
+unfoldable pub many : {A : Type 0} → Rule A → Rule (List A)
+many L ts [] = ts ≡ []
+many L ts (a ∷ items) = (us : List Token) × (vs : List Token) × (ts ≡ us ++ vs) × L us a × many L vs items
+
+-- a rule once or more, parted by another
+abbrev pub listed : {A B : Type 0} → Rule B → Rule A → Rule (List A)
+listed separator L = do
+  first ← L
+  others ← many (separator >> L)
+  says (first ∷ others)
+
+-- ---- one token
+
+-- a token that says something
+unfoldable pub one : {A : Type 0} → (Seen → Option A) → Rule A
+one f ts a = (t : Token) × (ts ≡ t ∷ []) × (f (seen t) ≡ Some a)
+
+-- a token that passes a test
+unfoldable pub wanted : (Seen → Bool) → Rule (Unit {0})
+wanted test ts u = (t : Token) × (ts ≡ t ∷ []) × (test (seen t) ≡ true)
+
+-- a word of the grammar, in any case
+abbrev pub keyword : Keyword → Rule (Unit {0})
+keyword k = wanted (is_keyword k)
+
+abbrev pub mark : Mark → Rule (Unit {0})
+mark m = wanted (is_mark m)
+
+-- n, c and x
+abbrev pub name : Rule (List ℕ)
+name = one word_of
+
+-- 'n' and 'c'
+abbrev pub quoted : Rule (List ℕ)
+quoted = one quoted_of
+
+-- num: any number, also where it isn't an i64
+unfoldable pub number : Rule ℤ
+number ts z = ts ≡ number_token z ∷ []
+
+-- ---- parts
+
+-- flag: true or false
+abbrev pub flag : Rule Bool
+flag = one flag_of
+
+-- bound and value: NULL or num
+abbrev pub value : Rule (Option ℤ)
+value = either (keyword kw.Null >> says None) (number >>= λ z. says (Some z))
+
+-- row: ( value { , value } )
+abbrev pub row : Rule (List (Option ℤ))
+row = do
+  mark marks.Open
+  values ← listed (mark marks.Comma) value
+  mark marks.Close
+  says values
+
+-- IS NULL or IS NOT NULL, behind IS
+abbrev pub null_test : List ℕ → Rule NamedTest
+null_test c =
+    either
+    (keyword kw.Not >> keyword kw.Null >> says (record { col = c; cmp = cmp.NotNull; num = pos 0 }))
+    (keyword kw.Null >> says (record { col = c; cmp = cmp.IsNull; num = pos 0 }))
+
+-- op num
+abbrev pub number_test : List ℕ → Rule NamedTest
+number_test c = do
+  op ← one comparison_of
+  z ← number
+  says (record { col = c; cmp = op; num = z })
+
+-- test: c IS NULL, c IS NOT NULL or c op num
+abbrev pub test : Rule NamedTest
+test = name >>= λ c. either (keyword kw.Is >> null_test c) (number_test c)
+
+-- [WHERE test { AND test }]
+abbrev pub filters : Rule (List NamedTest)
+filters = optional (keyword kw.Where >> listed (keyword kw.And) test) []
+
+-- FROM n [WHERE tests]
+abbrev pub source : Rule (List ℕ × List NamedTest)
+source = do
+  keyword kw.From
+  n ← name
+  tests ← filters
+  says (n, tests)
+
+-- [AS x]
+abbrev pub alias : Rule (Option (List ℕ))
+alias = optional (keyword kw.As >> name >>= λ x. says (Some x)) None
+
+-- * behind count (, or c
+abbrev pub argument : Fun → Rule (Fun × Option (List ℕ))
+argument f = either (wanted (is_star_of f) >> says (fun.CountAll, None)) (name >>= λ c. says (f, Some c))
+
+-- agg: count ( * ) [AS x], or fun ( c ) [AS x]
+abbrev pub aggregate_rest : Fun → Rule NamedAgg
+aggregate_rest f = do
+  a ← argument f
+  mark marks.Close
+  x ← alias
+  says (record { fun = a.0; col = a.1; name = x })
+
+abbrev pub aggregate : Rule NamedAgg
+aggregate = do
+  f ← one function_of
+  mark marks.Open
+  aggregate_rest f
+
+-- [, num]
+abbrev pub offset : Rule ℤ
+offset = optional (mark marks.Comma >> number) (pos 0)
+
+-- time_bucket ( num , c [, num] ) [AS x]
+abbrev pub bucket : Rule Bucket
+bucket = do
+  keyword kw.TimeBucket
+  mark marks.Open
+  step ← number
+  mark marks.Comma
+  c ← name
+  shift ← offset
+  mark marks.Close
+  x ← alias
+  says (record { step = step; shift = shift; at = c; name = x })
+
+-- { , c } , agg { , agg }
+abbrev pub select_list : Rule (List (List ℕ) × List NamedAgg)
+select_list = do
+  keys ← many (mark marks.Comma >> name)
+  mark marks.Comma
+  aggs ← listed (mark marks.Comma) aggregate
+  says (keys, aggs)
+
+-- { , item }, one for each name; the item of output column i is its name or the number i
+abbrev pub items_from : ℕ → List (List ℕ) → Rule (Unit {0})
+items_from i [] = says tt
+items_from i (n ∷ names) = mark marks.Comma >> wanted (is_item i n) >> items_from (suc i) names
+
+-- GROUP BY item { , item }, where the items are as many as the bucket and the keys together
+abbrev pub grouping : Bucket → List (List ℕ) → Rule (Unit {0})
+grouping b keys = do
+  keyword kw.Group
+  keyword kw.By
+  wanted (is_item 0 (bucket_name b.name))
+  items_from 1 keys
+
+-- fold, behind its SELECT: bucket { , c } , agg { , agg } FROM n [WHERE tests] GROUP BY item { , item }
+abbrev pub fold : Rule NamedFold
+fold = do
+  b ← bucket
+  list ← select_list
+  from ← source
+  grouping b list.0
+  says (record { step = b.step; shift = b.shift; at = b.at; name = b.name; keys = list.0; aggs = list.1; table = from.0; tests = from.1 })
+
+-- ---- statements
+
+-- [NOT NULL]
+abbrev pub not_null : Rule Bool
+not_null = optional (keyword kw.Not >> keyword kw.Null >> says true) false
+
+-- c BIGINT [NOT NULL]
+abbrev pub column : Rule Column
+column = do
+  c ← name
+  keyword kw.Bigint
+  must ← not_null
+  says (record { name = c; must = must })
+
+-- CREATE TABLE n ( column { , column } )
+abbrev pub create_table : Rule Stmt
+create_table = do
+  keyword kw.Create
+  keyword kw.Table
+  n ← name
+  mark marks.Open
+  cols ← listed (mark marks.Comma) column
+  mark marks.Close
+  says (stmt.Table n cols)
+
+-- SELECT create_hypertable ( 'n' , 'c' , chunk_time_interval => num )
+abbrev pub create_hypertable : Rule Stmt
+create_hypertable = do
+  keyword kw.Select
+  keyword kw.CreateHypertable
+  mark marks.Open
+  n ← quoted
+  mark marks.Comma
+  c ← quoted
+  mark marks.Comma
+  keyword kw.ChunkTimeInterval
+  mark marks.Arrow
+  z ← number
+  mark marks.Close
+  says (stmt.Hyper n c z)
+
+-- timescaledb . materialized_only = flag
+abbrev pub setting : Rule Bool
+setting = do
+  keyword kw.Timescaledb
+  mark marks.Point
+  keyword kw.MaterializedOnly
+  mark marks.Equal
+  flag
+
+-- [= true]
+abbrev pub affirmed : Rule (Unit {0})
+affirmed = optional (mark marks.Equal >> keyword kw.True) tt
+
+-- [, setting]
+abbrev pub mode : Rule Bool
+mode = optional (mark marks.Comma >> setting) true
+
+-- [WITH DATA | WITH NO DATA]
+abbrev pub filling : Rule Bool
+filling = optional (keyword kw.With >> either (keyword kw.No >> keyword kw.Data >> says false) (keyword kw.Data >> says true)) true
+
+-- ( timescaledb . continuous [= true] [, setting] )
+abbrev pub options : Rule Bool
+options = do
+  mark marks.Open
+  keyword kw.Timescaledb
+  mark marks.Point
+  keyword kw.Continuous
+  affirmed
+  only ← mode
+  mark marks.Close
+  says only
+
+-- 'n' , bound , bound
+abbrev pub window : Rule Window
+window = do
+  n ← quoted
+  mark marks.Comma
+  lo ← value
+  mark marks.Comma
+  hi ← value
+  says (record { view = n; lo = lo; hi = hi })
+
+-- CREATE MATERIALIZED VIEW n WITH options AS SELECT fold [WITH DATA | WITH NO DATA]
+abbrev pub create_view : Rule Stmt
+create_view = do
+  keyword kw.Create
+  keyword kw.Materialized
+  keyword kw.View
+  n ← name
+  keyword kw.With
+  only ← options
+  keyword kw.As
+  keyword kw.Select
+  f ← fold
+  filled ← filling
+  says (stmt.View n only filled f)
+
+-- ALTER MATERIALIZED VIEW n SET ( setting )
+abbrev pub alter_view : Rule Stmt
+alter_view = do
+  keyword kw.Alter
+  keyword kw.Materialized
+  keyword kw.View
+  n ← name
+  keyword kw.Set
+  mark marks.Open
+  only ← setting
+  mark marks.Close
+  says (stmt.Mode n only)
+
+-- [( c { , c } )]
+abbrev pub column_list : Rule (Option (List (List ℕ)))
+column_list =
+    optional
+    (mark marks.Open >> listed (mark marks.Comma) name >>= λ cols. mark marks.Close >> says (Some cols))
+    None
+
+-- INSERT INTO n [( c { , c } )] VALUES row { , row }
+abbrev pub insert : Rule Stmt
+insert = do
+  keyword kw.Insert
+  keyword kw.Into
+  n ← name
+  cols ← column_list
+  keyword kw.Values
+  rows ← listed (mark marks.Comma) row
+  says (stmt.Insert n cols rows)
+
+-- DELETE FROM n [WHERE tests]
+abbrev pub delete : Rule Stmt
+delete = do
+  keyword kw.Delete
+  from ← source
+  says (stmt.Delete from.0 from.1)
+
+-- [older_than =>]
+abbrev pub older_than : Rule (Unit {0})
+older_than = optional (keyword kw.OlderThan >> mark marks.Arrow) tt
+
+-- SELECT drop_chunks ( 'n' , [older_than =>] num )
+abbrev pub drop_chunks : Rule Stmt
+drop_chunks = do
+  keyword kw.Select
+  keyword kw.DropChunks
+  mark marks.Open
+  n ← quoted
+  mark marks.Comma
+  older_than
+  z ← number
+  mark marks.Close
+  says (stmt.Drop n z)
+
+-- CALL refresh_continuous_aggregate ( 'n' , bound , bound )
+abbrev pub call_refresh : Rule Stmt
+call_refresh = do
+  keyword kw.Call
+  keyword kw.RefreshContinuousAggregate
+  mark marks.Open
+  w ← window
+  mark marks.Close
+  says (stmt.Refresh w.view w.lo w.hi)
+
+-- REFRESH CUT 'n' , bound , bound
+abbrev pub refresh_cut : Rule Stmt
+refresh_cut = do
+  keyword kw.Refresh
+  keyword kw.Cut
+  w ← window
+  says (stmt.Cut w.view w.lo w.hi)
+
+-- [num]
+abbrev pub chosen : Rule (Option ℤ)
+chosen = optional (number >>= λ z. says (Some z)) None
+
+-- REFRESH SNAP [num]
+abbrev pub refresh_snap : Rule Stmt
+refresh_snap = do
+  keyword kw.Refresh
+  keyword kw.Snap
+  c ← chosen
+  says (stmt.Snap c)
+
+-- REFRESH FINISH [num]
+abbrev pub refresh_finish : Rule Stmt
+refresh_finish = do
+  keyword kw.Refresh
+  keyword kw.Finish
+  c ← chosen
+  says (stmt.Finish c)
+
+-- BEGIN
+abbrev pub begin : Rule Stmt
+begin = keyword kw.Begin >> says stmt.Begin
+
+-- BEGIN READ ONLY
+abbrev pub begin_read : Rule Stmt
+begin_read = keyword kw.Begin >> keyword kw.Read >> keyword kw.Only >> says stmt.BeginRead
+
+-- COMMIT
+abbrev pub commit : Rule Stmt
+commit = keyword kw.Commit >> says stmt.Commit
+
+-- ROLLBACK
+abbrev pub rollback : Rule Stmt
+rollback = keyword kw.Rollback >> says stmt.Rollback
+
+-- SELECT fold
+abbrev pub buckets : Rule Stmt
+buckets = keyword kw.Select >> fold >>= λ f. says (stmt.Buckets f)
+
+-- SELECT * FROM n [WHERE tests]
+abbrev pub select_rows : Rule Stmt
+select_rows = do
+  keyword kw.Select
+  mark marks.Star
+  from ← source
+  says (stmt.Rows from.0 from.1)
+
+-- one of the forms of statements
+unfoldable pub form : Rule Stmt
+form =
+    either create_table
+    (either create_hypertable
+    (either create_view
+    (either alter_view
+    (either insert
+    (either delete
+    (either drop_chunks
+    (either call_refresh
+    (either refresh_cut
+    (either refresh_snap
+    (either refresh_finish
+    (either begin
+    (either begin_read
+    (either commit
+    (either rollback
+    (either buckets select_rows)))))))))))))))
+
+-- [;]
+abbrev pub semicolon : Rule (Unit {0})
+semicolon = optional (mark marks.Semicolon >> says tt) tt
+
+-- a statement may end with one ;
+unfoldable pub statement : Rule Stmt
+statement = do
+  s ← form
+  semicolon
+  says s

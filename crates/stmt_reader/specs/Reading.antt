@@ -1,0 +1,461 @@
+use Rattle.std.specs.Prelude.{◌≡◌, ℕ, zero, suc, ℤ, Bool, true, false, if◌then◌else◌, List, [], ◌∷◌, ◌++◌, Option, Some, None, option_and_then, Result, Ok, Err, pos}
+use Rattle.stmt_reader.specs.Scan.{Seen}
+use Rattle.stmt_reader.specs.Words.{is_keyword, is_mark, is_number, word_of, quoted_of, number_of, flag_of, comparison_of, function_of, function_of_word, is_star_of, is_item, bucket_name}
+use Rattle.stmt_reader.specs.Streams.{Stream, size, seen_ahead, heads, tail, place, is_end, refused}
+use Rattle.stmt_reader.specs.declared.faults.Fault.{Fault}
+use Rattle.stmt_reader.specs.declared.faults.Fault.TheVariants.{BadNumber}
+use Rattle.stmt_reader.specs.declared.faults.ReadError.{ReadError}
+use Rattle.stmt_reader.specs.declared.faults.ReadError.TheVariants as errors
+use Rattle.stmt_reader.specs.declared.keywords.Keyword.{Keyword}
+use Rattle.stmt_reader.specs.declared.keywords.Keyword.TheVariants as kw
+use Rattle.stmt_reader.specs.declared.tokens.Mark.TheVariants as marks
+use Rattle.stmt_reader.specs.declared.phrases.Separator.{Separator}
+use Rattle.stmt_reader.specs.declared.phrases.Separator.TheVariants as separators
+use Rattle.stmt_reader.specs.declared.folds.Bucket.{Bucket}
+use Rattle.stmt_reader.specs.declared.forms.Window.{Window}
+use Rattle.stmt_reader.specs.declared.statements.Stmt.{Stmt}
+use Rattle.stmt_reader.specs.declared.statements.Stmt.TheVariants as stmt
+use Rattle.stmt_reader.specs.declared.statements.NamedFold.{NamedFold}
+use Rattle.stmt_reader.specs.declared.statements.NamedAgg.{NamedAgg}
+use Rattle.stmt_reader.specs.declared.statements.NamedTest.{NamedTest}
+use Rattle.ts_num.specs.declared.values.Fun.{Fun}
+use Rattle.ts_num.specs.declared.values.Fun.TheVariants as fun
+use Rattle.ts_schema.specs.declared.columns.Column.{Column}
+use Rattle.ts_schema.specs.declared.conditions.Cmp.{Cmp}
+use Rattle.ts_schema.specs.declared.conditions.Cmp.TheVariants as cmp
+use Rattle.stmt_reader.specs.declared.tokens.Mark.{Mark}
+
+-- Reading from left to right: what the tokens in front say and the tokens after them, or the first fault.
+abbrev pub Parser : Type 0 → Type 0
+Parser A = Stream → Result (A × Stream) Fault
+
+-- What a function of the code returned, with these tokens left, is what reading gives, unless memory ran out.
+abbrev pub Fails : {A : Type 0} → ReadError → Result (A × Stream) Fault → Type 0
+Fails errors.Memory read = Unit {0}
+Fails (errors.Fault f) read = read ≡ Err f
+
+abbrev pub Gives : {A : Type 0} → Result A ReadError → Result (A × Stream) Fault → Stream → Type 0
+Gives (Ok a) read left = read ≡ Ok (a, left)
+Gives (Err e) read left = Fails e read
+
+-- ---- how readings are put together
+
+abbrev pub gives : {A : Type 0} → A → Parser A
+gives a s = Ok (a, s)
+
+-- one after the other
+abbrev pub go_on : {A B : Type 0} → Result (A × Stream) Fault → (A → Parser B) → Result (B × Stream) Fault
+go_on (Ok x) q = q x.0 x.1
+go_on (Err f) q = Err f
+
+unfoldable pub bind : {A B : Type 0} → Parser A → (A → Parser B) → Parser B
+bind p q s = go_on (p s) q
+
+infixr 10 ◌>>=◌
+abbrev pub ◌>>=◌ : {A B : Type 0} → Parser A → (A → Parser B) → Parser B
+p >>= q = bind p q
+
+infixr 10 ◌>>◌
+abbrev pub ◌>>◌ : {A B : Type 0} → Parser A → Parser B → Parser B
+p >> q = bind p (λ _. q)
+
+-- past a token that passes the test where one comes next, and else another way
+unfoldable pub takes : {A : Type 0} → (Seen → Bool) → Parser A → Parser A → Parser A
+takes test p q s = if heads test s then p (tail s) else q s
+
+-- one way where a token comes next that passes the test, and else another
+unfoldable pub choose : {A : Type 0} → (Seen → Bool) → Parser A → Parser A → Parser A
+choose test p q s = if heads test s then p s else q s
+
+-- ---- one token
+
+-- what the token in front says
+abbrev pub said : {A : Type 0} → Stream → Option A → Result (A × Stream) Fault
+said s None = Err (refused s)
+said s (Some a) = Ok (a, tail s)
+
+-- a token that says something
+unfoldable pub one : {A : Type 0} → (Seen → Option A) → Parser A
+one f s = said s (option_and_then f (seen_ahead s))
+
+-- a token that passes a test
+unfoldable pub wanted : (Seen → Bool) → Parser (Unit {0})
+wanted test s = if heads test s then Ok (tt, tail s) else Err (refused s)
+
+abbrev pub keyword : Keyword → Parser (Unit {0})
+keyword k = wanted (is_keyword k)
+
+abbrev pub mark : Mark → Parser (Unit {0})
+mark m = wanted (is_mark m)
+
+abbrev pub name : Parser (List ℕ)
+name = one word_of
+
+abbrev pub quoted : Parser (List ℕ)
+quoted = one quoted_of
+
+abbrev pub comparison : Parser Cmp
+comparison = one comparison_of
+
+-- a number that is an i64
+abbrev pub fitting : Stream → Option (Option ℤ) → Result (ℤ × Stream) Fault
+fitting s None = Err (refused s)
+fitting s (Some None) = Err (BadNumber (place s))
+fitting s (Some (Some z)) = Ok (z, tail s)
+
+unfoldable pub number : Parser ℤ
+number s = fitting s (option_and_then number_of (seen_ahead s))
+
+-- ---- lists
+
+-- these, and at most n more
+abbrev pub repeat : {A : Type 0} → ℕ → (Seen → Bool) → Parser A → List A → Parser (List A)
+repeat zero test p front = gives front
+repeat (suc n) test p front = takes test (p >>= λ a. repeat n test p (front ++ a ∷ [])) (gives front)
+
+-- these, and one more each time such a token comes next
+unfoldable pub more : {A : Type 0} → (Seen → Bool) → Parser A → List A → Parser (List A)
+more test p front s = repeat (size s) test p front s
+
+-- what may part the items of a list
+abbrev pub parts : Separator → Seen → Bool
+parts separators.Comma t = is_mark marks.Comma t
+parts separators.And t = is_keyword kw.And t
+
+-- one or more
+unfoldable pub listed : {A : Type 0} → Separator → Parser A → Parser (List A)
+listed separator p = p >>= λ a. more (parts separator) p (a ∷ [])
+
+-- ---- parts of statements
+
+-- a number, or NULL
+unfoldable pub value : Parser (Option ℤ)
+value = takes (is_keyword kw.Null) (gives None) (number >>= λ z. gives (Some z))
+
+unfoldable pub row : Parser (List (Option ℤ))
+row = do
+  mark marks.Open
+  vs ← listed separators.Comma value
+  mark marks.Close
+  gives vs
+
+unfoldable pub not_null : Parser Bool
+not_null = takes (is_keyword kw.Not) (keyword kw.Null >> gives true) (gives false)
+
+unfoldable pub column : Parser Column
+column = do
+  c ← name
+  keyword kw.Bigint
+  must ← not_null
+  gives (record { name = c; must = must })
+
+-- IS NULL or IS NOT NULL, after IS
+unfoldable pub null_test : List ℕ → Parser NamedTest
+null_test c =
+    takes (is_keyword kw.Not)
+    (keyword kw.Null >> gives (record { col = c; cmp = cmp.NotNull; num = pos 0 }))
+    (keyword kw.Null >> gives (record { col = c; cmp = cmp.IsNull; num = pos 0 }))
+
+unfoldable pub number_test : List ℕ → Parser NamedTest
+number_test c = do
+  op ← comparison
+  z ← number
+  gives (record { col = c; cmp = op; num = z })
+
+unfoldable pub test : Parser NamedTest
+test = name >>= λ c. takes (is_keyword kw.Is) (null_test c) (number_test c)
+
+-- [WHERE tests]
+unfoldable pub filters : Parser (List NamedTest)
+filters = takes (is_keyword kw.Where) (listed separators.And test) (gives [])
+
+-- [AS x]
+unfoldable pub alias : Parser (Option (List ℕ))
+alias = takes (is_keyword kw.As) (name >>= λ x. gives (Some x)) (gives None)
+
+-- ---- folds
+
+unfoldable pub argument : Fun → Parser (Fun × Option (List ℕ))
+argument f = takes (is_star_of f) (gives (fun.CountAll, None)) (name >>= λ c. gives (f, Some c))
+
+-- an aggregate after its opening parenthesis
+unfoldable pub aggregate_rest : Fun → Parser NamedAgg
+aggregate_rest f = do
+  a ← argument f
+  mark marks.Close
+  x ← alias
+  gives (record { fun = a.0; col = a.1; name = x })
+
+unfoldable pub aggregate : Parser NamedAgg
+aggregate = do
+  f ← one function_of
+  mark marks.Open
+  aggregate_rest f
+
+-- the function that a word names, with its opening parenthesis
+abbrev pub known : Option Fun → Parser Fun
+known None = λ s. Err (refused s)
+known (Some f) = mark marks.Open >> gives f
+
+-- the keys, and the function of the first aggregate with its opening parenthesis: these keys, and at most n more
+abbrev pub keys_within : ℕ → List (List ℕ) → Parser (List (List ℕ) × Fun)
+keys_within zero front = λ s. Err (refused s)
+keys_within (suc n) front = do
+  mark marks.Comma
+  w ← name
+  choose (is_mark marks.Open) (known (function_of_word w) >>= λ f. gives (front, f)) (keys_within n (front ++ w ∷ []))
+
+unfoldable pub keys_and_function : List (List ℕ) → Parser (List (List ℕ) × Fun)
+keys_and_function front s = keys_within (size s) front s
+
+-- [, num] of time_bucket
+unfoldable pub offset : Parser ℤ
+offset = takes (is_mark marks.Comma) number (gives (pos 0))
+
+unfoldable pub bucket : Parser Bucket
+bucket = do
+  keyword kw.TimeBucket
+  mark marks.Open
+  step ← number
+  mark marks.Comma
+  at ← name
+  shift ← offset
+  mark marks.Close
+  x ← alias
+  gives (record { step = step; shift = shift; at = at; name = x })
+
+-- the items of GROUP BY for these output columns, which have i before them
+abbrev pub items_from : ℕ → List (List ℕ) → Parser (Unit {0})
+items_from i [] = gives tt
+items_from i (n ∷ names) = mark marks.Comma >> wanted (is_item i n) >> items_from (suc i) names
+
+-- the items are as many as the names of the output columns
+unfoldable pub items : List ℕ → List (List ℕ) → Parser (Unit {0})
+items first names = wanted (is_item 0 first) >> items_from 1 names
+
+-- FROM n [WHERE tests]
+unfoldable pub source : Parser (List ℕ × List NamedTest)
+source = do
+  keyword kw.From
+  t ← name
+  tests ← filters
+  gives (t, tests)
+
+unfoldable pub aggregates : Fun → Parser (List NamedAgg)
+aggregates f = do
+  first ← aggregate_rest f
+  more (parts separators.Comma) aggregate (first ∷ [])
+
+-- { , c } , agg { , agg }
+unfoldable pub select_list : Parser (List (List ℕ) × List NamedAgg)
+select_list = do
+  k ← keys_and_function []
+  aggs ← aggregates k.1
+  gives (k.0, aggs)
+
+unfoldable pub grouping : Bucket → List (List ℕ) → Parser (Unit {0})
+grouping b keys = do
+  keyword kw.Group
+  keyword kw.By
+  items (bucket_name b.name) keys
+
+-- a fold after its SELECT
+unfoldable pub fold_rest : Parser NamedFold
+fold_rest = do
+  b ← bucket
+  list ← select_list
+  from ← source
+  _ ← grouping b list.0
+  gives (record { step = b.step; shift = b.shift; at = b.at; name = b.name; keys = list.0; aggs = list.1; table = from.0; tests = from.1 })
+
+-- ---- statements, after the words that tell them apart
+
+unfoldable pub table_rest : Parser Stmt
+table_rest = do
+  n ← name
+  mark marks.Open
+  cols ← listed separators.Comma column
+  mark marks.Close
+  gives (stmt.Table n cols)
+
+-- timescaledb . materialized_only = flag
+unfoldable pub setting : Parser Bool
+setting = do
+  keyword kw.Timescaledb
+  mark marks.Point
+  keyword kw.MaterializedOnly
+  mark marks.Equal
+  one flag_of
+
+-- [= true]
+unfoldable pub affirmed : Parser (Unit {0})
+affirmed = takes (is_mark marks.Equal) (keyword kw.True) (gives tt)
+
+-- [, setting]
+unfoldable pub mode : Parser Bool
+mode = takes (is_mark marks.Comma) setting (gives true)
+
+-- ( timescaledb . continuous [= true] [, setting] )
+unfoldable pub options : Parser Bool
+options = do
+  mark marks.Open
+  keyword kw.Timescaledb
+  mark marks.Point
+  keyword kw.Continuous
+  _ ← affirmed
+  only ← mode
+  mark marks.Close
+  gives only
+
+-- [WITH DATA | WITH NO DATA]
+unfoldable pub filling : Parser Bool
+filling =
+    takes (is_keyword kw.With)
+    (takes (is_keyword kw.No) (keyword kw.Data >> gives false) (keyword kw.Data >> gives true))
+    (gives true)
+
+unfoldable pub view_rest : Parser Stmt
+view_rest = do
+  keyword kw.View
+  n ← name
+  keyword kw.With
+  only ← options
+  keyword kw.As
+  keyword kw.Select
+  f ← fold_rest
+  filled ← filling
+  gives (stmt.View n only filled f)
+
+unfoldable pub create_rest : Parser Stmt
+create_rest = takes (is_keyword kw.Materialized) view_rest (keyword kw.Table >> table_rest)
+
+unfoldable pub alter_rest : Parser Stmt
+alter_rest = do
+  keyword kw.Materialized
+  keyword kw.View
+  n ← name
+  keyword kw.Set
+  mark marks.Open
+  only ← setting
+  mark marks.Close
+  gives (stmt.Mode n only)
+
+-- [( c { , c } )]
+unfoldable pub column_list : Parser (Option (List (List ℕ)))
+column_list =
+    takes (is_mark marks.Open)
+    (listed separators.Comma name >>= λ cs. mark marks.Close >> gives (Some cs))
+    (gives None)
+
+unfoldable pub insert_rest : Parser Stmt
+insert_rest = do
+  keyword kw.Into
+  t ← name
+  cols ← column_list
+  keyword kw.Values
+  rows ← listed separators.Comma row
+  gives (stmt.Insert t cols rows)
+
+unfoldable pub delete_rest : Parser Stmt
+delete_rest = source >>= λ s. gives (stmt.Delete s.0 s.1)
+
+unfoldable pub hyper_rest : Parser Stmt
+hyper_rest = do
+  mark marks.Open
+  t ← quoted
+  mark marks.Comma
+  c ← quoted
+  mark marks.Comma
+  keyword kw.ChunkTimeInterval
+  mark marks.Arrow
+  z ← number
+  mark marks.Close
+  gives (stmt.Hyper t c z)
+
+-- [older_than =>]
+unfoldable pub older_than : Parser (Unit {0})
+older_than = takes (is_keyword kw.OlderThan) (mark marks.Arrow) (gives tt)
+
+unfoldable pub drop_rest : Parser Stmt
+drop_rest = do
+  mark marks.Open
+  t ← quoted
+  mark marks.Comma
+  _ ← older_than
+  z ← number
+  mark marks.Close
+  gives (stmt.Drop t z)
+
+unfoldable pub rows_rest : Parser Stmt
+rows_rest = source >>= λ s. gives (stmt.Rows s.0 s.1)
+
+unfoldable pub select_rest : Parser Stmt
+select_rest =
+    takes (is_keyword kw.CreateHypertable) hyper_rest
+    (takes (is_keyword kw.DropChunks) drop_rest
+    (takes (is_mark marks.Star) rows_rest
+    (fold_rest >>= λ f. gives (stmt.Buckets f))))
+
+-- 'n' , bound , bound
+unfoldable pub window : Parser Window
+window = do
+  v ← quoted
+  mark marks.Comma
+  lo ← value
+  mark marks.Comma
+  hi ← value
+  gives (record { view = v; lo = lo; hi = hi })
+
+unfoldable pub call_rest : Parser Stmt
+call_rest = do
+  keyword kw.RefreshContinuousAggregate
+  mark marks.Open
+  w ← window
+  mark marks.Close
+  gives (stmt.Refresh w.view w.lo w.hi)
+
+-- [num]
+unfoldable pub chosen : Parser (Option ℤ)
+chosen = choose is_number (number >>= λ z. gives (Some z)) (gives None)
+
+unfoldable pub refresh_rest : Parser Stmt
+refresh_rest =
+    takes (is_keyword kw.Cut) (window >>= λ w. gives (stmt.Cut w.view w.lo w.hi))
+    (takes (is_keyword kw.Snap) (chosen >>= λ c. gives (stmt.Snap c))
+    (keyword kw.Finish >> chosen >>= λ c. gives (stmt.Finish c)))
+
+unfoldable pub begin_rest : Parser Stmt
+begin_rest = takes (is_keyword kw.Read) (keyword kw.Only >> gives stmt.BeginRead) (gives stmt.Begin)
+
+unfoldable pub block : Parser Stmt
+block =
+    takes (is_keyword kw.Begin) begin_rest
+    (takes (is_keyword kw.Commit) (gives stmt.Commit)
+    (keyword kw.Rollback >> gives stmt.Rollback))
+
+unfoldable pub form : Parser Stmt
+form =
+    takes (is_keyword kw.Create) create_rest
+    (takes (is_keyword kw.Select) select_rest
+    (takes (is_keyword kw.Alter) alter_rest
+    (takes (is_keyword kw.Insert) insert_rest
+    (takes (is_keyword kw.Delete) delete_rest
+    (takes (is_keyword kw.Call) call_rest
+    (takes (is_keyword kw.Refresh) refresh_rest
+    block))))))
+
+-- nothing comes any more
+unfoldable pub end : Parser (Unit {0})
+end s = if is_end s then Ok (tt, s) else Err (refused s)
+
+-- [;]
+unfoldable pub semicolon : Parser (Unit {0})
+semicolon = takes (is_mark marks.Semicolon) (gives tt) (gives tt)
+
+-- a whole statement, with one ; or none at its end
+unfoldable pub statement : Parser Stmt
+statement = do
+  s ← form
+  _ ← semicolon
+  _ ← end
+  gives s

@@ -1,0 +1,170 @@
+//! Parts of statements: values, rows, columns, tests, and the name after AS.
+ghost use Rattle.std.specs.Prelude.{◌≡◌, ◌≤◌, Ok, Some, None};
+ghost use Rattle.stmt_reader.specs.Cursor.{ahead};
+ghost use Rattle.stmt_reader.specs.Reading as spec;
+ghost use Rattle.stmt_reader.specs.Reading.{Gives};
+ghost use Rattle.stmt_reader.specs.Forward.{forward-name, forward-value, forward-row, forward-column, forward-test};
+
+use crate::faults::ReadError;
+use crate::keywords::Keyword;
+use crate::phrases::{Phrase, Separator};
+use crate::reader::Reader;
+use crate::statements::NamedTest;
+use crate::tokens::Mark;
+use ts_schema::{Cmp, Column, Name, Seq};
+
+/// A name.
+impl Phrase for Name {
+    ghost phrase = { spec.name };
+
+    fn read(reader: &mut Reader<'_>) -> Result<Name, ReadError> {
+        reader.name()
+    }
+
+    ghost forward = { forward-name.goes };
+}
+
+/// A number, or NULL.
+impl Phrase for Option<i64> {
+    ghost phrase = { spec.value };
+
+    fn read(reader: &mut Reader<'_>) -> Result<Option<i64>, ReadError> {
+        reader.value()
+    }
+
+    ghost forward = { forward-value.goes };
+}
+
+/// The values of a row in parentheses.
+impl Phrase for Seq<Option<i64>> {
+    ghost phrase = { spec.row };
+
+    fn read(reader: &mut Reader<'_>) -> Result<Seq<Option<i64>>, ReadError> {
+        reader.row()
+    }
+
+    ghost forward = { forward-row.goes };
+}
+
+/// A column with its type.
+impl Phrase for Column {
+    ghost phrase = { spec.column };
+
+    fn read(reader: &mut Reader<'_>) -> Result<Column, ReadError> {
+        reader.column()
+    }
+
+    ghost forward = { forward-column.goes };
+}
+
+/// A test.
+impl Phrase for NamedTest {
+    ghost phrase = { spec.test };
+
+    fn read(reader: &mut Reader<'_>) -> Result<NamedTest, ReadError> {
+        reader.test()
+    }
+
+    ghost forward = { forward-test.goes };
+}
+
+impl Reader<'_> {
+    #[tactic(auto, unfolding(crate::specs::Reading::value, crate::specs::Reading::bind, crate::specs::Reading::takes))]
+    pub fn value(&mut self) -> Result<Option<i64>, ReadError>
+        ensures { Gives result (spec.value (ahead self.old)) (ahead self.new) }
+    {
+        if self.takes_keyword(Keyword::Null) {
+            return Ok(None);
+        }
+        Ok(Some(self.number()?))
+    }
+
+    #[tactic(auto, unfolding(crate::specs::Reading::row, crate::specs::Reading::bind))]
+    fn row(&mut self) -> Result<Seq<Option<i64>>, ReadError>
+        ensures { Gives result (spec.row (ahead self.old)) (ahead self.new) }
+    {
+        self.mark(Mark::Open)?;
+        let values = self.listed(Separator::Comma)?;
+        self.mark(Mark::Close)?;
+        Ok(values)
+    }
+
+    /// `[NOT NULL]`
+    #[tactic(auto, unfolding(crate::specs::Reading::not_null, crate::specs::Reading::bind, crate::specs::Reading::takes))]
+    fn not_null(&mut self) -> Result<bool, ReadError>
+        ensures { Gives result (spec.not_null (ahead self.old)) (ahead self.new) }
+    {
+        if !self.takes_keyword(Keyword::Not) {
+            return Ok(false);
+        }
+        self.keyword(Keyword::Null)?;
+        Ok(true)
+    }
+
+    #[tactic(auto, unfolding(crate::specs::Reading::column, crate::specs::Reading::bind))]
+    fn column(&mut self) -> Result<Column, ReadError>
+        ensures { Gives result (spec.column (ahead self.old)) (ahead self.new) }
+    {
+        let name = self.name()?;
+        self.keyword(Keyword::Bigint)?;
+        let must = self.not_null()?;
+        Ok(Column { name, must })
+    }
+
+    #[tactic(auto, unfolding(crate::specs::Reading::test, crate::specs::Reading::bind, crate::specs::Reading::takes))]
+    fn test(&mut self) -> Result<NamedTest, ReadError>
+        ensures { Gives result (spec.test (ahead self.old)) (ahead self.new) }
+    {
+        let col = self.name()?;
+        if self.takes_keyword(Keyword::Is) {
+            return self.null_test(col);
+        }
+        self.number_test(col)
+    }
+
+    /// `IS NULL` or `IS NOT NULL`, after the `IS`.
+    #[tactic(auto, unfolding(crate::specs::Reading::null_test, crate::specs::Reading::bind, crate::specs::Reading::takes))]
+    fn null_test(&mut self, col: Name) -> Result<NamedTest, ReadError>
+        ensures { Gives result (spec.null_test col (ahead self.old)) (ahead self.new) }
+    {
+        let cmp = if self.takes_keyword(Keyword::Not) {
+            Cmp::NotNull
+        } else {
+            Cmp::IsNull
+        };
+        self.keyword(Keyword::Null)?;
+        Ok(NamedTest { col, cmp, num: 0 })
+    }
+
+    /// A comparison with a number.
+    #[tactic(auto, unfolding(crate::specs::Reading::number_test, crate::specs::Reading::bind))]
+    fn number_test(&mut self, col: Name) -> Result<NamedTest, ReadError>
+        ensures { Gives result (spec.number_test col (ahead self.old)) (ahead self.new) }
+    {
+        let cmp = self.comparison()?;
+        let num = self.number()?;
+        Ok(NamedTest { col, cmp, num })
+    }
+
+    /// `[WHERE tests]`
+    #[tactic(auto, unfolding(crate::specs::Reading::filters, crate::specs::Reading::bind, crate::specs::Reading::takes))]
+    pub fn filters(&mut self) -> Result<Seq<NamedTest>, ReadError>
+        ensures { Gives result (spec.filters (ahead self.old)) (ahead self.new) }
+    {
+        if !self.takes_keyword(Keyword::Where) {
+            return Ok(Seq::new(self.alloc()));
+        }
+        self.listed(Separator::And)
+    }
+
+    /// `[AS x]`
+    #[tactic(auto, unfolding(crate::specs::Reading::alias, crate::specs::Reading::bind, crate::specs::Reading::takes))]
+    pub fn alias(&mut self) -> Result<Option<Name>, ReadError>
+        ensures { Gives result (spec.alias (ahead self.old)) (ahead self.new) }
+    {
+        if !self.takes_keyword(Keyword::As) {
+            return Ok(None);
+        }
+        Ok(Some(self.name()?))
+    }
+}

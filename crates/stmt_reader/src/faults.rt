@@ -1,0 +1,31 @@
+//! Why a text is no statement.
+ghost use Rattle.std.specs.Prelude.{◌≡◌};
+ghost use Rattle.stmt_reader.specs.declared.faults.ReadError.TheVariants.{Memory};
+
+use ts_schema::NoMemory;
+
+/// What is wrong with a text, at a place of the line, which counts from 1.
+#[derive(Clone, Copy, Debug, PartialEq, Eq)]
+pub enum Fault {
+    /// No token begins here.
+    NoToken(u32),
+    /// No statement goes on with the token here, or the end comes here before the statement is whole.
+    Syntax(u32),
+    /// The number here isn't an i64.
+    BadNumber(u32),
+}
+
+/// Why reading ended.
+#[derive(Clone, Copy, Debug, PartialEq, Eq)]
+pub enum ReadError {
+    Memory,
+    Fault(Fault),
+}
+
+impl From<NoMemory> for ReadError {
+    ghost from_gives = { λ _ e. e ≡ Memory };
+
+    fn from(_refused: NoMemory) -> ReadError {
+        ReadError::Memory
+    }
+}

@@ -1,0 +1,69 @@
+//! Phrases that a reader reads, and lists of them.
+ghost use Rattle.std.specs.Prelude.{◌≡◌, ◌≤◌, if◌then◌else◌, [], ◌∷◌, Ok};
+ghost use Rattle.stmt_reader.specs.Cursor.{ahead};
+ghost use Rattle.stmt_reader.specs.Streams.{Stream, heads, tail, size};
+ghost use Rattle.stmt_reader.specs.Reading.{Parser, Gives, parts, more, listed};
+
+use crate::faults::ReadError;
+use crate::keywords::Keyword;
+use crate::reader::Reader;
+use crate::tokens::Mark;
+use ts_schema::Seq;
+
+/// What parts the items of a list.
+#[derive(Clone, Copy, Debug, PartialEq, Eq)]
+pub enum Separator {
+    Comma,
+    And,
+}
+
+/// What a reader may read at one go.
+pub trait Phrase {
+    /// What the tokens in front say, and the tokens after them.
+    ghost phrase: { Parser Self };
+
+    /// Reads it.
+    fn read(reader: &mut Reader<'_>) -> Result<Self, ReadError>
+        ensures { Gives result (phrase (ahead reader.old)) (ahead reader.new) };
+
+    /// Reading never goes back.
+    ghost forward: { (s : Stream) (a : Self) (left : Stream) → phrase s ≡ Ok (a, left) → size left ≤ size s };
+}
+
+impl Reader<'_> {
+    /// Goes past what parts two items, where it comes next.
+    fn takes_separator(&mut self, separator: Separator) -> bool
+        ensures taken { result ≡ heads (parts separator) (ahead self.old) }
+        ensures left { ahead self.new ≡ (if result then tail (ahead self.old) else ahead self.old) }
+    {
+        match separator {
+            Separator::Comma => self.takes_mark(Mark::Comma),
+            Separator::And => self.takes_keyword(Keyword::And),
+        }
+    }
+
+    /// Reads one more item each time such a separator comes next.
+    pub fn more<T: Phrase + Drop>(
+        &mut self,
+        separator: Separator,
+        front: Seq<T>,
+    ) -> Result<Seq<T>, ReadError>
+        ensures { Gives result (more (parts separator) T.phrase front (ahead self.old)) (ahead self.new) }
+    {
+        let mut items = front;
+        while self.takes_separator(separator) {
+            items.push(T::read(self)?)?;
+        }
+        Ok(items)
+    }
+
+    /// Reads one or more items.
+    #[tactic(auto, unfolding(crate::specs::Reading::listed, crate::specs::Reading::bind))]
+    pub fn listed<T: Phrase + Drop>(&mut self, separator: Separator) -> Result<Seq<T>, ReadError>
+        ensures { Gives result (listed separator T.phrase (ahead self.old)) (ahead self.new) }
+    {
+        let mut items = Seq::new(self.alloc());
+        items.push(T::read(self)?)?;
+        self.more(separator, items)
+    }
+}

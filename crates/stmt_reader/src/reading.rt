@@ -1,0 +1,71 @@
+//! Reading the statement of a line.
+ghost use Rattle.std.specs.Prelude.{◌≡◌, ◌≤◌, length};
+ghost use Rattle.stmt_reader.specs.Streams.{stream};
+ghost use Rattle.stmt_reader.specs.Answers.{Answers};
+ghost use Rattle.stmt_reader.specs.Reading.{statement};
+ghost use Rattle.stmt_reader.specs.Refusals.{Judges, OneReading};
+ghost use Rattle.stmt_reader.specs.Written.{IsWritten, OfStatement, StatementsAreWritten};
+
+use crate::faults::{Fault, ReadError};
+use crate::reader::Reader;
+use crate::statements::Stmt;
+use std::alloc::Global;
+
+/// The statement of a text, or why the text is none, at the least place of the line. Places count
+/// from 1.
+#[derive(Debug, Drop, PartialEq, Eq)]
+pub enum ReadStmt {
+    /// The statement.
+    Stmt(Stmt),
+    /// No token begins at this place.
+    NoToken(u32),
+    /// The tokens up to the one at this place begin no statement, or the end stands at this place and
+    /// the statement isn't whole.
+    Syntax(u32),
+    /// The number at this place isn't an i64.
+    BadNumber(u32),
+    /// A growth was refused.
+    NoMemory,
+}
+
+/// The statement that stands in a text after its first `skip` bytes. The text is a line before its
+/// comment.
+pub fn read_stmt(alloc: Global, text: &[u8], skip: u32) -> ReadStmt
+    requires short { length text.now ≤ 65536 }
+    requires within { skip ≤ length text.now }
+
+    // What reading from left to right gives.
+    ensures exact { Answers result (statement (stream text.now skip)) }
+
+    // What the grammar says: the statement where nothing is wrong, and else the first thing that is.
+    ensures judged { Judges (stream text.now skip) result }
+
+    // A statement is whole, and no longer than its text.
+    ensures written { OfStatement (IsWritten (length text.now)) result }
+{
+    answer(alloc, text, skip)
+}
+
+fn answer(alloc: Global, text: &[u8], skip: u32) -> ReadStmt
+    requires short { length text.now ≤ 65536 }
+    requires within { skip ≤ length text.now }
+    ensures exact { Answers result (statement (stream text.now skip)) }
+{
+    match Reader::new(alloc, text, skip as usize).statement() {
+        Ok(stmt) => ReadStmt::Stmt(stmt),
+        Err(ReadError::Memory) => ReadStmt::NoMemory,
+        Err(ReadError::Fault(Fault::NoToken(place))) => ReadStmt::NoToken(place),
+        Err(ReadError::Fault(Fault::Syntax(place))) => ReadStmt::Syntax(place),
+        Err(ReadError::Fault(Fault::BadNumber(place))) => ReadStmt::BadNumber(place),
+    }
+}
+
+/// States that the tokens of a statement say one thing. It does nothing.
+pub fn one_reading_law()
+    ensures { OneReading }
+{}
+
+/// States that every statement of a text is whole and no longer than the text. It does nothing.
+pub fn statements_are_written_law()
+    ensures { StatementsAreWritten }
+{}
