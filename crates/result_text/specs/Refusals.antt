@@ -1,14 +1,10 @@
 -- The texts of refusals: the number, the word, and the tail.
-use Rattle.std.specs.Prelude.{◌≡◌, ℕ, zero, suc, ◌/◌, ◌%◌, ◌==◌, ◌≤◌, List, [], ◌++◌, codes, decimal, if◌then◌else◌}
+use Rattle.std.specs.Prelude.{ℕ, zero, suc, ◌/◌, ◌%◌, ◌==◌, List, [], ◌++◌, codes, decimal, if◌then◌else◌}
 use Rattle.ts_model.specs.declared.outcomes.Refusal.{Refusal}
 use Rattle.result_text.specs.declared.refusals.Tail.{Tail}
 use Rattle.result_text.specs.declared.refusals.Tail.TheVariants.{Bare, Place, Position, Finish, Count}
 
--- the greatest number of a refusal
-abbrev pub last_code : ℕ
-last_code = 24
-
--- the word of a refusal
+-- the word of a refusal; any number above 23 has that of the last one
 abbrev pub word_of : ℕ → List ℕ
 word_of code =
     if code == 0 then codes "not_built"

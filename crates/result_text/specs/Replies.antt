@@ -1,10 +1,10 @@
 -- The texts of replies.
-use Rattle.std.specs.Prelude.{ℕ, ℤ, ◌≤◌, ⊤, List, ◌++◌, codes, decimal}
+use Rattle.std.specs.Prelude.{ℕ, ℤ, List, ◌++◌, codes, decimal}
 use Rattle.ts_model.specs.declared.outcomes.Refusal.{Refusal}
 use Rattle.result_text.specs.declared.replies.Said.{Said}
 use Rattle.result_text.specs.declared.replies.Said.TheVariants.{Table, Hypertable, View, Mode, Commit, Queued, Refresh, Nothing, Cut, Snap, Finish, Begin, BeginRead, CommitEmpty, Rollback, End, Answered, Fault}
 use Rattle.result_text.specs.Answers.{answer_text}
-use Rattle.result_text.specs.Refusals.{last_code, refusal_text}
+use Rattle.result_text.specs.Refusals.{refusal_text}
 use Rattle.result_text.specs.Spans.{span_end}
 
 -- a refresh by its cut, the event that finished it and its snapshot
@@ -31,27 +31,6 @@ said_text Rollback = codes "ROLLBACK\n"
 said_text End = codes "END\n"
 said_text (Answered answer pos min) = answer_text answer pos min
 said_text (Fault refusal) = refusal_text refusal
-
--- a refusal that is said has a word
-abbrev pub HasWord : Said → Type 0
-HasWord (Table pos) = ⊤
-HasWord (Hypertable pos) = ⊤
-HasWord (View pos) = ⊤
-HasWord (Mode pos) = ⊤
-HasWord (Commit done) = ⊤
-HasWord Queued = ⊤
-HasWord (Refresh cut pos snap span min) = ⊤
-HasWord (Nothing pos) = ⊤
-HasWord (Cut cut span min) = ⊤
-HasWord (Snap cut snap) = ⊤
-HasWord (Finish cut pos snap) = ⊤
-HasWord Begin = ⊤
-HasWord (BeginRead pos) = ⊤
-HasWord CommitEmpty = ⊤
-HasWord Rollback = ⊤
-HasWord End = ⊤
-HasWord (Answered answer pos min) = ⊤
-HasWord (Fault refusal) = refusal.code ≤ last_code
 
 -- a reply of a session
 abbrev pub reply_text : List ℕ → Said → List ℕ

@@ -1,6 +1,6 @@
 //! The texts of refusals.
-ghost use Rattle.std.specs.Prelude.{◌≡◌, ◌≤◌, ◌++◌, decimal, IfOk, OnErr, OnOk};
-ghost use Rattle.result_text.specs.Refusals.{finish_text, last_code, number_text, position_text, refusal_text, tail_of, tail_text, word_of};
+ghost use Rattle.std.specs.Prelude.{◌≡◌, ◌++◌, decimal, IfOk, OnErr, OnOk};
+ghost use Rattle.result_text.specs.Refusals.{finish_text, number_text, position_text, refusal_text, tail_of, tail_text, word_of};
 
 use crate::pieces::{append, beside, bytes, number};
 use ts_model::Refusal;
@@ -21,10 +21,9 @@ pub(crate) enum Tail {
     Count,
 }
 
-/// Appends a refusal as a line: `FAULT`, its number, its word and its tail. Refusals are numbered from
-/// 0 to 24.
+/// Appends a refusal as a line: `FAULT`, its number, its word and its tail. A number above
+/// 24 has the word of the last one.
 pub fn put_refusal(refusal: &Refusal, out: &mut Vec<u8>) -> Result<(), NoMemory>
-    requires { refusal.now.code ≤ last_code }
     ensures appended { OnOk result (out.new.items ≡ out.old.items ++ refusal_text refusal.now) }
     ensures kept { OnErr result (out.new.items ≡ out.old.items) }
 {
@@ -33,7 +32,6 @@ pub fn put_refusal(refusal: &Refusal, out: &mut Vec<u8>) -> Result<(), NoMemory>
 
 /// A refusal as a line, behind a text.
 pub(crate) fn refusal_line(mut text: Vec<u8>, refusal: &Refusal) -> Result<Vec<u8>, NoMemory>
-    requires { refusal.now.code ≤ last_code }
     ensures { IfOk result (λ t. t.items ≡ text.items ++ refusal_text refusal.now) }
 {
     bytes(&mut text, b"FAULT ")?;

@@ -1,7 +1,6 @@
 //! The texts of replies.
-ghost use Rattle.std.specs.Prelude.{◌≡◌, ◌≤◌, ◌++◌, codes, decimal, IfOk, OnErr, OnOk};
-ghost use Rattle.result_text.specs.Refusals.{last_code};
-ghost use Rattle.result_text.specs.Replies.{HasWord, line_fault_text, refresh_head, reply_text, said_text};
+ghost use Rattle.std.specs.Prelude.{◌≡◌, ◌++◌, codes, decimal, IfOk, OnErr, OnOk};
+ghost use Rattle.result_text.specs.Replies.{line_fault_text, refresh_head, reply_text, said_text};
 ghost use Rattle.result_text.specs.Spans.{span_end};
 
 use crate::answers::answer_lines;
@@ -77,7 +76,6 @@ pub enum Said {
 
 /// Appends a reply of a session.
 pub fn put_reply(session: &Name, said: &Said, out: &mut Vec<u8>) -> Result<(), NoMemory>
-    requires { HasWord said.now }
     ensures appended { OnOk result (out.new.items ≡ out.old.items ++ reply_text session.now said.now) }
     ensures kept { OnErr result (out.new.items ≡ out.old.items) }
 {
@@ -86,7 +84,6 @@ pub fn put_reply(session: &Name, said: &Said, out: &mut Vec<u8>) -> Result<(), N
 
 /// A reply of a session, behind a text.
 fn reply_line(mut text: Vec<u8>, session: &Name, said: &Said) -> Result<Vec<u8>, NoMemory>
-    requires { HasWord said.now }
     ensures { IfOk result (λ t. t.items ≡ text.items ++ reply_text session.now said.now) }
 {
     bytes(&mut text, session.bytes())?;
@@ -96,7 +93,6 @@ fn reply_line(mut text: Vec<u8>, session: &Name, said: &Said) -> Result<Vec<u8>,
 
 /// Appends the refusal of a line that has no session, by the line's number.
 pub fn put_line_fault(line: u64, refusal: &Refusal, out: &mut Vec<u8>) -> Result<(), NoMemory>
-    requires { refusal.now.code ≤ last_code }
     ensures appended { OnOk result (out.new.items ≡ out.old.items ++ line_fault_text line refusal.now) }
     ensures kept { OnErr result (out.new.items ≡ out.old.items) }
 {
@@ -105,7 +101,6 @@ pub fn put_line_fault(line: u64, refusal: &Refusal, out: &mut Vec<u8>) -> Result
 
 /// The refusal of a line, behind a text.
 fn line_fault(mut text: Vec<u8>, line: u64, refusal: &Refusal) -> Result<Vec<u8>, NoMemory>
-    requires { refusal.now.code ≤ last_code }
     ensures { IfOk result (λ t. t.items ≡ text.items ++ line_fault_text line refusal.now) }
 {
     bytes(&mut text, b"line ")?;
@@ -116,7 +111,6 @@ fn line_fault(mut text: Vec<u8>, line: u64, refusal: &Refusal) -> Result<Vec<u8>
 
 /// What a reply says, behind a text.
 fn said_line(text: Vec<u8>, said: &Said) -> Result<Vec<u8>, NoMemory>
-    requires { HasWord said.now }
     ensures { IfOk result (λ t. t.items ≡ text.items ++ said_text said.now) }
 {
     match said {

@@ -1,6 +1,4 @@
 //! Each form of a text once, as the format describes it.
-ghost use Rattle.result_text.specs.Replies.{HasWord};
-
 use crate::{
     Said, Summary, put_event, put_history, put_line_fault, put_pending, put_refusal, put_reply,
     put_summary,
@@ -17,9 +15,7 @@ fn name(alloc: Global, text: &[u8]) -> Result<Name, Fail> {
 }
 
 /// Whether a reply of session `a` has this text.
-fn reads(alloc: Global, said: Said, text: &[u8]) -> Result<bool, Fail>
-    requires { HasWord said }
-{
+fn reads(alloc: Global, said: Said, text: &[u8]) -> Result<bool, Fail> {
     let mut out = Vec::new(alloc);
     put_reply(&name(alloc, b"a")?, &said, &mut out)?;
     Ok(out.as_slice() == text)

@@ -1,0 +1,5 @@
+pub mod WalkLaws
+mod CallWalks
+mod EndingLaws
+mod SoundLaws
+mod TurnLaws

@@ -1,0 +1,7 @@
+pub mod Deeds
+pub mod Walks
+pub mod Step
+pub mod Script
+pub mod Holding
+pub mod Sessions
+pub mod Sound
