@@ -1,0 +1,5 @@
+pub mod Casts
+pub mod Plays
+pub mod Runs
+pub mod Stops
+pub mod Stopped

@@ -1,0 +1,15 @@
+-- How a run ends, by why it stopped.
+use Rattle.std.specs.Prelude.{Bool, true, false}
+use Rattle.script_run.specs.declared.ends.RunEnd.{RunEnd}
+use Rattle.script_run.specs.declared.ends.RunEnd.TheVariants as ends
+use Rattle.script_run.specs.declared.stages.Stop.{Stop}
+use Rattle.script_run.specs.declared.stages.Stop.TheVariants.{WriteFault, DiskFault, NoMemory}
+
+abbrev pub end_of_stop : Stop → RunEnd
+end_of_stop WriteFault = ends.WriteFault
+end_of_stop DiskFault = ends.DiskFault
+end_of_stop NoMemory = ends.NoMemory
+
+abbrev pub end_of_input : Bool → RunEnd
+end_of_input true = ends.Refused
+end_of_input false = ends.Done

@@ -1,0 +1,87 @@
+//! The loop over the lines of a script.
+ghost use Rattle.std.specs.Prelude.{◌≡◌, ◌≤◌, false, IsTrue, IfSome};
+ghost use Rattle.std.specs.Thread.{IsSync};
+ghost use Rattle.ts_schema.specs.Faults.{Rose};
+ghost use Rattle.script_run.specs.Runs.{Ran, IfReadFault, IfWriteFault, IfDiskFault};
+ghost use Rattle.script_run.specs.Stopped.{end_of_stop, end_of_input};
+
+use crate::ends::RunEnd;
+use crate::stages::{Stage, Stop};
+use std::alloc::Global;
+use std::thread::Threads;
+use ts_io::{LineEnd, Lines, Sink, Source};
+use ts_model::Backend;
+use ts_schema::{NoMemory, Steps};
+use ts_sessions::Actor;
+
+/// Runs the lines of a source in order over a store that is alone and goes on: each is read, played by
+/// its session, and answered before the next one is read. Sessions are made by `A::begin` as they appear.
+pub fn run<A, R, B, S, K, L>(
+    rt: &R,
+    alloc: Global,
+    backend: &mut B,
+    source: &mut S,
+    sink: &mut K,
+    steps: &mut Steps<L>,
+) -> RunEnd
+where
+    A: Actor<B> + Drop,
+    R: Threads + Sync,
+    B: Backend,
+    S: Source,
+    K: Sink,
+    requires sync { IsSync R.row }
+    requires alone { IsTrue B.alone }
+    requires going { B.halted backend.old ≡ false }
+    ensures ran { IfSome (S.left source.old) (λ input. Ran result A.play (B.seen backend.old) input (S.left source.new)
+        (record { seen = B.seen backend.new; halted = B.halted backend.new; before = K.written sink.old; after = K.written sink.new })) }
+    ensures reads_on { S.faults source.old ≤ S.faults source.new }
+    ensures writes_on { K.faults sink.old ≤ K.faults sink.new }
+    ensures disk_on { B.faults backend.old ≤ B.faults backend.new }
+    ensures read_cause { IfReadFault result (Rose (S.faults source.old) (S.faults source.new)) }
+    ensures write_cause { IfWriteFault result (Rose (K.faults sink.old) (K.faults sink.new)) }
+    ensures disk_cause { IfDiskFault result (Rose (B.faults backend.old) (B.faults backend.new)) }
+{
+    let mut lines = match Lines::new(alloc) {
+        Ok(lines) => lines,
+        Err(NoMemory) => return RunEnd::NoMemory,
+    };
+    let mut stage: Stage<A> = Stage::new(alloc);
+    loop {
+        match lines.next(source) {
+            LineEnd::Line => match stage.play(rt, alloc, backend, lines.line(), sink, steps) {
+                Ok(()) => {}
+                Err(stop) => return stopped(stop),
+            },
+            LineEnd::LineLong => match stage.refuse_long(alloc, sink) {
+                Ok(()) => {}
+                Err(stop) => return stopped(stop),
+            },
+            LineEnd::End => return ended(stage.refused),
+            LineEnd::InputLong => return RunEnd::InputLong,
+            LineEnd::ReadFault => return RunEnd::ReadFault,
+        }
+    }
+}
+
+/// How a run ends that stopped at a line.
+fn stopped(stop: Stop) -> RunEnd
+    ensures { result ≡ end_of_stop stop }
+{
+    match stop {
+        Stop::WriteFault => RunEnd::WriteFault,
+        Stop::DiskFault => RunEnd::DiskFault,
+        Stop::NoMemory => RunEnd::NoMemory,
+    }
+}
+
+/// How a run ends whose input was executed to its end.
+fn ended(refused: bool) -> RunEnd
+    ensures { result ≡ end_of_input refused }
+{
+    if refused {
+        RunEnd::Refused
+    } else {
+        RunEnd::Done
+    }
+}
