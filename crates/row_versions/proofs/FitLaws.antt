@@ -3,11 +3,12 @@ use Rattle.std.proofs.Common.{◌≡◌, ℕ, zero, suc, ◌+◌, ◌-◌, ◌<�
 use Rattle.std.specs.Prelude.{nat_le, ◌==◌, is_some, option_and_then, remove}
 use Rattle.std.specs.List.{filter, list_all}
 use Rattle.std.specs.Ordering.{is_gt}
-use Rattle.std.proofs.lemmas.Bool.{true≢false, and_parts, and_from, leb-true, le-leb, ltb-true, eqb-true}
+use Rattle.std.proofs.lemmas.Bool.{true≢false, and_parts, and_from, leb-true, le-leb, ltb-true, eqb-true, eq-eqb}
 use Rattle.std.proofs.lemmas.List.{length-append, length-take, length-drop}
 use Rattle.std.proofs.lemmas.List.Folds.{list_all-append}
 use Rattle.ts_bucket.specs.Bucket.{is_time}
 use Rattle.ts_schema.specs.declared.columns.Column.{Column}
+use Rattle.ts_schema.specs.declared.conditions.Cmp.{Cmp}
 use Rattle.ts_schema.specs.declared.conditions.Test.{Test}
 use Rattle.ts_schema.specs.declared.rows.Row.{Row}
 use Rattle.ts_schema.specs.Rows.{row_cmp}
@@ -271,3 +272,36 @@ commits_fit t h ops table held ok =
       up_to = up_to_more (position h) (suc (position h)) table.versions (omega arith) held.up_to;
       fit = ops_fit_alike t ops (rows_of table.versions) (inserted t h) held.stored ∙ all_ops_fit (roster h) t ops (inserted t h) (commit_fits h ops parts.1) (inserted_suit t h parts.0);
     }
+
+-- ---- operations that fit by themselves
+
+same_table : (t : ℕ) → (t == t) ≡ true
+same_table t = eq-eqb t t refl
+
+-- an insert of rows with times fits every table
+pub insert_fits : (t : ℕ) (new xs : List Row) → list_all timed new ≡ true → ops_fit t (Insert t new ∷ []) xs ≡ true
+insert_fits t new xs e = ap (λ c. cond c (list_all timed new && true) true) (same_table t) ∙ and_from _ _ e refl
+
+-- a test of the time fits every row
+pub time_test_fits : (tests : List Test) (cmp : Cmp) (num : ℤ) → tests ≡ record { col = 0; cmp = cmp; num = num } ∷ [] → (xs : List Row) → rows_fit tests xs ≡ true
+time_test_fits tests cmp num e [] = refl
+time_test_fits tests cmp num e (x ∷ xs) =
+    let here : list_all (λ (test : Test). nat_le test.col (length x.vals)) tests ≡ true = rw e (rw (le-leb 0 (length x.vals) (omega arith)) refl) in
+    and_from _ _ here (time_test_fits tests cmp num e xs)
+
+pub delete_fits_rows : (t : ℕ) (tests : List Test) (xs : List Row) → rows_fit tests xs ≡ true → ops_fit t (Delete t tests ∷ []) xs ≡ true
+delete_fits_rows t tests xs e = ap (λ c. cond c (rows_fit tests xs && true) true) (same_table t) ∙ and_from _ _ e refl
+
+-- operations that fit, and then such that fit every table
+pub ops_fit-append : (t : ℕ) (ops more : List Op) → ((xs : List Row) → ops_fit t more xs ≡ true) → (xs : List Row) → ops_fit t ops xs ≡ true → ops_fit t (ops ++ more) xs ≡ true
+ops_fit-append t [] more rest xs e = rest xs
+ops_fit-append t (Insert u new ∷ ops) more rest xs e =
+    elim (u == t) as (λ c. cond c (list_all timed new && ops_fit t ops (xs ++ new)) (ops_fit t ops xs) ≡ true → cond c (list_all timed new && ops_fit t (ops ++ more) (xs ++ new)) (ops_fit t (ops ++ more) xs) ≡ true) [
+      | true ↦ λ f. let parts = and_parts (list_all timed new) (ops_fit t ops (xs ++ new)) f in and_from _ _ parts.0 (ops_fit-append t ops more rest (xs ++ new) parts.1)
+      | false ↦ λ f. ops_fit-append t ops more rest xs f
+    ] e
+ops_fit-append t (Delete u tests ∷ ops) more rest xs e =
+    elim (u == t) as (λ c. cond c (rows_fit tests xs && ops_fit t ops xs) (ops_fit t ops xs) ≡ true → cond c (rows_fit tests xs && ops_fit t (ops ++ more) xs) (ops_fit t (ops ++ more) xs) ≡ true) [
+      | true ↦ λ f. let parts = and_parts (rows_fit tests xs) (ops_fit t ops xs) f in and_from _ _ parts.0 (ops_fit-append t ops more rest xs parts.1)
+      | false ↦ λ f. ops_fit-append t ops more rest xs f
+    ] e

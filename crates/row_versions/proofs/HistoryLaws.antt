@@ -1,5 +1,5 @@
 -- Tables beside histories: how they begin, what events make of them, and what they tell.
-use Rattle.std.proofs.Common.{◌≡◌, ℕ, zero, suc, ◌+◌, ◌<◌, ◌≤◌, Bool, true, false, cond, cond-true, cond-false, nat_lt, Option, Some, None, List, [], ◌∷◌, length, ℤ, ◌+ℤ◌, ◌≤ℤ◌, refl, sym, ◌∙◌, ap, subst, arith}
+use Rattle.std.proofs.Common.{◌≡◌, ℕ, zero, suc, ◌+◌, ◌<◌, ◌≤◌, Bool, true, false, cond, nat_lt, Option, Some, None, List, [], ◌∷◌, length, ℤ, ◌+ℤ◌, ◌≤ℤ◌, refl, sym, ◌∙◌, ap, subst, arith}
 use Rattle.std.specs.Prelude.{nat_le, option_and_then}
 use Rattle.std.specs.List.{filter, list_any, count_by}
 use Rattle.std.specs.Option.{option_map}
@@ -68,39 +68,39 @@ effects_are_of_commits t h ops table effect held is =
 
 -- an event that isn't a commit neither inserts nor removes
 same_rows : (t : ℕ) (h : History) (e : Event) → is_commit e ≡ false → rows t (h ▸ e) ≡ rows t h
-same_rows t h (Table def) no = refl
-same_rows t h (Hyper u hyper) no = refl
-same_rows t h (View def) no = refl
-same_rows t h (Mode v only) no = refl
-same_rows t h (Commit ops) no = absurd (true≢false no)
-same_rows t h (Cut v span) no = refl
-same_rows t h (Built cut snap) no = refl
+same_rows t h (Table def) quiet = refl
+same_rows t h (Hyper u hyper) quiet = refl
+same_rows t h (View def) quiet = refl
+same_rows t h (Mode v only) quiet = refl
+same_rows t h (Commit ops) quiet = absurd (true≢false quiet)
+same_rows t h (Cut v span) quiet = refl
+same_rows t h (Built cut snap) quiet = refl
 
 same_inserted : (t : ℕ) (h : History) (e : Event) → is_commit e ≡ false → inserted t (h ▸ e) ≡ inserted t h
-same_inserted t h (Table def) no = refl
-same_inserted t h (Hyper u hyper) no = refl
-same_inserted t h (View def) no = refl
-same_inserted t h (Mode v only) no = refl
-same_inserted t h (Commit ops) no = absurd (true≢false no)
-same_inserted t h (Cut v span) no = refl
-same_inserted t h (Built cut snap) no = refl
+same_inserted t h (Table def) quiet = refl
+same_inserted t h (Hyper u hyper) quiet = refl
+same_inserted t h (View def) quiet = refl
+same_inserted t h (Mode v only) quiet = refl
+same_inserted t h (Commit ops) quiet = absurd (true≢false quiet)
+same_inserted t h (Cut v span) quiet = refl
+same_inserted t h (Built cut snap) quiet = refl
 
-module _ (t : ℕ) (h : History) (e : Event) (table : ChunksValue) (held : Holds t h table) (no : is_commit e ≡ false) where
+module _ (t : ℕ) (h : History) (e : Event) (table : ChunksValue) (held : Holds t h table) (quiet : is_commit e ≡ false) where
   still_seen : (q : ℕ) (late : Bool) → nat_lt (position h) q ≡ late → in_order (visible_rows q table.versions) ≡ rows t (cond late (h ▸ e) (prefix h q))
   still_seen q true l =
       let after : position h < q = ltb-true (position h) q l in
-      seen_now t h table q held (omega (arith, after)) ∙ sym (same_rows t h e no)
+      seen_now t h table q held (omega (arith, after)) ∙ sym (same_rows t h e quiet)
   still_seen q false l = held.seen q
 
   pub other_held : Holds t (h ▸ e) table
   other_held = record {
     seen = λ q. still_seen q (nat_lt (position h) q) refl;
-    stored = held.stored ∙ ap in_order (sym (same_inserted t h e no));
+    stored = held.stored ∙ ap in_order (sym (same_inserted t h e quiet));
     up_to = up_to_more (position h) (suc (position h)) table.versions (omega arith) held.up_to;
   }
 
 pub others_are_held : OthersAreHeld
-others_are_held t h e table held no = other_held t h e table held no
+others_are_held t h e table held quiet = other_held t h e table held quiet
 
 -- ---- what tables tell
 

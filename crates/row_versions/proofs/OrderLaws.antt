@@ -45,7 +45,7 @@ found test (y ∷ ys) h =
     elim (test y) as (λ b. test y ≡ b → Found test (y ∷ ys)) [
       | true ↦ λ e. record { item = y; front = []; back = ys; passes = e; whole = refl }
       | false ↦ λ e.
-          let rest = found test ys (omega (arith, h, sum_by-cons (λ z. cond (test z) 1 0) y ys, ap (λ b. cond b 1 0) e)) in
+          let rest = found test ys (omega (arith, h, sum_by-cons (λ z. cond (test z) 1 0) y ys, ap {B = ℕ} (λ b. cond b 1 0) e)) in
           record { item = rest.item; front = y ∷ rest.front; back = rest.back; passes = rest.passes; whole = ap (λ zs. y ∷ zs) rest.whole }
     ] refl
 
@@ -63,7 +63,7 @@ in_order-as_often [] [] same = refl
 in_order-as_often [] (y ∷ ys) same = absurd (omega (arith, same (λ z. true), count-cons (λ (z : Row). true) y ys))
 in_order-as_often (x ∷ xs) ys same =
     let here : 1 ≤ count_by (λ y. is_eq (row_cmp x y)) ys =
-    omega (arith, same (λ y. is_eq (row_cmp x y)), count-cons (λ y. is_eq (row_cmp x y)) x xs, ap (λ b. cond b 1 0) (row_same x)) in
+    omega (arith, same (λ y. is_eq (row_cmp x y)), count-cons (λ y. is_eq (row_cmp x y)) x xs, ap {B = ℕ} (λ b. cond b 1 0) (row_same x)) in
     let at = found (λ y. is_eq (row_cmp x y)) ys here in
     let is : x ≡ at.item = row_cmp_same x at.item (equal_if (row_cmp x at.item) at.passes) in
     let whole : ys ≡ at.front ++ x ∷ at.back = at.whole ∙ ap (λ z. at.front ++ z ∷ at.back) (sym is) in

@@ -1,7 +1,7 @@
 -- What inserts and deletes make of the versions of a table.
-use Rattle.std.proofs.Common.{◌≡◌, ℕ, zero, suc, ◌+◌, ◌<◌, ◌≤◌, ◌&&◌, Bool, true, false, cond, not, Option, Some, None, List, [], ◌∷◌, ◌++◌, length, map, ℤ, pos, ◌+ℤ◌, ◌≤ℤ◌, refl, sym, ◌∙◌, ap, subst, eq-eqb, arith}
+use Rattle.std.proofs.Common.{◌≡◌, ℕ, zero, suc, ◌+◌, ◌<◌, ◌≤◌, ◌&&◌, Bool, true, false, cond, not, Option, Some, None, List, [], ◌∷◌, ◌++◌, length, map, get_or, take, take_all, drop, ◌-◌, ℤ, pos, ◌+ℤ◌, ◌≤ℤ◌, refl, sym, ◌∙◌, ap, subst, eq-eqb, arith}
 use Rattle.std.specs.List.{filter, list_all, list_any, count_by}
-use Rattle.std.specs.Prelude.{nat_le, int_lt, ◌||◌, ◌==◌}
+use Rattle.std.specs.Prelude.{nat_le, int_lt, ◌||◌, ◌==◌, Result, Ok, Err, IfOk, OnOk, OnErr, MatchResult}
 use Rattle.std.proofs.lemmas.Int.{ints}
 use Rattle.std.proofs.lemmas.Bool.{and_parts, and_from, le-leb, leb-true}
 use Rattle.std.proofs.lemmas.List.{append-nil, append_assoc, map-append, length-append}
@@ -12,6 +12,7 @@ use Rattle.ts_bucket.specs.Spans.{SpanValue, HullValue, in_span}
 use Rattle.ts_schema.specs.declared.rows.Row.{Row}
 use Rattle.ts_schema.specs.declared.conditions.Test.{Test}
 use Rattle.ts_schema.specs.Conditions.{passes_all}
+use Rattle.ts_schema.specs.Counts.{raised_by}
 use Rattle.ts_model.specs.declared.events.Op.{Op}
 use Rattle.ts_model.specs.declared.events.Op.TheVariants.{Insert, Delete}
 use Rattle.ts_model.specs.Rows.{with_row, with_rows, in_order, after_op, after_ops}
@@ -25,6 +26,7 @@ use Rattle.seg_rows.proofs.HullLaws.{hull_of-append, joined_hull-assoc, joined_h
 use Rattle.chunk_catalog.specs.Chunks.{ChunksValue, IsInterval, chunk_start, is_near, held_near, HaveTimes}
 use Rattle.chunk_catalog.proofs.PartLaws.{all_from_count, count_from_all, count_map, count_append}
 use Rattle.row_versions.specs.declared.effects.Effect.{Effect}
+use Rattle.row_versions.specs.declared.tables.Applied.{Applied}
 use Rattle.row_versions.specs.Tables.{visible_rows, died_by, is_up_to, IsUpTo, rows_fit, ops_fit, Follows, Counts, IsEffect}
 use Rattle.row_versions.proofs.OrderLaws.{in_order-as_often, hull_of-in_order, all-in_order, count_filter, hulls_swap}
 
@@ -313,12 +315,12 @@ appended-cons t op ops = ap (λ rs. rs ++ all_appended t ops) (sym (append-nil (
 taken-cons_ops : (t : ℕ) (op : Op) (ops : List Op) (rows : List Row) → all_taken t (op ∷ ops) rows ≡ all_taken t (op ∷ []) rows ++ all_taken t ops (after_op t op rows)
 taken-cons_ops t op ops rows = ap (λ rs. rs ++ all_taken t ops (after_op t op rows)) (sym (append-nil (taken_by t op rows)))
 
-more_stored : (as bs ys xs : List Row) → in_order ys ≡ in_order (xs ++ as) → in_order (ys ++ bs) ≡ in_order (xs ++ (as ++ bs))
-more_stored as bs ys xs e =
+more_stored : (cs bs ys xs : List Row) → in_order ys ≡ in_order (xs ++ cs) → in_order (ys ++ bs) ≡ in_order (xs ++ (cs ++ bs))
+more_stored cs bs ys xs e =
     in_order-append_swap ys bs
     ∙ (in_order-append bs ys
     ∙ (ap (with_rows bs) e
-    ∙ (sym (in_order-append bs (xs ++ as)) ∙ (in_order-append_swap bs (xs ++ as) ∙ ap in_order (append_assoc xs as bs)))))
+    ∙ (sym (in_order-append bs (xs ++ cs)) ∙ (in_order-append_swap bs (xs ++ cs) ∙ ap in_order (append_assoc xs cs bs)))))
 
 pub follows_none : (t p : ℕ) (x : ChunksValue) → IsUpTo p x.versions → Follows t [] p x x
 follows_none t p x e = record {
@@ -341,16 +343,16 @@ follows_more t op ops p x y z one rest = record {
 pub counts_none : (t : ℕ) (rows : List Row) (effect : Effect) → Counts t [] rows effect effect
 counts_none t rows effect = record { inserted = omega arith; removed = omega arith; hull = sym (joined_hull-none effect.hull) }
 
-hulls_more : (h : Option HullValue) (as ts bs us : List Row) → joined_hull (joined_hull h (hull_of (as ++ ts))) (hull_of (bs ++ us)) ≡ joined_hull h (hull_of ((as ++ bs) ++ (ts ++ us)))
-hulls_more h as ts bs us =
-    sym (joined_hull-assoc h (hull_of (as ++ ts)) (hull_of (bs ++ us)))
+hulls_more : (h : Option HullValue) (cs ts bs us : List Row) → joined_hull (joined_hull h (hull_of (cs ++ ts))) (hull_of (bs ++ us)) ≡ joined_hull h (hull_of ((cs ++ bs) ++ (ts ++ us)))
+hulls_more h cs ts bs us =
+    sym (joined_hull-assoc h (hull_of (cs ++ ts)) (hull_of (bs ++ us)))
     ∙ ap (joined_hull h)
-      (ap (λ g. joined_hull g (hull_of (bs ++ us))) (hull_of-append as ts)
-      ∙ (sym (joined_hull-assoc (hull_of as) (hull_of ts) (hull_of (bs ++ us)))
-      ∙ (ap (λ g. joined_hull (hull_of as) (joined_hull (hull_of ts) g)) (hull_of-append bs us)
-      ∙ (ap (joined_hull (hull_of as)) (hulls_swap (hull_of ts) (hull_of bs) (hull_of us) ∙ ap (joined_hull (hull_of bs)) (sym (hull_of-append ts us)))
-      ∙ (joined_hull-assoc (hull_of as) (hull_of bs) (hull_of (ts ++ us))
-      ∙ (ap (λ g. joined_hull g (hull_of (ts ++ us))) (sym (hull_of-append as bs)) ∙ sym (hull_of-append (as ++ bs) (ts ++ us))))))))
+      (ap (λ g. joined_hull g (hull_of (bs ++ us))) (hull_of-append cs ts)
+      ∙ (sym (joined_hull-assoc (hull_of cs) (hull_of ts) (hull_of (bs ++ us)))
+      ∙ (ap (λ g. joined_hull (hull_of cs) (joined_hull (hull_of ts) g)) (hull_of-append bs us)
+      ∙ (ap (joined_hull (hull_of cs)) (hulls_swap (hull_of ts) (hull_of bs) (hull_of us) ∙ ap (joined_hull (hull_of bs)) (sym (hull_of-append ts us)))
+      ∙ (joined_hull-assoc (hull_of cs) (hull_of bs) (hull_of (ts ++ us))
+      ∙ (ap (λ g. joined_hull g (hull_of (ts ++ us))) (sym (hull_of-append cs bs)) ∙ sym (hull_of-append (cs ++ bs) (ts ++ us))))))))
 
 pub counts_more : (t : ℕ) (op : Op) (ops : List Op) (rows : List Row) (x y z : Effect) → Counts t (op ∷ []) rows x y → Counts t ops (after_op t op rows) y z → Counts t (op ∷ ops) rows x z
 counts_more t op ops rows x y z one rest = record {
@@ -371,7 +373,7 @@ fit_alike tests xs ys e =
     sym (all-in_order (λ row. list_all (λ (t : Test). nat_le t.col (length row.vals)) tests) xs)
     ∙ (ap (list_all (λ row. list_all (λ (t : Test). nat_le t.col (length row.vals)) tests)) e ∙ all-in_order (λ row. list_all (λ (t : Test). nat_le t.col (length row.vals)) tests) ys)
 
-both_alike : (xs ys new : List Row) → in_order xs ≡ in_order ys → in_order (xs ++ new) ≡ in_order (ys ++ new)
+pub both_alike : (xs ys new : List Row) → in_order xs ≡ in_order ys → in_order (xs ++ new) ≡ in_order (ys ++ new)
 both_alike xs ys new e = in_order-append_swap xs new ∙ (in_order-append new xs ∙ (ap (with_rows new) e ∙ (sym (in_order-append new ys) ∙ in_order-append_swap new ys)))
 
 pub ops_fit_alike : (t : ℕ) (ops : List Op) (xs ys : List Row) → in_order xs ≡ in_order ys → ops_fit t ops xs ≡ ops_fit t ops ys
@@ -399,10 +401,11 @@ first_fits t (Delete u tests) ops rows = elim (u == t) as (λ b. cond b (rows_fi
   ]
 
 pub rest_fits : (t : ℕ) (op : Op) (ops : List Op) (rows : List Row) → ops_fit t (op ∷ ops) rows ≡ true → ops_fit t ops (rows ++ all_appended t (op ∷ [])) ≡ true
-rest_fits t (Insert u new) ops rows = elim (u == t) as (λ b. cond b (list_all (λ row. is_time row.at) new && ops_fit t ops (rows ++ new)) (ops_fit t ops rows) ≡ true → ops_fit t ops (rows ++ (cond b new [] ++ [])) ≡ true) [
-    | true ↦ λ e. ap (λ rs. ops_fit t ops (rows ++ rs)) (append-nil new) ∙ (and_parts _ _ e).1
-    | false ↦ λ e. ap (ops_fit t ops) (append-nil rows) ∙ e
-  ]
+rest_fits t (Insert u new) ops rows e =
+    elim (u == t) as (λ b. cond b (list_all (λ row. is_time row.at) new && ops_fit t ops (rows ++ new)) (ops_fit t ops rows) ≡ true → ops_fit t ops (rows ++ (cond b new [] ++ [])) ≡ true) [
+      | true ↦ λ f. ap (λ rs. ops_fit t ops (rows ++ rs)) (append-nil new) ∙ (and_parts _ _ f).1
+      | false ↦ λ f. ap (ops_fit t ops) (append-nil rows) ∙ f
+    ] e
 rest_fits t (Delete u tests) ops rows e = ap (ops_fit t ops) (append-nil rows) ∙ delete_rest (u == t) (rows_fit tests rows) (ops_fit t ops rows) e
 
 pub times_here : (t : ℕ) (new rows : List Row) → ops_fit t (Insert t new ∷ []) rows ≡ true → HaveTimes new
@@ -420,14 +423,14 @@ fit_of_rows tests (v ∷ vs) = ap (λ b. has_columns tests v && b) (fit_of_rows 
 -- from here on to any end is from the start to that end
 pub record Leads (t p : ℕ) (ops : List Op) (x : ChunksValue) (left : List Op) (y : ChunksValue) (effect : Effect) : Type 0 where
   pub table : (z : ChunksValue) → Follows t left p y z → Follows t ops p x z
-  pub counted : (zero after : Effect) → zero.inserted ≡ 0 → zero.removed ≡ 0 → zero.hull ≡ None → Counts t left (in_order (visible_rows p y.versions)) effect after → Counts t ops (in_order (visible_rows p x.versions)) zero after
+  pub counted : (fresh after : Effect) → fresh.inserted ≡ 0 → fresh.removed ≡ 0 → fresh.hull ≡ None → Counts t left (in_order (visible_rows p y.versions)) effect after → Counts t ops (in_order (visible_rows p x.versions)) fresh after
   pub up_to : IsUpTo p y.versions
   pub fit : ops_fit t left (rows_of y.versions) ≡ true
 
 pub leads_start : (t p : ℕ) (ops : List Op) (x : ChunksValue) (effect : Effect) → effect.inserted ≡ 0 → effect.removed ≡ 0 → effect.hull ≡ None → IsUpTo p x.versions → ops_fit t ops (rows_of x.versions) ≡ true → Leads t p ops x ops x effect
 leads_start t p ops x effect i r h e f = record {
   table = λ z follows. follows;
-  counted = λ zero after zi zr zh counts. record {
+  counted = λ fresh after zi zr zh counts. record {
     inserted = counts.inserted ∙ ap (λ n. n + length (all_appended t ops)) (i ∙ sym zi);
     removed = counts.removed ∙ ap (λ n. n + length (all_taken t ops (in_order (visible_rows p x.versions)))) (r ∙ sym zr);
     hull = counts.hull ∙ ap (λ g. joined_hull g (hull_of (all_appended t ops ++ all_taken t ops (in_order (visible_rows p x.versions))))) (h ∙ sym zh);
@@ -440,7 +443,7 @@ pub leads_on : (t p : ℕ) (ops : List Op) (x : ChunksValue) (op : Op) (left : L
     → Leads t p ops x (op ∷ left) y before → Follows t (op ∷ []) p y z → Counts t (op ∷ []) (in_order (visible_rows p y.versions)) before after → Leads t p ops x left z after
 leads_on t p ops x op left y z before after leads one counts = record {
   table = λ w rest. leads.table w (follows_more t op left p y z w one rest);
-  counted = λ zero last zi zr zh rest. leads.counted zero last zi zr zh
+  counted = λ fresh last zi zr zh rest. leads.counted fresh last zi zr zh
     (counts_more t op left (in_order (visible_rows p y.versions)) before after last counts (subst (λ rows. Counts t left rows after last) (one.later p (omega arith)) rest));
   up_to = one.up_to;
   fit = ops_fit_alike t left (rows_of z.versions) (rows_of y.versions ++ all_appended t (op ∷ [])) one.stored ∙ rest_fits t op left (rows_of y.versions) leads.fit;
@@ -455,12 +458,36 @@ hulls_same (row ∷ rows) = ap (λ h. Some (hull_with row.at h)) (hulls_same row
     joined t None = refl
     joined t (Some h) = refl
 
-pub effect_is : (t : ℕ) (ops : List Op) (rows : List Row) (zero effect : Effect) → zero.inserted ≡ 0 → zero.removed ≡ 0 → zero.hull ≡ None → Counts t ops rows zero effect → IsEffect t ops rows effect
-effect_is t ops rows zero effect i r h counts = record {
+pub effect_is : (t : ℕ) (ops : List Op) (rows : List Row) (fresh effect : Effect) → fresh.inserted ≡ 0 → fresh.removed ≡ 0 → fresh.hull ≡ None → Counts t ops rows fresh effect → IsEffect t ops rows effect
+effect_is t ops rows fresh effect i r h counts = record {
   inserted = counts.inserted ∙ ap (λ n. n + length (all_appended t ops)) i ∙ omega arith;
   removed = counts.removed ∙ ap (λ n. n + length (all_taken t ops rows)) r ∙ omega arith;
   hull = counts.hull ∙ (ap (λ g. joined_hull g (hull_of (all_appended t ops ++ all_taken t ops rows))) h ∙ sym (hulls_same (all_appended t ops ++ all_taken t ops rows)));
 }
+
+-- the rest of a list after its first item
+rest_is : (op : Op) (left rest : List Op) → 1 ≤ length left → rest ≡ take (length left - 1) (drop 1 left) → op ≡ get_or left 0 op → left ≡ op ∷ rest
+rest_is op [] rest some e f = absurd (omega (arith, some))
+rest_is op (o ∷ os) rest some e f = let all : take (length (o ∷ os) - 1) os ≡ os = take_all (length (o ∷ os) - 1) os (omega arith) in ap (λ r. o ∷ r) (sym (e ∙ all)) ∙ ap (λ x. x ∷ rest) (sym f)
+
+pub leads_step : (t p : ℕ) (ops : List Op) (x : ChunksValue) (op : Op) (left rest : List Op) (y z : ChunksValue) (before after : Effect) → 1 ≤ length left → rest ≡ take (length left - 1) (drop 1 left) → op ≡ get_or left 0 op
+    → Leads t p ops x left y before → Follows t (op ∷ []) p y z → Counts t (op ∷ []) (in_order (visible_rows p y.versions)) before after → Leads t p ops x rest z after
+leads_step t p ops x op left rest y z before after some e f leads one counts =
+    leads_on t p ops x op rest y z before after (subst (λ (l : List Op). Leads t p ops x l y before) (rest_is op left rest some e f) leads) one counts
+
+nothing_left : (left : List Op) → length left < 1 → [] ≡ left
+nothing_left [] e = refl
+nothing_left (op ∷ ops) e = absurd (omega (arith, e))
+
+-- where no operation is left, what was done is all
+pub leads_table : (t p : ℕ) (ops : List Op) (x : ChunksValue) (left : List Op) (y : ChunksValue) (effect : Effect) → length left < 1 → Leads t p ops x left y effect → Follows t ops p x y
+leads_table t p ops x left y effect none leads = leads.table y (subst (λ (l : List Op). Follows t l p y y) (nothing_left left none) (follows_none t p y leads.up_to))
+
+pub leads_effect : (t p : ℕ) (ops : List Op) (x : ChunksValue) (left : List Op) (y : ChunksValue) (effect : Effect) → length left < 1 → Leads t p ops x left y effect → IsEffect t ops (in_order (visible_rows p x.versions)) effect
+leads_effect t p ops x left y effect none leads =
+    let fresh : Effect = record { inserted = 0; removed = 0; hull = None } in
+    let here = in_order (visible_rows p y.versions) in
+    effect_is t ops (in_order (visible_rows p x.versions)) fresh effect refl refl refl (leads.counted fresh effect refl refl refl (subst (λ (l : List Op). Counts t l here effect effect) (nothing_left left none) (counts_none t here effect)))
 
 -- ---- scans
 
@@ -499,3 +526,49 @@ pub held_is : (interval : ℤ) (s : SpanValue) (vs : List Version) → IsInterva
 held_is interval s vs wide =
     count_same (is_near interval s) (λ v. list_any (spans_meet (chunk_of interval v.row.at)) (s ∷ [])) (λ v. near_one interval s v wide) vs
     ∙ sym (count_map (λ v. v.row) (λ row. list_any (spans_meet (chunk_of interval row.at)) (s ∷ [])) vs)
+
+-- what a scan gives and reads, of the same table
+pub scan_rows : {E : Type 0} (r : Result (List Row) E) (q : ℕ) (s : SpanValue) (x y : ChunksValue) → x ≡ y → IfOk r (λ rows. rows ≡ rows_at q s x.versions)
+    → IfOk r (λ rows. rows ≡ filter (λ row. in_span s row.at) (visible_rows q y.versions))
+scan_rows (Ok rows) q s x y same h = h ∙ (shown_is q s x.versions ∙ ap (λ (z : ChunksValue). filter (λ row. in_span s row.at) (visible_rows q z.versions)) same)
+scan_rows (Err e) q s x y same h = h
+
+either : {T E : Type 0} (P Q : Type 0) (r : Result T E) → OnOk r P → OnErr r Q → MatchResult r (λ _. P) (λ _. Q)
+either P Q (Ok v) p q = p
+either P Q (Err e) p q = q
+
+pub scan_read : {T E : Type 0} (r : Result T E) (old new : ℕ) (s : SpanValue) (x y : ChunksValue) → x ≡ y → IsInterval x.interval
+    → OnOk r (new ≡ raised_by (held_near x.interval s x.versions) old) → OnErr r (new ≤ raised_by (held_near x.interval s x.versions) old)
+    → MatchResult r (λ _. new ≡ raised_by (rows_near y.interval (rows_of y.versions) (s ∷ [])) old) (λ _. new ≤ raised_by (rows_near y.interval (rows_of y.versions) (s ∷ [])) old)
+scan_read r old new s x y same wide ticks at_most =
+    let held : held_near x.interval s x.versions ≡ rows_near y.interval (rows_of y.versions) (s ∷ []) =
+    held_is x.interval s x.versions wide ∙ ap (λ (z : ChunksValue). rows_near z.interval (rows_of z.versions) (s ∷ [])) same in
+    either _ _ r (subst (λ n. OnOk r (new ≡ raised_by n old)) held ticks) (subst (λ n. OnErr r (new ≤ raised_by n old)) held at_most)
+
+-- a delete on this table, by the number that it was asked for
+pub delete_asked : {E : Type 0} (r : Result Applied E) (u t p : ℕ) (tests : List Test) (op : Op) (x : ChunksValue) → op ≡ Delete u tests → u ≡ t
+    → IfOk r (λ a. (n : ℕ) → Follows n (Delete n tests ∷ []) p x a.table) → IfOk r (λ a. Follows t (op ∷ []) p x a.table)
+delete_asked (Ok a) u t p tests op x is same follows =
+    let this : Delete t tests ≡ op = ap (λ n. Delete n tests) (sym same) ∙ sym is in
+    subst (λ o. Follows t (o ∷ []) p x a.table) this (follows t)
+delete_asked (Err e) u t p tests op x is same follows = follows
+
+-- an insert and a delete, of the same table
+pub insert_follows : (rows : List Row) (p : ℕ) (x y new : ChunksValue) → x ≡ y → new.interval ≡ x.interval → AsOften new.versions (x.versions ++ map (newborn p) rows) → IsUpTo p y.versions
+    → (t : ℕ) → Follows t (Insert t rows ∷ []) p y new
+insert_follows rows p x y new same interval put e t =
+    follows_insert t rows p y new (interval ∙ ap (λ (z : ChunksValue). z.interval) same) (subst (λ (z : ChunksValue). AsOften new.versions (z.versions ++ map (newborn p) rows)) same put) e
+
+pub delete_follows : (tests : List Test) (p : ℕ) (x y new : ChunksValue) → x ≡ y → new.interval ≡ x.interval → new.versions ≡ map (after_kill p tests) x.versions → IsUpTo p y.versions
+    → (t : ℕ) → Follows t (Delete t tests ∷ []) p y new
+delete_follows tests p x y new same interval killed e t =
+    follows_delete t tests p y new (interval ∙ ap (λ (z : ChunksValue). z.interval) same) (killed ∙ ap (λ (z : ChunksValue). map (after_kill p tests) z.versions) same) e
+
+pub delete_fits : (tests : List Test) (x y : ChunksValue) → x ≡ y → rows_fit tests (rows_of y.versions) ≡ true → TestsFit tests x.versions
+delete_fits tests x y same fit = subst (λ (z : ChunksValue). TestsFit tests z.versions) (sym same) (sym (fit_of_rows tests y.versions) ∙ fit)
+
+pub delete_counts : (tests : List Test) (p : ℕ) (x y : ChunksValue) (d before after : Effect) → x ≡ y → d ≡ before → after.inserted ≡ d.inserted → after.removed ≡ d.removed + length (taken_at p tests x.versions)
+    → after.hull ≡ joined_hull d.hull (hull_of (taken_at p tests x.versions)) → (t : ℕ) → Counts t (Delete t tests ∷ []) (in_order (visible_rows p y.versions)) before after
+delete_counts tests p x y d before after same done inserted removed hull t =
+    subst (λ (z : ChunksValue). Counts t (Delete t tests ∷ []) (in_order (visible_rows p z.versions)) before after) same
+    (subst (λ (b : Effect). Counts t (Delete t tests ∷ []) (in_order (visible_rows p x.versions)) b after) done (counts_delete t tests p x.versions d after inserted removed hull))
