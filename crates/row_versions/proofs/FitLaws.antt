@@ -261,7 +261,7 @@ all_ops_fit r t (Delete u tests ∷ ops) xs fits ok =
     elim (u == t) as (λ c. (u == t) ≡ c → cond c (rows_fit tests xs && ops_fit t ops xs) (ops_fit t ops xs) ≡ true) [
       | true ↦ λ same.
           let there : of_table (λ def hyper. list_all (test_fits (length def.cols)) tests) (table_of r t) ≡ true =
-            subst (λ v. of_table (λ def hyper. list_all (test_fits (length def.cols)) tests) (table_of r v) ≡ true) (eqb-true u t same) parts.0 in
+          subst (λ v. of_table (λ def hyper. list_all (test_fits (length def.cols)) tests) (table_of r v) ≡ true) (eqb-true u t same) parts.0 in
           and_from _ _ (table_tests (table_of r t) tests xs there ok) rest
       | false ↦ λ _. rest
     ] refl

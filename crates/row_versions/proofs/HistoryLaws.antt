@@ -148,13 +148,13 @@ ends_rise w a b width l =
 greater_end : (w : Width) (a b : ℤ) → IsWidth w → bucket_of w (int_max a b) +ℤ w.step ≡ int_max (bucket_of w a +ℤ w.step) (bucket_of w b +ℤ w.step)
 greater_end w a b width = by_lt_z a b
     (λ l.
-      let rise : bucket_of w a ≤ℤ bucket_of w b = ends_rise w a b width (omega (arith, ints, l)) in
-      let max_is : int_max a b ≡ b = omega (arith, ints, clamps, l) in
-      ap (λ t. bucket_of w t +ℤ w.step) max_is ∙ omega (arith, ints, clamps, rise))
+    let rise : bucket_of w a ≤ℤ bucket_of w b = ends_rise w a b width (omega (arith, ints, l)) in
+    let max_is : int_max a b ≡ b = omega (arith, ints, clamps, l) in
+    ap (λ t. bucket_of w t +ℤ w.step) max_is ∙ omega (arith, ints, clamps, rise))
     (λ l.
-      let rise : bucket_of w b ≤ℤ bucket_of w a = ends_rise w b a width l in
-      let max_is : int_max a b ≡ a = omega (arith, ints, clamps, l) in
-      ap (λ t. bucket_of w t +ℤ w.step) max_is ∙ omega (arith, ints, clamps, rise))
+    let rise : bucket_of w b ≤ℤ bucket_of w a = ends_rise w b a width l in
+    let max_is : int_max a b ≡ a = omega (arith, ints, clamps, l) in
+    ap (λ t. bucket_of w t +ℤ w.step) max_is ∙ omega (arith, ints, clamps, rise))
 
 end_joined : (w : Width) (a : ℤ) (o : Option ℤ) → IsWidth w → option_map (λ time. bucket_of w time +ℤ w.step) (later_time (Some a) o) ≡ greater (Some (bucket_of w a +ℤ w.step)) (option_map (λ time. bucket_of w time +ℤ w.step) o)
 end_joined w a None width = refl

@@ -58,9 +58,9 @@ seen_newborn p q h (row ∷ rows) =
 
 unseen : (p q : ℕ) → q < p → nat_le p q ≡ false
 unseen p q h = elim (nat_le p q) as (λ b. nat_le p q ≡ b → b ≡ false) [
-    | true ↦ λ e. absurd (omega (arith, leb-true p q e))
-    | false ↦ λ e. refl
-  ] refl
+  | true ↦ λ e. absurd (omega (arith, leb-true p q e))
+  | false ↦ λ e. refl
+] refl
 
 unseen_newborn : (p q : ℕ) → q < p → (rows : List Row) → visible_rows q (map (newborn p) rows) ≡ []
 unseen_newborn p q h [] = refl
@@ -113,9 +113,9 @@ still_dead p q (Some d) h e = le-leb d q (omega (arith, h, leb-true d p e)) ∙ 
 not_yet_dead : (p q : ℕ) (died : Option ℕ) → q < p → is_dead_at p died ≡ false → is_dead_at q died ≡ false
 not_yet_dead p q None h e = refl
 not_yet_dead p q (Some d) h e = elim (nat_le d q) as (λ b. nat_le d q ≡ b → b ≡ false) [
-    | true ↦ λ f. sym (le-leb d p (omega (arith, h, leb-true d q f))) ∙ e
-    | false ↦ λ f. refl
-  ] refl
+  | true ↦ λ f. sym (le-leb d p (omega (arith, h, leb-true d q f))) ∙ e
+  | false ↦ λ f. refl
+] refl
 
 -- a later position sees what p sees, where no change is later than p
 later_seen : (p q : ℕ) (v : Version) → p ≤ q → is_up_to p v ≡ true → visible_at q v ≡ visible_at p v
@@ -143,9 +143,9 @@ kill_earlier_one : (p q : ℕ) (tests : List Test) (v : Version) → q < p → v
 kill_earlier_one p q tests v h =
     earlier_cases q (is_taken p tests v) v (record { row = v.row; born = v.born; died = Some p })
     (λ taken.
-      let seen = and_parts (visible_at p v) (passes_all v.row tests) taken in
-      let alive = and_parts (nat_le v.born p) (not (is_dead_at p v.died)) seen.0 in
-      ap (λ b. nat_le v.born q && not b) (unseen p q h ∙ sym (not_yet_dead p q v.died h (not_is (is_dead_at p v.died) alive.1))))
+    let seen = and_parts (visible_at p v) (passes_all v.row tests) taken in
+    let alive = and_parts (nat_le v.born p) (not (is_dead_at p v.died)) seen.0 in
+    ap (λ b. nat_le v.born q && not b) (unseen p q h ∙ sym (not_yet_dead p q v.died h (not_is (is_dead_at p v.died) alive.1))))
 
 row_cases : (t : Bool) (v : Version) (died : Option ℕ) → (cond t (record { row = v.row; born = v.born; died = died }) v).row ≡ v.row
 row_cases true v died = refl
@@ -243,10 +243,10 @@ follows_delete t tests p old new same killed e = record {
   interval = same;
   earlier = λ q h. ap (λ vs. in_order (visible_rows q vs)) killed ∙ ap in_order (kill_earlier p q tests old.versions h);
   later = λ q h.
-    ap (λ vs. in_order (visible_rows q vs)) killed
-    ∙ (ap in_order (kill_later p q tests old.versions h e)
-    ∙ (sym (filter-in_order (λ row. not (passes_all row tests)) (visible_rows q old.versions))
-    ∙ ap (λ b. cond b (filter (λ row. not (passes_all row tests)) (in_order (visible_rows q old.versions))) (in_order (visible_rows q old.versions))) (sym (same_table t))));
+      ap (λ vs. in_order (visible_rows q vs)) killed
+      ∙ (ap in_order (kill_later p q tests old.versions h e)
+      ∙ (sym (filter-in_order (λ row. not (passes_all row tests)) (visible_rows q old.versions))
+      ∙ ap (λ b. cond b (filter (λ row. not (passes_all row tests)) (in_order (visible_rows q old.versions))) (in_order (visible_rows q old.versions))) (sym (same_table t))));
   stored = ap (λ vs. in_order (rows_of vs)) killed ∙ (ap in_order (kill_stored p tests old.versions) ∙ ap in_order (sym (append-nil (rows_of old.versions))));
   up_to = subst (IsUpTo p) (sym killed) (kill_up_to p tests old.versions e);
 }
@@ -263,7 +263,7 @@ pub counts_delete : (t : ℕ) (tests : List Test) (p : ℕ) (vs : List Version) 
     → after.hull ≡ joined_hull before.hull (hull_of (taken_at p tests vs)) → Counts t (Delete t tests ∷ []) (in_order (visible_rows p vs)) before after
 counts_delete t tests p vs before after inserted removed hull =
     let sorted : all_taken t (Delete t tests ∷ []) (in_order (visible_rows p vs)) ≡ in_order (taken_at p tests vs) =
-      taken_here t tests (in_order (visible_rows p vs)) ∙ (filter-in_order (λ row. passes_all row tests) (visible_rows p vs) ∙ ap in_order (sym (taken_is p tests vs))) in
+    taken_here t tests (in_order (visible_rows p vs)) ∙ (filter-in_order (λ row. passes_all row tests) (visible_rows p vs) ∙ ap in_order (sym (taken_is p tests vs))) in
     record {
       inserted = inserted ∙ omega arith;
       removed = removed ∙ ap (λ n. before.removed + n) (sym (ap length sorted ∙ (length-with_rows (taken_at p tests vs) [] ∙ omega arith)));
@@ -347,23 +347,23 @@ hulls_more : (h : Option HullValue) (cs ts bs us : List Row) → joined_hull (jo
 hulls_more h cs ts bs us =
     sym (joined_hull-assoc h (hull_of (cs ++ ts)) (hull_of (bs ++ us)))
     ∙ ap (joined_hull h)
-      (ap (λ g. joined_hull g (hull_of (bs ++ us))) (hull_of-append cs ts)
-      ∙ (sym (joined_hull-assoc (hull_of cs) (hull_of ts) (hull_of (bs ++ us)))
-      ∙ (ap (λ g. joined_hull (hull_of cs) (joined_hull (hull_of ts) g)) (hull_of-append bs us)
-      ∙ (ap (joined_hull (hull_of cs)) (hulls_swap (hull_of ts) (hull_of bs) (hull_of us) ∙ ap (joined_hull (hull_of bs)) (sym (hull_of-append ts us)))
-      ∙ (joined_hull-assoc (hull_of cs) (hull_of bs) (hull_of (ts ++ us))
-      ∙ (ap (λ g. joined_hull g (hull_of (ts ++ us))) (sym (hull_of-append cs bs)) ∙ sym (hull_of-append (cs ++ bs) (ts ++ us))))))))
+    (ap (λ g. joined_hull g (hull_of (bs ++ us))) (hull_of-append cs ts)
+    ∙ (sym (joined_hull-assoc (hull_of cs) (hull_of ts) (hull_of (bs ++ us)))
+    ∙ (ap (λ g. joined_hull (hull_of cs) (joined_hull (hull_of ts) g)) (hull_of-append bs us)
+    ∙ (ap (joined_hull (hull_of cs)) (hulls_swap (hull_of ts) (hull_of bs) (hull_of us) ∙ ap (joined_hull (hull_of bs)) (sym (hull_of-append ts us)))
+    ∙ (joined_hull-assoc (hull_of cs) (hull_of bs) (hull_of (ts ++ us))
+    ∙ (ap (λ g. joined_hull g (hull_of (ts ++ us))) (sym (hull_of-append cs bs)) ∙ sym (hull_of-append (cs ++ bs) (ts ++ us))))))))
 
 pub counts_more : (t : ℕ) (op : Op) (ops : List Op) (rows : List Row) (x y z : Effect) → Counts t (op ∷ []) rows x y → Counts t ops (after_op t op rows) y z → Counts t (op ∷ ops) rows x z
 counts_more t op ops rows x y z one rest = record {
   inserted = omega (arith, one.inserted, rest.inserted, ap length (appended-cons t op ops), length-append (all_appended t (op ∷ [])) (all_appended t ops));
   removed = omega (arith, one.removed, rest.removed, ap length (taken-cons_ops t op ops rows), length-append (all_taken t (op ∷ []) rows) (all_taken t ops (after_op t op rows)));
   hull =
-    rest.hull
-    ∙ (ap (λ h. joined_hull h (hull_of (all_appended t ops ++ all_taken t ops (after_op t op rows)))) one.hull
-    ∙ (hulls_more x.hull (all_appended t (op ∷ [])) (all_taken t (op ∷ []) rows) (all_appended t ops) (all_taken t ops (after_op t op rows))
-    ∙ (ap (λ rs. joined_hull x.hull (hull_of (rs ++ (all_taken t (op ∷ []) rows ++ all_taken t ops (after_op t op rows))))) (sym (appended-cons t op ops))
-    ∙ ap (λ rs. joined_hull x.hull (hull_of (all_appended t (op ∷ ops) ++ rs))) (sym (taken-cons_ops t op ops rows)))));
+      rest.hull
+      ∙ (ap (λ h. joined_hull h (hull_of (all_appended t ops ++ all_taken t ops (after_op t op rows)))) one.hull
+      ∙ (hulls_more x.hull (all_appended t (op ∷ [])) (all_taken t (op ∷ []) rows) (all_appended t ops) (all_taken t ops (after_op t op rows))
+      ∙ (ap (λ rs. joined_hull x.hull (hull_of (rs ++ (all_taken t (op ∷ []) rows ++ all_taken t ops (after_op t op rows))))) (sym (appended-cons t op ops))
+      ∙ ap (λ rs. joined_hull x.hull (hull_of (all_appended t (op ∷ ops) ++ rs))) (sym (taken-cons_ops t op ops rows)))));
 }
 
 -- ---- what operations ask for
@@ -392,13 +392,13 @@ delete_rest false f r e = e
 -- what fits operations fits the first of them, and the rest after it
 pub first_fits : (t : ℕ) (op : Op) (ops : List Op) (rows : List Row) → ops_fit t (op ∷ ops) rows ≡ true → ops_fit t (op ∷ []) rows ≡ true
 first_fits t (Insert u new) ops rows = elim (u == t) as (λ b. cond b (list_all (λ row. is_time row.at) new && ops_fit t ops (rows ++ new)) (ops_fit t ops rows) ≡ true → cond b (list_all (λ row. is_time row.at) new && true) true ≡ true) [
-    | true ↦ λ e. and_from _ _ (and_parts _ _ e).0 refl
-    | false ↦ λ e. refl
-  ]
+  | true ↦ λ e. and_from _ _ (and_parts _ _ e).0 refl
+  | false ↦ λ e. refl
+]
 first_fits t (Delete u tests) ops rows = elim (u == t) as (λ b. cond b (rows_fit tests rows && ops_fit t ops rows) (ops_fit t ops rows) ≡ true → cond b (rows_fit tests rows && true) true ≡ true) [
-    | true ↦ λ e. and_from _ _ (and_parts _ _ e).0 refl
-    | false ↦ λ e. refl
-  ]
+  | true ↦ λ e. and_from _ _ (and_parts _ _ e).0 refl
+  | false ↦ λ e. refl
+]
 
 pub rest_fits : (t : ℕ) (op : Op) (ops : List Op) (rows : List Row) → ops_fit t (op ∷ ops) rows ≡ true → ops_fit t ops (rows ++ all_appended t (op ∷ [])) ≡ true
 rest_fits t (Insert u new) ops rows e =
@@ -444,7 +444,7 @@ pub leads_on : (t p : ℕ) (ops : List Op) (x : ChunksValue) (op : Op) (left : L
 leads_on t p ops x op left y z before after leads one counts = record {
   table = λ w rest. leads.table w (follows_more t op left p y z w one rest);
   counted = λ fresh last zi zr zh rest. leads.counted fresh last zi zr zh
-    (counts_more t op left (in_order (visible_rows p y.versions)) before after last counts (subst (λ rows. Counts t left rows after last) (one.later p (omega arith)) rest));
+      (counts_more t op left (in_order (visible_rows p y.versions)) before after last counts (subst (λ rows. Counts t left rows after last) (one.later p (omega arith)) rest));
   up_to = one.up_to;
   fit = ops_fit_alike t left (rows_of z.versions) (rows_of y.versions ++ all_appended t (op ∷ [])) one.stored ∙ rest_fits t op left (rows_of y.versions) leads.fit;
 }
