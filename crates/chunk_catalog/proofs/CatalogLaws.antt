@@ -1,5 +1,5 @@
 -- What the chunks in reach give is what all chunks give.
-use Rattle.std.proofs.Common.{◌≡◌, ℕ, ◌&&◌, Bool, true, false, cond, Option, Some, List, [], ◌∷◌, ◌++◌, length, map, ℤ, pos, ◌-◌, ◌^◌, negsuc, ◌+ℤ◌, ◌≤ℤ◌, ◌<ℤ◌, refl, sym, ◌∙◌, ap, arith}
+use Rattle.std.proofs.Common.{◌≡◌, ℕ, ◌&&◌, Bool, true, false, cond, Option, Some, List, [], ◌∷◌, length, map, ℤ, ◌-◌, ◌^◌, negsuc, ◌+ℤ◌, ◌≤ℤ◌, ◌<ℤ◌, refl, sym, ◌∙◌, ap, arith}
 use Rattle.std.specs.List.{filter, list_all}
 use Rattle.std.specs.Prelude.{int_le, int_lt}
 use Rattle.std.proofs.lemmas.Int.{ints}
@@ -13,7 +13,7 @@ use Rattle.chunk_catalog.specs.declared.reach.Reach.{Reach}
 use Rattle.chunk_catalog.specs.Reach.{in_reach}
 use Rattle.chunk_catalog.specs.Chunks.{IsInterval, chunk_start, chunk_meets, is_near, held_near, is_dropped, dropped_at, after_drop}
 use Rattle.chunk_catalog.specs.Places.{Placed, place, versions_of, reached, after_kill_in, is_placed, ArePlaced}
-use Rattle.chunk_catalog.proofs.ReachLaws.{Lies, lies, start_low, false_unless, not_both}
+use Rattle.chunk_catalog.proofs.ReachLaws.{lies, start_low, false_unless, not_both}
 
 reached-cons : (r : Reach) (x : Placed) (ps : List Placed) → reached r (x ∷ ps) ≡ cond (in_reach r x.start) (x.version ∷ reached r ps) (reached r ps)
 reached-cons r x ps = elim (in_reach r x.start) as (λ b. versions_of (cond b (x ∷ filter (λ y. in_reach r y.start) ps) (filter (λ y. in_reach r y.start) ps)) ≡ cond b (x.version ∷ reached r ps) (reached r ps)) [

@@ -1,16 +1,16 @@
 -- Laws of new rows in the chunks that hold their times.
 use Rattle.std.proofs.Common.{◌≡◌, ℕ, ◌+◌, ◌-◌, ◌<◌, ◌&&◌, not, Bool, true, false, cond, List, [], ◌∷◌, ◌++◌, length, get_or, drop, map, ℤ, refl, sym, ◌∙◌, ap, arith}
-use Rattle.std.specs.List.{list_all, count_by, sum_by}
+use Rattle.std.specs.List.{list_all, count_by}
 use Rattle.std.specs.Ordering.{int_eq}
 use Rattle.std.proofs.lemmas.Bool.Decides.{Decides-int_eq}
 use Rattle.std.proofs.lemmas.List.{map-append, drop_more, drop_all}
 use Rattle.std.proofs.lemmas.List.Sums.{sum_by-append, sum_by-cons}
 use Rattle.ts_schema.specs.declared.rows.Row.{Row}
 use Rattle.ts_bucket.specs.Bucket.{is_time}
-use Rattle.seg_rows.specs.Versions.{Version, AsOften, newborn}
+use Rattle.seg_rows.specs.Versions.{AsOften, newborn}
 use Rattle.seg_rows.proofs.VersionLaws.{and_first, and_second}
 use Rattle.chunk_catalog.specs.Chunks.{HaveTimes, chunk_start}
-use Rattle.chunk_catalog.specs.Places.{Placed, place, in_chunk, versions_of, is_placed, ArePlaced}
+use Rattle.chunk_catalog.specs.Places.{Placed, in_chunk, versions_of, is_placed, ArePlaced}
 use Rattle.chunk_catalog.specs.Parts.{AreIn, placed_row, placed_rows}
 
 -- a test passes all where it counts none that fails

@@ -1,16 +1,15 @@
 -- Laws of ranges of starts.
-use Rattle.std.proofs.Common.{◌≡◌, ◌&&◌, Bool, true, false, zero, suc, ◌-◌, ◌^◌, ℤ, pos, negsuc, ◌+ℤ◌, ◌-ℤ◌, ◌≤ℤ◌, ◌<ℤ◌, refl, sym, ◌∙◌, ap, arith}
+use Rattle.std.proofs.Common.{◌≡◌, ◌&&◌, Bool, true, false, ◌-◌, ◌^◌, ℤ, pos, negsuc, ◌+ℤ◌, ◌-ℤ◌, ◌≤ℤ◌, ◌<ℤ◌, refl, ◌∙◌, arith}
 use Rattle.std.specs.Prelude.{int_le, int_lt, FitsSigned}
 use Rattle.std.specs.Int.{w64, int_rem_euclid, int_max, int_min}
 use Rattle.std.proofs.lemmas.Int.{ints}
 use Rattle.std.proofs.lemmas.Bool.Decides.{Decides-int_eq}
 use Rattle.ts_bucket.specs.Bucket.{is_time, min_time, max_time}
-use Rattle.ts_bucket.specs.Spans.{SpanValue}
 use Rattle.ts_bucket.proofs.Remainders.{remainder_bounds}
 use Rattle.seg_rows.proofs.VersionLaws.{and_first, and_second}
 use Rattle.chunk_catalog.specs.declared.reach.Reach.{Reach}
 use Rattle.chunk_catalog.specs.Reach.{in_reach}
-use Rattle.chunk_catalog.specs.Chunks.{IsInterval, chunk_meets, chunk_start}
+use Rattle.chunk_catalog.specs.Chunks.{IsInterval, chunk_start}
 use Rattle.chunk_catalog.specs.Places.{Placed, is_placed}
 
 -- the starts from the first on that meets the span, and before its end

@@ -1,5 +1,5 @@
 -- Versions with the starts of the chunks that keep them.
-use Rattle.std.specs.Prelude.{◌≡◌, ℕ, Bool, true, cond, not, ◌&&◌, List, [], map, filter, length, ℤ, int_le, Option, Some, None}
+use Rattle.std.specs.Prelude.{◌≡◌, ℕ, Bool, true, cond, not, ◌&&◌, List, [], map, filter, ℤ, Option, Some, None}
 use Rattle.std.specs.List.{list_all}
 use Rattle.std.specs.Ordering.{int_eq}
 use Rattle.ts_bucket.specs.Bucket.{is_time}

@@ -1,5 +1,5 @@
 -- A tree of chunks: its versions in the order of the chunks, and how many levels it has at most.
-use Rattle.std.specs.Prelude.{◌≡◌, ℕ, suc, zero, ◌+◌, List, [], ◌++◌, Some}
+use Rattle.std.specs.Prelude.{ℕ, suc, zero, ◌+◌, List, [], ◌++◌, Some}
 use Rattle.chunk_catalog.specs.Places.{Placed, StartsIn, in_chunk}
 use Rattle.chunk_catalog.specs.declared.trees.Node.{Node}
 use Rattle.chunk_catalog.specs.declared.trees.Node.TheVariants.{Empty, Fork}

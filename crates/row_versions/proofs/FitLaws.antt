@@ -1,5 +1,5 @@
 -- Rows of allowed histories: they are rows of hypertables and have the columns that tests may ask for.
-use Rattle.std.proofs.Common.{◌≡◌, ℕ, zero, suc, ◌+◌, ◌-◌, ◌<◌, ◌≤◌, Bool, true, false, ◌&&◌, not, cond, nat_lt, Option, Some, None, List, [], ◌∷◌, ◌++◌, length, take, drop, ℤ, refl, sym, ◌∙◌, ap, subst, arith}
+use Rattle.std.proofs.Common.{◌≡◌, ℕ, suc, ◌<◌, ◌≤◌, Bool, true, false, ◌&&◌, not, cond, nat_lt, Option, Some, None, List, [], ◌∷◌, ◌++◌, length, take, drop, ℤ, refl, sym, ◌∙◌, ap, subst, arith}
 use Rattle.std.specs.Prelude.{nat_le, ◌==◌, is_some, option_and_then, remove}
 use Rattle.std.specs.List.{filter, list_all}
 use Rattle.std.specs.Ordering.{is_gt}
@@ -22,7 +22,7 @@ use Rattle.ts_model.specs.declared.tables.Hyper.{Hyper as HyperInfo}
 use Rattle.ts_model.specs.declared.tables.TableDef.{TableDef}
 use Rattle.ts_model.specs.declared.tables.TableInfo.{TableInfo}
 use Rattle.ts_model.specs.History.{History, start, ◌▸◌, position, prefix}
-use Rattle.ts_model.specs.Roster.{roster, roster_after, table_of, hyper_of}
+use Rattle.ts_model.specs.Roster.{roster, roster_after, table_of}
 use Rattle.ts_model.specs.Rows.{with_row, with_rows, in_order, after_op, after_ops, rows}
 use Rattle.ts_model.specs.Effect.{appended_by, all_appended}
 use Rattle.ts_model.specs.Reads.{inserted}
@@ -30,10 +30,8 @@ use Rattle.ts_model.specs.Allowed.{values_fit, row_fits, rows_fit as new_rows_fi
 use Rattle.ts_model.specs.Laws.{KeepsHyper}
 use Rattle.ts_model.proofs.RosterLaws.{relations_further}
 use Rattle.seg_rows.specs.Versions.{rows_of}
-use Rattle.chunk_catalog.specs.Chunks.{ChunksValue}
-use Rattle.row_versions.specs.Histories.{Holds}
 use Rattle.row_versions.specs.Laws.{TablesBegin, CommitsFit}
-use Rattle.row_versions.specs.Tables.{IsUpTo, rows_fit, ops_fit}
+use Rattle.row_versions.specs.Tables.{rows_fit, ops_fit}
 use Rattle.row_versions.proofs.TableLaws.{up_to_more, ops_fit_alike}
 
 -- ---- rows of a table

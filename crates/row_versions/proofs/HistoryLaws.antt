@@ -1,6 +1,5 @@
 -- Tables beside histories: how they begin, what events make of them, and what they tell.
-use Rattle.std.proofs.Common.{◌≡◌, ℕ, zero, suc, ◌+◌, ◌<◌, ◌≤◌, Bool, true, false, cond, nat_lt, Option, Some, None, List, [], ◌∷◌, length, ℤ, ◌+ℤ◌, ◌≤ℤ◌, refl, sym, ◌∙◌, ap, subst, arith}
-use Rattle.std.specs.Prelude.{nat_le, option_and_then}
+use Rattle.std.proofs.Common.{◌≡◌, ℕ, suc, ◌+◌, ◌<◌, ◌≤◌, Bool, true, false, cond, nat_lt, Option, Some, None, List, [], ◌∷◌, ℤ, ◌+ℤ◌, ◌≤ℤ◌, refl, sym, ◌∙◌, ap, subst, arith}
 use Rattle.std.specs.List.{filter, list_any, count_by}
 use Rattle.std.specs.Option.{option_map}
 use Rattle.std.specs.Int.{int_max}
@@ -10,8 +9,7 @@ use Rattle.std.proofs.lemmas.Bool.{true≢false, ltb-true, ltb-false}
 use Rattle.std.proofs.lemmas.List.Sums.{sum_by-cons}
 use Rattle.ts_num.specs.Aggregates.{greater}
 use Rattle.ts_bucket.specs.Bucket.{IsWidth, bucket_of}
-use Rattle.ts_bucket.specs.Spans.{SpanValue, in_span}
-use Rattle.ts_bucket.specs.declared.spans.Span.{Span}
+use Rattle.ts_bucket.specs.Spans.{in_span}
 use Rattle.ts_bucket.specs.declared.widths.Width.{Width}
 use Rattle.ts_bucket.proofs.BucketLaws.{bucket_of_meets, bucket_of-last, is_bucket-bucket_of}
 use Rattle.ts_schema.specs.declared.rows.Row.{Row}
@@ -19,20 +17,19 @@ use Rattle.ts_schema.specs.Rows.{row_cmp}
 use Rattle.ts_model.specs.declared.events.Event.{Event}
 use Rattle.ts_model.specs.declared.events.Event.TheVariants.{Table, Hyper, View, Mode, Commit, Cut, Built}
 use Rattle.ts_model.specs.declared.events.Op.{Op}
-use Rattle.ts_model.specs.History.{History, start, ◌▸◌, position, prefix}
+use Rattle.ts_model.specs.History.{History, ◌▸◌, position, prefix}
 use Rattle.ts_model.specs.Rows.{with_row, in_order, after_ops, rows}
 use Rattle.ts_model.specs.Effect.{all_appended}
-use Rattle.ts_model.specs.Reads.{inserted, rows_near, spans_meet, chunk_of}
+use Rattle.ts_model.specs.Reads.{inserted, spans_meet, chunk_of}
 use Rattle.ts_model.specs.Allowed.{last_end}
-use Rattle.ts_model.proofs.HistoryLaws.{prefix_end, prefix_further}
+use Rattle.ts_model.proofs.HistoryLaws.{prefix_end}
 use Rattle.ts_model.proofs.RowLaws.{filter-in_order}
 use Rattle.seg_rows.specs.Versions.{later_time, latest_of, latest_at, rows_of}
 use Rattle.seg_rows.proofs.HullLaws.{later_time-assoc, later_time-comm}
 use Rattle.chunk_catalog.specs.Chunks.{ChunksValue}
-use Rattle.row_versions.specs.declared.effects.Effect.{Effect}
 use Rattle.row_versions.specs.Histories.{Holds}
-use Rattle.row_versions.specs.Laws.{is_commit, CommitsAreHeld, EffectsAreOfCommits, OthersAreHeld, Tells, HeldTablesTell}
-use Rattle.row_versions.specs.Tables.{visible_rows, IsUpTo, IsEffect, Follows}
+use Rattle.row_versions.specs.Laws.{is_commit, CommitsAreHeld, EffectsAreOfCommits, OthersAreHeld, HeldTablesTell}
+use Rattle.row_versions.specs.Tables.{visible_rows, IsEffect, Follows}
 use Rattle.row_versions.proofs.TableLaws.{both_alike, up_to_more}
 
 -- ---- commits

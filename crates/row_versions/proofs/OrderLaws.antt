@@ -1,15 +1,15 @@
 -- Rows that come as often stand in the same order, and have the same hull.
-use Rattle.std.proofs.Common.{◌≡◌, ℕ, zero, suc, ◌+◌, ◌≤◌, ◌&&◌, Bool, true, false, cond, not, Option, Some, None, List, [], ◌∷◌, ◌++◌, length, map, refl, sym, ◌∙◌, ap, arith}
+use Rattle.std.proofs.Common.{◌≡◌, ℕ, ◌+◌, ◌≤◌, ◌&&◌, Bool, true, false, cond, Option, List, [], ◌∷◌, ◌++◌, refl, sym, ◌∙◌, ap, arith}
 use Rattle.std.specs.List.{filter, list_all, count_by}
 use Rattle.std.specs.Ordering.{is_gt, is_eq, ordering_reverse}
 use Rattle.std.specs.declared.cmp.Ordering.{Ordering}
 use Rattle.std.specs.declared.cmp.Ordering.TheVariants.{Less, Equal, Greater}
-use Rattle.std.proofs.lemmas.List.Sums.{sum_by-append, sum_by-cons}
+use Rattle.std.proofs.lemmas.List.Sums.{sum_by-cons}
 use Rattle.ts_bucket.specs.Spans.{HullValue}
 use Rattle.ts_schema.specs.declared.rows.Row.{Row}
 use Rattle.ts_schema.specs.Rows.{row_cmp}
 use Rattle.ts_schema.proofs.OrderLaws.{row_cmp_total}
-use Rattle.ts_model.specs.Rows.{with_row, with_rows, in_order}
+use Rattle.ts_model.specs.Rows.{with_row, in_order}
 use Rattle.ts_model.proofs.OrderLaws.{row_cmp_same}
 use Rattle.ts_model.proofs.RowLaws.{in_order-append_swap}
 use Rattle.seg_rows.specs.Hulls.{joined_hull, hull_at, hull_of}

@@ -1,5 +1,5 @@
 -- What inserts and deletes make of the versions of a table.
-use Rattle.std.proofs.Common.{◌≡◌, ℕ, zero, suc, ◌+◌, ◌<◌, ◌≤◌, ◌&&◌, Bool, true, false, cond, not, Option, Some, None, List, [], ◌∷◌, ◌++◌, length, map, get_or, take, take_all, drop, ◌-◌, ℤ, pos, ◌+ℤ◌, ◌≤ℤ◌, refl, sym, ◌∙◌, ap, subst, eq-eqb, arith}
+use Rattle.std.proofs.Common.{◌≡◌, ℕ, ◌+◌, ◌<◌, ◌≤◌, ◌&&◌, Bool, true, false, cond, not, Option, Some, None, List, [], ◌∷◌, ◌++◌, length, map, get_or, take, take_all, drop, ◌-◌, ℤ, ◌+ℤ◌, refl, sym, ◌∙◌, ap, subst, eq-eqb, arith}
 use Rattle.std.specs.List.{filter, list_all, list_any, count_by}
 use Rattle.std.specs.Prelude.{nat_le, int_lt, ◌||◌, ◌==◌, Result, Ok, Err, IfOk, OnOk, OnErr, MatchResult}
 use Rattle.std.proofs.lemmas.Int.{ints}
@@ -15,11 +15,11 @@ use Rattle.ts_schema.specs.Conditions.{passes_all}
 use Rattle.ts_schema.specs.Counts.{raised_by}
 use Rattle.ts_model.specs.declared.events.Op.{Op}
 use Rattle.ts_model.specs.declared.events.Op.TheVariants.{Insert, Delete}
-use Rattle.ts_model.specs.Rows.{with_row, with_rows, in_order, after_op, after_ops}
+use Rattle.ts_model.specs.Rows.{with_rows, in_order, after_op, after_ops}
 use Rattle.ts_model.specs.Effect.{appended_by, taken_by, all_appended, all_taken, hull_with}
 use Rattle.ts_model.specs.Effect as model
 use Rattle.ts_model.specs.Reads.{rows_near, spans_meet, chunk_of}
-use Rattle.ts_model.proofs.RowLaws.{with_rows-append, with_rows-in_order, in_order-append, in_order-append_swap, filter-in_order, length-with_rows}
+use Rattle.ts_model.proofs.RowLaws.{in_order-append, in_order-append_swap, filter-in_order, length-with_rows}
 use Rattle.seg_rows.specs.Hulls.{joined_hull, hull_at, hull_of}
 use Rattle.seg_rows.specs.Versions.{Version, AsOften, is_dead_at, visible_at, shown_at, rows_of, rows_at, newborn, is_taken, taken_at, after_kill, has_columns, TestsFit}
 use Rattle.seg_rows.proofs.HullLaws.{hull_of-append, joined_hull-assoc, joined_hull-none}

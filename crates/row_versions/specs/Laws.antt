@@ -1,5 +1,5 @@
 -- Laws of tables beside histories, each in one sentence.
-use Rattle.std.specs.Prelude.{◌≡◌, ℕ, suc, Bool, true, false, List, [], filter, ℤ, ◌+ℤ◌, Option, Some, None}
+use Rattle.std.specs.Prelude.{◌≡◌, ℕ, suc, Bool, true, false, List, [], filter, ℤ, ◌+ℤ◌, None}
 use Rattle.std.specs.Option.{option_map}
 use Rattle.ts_bucket.specs.Bucket.{IsWidth, bucket_of}
 use Rattle.ts_bucket.specs.Spans.{SpanValue, in_span}

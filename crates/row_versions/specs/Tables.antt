@@ -1,5 +1,5 @@
 -- Tables under operations: what a position sees, and what the operations of a commit make of a table.
-use Rattle.std.specs.Prelude.{◌≡◌, ℕ, ◌+◌, ◌<◌, ◌≤◌, Bool, true, cond, ◌&&◌, ◌==◌, nat_le, List, [], ◌∷◌, ◌++◌, length, filter, ℤ, Option, None, Some}
+use Rattle.std.specs.Prelude.{◌≡◌, ℕ, ◌+◌, ◌<◌, ◌≤◌, Bool, true, cond, ◌&&◌, ◌==◌, nat_le, List, [], ◌∷◌, ◌++◌, length, filter, Option, None, Some}
 use Rattle.std.specs.List.{list_all}
 use Rattle.ts_bucket.specs.Bucket.{is_time}
 use Rattle.ts_schema.specs.declared.rows.Row.{Row}

@@ -1,4 +1,4 @@
-use Rattle.std.proofs.Common.{◌≡◌, ◌+◌, ◌++◌, ◌∙◌, [], ℤ, Bool, List, length, map, refl, sym, ap, subst, arith}
+use Rattle.std.proofs.Common.{◌≡◌, ◌+◌, ◌++◌, ◌∙◌, [], ℤ, length, map, refl, sym, ap, subst, arith}
 use Rattle.std.specs.List.{count_by, list_all}
 use Rattle.std.specs.Prelude.{FitsSigned}
 use Rattle.std.specs.Int.{w64}
@@ -7,11 +7,10 @@ use mir.Val.{to_z, of_z}
 use Rattle.std.proofs.lemmas.List.{length-append, length-map, nil_from_length}
 use Rattle.std.proofs.lemmas.List.Folds.{list_all-append}
 use Rattle.ts_bucket.specs.Bucket.{is_time}
-use Rattle.ts_schema.specs.declared.rows.Row.{Row}
 use Rattle.seg_rows.specs.Versions.{newborn}
 use Rattle.seg_rows.proofs.VersionLaws.{and_first}
 use Rattle.chunk_catalog.specs.Chunks.{HaveTimes}
-use Rattle.chunk_catalog.specs.Places.{Placed, place, in_chunk}
+use Rattle.chunk_catalog.specs.Places.{place, in_chunk}
 use Rattle.chunk_catalog.specs.Parts.{placed_rows}
 use Rattle.chunk_catalog.proofs.PartLaws.{times_kept, length_kept, placed_kept, part_step, length_more}
 use Rattle.chunk_catalog.proofs.parts.put_rows.Goals as goal

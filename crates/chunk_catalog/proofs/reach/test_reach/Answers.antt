@@ -1,9 +1,8 @@
-use Rattle.std.proofs.Common.{◌≡◌, true, ℤ, pos, ◌-ℤ◌, ◌≤ℤ◌, sym, ◌∙◌, ap, rules, arith}
+use Rattle.std.proofs.Common.{◌≡◌, pos, ◌-ℤ◌, ◌∙◌, ap, rules}
 use Rattle.std.specs.Prelude.{FitsSigned, int_le}
 use Rattle.std.specs.Int.{w64}
-use Rattle.std.proofs.lemmas.Int.{ints, to_z-of_z}
+use Rattle.std.proofs.lemmas.Int.{to_z-of_z}
 use Rattle.ts_schema.specs.Conditions.{passes_all}
-use Rattle.chunk_catalog.specs.Reach.{in_reach}
 use Rattle.chunk_catalog.proofs.ReachLaws.{lies, start_reached, false_unless, not_both, fits_time, fits_before, start_low}
 use Rattle.chunk_catalog.proofs.reach.test_reach.Goals as goal
 

@@ -1,4 +1,4 @@
-use Rattle.std.proofs.Common.{◌≡◌, Some, ◌∙◌, ap, subst}
+use Rattle.std.proofs.Common.{◌∙◌, ap, subst}
 use Rattle.seg_rows.specs.Hulls.{joined_hull, hull_at}
 use Rattle.chunk_catalog.specs.Places.{StartsIn}
 use Rattle.chunk_catalog.proofs.PlaceLaws.{starts_of_fork}

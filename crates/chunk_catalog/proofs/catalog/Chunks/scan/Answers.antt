@@ -1,17 +1,12 @@
-use Rattle.std.proofs.Common.{◌≡◌, ◌≤◌, ◌≤ℤ◌, ℤ, true, false, negsuc, ◌-◌, ◌^◌, ◌+ℤ◌, ◌∙◌, [], ◌++◌, length, map, List, sym, ap, subst, rules, arith}
-use Rattle.std.specs.Prelude.{FitsSigned, int_le}
+use Rattle.std.proofs.Common.{◌≡◌, ◌≤◌, ◌≤ℤ◌, ℤ, negsuc, ◌-◌, ◌^◌, ◌∙◌, ◌++◌, length, ap, subst, rules}
+use Rattle.std.specs.Prelude.{FitsSigned}
 use Rattle.std.specs.Int.{w64}
 use Rattle.std.proofs.lemmas.Int.{to_z-of_z}
-use Rattle.std.proofs.lemmas.List.{length-map}
-use mir.Val.{to_z, of_z}
-use Rattle.ts_schema.specs.declared.conditions.Test.{Test}
 use Rattle.std.proofs.lemmas.Result.{err_from_is_err_and}
 use Rattle.ts_schema.specs.Counts.{raised_by}
-use Rattle.ts_schema.specs.Conditions.{passes_all}
-use Rattle.seg_rows.specs.Hulls.{hull_of}
-use Rattle.seg_rows.specs.Versions.{after_kill, taken_at, rows_at}
-use Rattle.chunk_catalog.specs.Chunks.{IsInterval, chunk_meets, held_near, after_drop, dropped_at}
-use Rattle.chunk_catalog.specs.Places.{Placed, versions_of, is_placed, after_kill_in, reached}
+use Rattle.seg_rows.specs.Versions.{rows_at}
+use Rattle.chunk_catalog.specs.Chunks.{IsInterval, chunk_meets, held_near}
+use Rattle.chunk_catalog.specs.Places.{versions_of, reached}
 use Rattle.chunk_catalog.specs.Reach.{in_reach}
 use Rattle.chunk_catalog.proofs.CatalogLaws.{held_reached, shown_reached}
 use Rattle.chunk_catalog.proofs.catalog.Chunks.scan.Goals as goal

@@ -1,4 +1,4 @@
-use Rattle.std.proofs.Common.{◌≡◌, ◌∙◌, ap, sym, map, length}
+use Rattle.std.proofs.Common.{◌∙◌, ap, map, length}
 use Rattle.seg_rows.specs.Versions.{after_kill, taken_at}
 use Rattle.seg_rows.proofs.VersionLaws.{kill_nothing}
 use Rattle.chunk_catalog.proofs.piles.Pile.+kill.Goals as goal

@@ -1,4 +1,4 @@
-use Rattle.std.proofs.Common.{◌≡◌, ◌∙◌, ap, map, length}
+use Rattle.std.proofs.Common.{◌∙◌, ap, map, length}
 use Rattle.seg_rows.specs.Versions.{taken_at}
 use Rattle.chunk_catalog.specs.Places.{after_kill_in, reached}
 use Rattle.chunk_catalog.proofs.PlaceLaws.{kill_nothing_in}

@@ -1,8 +1,7 @@
-use Rattle.std.proofs.Common.{◌≡◌, Some, ℤ, ◌+ℤ◌, ◌<ℤ◌, ◌∙◌, ap, sym, subst, rules}
+use Rattle.std.proofs.Common.{◌≡◌, Some, ◌∙◌, ap, sym, subst, rules}
 use Rattle.std.specs.Prelude.{FitsSigned}
 use Rattle.std.specs.Int.{w64}
 use Rattle.std.proofs.lemmas.Int.{to_z-of_z}
-use Rattle.seg_rows.specs.Versions.{later_time}
 use Rattle.chunk_catalog.specs.Places.{StartsIn}
 use Rattle.chunk_catalog.specs.Trees.{tree_view, HasStarts}
 use Rattle.chunk_catalog.proofs.PlaceLaws.{past_all}

@@ -1,4 +1,4 @@
-use Rattle.std.proofs.Common.{◌≡◌, Some, ◌∙◌, ap, sym, subst}
+use Rattle.std.proofs.Common.{Some, ◌∙◌, ap, sym, subst}
 use Rattle.chunk_catalog.specs.Places.{StartsIn}
 use Rattle.chunk_catalog.specs.Trees.{tree_view, HasStarts}
 use Rattle.chunk_catalog.proofs.PlaceLaws.{apart_out, not_true}

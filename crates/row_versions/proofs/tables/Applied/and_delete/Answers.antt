@@ -1,6 +1,5 @@
-use Rattle.std.proofs.Common.{◌≡◌, ◌+◌, ◌∙◌, sym, ap}
+use Rattle.std.proofs.Common.{◌+◌, ◌∙◌, ap}
 use Rattle.seg_rows.specs.Hulls.{joined_hull}
-use Rattle.chunk_catalog.specs.Chunks.{ChunksValue}
 use Rattle.row_versions.proofs.TableLaws.{delete_follows, delete_counts, delete_fits}
 use Rattle.row_versions.proofs.tables.Applied.and_delete.Goals as goal
 
