@@ -20,6 +20,15 @@ pub joined_hull-none : (a : Option HullValue) → joined_hull a None ≡ a
 joined_hull-none None = refl
 joined_hull-none (Some g) = refl
 
+int_min-comm : (x y : ℤ) → int_min x y ≡ int_min y x
+int_min-comm x y = omega (arith, ints, clamps)
+
+pub joined_hull-comm : (a b : Option HullValue) → joined_hull a b ≡ joined_hull b a
+joined_hull-comm None b = sym (joined_hull-none b)
+joined_hull-comm (Some g) None = refl
+joined_hull-comm (Some g) (Some h) =
+    ap Some (let least = int_min-comm g.least h.least in let most = int_max-comm g.most h.most in cc)
+
 -- hulls join in any grouping
 pub joined_hull-assoc : (a b c : Option HullValue) → joined_hull a (joined_hull b c) ≡ joined_hull (joined_hull a b) c
 joined_hull-assoc None b c = refl
@@ -54,3 +63,7 @@ pub latest_of-append : (xs ys : List Row) → latest_of (xs ++ ys) ≡ later_tim
 latest_of-append [] ys = refl
 latest_of-append (x ∷ xs) ys =
     ap (later_time (Some x.at)) (latest_of-append xs ys) ∙ later_time-assoc (Some x.at) (latest_of xs) (latest_of ys)
+
+-- one row more
+pub hull_push : (rows : List Row) (row : Row) → hull_of (rows ++ row ∷ []) ≡ joined_hull (hull_of rows) (hull_at row.at)
+hull_push rows row = hull_of-append rows (row ∷ [])

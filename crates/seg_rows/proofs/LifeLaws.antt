@@ -1,11 +1,12 @@
 -- Laws of rows with their lives.
-use Rattle.std.proofs.Common.{◌≡◌, ℕ, suc, zero, ◌<◌, ◌+◌, List, [], ◌∷◌, ◌++◌, length, get_or, take, map, replicate, refl, sym, ◌∙◌, ap, arith}
-use Rattle.std.proofs.lemmas.List.{take_more, length-take-le}
+use Rattle.std.proofs.Common.{◌≡◌, ℕ, suc, zero, ◌<◌, ◌+◌, List, [], ◌∷◌, ◌++◌, length, get_or, take, map, replicate, refl, sym, ◌∙◌, ap, subst, arith}
+use Rattle.std.proofs.lemmas.List.{take_more, length-take-le, map-append, append_assoc}
 use Rattle.ts_schema.specs.declared.rows.Row.{Row}
 use Rattle.seg_rows.specs.declared.lives.Life.{Life}
 use Rattle.seg_rows.specs.Versions.{Version, newborn}
 use Rattle.seg_rows.specs.declared.lives.Lives.{Lives}
-use Rattle.seg_rows.specs.Lives.{Covers, lives_of, unharmed, with_life, with_lives, versions_of}
+use Rattle.seg_rows.specs.declared.lives.Lives.TheVariants.{Together, Born}
+use Rattle.seg_rows.specs.Lives.{AreUnharmed, Covers, lives_of, unharmed, with_life, with_lives, versions_of}
 
 pub length-with_lives : (rows : List Row) (lives : List Life) → length lives ≡ length rows → length (with_lives rows lives) ≡ length rows
 length-with_lives [] lives e = refl
@@ -49,3 +50,35 @@ pub version_read : (rows : List Row) (lives : Lives) (i : ℕ) (r : Row) (l : Li
     → Covers (length rows) lives → i < length rows → r ≡ get_or rows i r → l ≡ get_or (lives_of (length rows) lives) i l → get_or (versions_of rows lives) i d ≡ with_life r l
 version_read rows lives i r l d covers h e f =
     get_or-with_lives rows (lives_of (length rows) lives) i r l d covers h ∙ (ap (λ x. with_life x (get_or (lives_of (length rows) lives) i l)) (sym e) ∙ ap (with_life r) (sym f))
+
+-- versions that were born together, or that are kept by their births alone, are unharmed
+together_unharmed : (n p : ℕ) → AreUnharmed (replicate n (unharmed p))
+together_unharmed zero p = refl
+together_unharmed (suc n) p = ap (λ ls. unharmed p ∷ ls) (together_unharmed n p)
+
+born_unharmed : (births : List ℕ) → AreUnharmed (map unharmed births)
+born_unharmed [] = refl
+born_unharmed (p ∷ births) = ap (λ ls. unharmed p ∷ ls) (born_unharmed births)
+
+pub plain_together : (lives : Lives) (p : ℕ) → lives ≡ Together p → (n : ℕ) → AreUnharmed (lives_of n lives)
+plain_together lives p is n = subst (λ (ls : Lives). AreUnharmed (lives_of n ls)) (sym is) (together_unharmed n p)
+
+pub plain_born : (lives : Lives) (births : List ℕ) → lives ≡ Born births → (n : ℕ) → AreUnharmed (lives_of n lives)
+plain_born lives births is n = subst (λ (ls : Lives). AreUnharmed (lives_of n ls)) (sym is) (born_unharmed births)
+
+-- one of unharmed lives
+unharmed_at : (lives : List Life) (i : ℕ) (l : Life) → AreUnharmed lives → i < length lives → unharmed (get_or lives i l).born ≡ get_or lives i l
+unharmed_at [] i l plain h = absurd (omega (arith, h))
+unharmed_at (x ∷ lives) zero l plain h = let head : unharmed x.born ≡ x = cc in head
+unharmed_at (x ∷ lives) (suc i) l plain h = let tail : AreUnharmed lives = cc in unharmed_at lives i l tail (omega arith)
+
+-- one birth more
+pub births_more : (done : List ℕ) (lives before : List Life) (i : ℕ) (l : Life) → AreUnharmed lives → i < length lives → l ≡ get_or lives i l → map unharmed done ≡ before ++ take i lives
+    → map unharmed (done ++ l.born ∷ []) ≡ before ++ take (i + 1) lives
+births_more done lives before i l plain h is e =
+    let this : unharmed l.born ≡ l = ap (λ (x : Life). unharmed x.born) is ∙ (unharmed_at lives i l plain h ∙ sym is) in
+    map-append unharmed done (l.born ∷ [])
+    ∙ (ap (λ ls. ls ++ unharmed l.born ∷ []) e
+    ∙ (ap (λ x. (before ++ take i lives) ++ x ∷ []) this
+    ∙ (append_assoc before (take i lives) (l ∷ [])
+    ∙ ap (λ ls. before ++ ls) (ap (λ x. take i lives ++ x ∷ []) is ∙ sym (take_more lives i l h)))))

@@ -1,10 +1,10 @@
 -- How the positions of a segment's versions are kept.
-use Rattle.std.specs.Prelude.{◌≡◌, ℕ, Bool, not, ◌&&◌, nat_le, List, [], ◌∷◌, length, replicate, None}
+use Rattle.std.specs.Prelude.{◌≡◌, ℕ, Bool, not, ◌&&◌, nat_le, List, [], ◌∷◌, length, map, replicate, None}
 use Rattle.ts_schema.specs.declared.rows.Row.{Row}
 use Rattle.seg_rows.specs.Versions.{Version, is_dead_at}
 use Rattle.seg_rows.specs.declared.lives.Life.{Life}
 use Rattle.seg_rows.specs.declared.lives.Lives.{Lives}
-use Rattle.seg_rows.specs.declared.lives.Lives.TheVariants.{Together, Each}
+use Rattle.seg_rows.specs.declared.lives.Lives.TheVariants.{Together, Born, Each}
 
 -- born at p and never died
 abbrev pub unharmed : ℕ → Life
@@ -17,7 +17,12 @@ is_alive_at p life = nat_le life.born p && not (is_dead_at p life.died)
 -- the lives of n rows
 abbrev pub lives_of : ℕ → Lives → List Life
 lives_of n (Together p) = replicate n (unharmed p)
+lives_of n (Born births) = map unharmed births
 lives_of n (Each lives) = lives
+
+-- none of these has died
+abbrev pub AreUnharmed : List Life → Type 0
+AreUnharmed lives = map unharmed (map (λ life. life.born) lives) ≡ lives
 
 -- there is a life for each of n rows
 abbrev pub Covers : ℕ → Lives → Type 0

@@ -1,6 +1,6 @@
 //! Hulls of the times of rows.
 ghost use Rattle.std.specs.Prelude.{◌≡◌};
-ghost use Rattle.seg_rows.specs.Hulls.{hull_at, joined_hull};
+ghost use Rattle.seg_rows.specs.Hulls.{hull_at, hull_of, joined_hull};
 
 use ts_bucket::Hull;
 use ts_schema::Row;
@@ -27,4 +27,16 @@ pub fn point(row: &Row) -> Option<Hull>
         least: row.at,
         most: row.at,
     })
+}
+
+/// The hull of the times of these rows.
+#[tactic(auto, using(crate::proofs::HullLaws::hull_push, std::proofs::lemmas::Grind::common_steps))]
+pub fn row_hull(rows: &[Row]) -> Option<Hull>
+    ensures hull { result ≡ hull_of rows.now }
+{
+    let mut hull = None;
+    for row in rows {
+        hull = join_hulls(hull, point(row));
+    }
+    hull
 }

@@ -1,7 +1,6 @@
 //! Segments joined into one.
-ghost use Rattle.std.specs.Prelude.{◌≡◌, ◌++◌, length, IfOk, OnOk};
-ghost use Rattle.seg_rows.specs.Lives.{Covers, lives_of};
-ghost use Rattle.seg_rows.specs.declared.lives.Lives.TheVariants.{Each};
+ghost use Rattle.std.specs.Prelude.{◌≡◌, ◌++◌, ℕ, map, IfOk, OnOk};
+ghost use Rattle.seg_rows.specs.Lives.{AreUnharmed, Covers, lives_of, unharmed};
 
 use crate::lives::{Life, Lives};
 use crate::scans::copy_of;
@@ -38,12 +37,31 @@ pub fn joined_lives(
 ) -> Result<Lives, NoMemory>
     requires first { Covers first_count first.now }
     requires second { Covers second_count second.now }
-    ensures lives { IfOk result (λ lives. lives ≡ Each (lives_of first_count first.now ++ lives_of second_count second.now)) }
+    ensures lives { IfOk result (λ lives. (n : ℕ) → lives_of n lives ≡ lives_of first_count first.now ++ lives_of second_count second.now) }
 {
-    let mut lives = Vec::with_capacity(alloc, first_count.saturating_add(second_count))?;
+    let count = first_count.saturating_add(second_count);
+    if first.are_unharmed() && second.are_unharmed() {
+        let mut births = Vec::with_capacity(alloc, count)?;
+        append_births(&mut births, first, first_count)?;
+        append_births(&mut births, second, second_count)?;
+        return Ok(Lives::Born(Seq::of(births)));
+    }
+    let mut lives = Vec::with_capacity(alloc, count)?;
     append_lives(&mut lives, first, first_count)?;
     append_lives(&mut lives, second, second_count)?;
     Ok(Lives::Each(Seq::of(lives)))
+}
+
+/// Appends the positions at which so many versions were born, of which none has died.
+fn append_births(into: &mut Vec<u64>, lives: &Lives, count: usize) -> Result<(), NoMemory>
+    requires covers { Covers count lives.now }
+    requires unharmed { AreUnharmed (lives_of count lives.now) }
+    ensures { OnOk result (map unharmed into.new.items ≡ map unharmed into.old.items ++ lives_of count lives.now) }
+{
+    for i in 0..count {
+        into.push(lives.at(i, count).born)?;
+    }
+    Ok(())
 }
 
 /// Appends the lives of so many versions.

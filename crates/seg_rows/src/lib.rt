@@ -14,6 +14,6 @@ mod segments;
 #[cfg(test)]
 mod tests;
 
-pub use hulls::join_hulls;
+pub use hulls::{join_hulls, row_hull};
 pub use scans::later;
 pub use segments::{Killed, Segment};

@@ -1,6 +1,6 @@
 //! Positions of versions: when each was born and when it died.
-ghost use Rattle.std.specs.Prelude.{◌≡◌, ◌<◌, length, slice_index_or};
-ghost use Rattle.seg_rows.specs.Lives.{Covers, is_alive_at, lives_of};
+ghost use Rattle.std.specs.Prelude.{◌≡◌, ◌<◌, ℕ, true, length, slice_index_or};
+ghost use Rattle.seg_rows.specs.Lives.{AreUnharmed, Covers, is_alive_at, lives_of};
 ghost use Rattle.seg_rows.specs.Versions.{is_dead_at};
 
 use ts_schema::Seq;
@@ -17,6 +17,8 @@ pub struct Life {
 pub enum Lives {
     /// All were born together, and none has died.
     Together(u64),
+    /// The position at which each was born, and none has died.
+    Born(Seq<u64>),
     /// One life for each.
     Each(Seq<Life>),
 }
@@ -53,7 +55,22 @@ impl Lives {
                 born: *born,
                 died: None,
             },
+            Lives::Born(births) => Life {
+                born: *births.get(i),
+                died: None,
+            },
             Lives::Each(lives) => *lives.get(i),
+        }
+    }
+
+    /// Whether it is plain that none has died.
+    pub fn are_unharmed(&self) -> bool
+        ensures unharmed { result ≡ true → (n : ℕ) → AreUnharmed (lives_of n self.now) }
+    {
+        match self {
+            Lives::Together(_) => true,
+            Lives::Born(_) => true,
+            Lives::Each(_) => false,
         }
     }
 }

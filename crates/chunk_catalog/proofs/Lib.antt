@@ -1,0 +1,4 @@
+pub mod CatalogLaws
+pub mod PartLaws
+pub mod PlaceLaws
+pub mod ReachLaws

@@ -1,0 +1,49 @@
+-- Chunks of a table: what contracts see of them, which chunk holds a time, and which chunks meet a span.
+use Rattle.std.specs.Prelude.{◌≡◌, ℕ, ◌^◌, Bool, true, cond, ◌&&◌, List, filter, count_by, ℤ, pos, ◌+ℤ◌, ◌-ℤ◌, ◌≤ℤ◌, int_le, int_lt, Some}
+use Rattle.std.specs.Int.{int_rem_euclid}
+use Rattle.std.specs.List.{list_all}
+use Rattle.ts_bucket.specs.Bucket.{is_time}
+use Rattle.ts_bucket.specs.Spans.{SpanValue}
+use Rattle.ts_schema.specs.declared.rows.Row.{Row}
+use Rattle.seg_rows.specs.Versions.{Version, visible_at, rows_of}
+
+-- what contracts see of `Chunks`: how long a chunk is, and every version that was ever put there
+pub record ChunksValue : Type 0 where
+  pub interval : ℤ
+  pub versions : List Version
+
+-- an interval is from 1 to 2 ^ 50
+abbrev pub IsInterval : ℤ → Type 0
+IsInterval interval = (pos 1 ≤ℤ interval) × (interval ≤ℤ pos (2 ^ 50))
+
+-- the start of the chunk that holds t: the last whole multiple of the interval at or below t
+abbrev pub chunk_start : ℤ → ℤ → ℤ
+chunk_start interval t = t -ℤ int_rem_euclid t interval
+
+-- the chunk with this start and the span have a number in common
+abbrev pub chunk_meets : ℤ → SpanValue → ℤ → Bool
+chunk_meets interval s start = int_lt start s.hi && int_lt s.lo (start +ℤ interval) && int_lt s.lo s.hi
+
+-- a version is in a chunk that meets the span
+abbrev pub is_near : ℤ → SpanValue → Version → Bool
+is_near interval s v = chunk_meets interval s (chunk_start interval v.row.at)
+
+-- how many versions are in chunks that meet the span
+abbrev pub held_near : ℤ → SpanValue → List Version → ℕ
+held_near interval s vs = count_by (is_near interval s) vs
+
+-- a version is visible at p and its chunk ends at or before n
+abbrev pub is_dropped : ℤ → ℤ → ℕ → Version → Bool
+is_dropped interval n p v = visible_at p v && int_le (chunk_start interval v.row.at +ℤ interval) n
+
+-- the rows that are dropped
+abbrev pub dropped_at : ℤ → ℤ → ℕ → List Version → List Row
+dropped_at interval n p vs = rows_of (filter (is_dropped interval n p) vs)
+
+-- a version after a drop at p: it died there where it is dropped, and stays as it was elsewhere
+abbrev pub after_drop : ℤ → ℤ → ℕ → Version → Version
+after_drop interval n p v = cond (is_dropped interval n p v) (record { row = v.row; born = v.born; died = Some p }) v
+
+-- the times of these rows lie in the range of times
+abbrev pub HaveTimes : List Row → Type 0
+HaveTimes rows = list_all (λ row. is_time row.at) rows ≡ true

@@ -1,0 +1,7 @@
+pub mod Chunks
+pub mod Kept
+pub mod Parts
+pub mod Piles
+pub mod Places
+pub mod Reach
+pub mod Trees

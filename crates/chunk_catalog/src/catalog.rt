@@ -1,0 +1,173 @@
+//! Chunks of a table.
+ghost use Rattle.std.specs.Prelude.{◌≡◌, ◌≤◌, ◌++◌, [], length, map, IfOk, OnOk, OnErr};
+ghost use Rattle.seg_rows.specs.Hulls.{hull_of};
+ghost use Rattle.seg_rows.specs.Versions.{AsOften, after_kill, latest_at, newborn, rows_at, taken_at, TestsFit};
+ghost use Rattle.ts_schema.specs.Counts.{raised_by};
+ghost use Rattle.chunk_catalog.specs.Chunks.{IsInterval, HaveTimes, after_drop, dropped_at, held_near};
+
+use crate::parts::put_rows;
+use crate::reach::{drop_reach, span_reach, test_reach};
+use crate::trees::Tree;
+use std::alloc::Global;
+use std::marker::Model;
+use ts_bucket::{Hull, Span};
+use ts_schema::{NoMemory, Row, Seq, Steps, Test};
+
+/// No value holds more versions, which is far beyond any memory.
+const MOST_VERSIONS: u64 = 4_611_686_018_427_387_904;
+
+/// Rows by the chunks that hold their times. Contracts see the interval and the list of all versions
+/// that were ever put there, removed or not.
+#[derive(Drop)]
+pub struct Chunks {
+    alloc: Global,
+    interval: i64,
+    tree: Tree,
+    count: u64,
+}
+
+impl Model for Chunks {
+    ghost use Rattle.chunk_catalog.specs.Chunks.{ChunksValue};
+    ghost use Rattle.chunk_catalog.specs.Places.{versions_of};
+    ghost use Rattle.chunk_catalog.specs.Kept.{IsKept};
+
+    ghost Value = { ChunksValue };
+
+    ghost view = { λ c. record { interval = c.interval; versions = versions_of c.tree.0 } };
+
+    ghost invariant = { λ c. IsKept c.interval c.tree.0 c.count };
+}
+
+/// What a delete made of chunks.
+#[derive(Drop)]
+pub struct KilledChunks {
+    /// The chunks after it.
+    pub chunks: Chunks,
+    /// How many versions died.
+    pub removed: u64,
+    /// The hull of their times.
+    pub hull: Option<Hull>,
+}
+
+impl Chunks {
+    /// No chunk yet. Each will hold `interval` times, from 1 to 2^50.
+    pub fn new(alloc: Global, interval: i64) -> Chunks
+        requires { IsInterval interval }
+        ensures interval { result.interval ≡ interval }
+        ensures versions { result.versions ≡ [] }
+    {
+        Chunks {
+            alloc,
+            interval,
+            tree: Tree::new(),
+            count: 0,
+        }
+    }
+
+    /// The same chunks again.
+    pub fn copy(&self) -> Result<Chunks, NoMemory>
+        ensures same { IfOk result (λ copy. copy ≡ self.now) }
+    {
+        Ok(Chunks {
+            alloc: self.alloc,
+            interval: self.interval,
+            tree: self.tree.copy()?,
+            count: self.count,
+        })
+    }
+
+    /// The chunks with rows that are born at a position, which is at least those of the earlier
+    /// changes.
+    pub fn put(&self, rows: Seq<Row>, pos: u64) -> Result<Chunks, NoMemory>
+        requires times { HaveTimes rows }
+        ensures interval { IfOk result (λ chunks. chunks.interval ≡ self.now.interval) }
+        ensures versions { IfOk result (λ chunks. AsOften chunks.versions (self.now.versions ++ map (newborn pos) rows)) }
+    {
+        let count = self.count.saturating_add(rows.len() as u64);
+        if count > MOST_VERSIONS {
+            return Err(NoMemory);
+        }
+        Ok(Chunks {
+            alloc: self.alloc,
+            interval: self.interval,
+            tree: put_rows(self.alloc, &self.tree, self.interval, rows, pos)?,
+            count,
+        })
+    }
+
+    /// A delete at a position, which is at least those of the earlier changes: the versions that are
+    /// visible there and pass every test die there. Chunks that can't hold such a row aren't looked
+    /// at.
+    pub fn kill(&self, tests: &Seq<Test>, pos: u64) -> Result<KilledChunks, NoMemory>
+        requires fit { TestsFit tests.now self.now.versions }
+        ensures interval { IfOk result (λ k. k.chunks.interval ≡ self.now.interval) }
+        ensures after { IfOk result (λ k. k.chunks.versions ≡ map (after_kill pos tests.now) self.now.versions) }
+        ensures removed { IfOk result (λ k. k.removed ≡ length (taken_at pos tests.now self.now.versions)) }
+        ensures hull { IfOk result (λ k. k.hull ≡ hull_of (taken_at pos tests.now self.now.versions)) }
+    {
+        let reach = test_reach(self.interval, tests);
+        let killed = self.tree.kill(self.alloc, reach, tests, pos)?;
+        Ok(KilledChunks {
+            chunks: Chunks {
+                alloc: self.alloc,
+                interval: self.interval,
+                tree: killed.tree,
+                count: self.count,
+            },
+            removed: killed.removed,
+            hull: killed.hull,
+        })
+    }
+
+    /// A drop at a position, which is at least those of the earlier changes: the versions that are
+    /// visible there, of the chunks that end at or before `n`, die there.
+    pub fn drop_below(&self, n: i64, pos: u64) -> Result<KilledChunks, NoMemory>
+        ensures interval { IfOk result (λ k. k.chunks.interval ≡ self.now.interval) }
+        ensures after { IfOk result (λ k. k.chunks.versions ≡ map (after_drop self.now.interval n pos) self.now.versions) }
+        ensures removed { IfOk result (λ k. k.removed ≡ length (dropped_at self.now.interval n pos self.now.versions)) }
+        ensures hull { IfOk result (λ k. k.hull ≡ hull_of (dropped_at self.now.interval n pos self.now.versions)) }
+    {
+        let reach = drop_reach(self.interval, n);
+        let killed = self
+            .tree
+            .kill(self.alloc, reach, &Seq::new(self.alloc), pos)?;
+        Ok(KilledChunks {
+            chunks: Chunks {
+                alloc: self.alloc,
+                interval: self.interval,
+                tree: killed.tree,
+                count: self.count,
+            },
+            removed: killed.removed,
+            hull: killed.hull,
+        })
+    }
+
+    /// The rows of the span that are visible at a position. Ticks once per version, dead ones too, of
+    /// the chunks that meet the span.
+    pub fn scan<L>(&self, pos: u64, span: Span, steps: &mut Steps<L>) -> Result<Seq<Row>, NoMemory>
+        ensures rows { IfOk result (λ rows. rows ≡ rows_at pos span self.now.versions) }
+        ensures wide { IsInterval self.now.interval }
+        ensures ticks { OnOk result (steps.new ≡ raised_by (held_near self.now.interval span self.now.versions) steps.old) }
+        ensures at_most { OnErr result (steps.new ≤ raised_by (held_near self.now.interval span self.now.versions) steps.old) }
+    {
+        let reach = span_reach(self.interval, span);
+        let mut rows = Seq::new(self.alloc);
+        self.tree.scan(reach, pos, span, &mut rows, steps)?;
+        Ok(rows)
+    }
+
+    /// How many versions, dead ones too, are in the chunks that meet the span.
+    pub fn held(&self, span: Span) -> u64
+        ensures held { result ≡ held_near self.now.interval span self.now.versions }
+    {
+        self.tree.held(span_reach(self.interval, span))
+    }
+
+    /// The greatest time that is visible at a position, and `None` exactly where no version is.
+    pub fn last(&self, pos: u64) -> Option<i64>
+        ensures last { result ≡ latest_at pos self.now.versions }
+    {
+        self.tree.last(self.interval, pos, None)
+    }
+}

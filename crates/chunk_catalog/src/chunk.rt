@@ -1,0 +1,211 @@
+//! One chunk.
+ghost use Rattle.std.specs.Prelude.{◌≡◌, ◌≤◌, ◌<◌, ◌+◌, ◌^◌, ◌++◌, length, map, IfOk, OnOk, OnErr};
+ghost use Rattle.seg_rows.specs.Hulls.{hull_of};
+ghost use Rattle.seg_rows.specs.Versions.{after_kill, latest_at, later_time, rows_at, taken_at, TestsFit};
+ghost use Rattle.chunk_catalog.specs.Chunks.{IsInterval};
+ghost use Rattle.chunk_catalog.specs.Places.{ArePlaced, after_kill_in, in_chunk, reached};
+ghost use Rattle.ts_schema.specs.Counts.{raised_by};
+
+use crate::piles::Pile;
+use crate::reach::{Reach, is_past};
+use seg_rows::{Segment, later};
+use std::alloc::Global;
+use std::marker::Model;
+use ts_bucket::{Hull, Span};
+use ts_schema::{NoMemory, Row, Seq, Steps, Test};
+
+/// The versions of a chunk, with its start.
+#[derive(Drop)]
+pub struct Chunk {
+    start: i64,
+    pile: Pile,
+    count: u64,
+}
+
+impl Model for Chunk {
+    ghost use Rattle.std.specs.Prelude.{◌≡◌, length};
+    ghost use Rattle.chunk_catalog.specs.Places.{Kept};
+
+    ghost Value = { Kept };
+
+    ghost view = { λ c. record { start = c.start; versions = c.pile.0 } };
+
+    ghost invariant = { λ c. c.count ≡ length c.pile.0 };
+}
+
+/// What a delete made of a chunk.
+#[derive(Drop)]
+pub struct KilledChunk {
+    pub chunk: Chunk,
+    pub removed: u64,
+    pub hull: Option<Hull>,
+}
+
+impl Chunk {
+    ghost use Rattle.std.specs.Prelude.{◌≡◌, ◌≤◌, ◌<◌, ◌+◌, ◌^◌, ◌++◌, length, map, IfOk, OnOk, OnErr};
+
+    /// The chunk of one segment.
+    pub fn of(start: i64, segment: Segment) -> Chunk
+        ensures start { result.start ≡ start }
+        ensures versions { result.versions ≡ segment }
+    {
+        Chunk {
+            start,
+            count: segment.count(),
+            pile: Pile::of(segment),
+        }
+    }
+
+    /// The start of the chunk.
+    pub fn start(&self) -> i64
+        ensures start { result ≡ self.now.start }
+    {
+        self.start
+    }
+
+    /// How many versions there are.
+    pub fn count(&self) -> u64
+        ensures count { result ≡ length self.now.versions }
+    {
+        self.count
+    }
+
+    /// The same chunk again.
+    pub fn copy(&self) -> Result<Chunk, NoMemory>
+        ensures same { IfOk result (λ copy. copy ≡ self.now) }
+    {
+        Ok(Chunk {
+            start: self.start,
+            pile: self.pile.copy()?,
+            count: self.count,
+        })
+    }
+
+    /// The chunk with the versions of one more segment.
+    pub fn append(&self, alloc: Global, segment: Segment) -> Result<Chunk, NoMemory>
+        requires countable { length self.now.versions + length segment < 2 ^ 64 }
+        ensures start { IfOk result (λ chunk. chunk.start ≡ self.now.start) }
+        ensures versions { IfOk result (λ chunk. chunk.versions ≡ self.now.versions ++ segment) }
+    {
+        let count = self.count + segment.count();
+        Ok(Chunk {
+            start: self.start,
+            pile: self.pile.append(alloc, segment)?,
+            count,
+        })
+    }
+
+    /// A delete at a position.
+    pub fn kill(&self, alloc: Global, tests: &Seq<Test>, pos: u64) -> Result<KilledChunk, NoMemory>
+        requires fit { TestsFit tests.now self.now.versions }
+        ensures start { IfOk result (λ k. k.chunk.start ≡ self.now.start) }
+        ensures after { IfOk result (λ k. k.chunk.versions ≡ map (after_kill pos tests.now) self.now.versions) }
+        ensures removed { IfOk result (λ k. k.removed ≡ length (taken_at pos tests.now self.now.versions)) }
+        ensures hull { IfOk result (λ k. k.hull ≡ hull_of (taken_at pos tests.now self.now.versions)) }
+    {
+        let count = self.count();
+        let killed = self.pile.kill(alloc, tests, pos)?;
+        Ok(KilledChunk {
+            chunk: Chunk {
+                start: self.start,
+                pile: killed.pile,
+                count,
+            },
+            removed: killed.removed,
+            hull: killed.hull,
+        })
+    }
+
+    /// Appends the rows of the span that are visible at a position. Ticks once per version.
+    pub fn scan<L>(
+        &self,
+        pos: u64,
+        span: Span,
+        out: &mut Seq<Row>,
+        steps: &mut Steps<L>,
+    ) -> Result<(), NoMemory>
+        ensures rows { OnOk result (out.new ≡ out.old ++ rows_at pos span self.now.versions) }
+        ensures ticks { OnOk result (steps.new ≡ raised_by (length self.now.versions) steps.old) }
+        ensures at_most { OnErr result (steps.new ≤ raised_by (length self.now.versions) steps.old) }
+    {
+        self.pile.scan(pos, span, out, steps)
+    }
+
+    /// The greatest time that is visible at a position.
+    pub fn last(&self, pos: u64) -> Option<i64>
+        ensures last { result ≡ latest_at pos self.now.versions }
+    {
+        self.pile.last(pos)
+    }
+    /// A delete at a position, where the start lies in a range.
+    #[tactic(auto, using(crate::proofs::PlaceLaws::reached_in, crate::proofs::PlaceLaws::reached_out, crate::proofs::PlaceLaws::killed_in, crate::proofs::PlaceLaws::killed_out, seg_rows::proofs::VersionLaws::parts))]
+    pub fn kill_in(
+        &self,
+        alloc: Global,
+        reach: Reach,
+        tests: &Seq<Test>,
+        pos: u64,
+    ) -> Result<KilledChunk, NoMemory>
+        requires fit { TestsFit tests.now self.now.versions }
+        ensures after { IfOk result (λ k. in_chunk k.chunk.start k.chunk.versions ≡ map (after_kill_in reach pos tests.now) (in_chunk self.now.start self.now.versions)) }
+        ensures removed { IfOk result (λ k. k.removed ≡ length (taken_at pos tests.now (reached reach (in_chunk self.now.start self.now.versions)))) }
+        ensures hull { IfOk result (λ k. k.hull ≡ hull_of (taken_at pos tests.now (reached reach (in_chunk self.now.start self.now.versions)))) }
+    {
+        if reach.holds(self.start) {
+            return self.kill(alloc, tests, pos);
+        }
+        Ok(KilledChunk {
+            chunk: self.copy()?,
+            removed: 0,
+            hull: None,
+        })
+    }
+
+    /// The same as `scan` where the start lies in a range, and nothing elsewhere.
+    #[tactic(auto, using(crate::proofs::PlaceLaws::reached_in, crate::proofs::PlaceLaws::reached_out, crate::proofs::PlaceLaws::killed_in, crate::proofs::PlaceLaws::killed_out, seg_rows::proofs::VersionLaws::parts))]
+    pub fn scan_in<L>(
+        &self,
+        reach: Reach,
+        pos: u64,
+        span: Span,
+        out: &mut Seq<Row>,
+        steps: &mut Steps<L>,
+    ) -> Result<(), NoMemory>
+        ensures rows { OnOk result (out.new ≡ out.old ++ rows_at pos span (reached reach (in_chunk self.now.start self.now.versions))) }
+        ensures ticks { OnOk result (steps.new ≡ raised_by (length (reached reach (in_chunk self.now.start self.now.versions))) steps.old) }
+        ensures at_most { OnErr result (steps.new ≤ raised_by (length (reached reach (in_chunk self.now.start self.now.versions))) steps.old) }
+    {
+        if reach.holds(self.start) {
+            self.scan(pos, span, out, steps)
+        } else {
+            let _so_far = steps.count();
+            Ok(())
+        }
+    }
+
+    /// How many versions there are, where the start lies in a range.
+    #[tactic(auto, using(crate::proofs::PlaceLaws::reached_in, crate::proofs::PlaceLaws::reached_out, crate::proofs::PlaceLaws::killed_in, crate::proofs::PlaceLaws::killed_out, seg_rows::proofs::VersionLaws::parts))]
+    pub fn count_in(&self, reach: Reach) -> u64
+        ensures held { result ≡ length (reached reach (in_chunk self.now.start self.now.versions)) }
+    {
+        if reach.holds(self.start) {
+            self.count()
+        } else {
+            0
+        }
+    }
+
+    /// The greatest of a time and the times that are visible at a position. Where the chunk holds no
+    /// later time, it isn't looked at.
+    pub fn last_of(&self, interval: i64, pos: u64, best: Option<i64>) -> Option<i64>
+        requires interval { IsInterval interval }
+        requires placed { ArePlaced interval (in_chunk self.now.start self.now.versions) }
+        ensures last { result ≡ later_time best (latest_at pos self.now.versions) }
+    {
+        if is_past(interval, self.start, best) {
+            best
+        } else {
+            later(best, self.last(pos))
+        }
+    }
+}

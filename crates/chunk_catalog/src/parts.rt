@@ -1,0 +1,103 @@
+//! New rows by the chunks that hold their times.
+ghost use Rattle.std.specs.Prelude.{◌≡◌, ◌<◌, ◌+◌, ◌-◌, ◌^◌, ◌++◌, Bool, length, drop, map, count_by, slice_index_or, vec_len, true, IfOk, OnOk};
+ghost use Rattle.ts_bucket.specs.Bucket.{is_time};
+ghost use Rattle.ts_schema.specs.declared.rows.Row.{Row};
+ghost use Rattle.seg_rows.specs.Versions.{newborn};
+ghost use Rattle.chunk_catalog.specs.Chunks.{IsInterval, HaveTimes, chunk_start};
+ghost use Rattle.chunk_catalog.specs.Places.{Placed, in_chunk};
+ghost use Rattle.chunk_catalog.specs.Parts.{AreIn, placed_rows};
+
+use crate::trees::Tree;
+use seg_rows::Segment;
+use std::alloc::Global;
+use ts_schema::{NoMemory, Row, Seq};
+
+/// Rows of one chunk, with its start.
+#[derive(Drop)]
+struct Part {
+    start: i64,
+    rows: Vec<Row>,
+}
+
+/// A tree with rows that are born at a position, each in the chunk that holds its time.
+pub fn put_rows(
+    alloc: Global,
+    tree: &Tree,
+    interval: i64,
+    rows: Seq<Row>,
+    pos: u64,
+) -> Result<Tree, NoMemory>
+    requires interval { IsInterval interval }
+    requires times { HaveTimes rows }
+    requires countable { length tree.now.0 + length rows < 2 ^ 64 }
+    ensures versions { IfOk result (λ new. (test : Placed → Bool) → count_by test new.0 ≡ count_by test tree.now.0 + count_by test (placed_rows interval pos rows)) }
+{
+    let mut left = sorted_rows(rows)?;
+    let mut tree = tree.copy()?;
+    while !left.is_empty() {
+        let part = last_part(interval, &mut left)?;
+        tree = put_part(alloc, &tree, part, pos)?;
+    }
+    Ok(tree)
+}
+
+/// The same rows by their times.
+fn sorted_rows(rows: Seq<Row>) -> Result<Vec<Row>, NoMemory>
+    ensures rows { IfOk result (λ sorted. (test : Row → Bool) → count_by test sorted.items ≡ count_by test rows) }
+{
+    let mut items = rows.into_items();
+    items.sort_by_key(|row| row.at)?;
+    Ok(items)
+}
+
+/// A tree with the rows of one chunk, born at a position.
+fn put_part(alloc: Global, tree: &Tree, part: Part, pos: u64) -> Result<Tree, NoMemory>
+    requires countable { length tree.now.0 + length part.rows.items < 2 ^ 64 }
+    ensures versions { IfOk result (λ new. (test : Placed → Bool) → count_by test new.0 ≡ count_by test tree.now.0 + count_by test (in_chunk part.start (map (newborn pos) part.rows.items))) }
+{
+    let segment = Segment::seal(alloc, Seq::of(part.rows), pos)?;
+    tree.with(alloc, part.start, segment)
+}
+
+/// Takes the last rows off, as many as are in one chunk.
+fn last_part(interval: i64, rows: &mut Vec<Row>) -> Result<Part, NoMemory>
+    requires interval { IsInterval interval }
+    requires times { HaveTimes rows.old.items }
+    requires some { 0 < vec_len rows.old }
+    ensures split { IfOk result (λ part. rows.old.items ≡ rows.new.items ++ part.rows.items) }
+    ensures here { IfOk result (λ part. AreIn interval part.start part.rows.items) }
+    ensures fewer { OnOk result (vec_len rows.new < vec_len rows.old) }
+{
+    let items = rows.as_slice();
+    let start = chunk_of(interval, &items[items.len() - 1]);
+    let from = part_begin(interval, start, items);
+    Ok(Part {
+        start,
+        rows: rows.split_off(from)?,
+    })
+}
+
+/// The first of the last rows that are all in one chunk, of which this is the start.
+fn part_begin(interval: i64, start: i64, rows: &[Row]) -> usize
+    requires interval { IsInterval interval }
+    requires times { HaveTimes rows.now }
+    requires some { 0 < length rows.now }
+    requires last { (row : Row) → chunk_start interval (slice_index_or rows.now (length rows.now - 1) row).at ≡ start }
+    ensures within { result < length rows.now }
+    ensures here { AreIn interval start (drop result rows.now) }
+{
+    let mut from = rows.len() - 1;
+    while from > 0 && chunk_of(interval, &rows[from - 1]) == start {
+        from -= 1;
+    }
+    from
+}
+
+/// The start of the chunk that holds the time of a row.
+fn chunk_of(interval: i64, row: &Row) -> i64
+    requires interval { IsInterval interval }
+    requires time { is_time row.now.at ≡ true }
+    ensures start { result ≡ chunk_start interval row.now.at }
+{
+    row.at - row.at.rem_euclid(interval)
+}

@@ -1,0 +1,245 @@
+//! Segments of a chunk in the order in which they came.
+//!
+//! Small segments are joined as they gather, as in a binary counter: a row is copied about once for
+//! each doubling of the segment that holds it, up to the limit. Beyond it segments hang in a tree
+//! whose right side is no larger than its left, so that a new segment changes one path.
+ghost use Rattle.std.specs.Prelude.{◌≡◌, ◌≤◌, ◌<◌, ◌^◌, ◌++◌, length, map, IfOk, IfSome, OnOk, OnErr};
+ghost use Rattle.std.specs.Arc.{arc_value};
+ghost use Rattle.seg_rows.specs.Hulls.{hull_of};
+ghost use Rattle.seg_rows.specs.Versions.{after_kill, latest_at, rows_at, taken_at, TestsFit};
+ghost use Rattle.ts_schema.specs.Counts.{raised_by};
+
+use seg_rows::{Segment, join_hulls, later};
+use std::alloc::Global;
+use std::marker::Model;
+use std::sync::Arc;
+use ts_bucket::{Hull, Span};
+use ts_schema::{NoMemory, Row, Seq, Steps, Test};
+
+/// Segments that together have at most so many versions are joined in any case.
+const FEW: u64 = 16;
+
+/// No joined segment has more versions.
+const MANY: u64 = 1024;
+
+/// Segments in order.
+#[cycle(pile)]
+#[derive(Drop)]
+pub struct Pile {
+    shape: Shape,
+}
+
+#[cycle(pile)]
+#[derive(Drop)]
+enum Shape {
+    Leaf(Segment),
+    /// The earlier segments, the later ones, and about how many versions there are.
+    Fork(Arc<Pile>, Arc<Pile>, u64),
+}
+
+impl Model for Pile {
+    ghost use Rattle.std.specs.Prelude.{List, ℕ};
+    ghost use Rattle.seg_rows.specs.Versions.{Version};
+
+    ghost Value = { List Version × ℕ };
+
+    ghost use Rattle.chunk_catalog.specs.Piles.{pile_view};
+
+    ghost view = { λ p. pile_view p.shape };
+
+    ghost size = { λ d. d.1 };
+
+    ghost use Rattle.std.proofs.Common.{arith};
+
+    ghost size_decreases = { λ a h. Prim.grind arith };
+}
+
+/// What a delete made of a pile.
+#[derive(Drop)]
+pub struct KilledPile {
+    pub pile: Pile,
+    pub removed: u64,
+    pub hull: Option<Hull>,
+}
+
+impl Pile {
+    /// The pile of one segment.
+    pub fn of(segment: Segment) -> Pile
+        ensures versions { result.0 ≡ segment }
+    {
+        Pile {
+            shape: Shape::Leaf(segment),
+        }
+    }
+
+    /// About how many versions there are.
+    fn size(&self) -> u64 {
+        match &self.shape {
+            Shape::Leaf(segment) => segment.count(),
+            Shape::Fork(_, _, size) => *size,
+        }
+    }
+
+    /// The same pile again.
+    pub fn copy(&self) -> Result<Pile, NoMemory>
+        ensures same { IfOk result (λ copy. copy ≡ self.now) }
+    {
+        match &self.shape {
+            Shape::Leaf(segment) => Ok(Pile {
+                shape: Shape::Leaf(segment.copy()?),
+            }),
+            Shape::Fork(left, right, size) => Ok(Pile {
+                shape: Shape::Fork(Arc::try_clone(left)?, Arc::try_clone(right)?, *size),
+            }),
+        }
+    }
+
+    /// The pile with one more segment at its end.
+    pub fn append(&self, alloc: Global, segment: Segment) -> Result<Pile, NoMemory>
+        ensures versions { IfOk result (λ pile. pile.0 ≡ self.now.0 ++ segment) }
+    {
+        match &self.shape {
+            Shape::Leaf(_) => beside(alloc, self.copy()?, Pile::of(segment)),
+            Shape::Fork(left, right, _) => {
+                if right.size().saturating_add(segment.count()) > left.size() {
+                    return beside(alloc, self.copy()?, Pile::of(segment));
+                }
+                let right = right.append(alloc, segment)?;
+                beside(alloc, left.copy()?, right)
+            }
+        }
+    }
+
+    /// The segment of a pile that is one, joined with that of another, where both are small.
+    fn joined(&self, other: &Pile) -> Result<Option<Segment>, NoMemory>
+        ensures joined { IfOk result (λ joined. IfSome joined (λ s. s ≡ self.now.0 ++ other.now.0)) }
+    {
+        match &self.shape {
+            Shape::Leaf(segment) => other.joined_after(segment),
+            Shape::Fork(_, _, _) => Ok(None),
+        }
+    }
+
+    /// A segment joined with that of a pile that is one, where both are small.
+    fn joined_after(&self, first: &Segment) -> Result<Option<Segment>, NoMemory>
+        ensures joined { IfOk result (λ joined. IfSome joined (λ s. s ≡ first.now ++ self.now.0)) }
+    {
+        match &self.shape {
+            Shape::Leaf(second) => joined_if_small(first, second),
+            Shape::Fork(_, _, _) => Ok(None),
+        }
+    }
+
+    /// A delete at a position.
+    #[tactic(auto, using(seg_rows::proofs::VersionLaws::parts, seg_rows::proofs::VersionLaws::kill_nothing, seg_rows::proofs::VersionLaws::and_first, seg_rows::proofs::VersionLaws::and_second, seg_rows::proofs::VersionLaws::taken_few))]
+    pub fn kill(&self, alloc: Global, tests: &Seq<Test>, pos: u64) -> Result<KilledPile, NoMemory>
+        requires fit { TestsFit tests.now self.now.0 }
+        requires countable { length self.now.0 < 2 ^ 64 }
+        ensures after { IfOk result (λ k. k.pile.0 ≡ map (after_kill pos tests.now) self.now.0) }
+        ensures removed { IfOk result (λ k. k.removed ≡ length (taken_at pos tests.now self.now.0)) }
+        ensures hull { IfOk result (λ k. k.hull ≡ hull_of (taken_at pos tests.now self.now.0)) }
+    {
+        match &self.shape {
+            Shape::Leaf(segment) => {
+                let killed = segment.kill(tests, pos)?;
+                Ok(KilledPile {
+                    pile: Pile::of(killed.segment),
+                    removed: killed.removed,
+                    hull: killed.hull,
+                })
+            }
+            Shape::Fork(left, right, size) => {
+                let first = left.kill(alloc, tests, pos)?;
+                let second = right.kill(alloc, tests, pos)?;
+                let left = changed(alloc, left, first.pile, first.removed)?;
+                let right = changed(alloc, right, second.pile, second.removed)?;
+                Ok(KilledPile {
+                    pile: Pile {
+                        shape: Shape::Fork(left, right, *size),
+                    },
+                    removed: first.removed + second.removed,
+                    hull: join_hulls(first.hull, second.hull),
+                })
+            }
+        }
+    }
+
+    /// Appends the rows of the span that are visible at a position. Ticks once per version.
+    pub fn scan<L>(
+        &self,
+        pos: u64,
+        span: Span,
+        out: &mut Seq<Row>,
+        steps: &mut Steps<L>,
+    ) -> Result<(), NoMemory>
+        ensures rows { OnOk result (out.new ≡ out.old ++ rows_at pos span self.now.0) }
+        ensures ticks { OnOk result (steps.new ≡ raised_by (length self.now.0) steps.old) }
+        ensures at_most { OnErr result (steps.new ≤ raised_by (length self.now.0) steps.old) }
+    {
+        match &self.shape {
+            Shape::Leaf(segment) => segment.scan(pos, span, out, steps),
+            Shape::Fork(left, right, _) => {
+                left.scan(pos, span, out, steps)?;
+                right.scan(pos, span, out, steps)
+            }
+        }
+    }
+
+    /// The greatest time that is visible at a position.
+    #[tactic(auto, using(seg_rows::proofs::VersionLaws::parts))]
+    pub fn last(&self, pos: u64) -> Option<i64>
+        ensures last { result ≡ latest_at pos self.now.0 }
+    {
+        match &self.shape {
+            Shape::Leaf(segment) => segment.last(pos),
+            Shape::Fork(left, right, _) => later(left.last(pos), right.last(pos)),
+        }
+    }
+}
+
+/// One pile after another: as one segment where both are small ones.
+fn beside(alloc: Global, left: Pile, right: Pile) -> Result<Pile, NoMemory>
+    ensures versions { IfOk result (λ pile. pile.0 ≡ left.0 ++ right.0) }
+{
+    match left.joined(&right)? {
+        Some(segment) => Ok(Pile::of(segment)),
+        None => {
+            let size = left.size().saturating_add(right.size());
+            let left = Arc::new(alloc, left)?;
+            let right = Arc::new(alloc, right)?;
+            Ok(Pile {
+                shape: Shape::Fork(left, right, size),
+            })
+        }
+    }
+}
+
+/// Two segments as one, where they are few, or where the first isn't much the larger and the limit
+/// isn't passed.
+fn joined_if_small(first: &Segment, second: &Segment) -> Result<Option<Segment>, NoMemory>
+    ensures joined { IfOk result (λ joined. IfSome joined (λ s. s ≡ first.now ++ second.now)) }
+{
+    if is_joined(first.count(), second.count()) {
+        Ok(Some(first.join(second)?))
+    } else {
+        Ok(None)
+    }
+}
+
+/// Whether segments of such sizes are joined.
+fn is_joined(first: u64, second: u64) -> bool {
+    let both = first.saturating_add(second);
+    both <= FEW || (both <= MANY && first / 2 <= second)
+}
+
+/// A pile as it became, or the old one where nothing was removed.
+fn changed(alloc: Global, old: &Arc<Pile>, new: Pile, removed: u64) -> Result<Arc<Pile>, NoMemory>
+    requires same { removed ≡ 0 → new.0 ≡ (arc_value old.now).0 }
+    ensures versions { IfOk result (λ pile. (arc_value pile).0 ≡ new.0) }
+{
+    if removed == 0 {
+        Ok(Arc::try_clone(old)?)
+    } else {
+        Ok(Arc::new(alloc, new)?)
+    }
+}

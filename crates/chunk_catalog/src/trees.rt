@@ -1,0 +1,432 @@
+//! Chunks in the order of their starts, in a balanced tree of which a change copies one path.
+ghost use Rattle.std.specs.Prelude.{◌≡◌, ◌≤◌, ◌<◌, ◌+◌, ◌^◌, ◌++◌, [], ℕ, true, Bool, length, map, count_by, IfOk, OnOk, OnErr};
+ghost use Rattle.std.specs.Arc.{arc_value};
+ghost use Rattle.seg_rows.specs.Hulls.{hull_at, hull_of, joined_hull};
+ghost use Rattle.seg_rows.specs.Versions.{latest_at, later_time, rows_at, taken_at, TestsFit};
+ghost use Rattle.ts_schema.specs.Counts.{raised_by};
+ghost use Rattle.chunk_catalog.specs.Chunks.{IsInterval};
+ghost use Rattle.chunk_catalog.specs.Places.{Placed, AreOut, after_kill_in, in_chunk, reached, versions_of, ArePlaced, StartsIn};
+
+use crate::chunk::Chunk;
+use crate::reach::{Reach, is_past};
+use seg_rows::{Segment, join_hulls};
+use std::alloc::Global;
+use std::marker::Model;
+use std::sync::Arc;
+use ts_bucket::{Hull, Span};
+use ts_schema::{NoMemory, Row, Seq, Steps, Test};
+
+/// Chunks in order. Contracts see their versions, and a number above that of each part.
+#[cycle(tree)]
+#[derive(Drop)]
+pub struct Tree {
+    node: Node,
+}
+
+#[cycle(tree)]
+#[derive(Drop)]
+enum Node {
+    Empty,
+    /// The chunks before this one, this one, the chunks after it, the hull of all their starts, and
+    /// how many levels there are.
+    Fork(Arc<Tree>, Chunk, Arc<Tree>, Hull, u64),
+}
+
+impl Model for Tree {
+    ghost use Rattle.std.specs.Prelude.{List, ℕ};
+    ghost use Rattle.chunk_catalog.specs.Chunks.{IsInterval};
+    ghost use Rattle.chunk_catalog.specs.Places.{Placed};
+
+    ghost Value = { List Placed × ℕ };
+
+    ghost use Rattle.chunk_catalog.specs.Trees.{tree_view, HasStarts};
+
+    ghost view = { λ t. tree_view t.node };
+
+    ghost invariant = { λ t. HasStarts t.node };
+
+    ghost size = { λ d. d.1 };
+
+    ghost use Rattle.std.proofs.Common.{arith};
+
+    ghost size_decreases = { λ a h. Prim.grind arith };
+}
+
+/// What a delete made of a tree.
+#[derive(Drop)]
+pub struct KilledTree {
+    pub tree: Tree,
+    pub removed: u64,
+    pub hull: Option<Hull>,
+}
+
+impl Tree {
+    /// No chunk.
+    pub fn new() -> Tree
+        ensures none { result.0 ≡ [] }
+    {
+        Tree { node: Node::Empty }
+    }
+
+    /// How many levels there are.
+    fn height(&self) -> u64 {
+        match &self.node {
+            Node::Empty => 0,
+            Node::Fork(_, _, _, _, height) => *height,
+        }
+    }
+
+    /// A hull of all starts.
+    fn starts(&self) -> Option<Hull>
+        ensures all { StartsIn result self.now.0 }
+    {
+        match &self.node {
+            Node::Empty => None,
+            Node::Fork(_, _, _, starts, _) => Some(*starts),
+        }
+    }
+
+    /// Whether no start lies in a range.
+    fn misses(&self, reach: Reach) -> bool
+        ensures out { result ≡ true → AreOut reach self.now.0 }
+    {
+        match &self.node {
+            Node::Empty => true,
+            Node::Fork(_, _, _, starts, _) => !reach.meets(*starts),
+        }
+    }
+
+    /// Whether no chunk holds a time above the best so far.
+    fn is_past(&self, interval: i64, best: Option<i64>) -> bool
+        requires interval { IsInterval interval }
+        requires placed { ArePlaced interval self.now.0 }
+        ensures past { result ≡ true → (pos : ℕ) → later_time best (latest_at pos (versions_of self.now.0)) ≡ best }
+    {
+        match &self.node {
+            Node::Empty => true,
+            Node::Fork(_, _, _, starts, _) => is_past(interval, starts.most, best),
+        }
+    }
+
+    /// The same tree again.
+    pub fn copy(&self) -> Result<Tree, NoMemory>
+        ensures same { IfOk result (λ copy. copy ≡ self.now) }
+    {
+        match &self.node {
+            Node::Empty => Ok(Tree { node: Node::Empty }),
+            Node::Fork(left, chunk, right, starts, height) => Ok(Tree {
+                node: Node::Fork(
+                    Arc::try_clone(left)?,
+                    chunk.copy()?,
+                    Arc::try_clone(right)?,
+                    *starts,
+                    *height,
+                ),
+            }),
+        }
+    }
+
+    /// The chunks with one more segment in the chunk with this start.
+    pub fn with(&self, alloc: Global, start: i64, segment: Segment) -> Result<Tree, NoMemory>
+        requires countable { length self.now.0 + length segment < 2 ^ 64 }
+        ensures versions { IfOk result (λ tree. (test : Placed → Bool) → count_by test tree.0 ≡ count_by test self.now.0 + count_by test (in_chunk start segment)) }
+    {
+        match &self.node {
+            Node::Empty => {
+                let left = Arc::new(alloc, Tree::new())?;
+                let right = Arc::new(alloc, Tree::new())?;
+                Ok(fork(left, Chunk::of(start, segment), right))
+            }
+            Node::Fork(left, chunk, right, _, _) => {
+                let here = chunk.start();
+                if start < here {
+                    let left = left.with(alloc, start, segment)?;
+                    let left = Arc::new(alloc, left)?;
+                    balanced(alloc, left, chunk.copy()?, Arc::try_clone(right)?)
+                } else if here < start {
+                    let right = right.with(alloc, start, segment)?;
+                    let right = Arc::new(alloc, right)?;
+                    balanced(alloc, Arc::try_clone(left)?, chunk.copy()?, right)
+                } else {
+                    let chunk = chunk.append(alloc, segment)?;
+                    Ok(fork(Arc::try_clone(left)?, chunk, Arc::try_clone(right)?))
+                }
+            }
+        }
+    }
+
+    /// A delete at a position in the chunks whose starts lie in a range.
+    #[tactic(auto, using(crate::proofs::PlaceLaws::places, crate::proofs::PlaceLaws::out_reached, crate::proofs::PlaceLaws::out_killed, crate::proofs::PlaceLaws::kill_nothing_in, crate::proofs::PlaceLaws::reached_few, seg_rows::proofs::VersionLaws::parts, seg_rows::proofs::VersionLaws::taken_few))]
+    pub fn kill(
+        &self,
+        alloc: Global,
+        reach: Reach,
+        tests: &Seq<Test>,
+        pos: u64,
+    ) -> Result<KilledTree, NoMemory>
+        requires fit { TestsFit tests.now (versions_of self.now.0) }
+        requires countable { length self.now.0 < 2 ^ 64 }
+        ensures after { IfOk result (λ k. k.tree.0 ≡ map (after_kill_in reach pos tests.now) self.now.0) }
+        ensures removed { IfOk result (λ k. k.removed ≡ length (taken_at pos tests.now (reached reach self.now.0))) }
+        ensures hull { IfOk result (λ k. k.hull ≡ hull_of (taken_at pos tests.now (reached reach self.now.0))) }
+    {
+        if self.misses(reach) {
+            return Ok(untouched(self.copy()?));
+        }
+        match &self.node {
+            Node::Empty => Ok(untouched(Tree::new())),
+            Node::Fork(left, chunk, right, _, _) => {
+                let first = left.kill(alloc, reach, tests, pos)?;
+                let middle = chunk.kill_in(alloc, reach, tests, pos)?;
+                let second = right.kill(alloc, reach, tests, pos)?;
+                let left = changed(alloc, left, first.tree, first.removed)?;
+                let right = changed(alloc, right, second.tree, second.removed)?;
+                Ok(KilledTree {
+                    tree: fork(left, middle.chunk, right),
+                    removed: first.removed + middle.removed + second.removed,
+                    hull: join_hulls(join_hulls(first.hull, middle.hull), second.hull),
+                })
+            }
+        }
+    }
+
+    /// Appends the rows of the span that are visible at a position, of the chunks whose starts lie in
+    /// a range. Ticks once per version of these chunks.
+    #[tactic(auto, using(crate::proofs::PlaceLaws::places, crate::proofs::PlaceLaws::out_reached, seg_rows::proofs::VersionLaws::parts))]
+    pub fn scan<L>(
+        &self,
+        reach: Reach,
+        pos: u64,
+        span: Span,
+        out: &mut Seq<Row>,
+        steps: &mut Steps<L>,
+    ) -> Result<(), NoMemory>
+        ensures rows { OnOk result (out.new ≡ out.old ++ rows_at pos span (reached reach self.now.0)) }
+        ensures ticks { OnOk result (steps.new ≡ raised_by (length (reached reach self.now.0)) steps.old) }
+        ensures at_most { OnErr result (steps.new ≤ raised_by (length (reached reach self.now.0)) steps.old) }
+    {
+        let _so_far = steps.count();
+        if self.misses(reach) {
+            return Ok(());
+        }
+        match &self.node {
+            Node::Empty => Ok(()),
+            Node::Fork(left, chunk, right, _, _) => {
+                left.scan(reach, pos, span, out, steps)?;
+                chunk.scan_in(reach, pos, span, out, steps)?;
+                right.scan(reach, pos, span, out, steps)
+            }
+        }
+    }
+
+    /// How many versions the chunks have whose starts lie in a range.
+    #[tactic(auto, using(crate::proofs::PlaceLaws::places, crate::proofs::PlaceLaws::out_reached, crate::proofs::PlaceLaws::reached_few, seg_rows::proofs::VersionLaws::parts))]
+    pub fn held(&self, reach: Reach) -> u64
+        requires countable { length self.now.0 < 2 ^ 64 }
+        ensures held { result ≡ length (reached reach self.now.0) }
+    {
+        if self.misses(reach) {
+            return 0;
+        }
+        match &self.node {
+            Node::Empty => 0,
+            Node::Fork(left, chunk, right, _, _) => {
+                left.held(reach) + chunk.count_in(reach) + right.held(reach)
+            }
+        }
+    }
+
+    /// The greatest of a time and the times that are visible at a position. The latest chunks come
+    /// first, and those that hold no later time aren't looked at.
+    #[tactic(auto, using(crate::proofs::PlaceLaws::places, crate::proofs::PlaceLaws::later_first, seg_rows::proofs::VersionLaws::parts))]
+    pub fn last(&self, interval: i64, pos: u64, best: Option<i64>) -> Option<i64>
+        requires interval { IsInterval interval }
+        requires placed { ArePlaced interval self.now.0 }
+        ensures last { result ≡ later_time best (latest_at pos (versions_of self.now.0)) }
+    {
+        if self.is_past(interval, best) {
+            return best;
+        }
+        match &self.node {
+            Node::Empty => best,
+            Node::Fork(left, chunk, right, _, _) => {
+                let best = right.last(interval, pos, best);
+                let best = chunk.last_of(interval, pos, best);
+                left.last(interval, pos, best)
+            }
+        }
+    }
+}
+
+/// A tree that a delete left alone.
+fn untouched(tree: Tree) -> KilledTree
+    ensures tree { result.tree ≡ tree }
+    ensures removed { result.removed ≡ 0 }
+    ensures hull { result.hull ≡ None }
+{
+    KilledTree {
+        tree,
+        removed: 0,
+        hull: None,
+    }
+}
+
+/// A tree as it became, or the old one where nothing was removed.
+fn changed(alloc: Global, old: &Arc<Tree>, new: Tree, removed: u64) -> Result<Arc<Tree>, NoMemory>
+    requires same { removed ≡ 0 → new.0 ≡ (arc_value old.now).0 }
+    ensures versions { IfOk result (λ tree. (arc_value tree).0 ≡ new.0) }
+{
+    if removed == 0 {
+        Ok(Arc::try_clone(old)?)
+    } else {
+        Ok(Arc::new(alloc, new)?)
+    }
+}
+
+/// The chunks of one tree, one more chunk, and those of another tree.
+fn fork(left: Arc<Tree>, chunk: Chunk, right: Arc<Tree>) -> Tree
+    ensures versions { result.0 ≡ (arc_value left).0 ++ in_chunk chunk.start chunk.versions ++ (arc_value right).0 }
+{
+    let starts = hull_with(&chunk, join_hulls(left.starts(), right.starts()));
+    let height = left.height().max(right.height()).saturating_add(1);
+    Tree {
+        node: Node::Fork(left, chunk, right, starts, height),
+    }
+}
+
+/// The least hull that holds the start of a chunk and what another hull holds.
+fn hull_with(chunk: &Chunk, others: Option<Hull>) -> Hull
+    ensures joined { Some result ≡ joined_hull (hull_at chunk.now.start) others }
+{
+    let start = chunk.start();
+    match others {
+        None => Hull {
+            least: start,
+            most: start,
+        },
+        Some(hull) => Hull {
+            least: start.min(hull.least),
+            most: start.max(hull.most),
+        },
+    }
+}
+
+/// The same as `fork`, where one side may have two levels more than the other.
+fn balanced(
+    alloc: Global,
+    left: Arc<Tree>,
+    chunk: Chunk,
+    right: Arc<Tree>,
+) -> Result<Tree, NoMemory>
+    ensures versions { IfOk result (λ tree. tree.0 ≡ (arc_value left).0 ++ in_chunk chunk.start chunk.versions ++ (arc_value right).0) }
+{
+    if left.height() > right.height().saturating_add(1) {
+        lean_right(alloc, left, chunk, right)
+    } else if right.height() > left.height().saturating_add(1) {
+        lean_left(alloc, left, chunk, right)
+    } else {
+        Ok(fork(left, chunk, right))
+    }
+}
+
+/// The same as `fork`, where the left side is the higher: a part of it moves to the right.
+fn lean_right(
+    alloc: Global,
+    left: Arc<Tree>,
+    chunk: Chunk,
+    right: Arc<Tree>,
+) -> Result<Tree, NoMemory>
+    ensures versions { IfOk result (λ tree. tree.0 ≡ (arc_value left).0 ++ in_chunk chunk.start chunk.versions ++ (arc_value right).0) }
+{
+    match &left.node {
+        Node::Empty => Ok(fork(left, chunk, right)),
+        Node::Fork(first, before, second, _, _) => {
+            if second.height() > first.height() {
+                return spread_left(alloc, first, before, second, chunk, right);
+            }
+            let lower = fork(Arc::try_clone(second)?, chunk, right);
+            let lower = Arc::new(alloc, lower)?;
+            Ok(fork(Arc::try_clone(first)?, before.copy()?, lower))
+        }
+    }
+}
+
+/// Five parts in order as one tree: the second tree is spread over both sides.
+fn spread_left(
+    alloc: Global,
+    first: &Arc<Tree>,
+    before: &Chunk,
+    second: &Arc<Tree>,
+    chunk: Chunk,
+    third: Arc<Tree>,
+) -> Result<Tree, NoMemory>
+    ensures versions { IfOk result (λ tree. tree.0 ≡ (arc_value first.now).0 ++ in_chunk before.now.start before.now.versions ++ (arc_value second.now).0 ++ in_chunk chunk.start chunk.versions ++ (arc_value third).0) }
+{
+    match &second.node {
+        Node::Empty => {
+            let lower = fork(Arc::try_clone(second)?, chunk, third);
+            let lower = Arc::new(alloc, lower)?;
+            Ok(fork(Arc::try_clone(first)?, before.copy()?, lower))
+        }
+        Node::Fork(near, middle, far, _, _) => {
+            let left = fork(
+                Arc::try_clone(first)?,
+                before.copy()?,
+                Arc::try_clone(near)?,
+            );
+            let left = Arc::new(alloc, left)?;
+            let right = fork(Arc::try_clone(far)?, chunk, third);
+            let right = Arc::new(alloc, right)?;
+            Ok(fork(left, middle.copy()?, right))
+        }
+    }
+}
+
+/// The same as `fork`, where the right side is the higher: a part of it moves to the left.
+fn lean_left(
+    alloc: Global,
+    left: Arc<Tree>,
+    chunk: Chunk,
+    right: Arc<Tree>,
+) -> Result<Tree, NoMemory>
+    ensures versions { IfOk result (λ tree. tree.0 ≡ (arc_value left).0 ++ in_chunk chunk.start chunk.versions ++ (arc_value right).0) }
+{
+    match &right.node {
+        Node::Empty => Ok(fork(left, chunk, right)),
+        Node::Fork(first, after, second, _, _) => {
+            if first.height() > second.height() {
+                return spread_right(alloc, left, chunk, first, after, second);
+            }
+            let lower = fork(left, chunk, Arc::try_clone(first)?);
+            let lower = Arc::new(alloc, lower)?;
+            Ok(fork(lower, after.copy()?, Arc::try_clone(second)?))
+        }
+    }
+}
+
+/// Five parts in order as one tree: the second tree is spread over both sides.
+fn spread_right(
+    alloc: Global,
+    first: Arc<Tree>,
+    chunk: Chunk,
+    second: &Arc<Tree>,
+    after: &Chunk,
+    third: &Arc<Tree>,
+) -> Result<Tree, NoMemory>
+    ensures versions { IfOk result (λ tree. tree.0 ≡ (arc_value first).0 ++ in_chunk chunk.start chunk.versions ++ ((arc_value second.now).0 ++ in_chunk after.now.start after.now.versions ++ (arc_value third.now).0)) }
+{
+    match &second.node {
+        Node::Empty => {
+            let lower = fork(first, chunk, Arc::try_clone(second)?);
+            let lower = Arc::new(alloc, lower)?;
+            Ok(fork(lower, after.copy()?, Arc::try_clone(third)?))
+        }
+        Node::Fork(near, middle, far, _, _) => {
+            let left = fork(first, chunk, Arc::try_clone(near)?);
+            let left = Arc::new(alloc, left)?;
+            let right = fork(Arc::try_clone(far)?, after.copy()?, Arc::try_clone(third)?);
+            let right = Arc::new(alloc, right)?;
+            Ok(fork(left, middle.copy()?, right))
+        }
+    }
+}

@@ -1,0 +1,4 @@
+pub mod FitLaws
+pub mod HistoryLaws
+pub mod OrderLaws
+pub mod TableLaws

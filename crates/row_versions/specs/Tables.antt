@@ -1,0 +1,62 @@
+-- Tables under operations: what a position sees, and what the operations of a commit make of a table.
+use Rattle.std.specs.Prelude.{◌≡◌, ℕ, ◌+◌, ◌<◌, ◌≤◌, Bool, true, cond, ◌&&◌, ◌==◌, nat_le, List, [], ◌∷◌, ◌++◌, length, filter, Option, None, Some}
+use Rattle.std.specs.List.{list_all}
+use Rattle.ts_bucket.specs.Bucket.{is_time}
+use Rattle.ts_schema.specs.declared.rows.Row.{Row}
+use Rattle.ts_schema.specs.declared.conditions.Test.{Test}
+use Rattle.ts_model.specs.declared.events.Op.{Op}
+use Rattle.ts_model.specs.declared.events.Op.TheVariants.{Insert, Delete}
+use Rattle.ts_model.specs.Rows.{in_order, after_ops}
+use Rattle.ts_model.specs.Effect.{all_appended, all_taken, hull_of_ops}
+use Rattle.seg_rows.specs.Hulls.{joined_hull, hull_of}
+use Rattle.seg_rows.specs.Versions.{Version, visible_at, rows_of}
+use Rattle.chunk_catalog.specs.Chunks.{ChunksValue}
+use Rattle.row_versions.specs.declared.effects.Effect.{Effect}
+
+-- the rows that position p sees
+abbrev pub visible_rows : ℕ → List Version → List Row
+visible_rows p vs = rows_of (filter (visible_at p) vs)
+
+-- died at p or before, or not at all
+abbrev pub died_by : ℕ → Option ℕ → Bool
+died_by p None = true
+died_by p (Some d) = nat_le d p
+
+-- the last change of a version is at p or before
+abbrev pub is_up_to : ℕ → Version → Bool
+is_up_to p v = nat_le v.born p && died_by p v.died
+
+-- no change is later than p
+abbrev pub IsUpTo : ℕ → List Version → Type 0
+IsUpTo p vs = list_all (is_up_to p) vs ≡ true
+
+-- every row has the columns of these tests
+abbrev pub rows_fit : List Test → List Row → Bool
+rows_fit tests rows = list_all (λ row. list_all (λ t. nat_le t.col (length row.vals)) tests) rows
+
+-- these operations may be applied to table t, which stores these rows: times are times, and rows have the columns of the tests
+abbrev pub ops_fit : ℕ → List Op → List Row → Bool
+ops_fit t [] rows = true
+ops_fit t (Insert u new ∷ ops) rows = cond (u == t) (list_all (λ row. is_time row.at) new && ops_fit t ops (rows ++ new)) (ops_fit t ops rows)
+ops_fit t (Delete u tests ∷ ops) rows = cond (u == t) (rows_fit tests rows && ops_fit t ops rows) (ops_fit t ops rows)
+
+-- what operations on table t at position p make of its versions: earlier positions see what they saw, p and later ones see the
+-- rows after the operations, and everything that was ever inserted is stored
+pub record Follows (t : ℕ) (ops : List Op) (p : ℕ) (old new : ChunksValue) : Type 0 where
+  pub interval : new.interval ≡ old.interval
+  pub earlier : (q : ℕ) → q < p → in_order (visible_rows q new.versions) ≡ in_order (visible_rows q old.versions)
+  pub later : (q : ℕ) → p ≤ q → in_order (visible_rows q new.versions) ≡ after_ops t ops (in_order (visible_rows q old.versions))
+  pub stored : in_order (rows_of new.versions) ≡ in_order (rows_of old.versions ++ all_appended t ops)
+  pub up_to : IsUpTo p new.versions
+
+-- what these operations add to an effect, where table t has these rows
+pub record Counts (t : ℕ) (ops : List Op) (rows : List Row) (before after : Effect) : Type 0 where
+  pub inserted : after.inserted ≡ before.inserted + length (all_appended t ops)
+  pub removed : after.removed ≡ before.removed + length (all_taken t ops rows)
+  pub hull : after.hull ≡ joined_hull before.hull (hull_of (all_appended t ops ++ all_taken t ops rows))
+
+-- the effect of operations on table t, which has these rows
+pub record IsEffect (t : ℕ) (ops : List Op) (rows : List Row) (effect : Effect) : Type 0 where
+  pub inserted : effect.inserted ≡ length (all_appended t ops)
+  pub removed : effect.removed ≡ length (all_taken t ops rows)
+  pub hull : effect.hull ≡ hull_of_ops t ops rows

@@ -1,0 +1,33 @@
+//! Laws that join tables to histories. Each is the clause of a function that does nothing.
+ghost use Rattle.row_versions.specs.Laws.{CommitsAreHeld, CommitsFit, EffectsAreOfCommits, HeldTablesTell, OthersAreHeld, TablesBegin};
+
+/// A new table holds a table of an allowed history that isn't a hypertable yet.
+pub fn tables_begin()
+    ensures { TablesBegin }
+{}
+
+/// What `apply` asks for, at the next position and for the operations of a commit that is allowed next.
+pub fn commits_fit()
+    ensures { CommitsFit }
+{}
+
+/// What `apply` makes of a table holds the history with the commit.
+pub fn commits_are_held()
+    ensures { CommitsAreHeld }
+{}
+
+/// The effect that `apply` tells is that of the commit.
+pub fn effects_are_of_commits()
+    ensures { EffectsAreOfCommits }
+{}
+
+/// Every other event leaves a table as it is.
+pub fn others_are_held()
+    ensures { OthersAreHeld }
+{}
+
+/// What `scan` and `last` tell of a table that holds a history: the rows of the history at every
+/// position, the rows ever inserted in the chunks that are looked at, and the last bucket with a row.
+pub fn held_tables_tell()
+    ensures { HeldTablesTell }
+{}

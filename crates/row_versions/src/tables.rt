@@ -1,0 +1,162 @@
+//! Tables.
+ghost use Rattle.std.specs.Prelude.{◌≡◌, ◌≤◌, ℕ, [], ◌∷◌, filter, true, IfOk, MatchResult};
+ghost use Rattle.ts_bucket.specs.Spans.{in_span};
+ghost use Rattle.ts_schema.specs.Counts.{raised_by};
+ghost use Rattle.seg_rows.specs.Versions.{latest_at, rows_of};
+ghost use Rattle.chunk_catalog.specs.Chunks.{IsInterval, HaveTimes};
+ghost use Rattle.ts_model.specs.declared.events.Op.TheVariants.{Insert, Delete};
+ghost use Rattle.ts_model.specs.Rows.{in_order};
+ghost use Rattle.ts_model.specs.Reads.{rows_near};
+ghost use Rattle.row_versions.specs.Tables.{Counts, Follows, IsEffect, IsUpTo, ops_fit, rows_fit, visible_rows};
+
+use crate::effects::Effect;
+use chunk_catalog::Chunks;
+use std::alloc::Global;
+use std::marker::Model;
+use ts_bucket::Span;
+use ts_model::Op;
+use ts_schema::{NoMemory, Row, Seq, Steps, Test};
+
+/// The rows of a hypertable at every position. Contracts see its interval and the list of all
+/// versions that it ever had.
+#[derive(Drop)]
+pub struct Table {
+    chunks: Chunks,
+}
+
+impl Model for Table {
+    ghost use Rattle.chunk_catalog.specs.Chunks.{ChunksValue};
+
+    ghost Value = { ChunksValue };
+
+    ghost view = { λ t. t.chunks };
+}
+
+/// What operations made of a table.
+#[derive(Drop)]
+pub struct Applied {
+    /// The table after them.
+    pub table: Table,
+    /// What they did.
+    pub effect: Effect,
+}
+
+impl Table {
+    /// No row yet. Each chunk will hold `interval` times, from 1 to 2^50.
+    pub fn new(alloc: Global, interval: i64) -> Table
+        requires { IsInterval interval }
+        ensures interval { result.interval ≡ interval }
+        ensures versions { result.versions ≡ [] }
+    {
+        Table {
+            chunks: Chunks::new(alloc, interval),
+        }
+    }
+
+    /// The same table again.
+    pub fn copy(&self) -> Result<Table, NoMemory>
+        ensures same { IfOk result (λ copy. copy ≡ self.now) }
+    {
+        Ok(Table {
+            chunks: self.chunks.copy()?,
+        })
+    }
+
+    /// The table after the operations on it, in order, at a position above those of all earlier
+    /// changes, with what they did. The table itself stays as it was.
+    pub fn apply(&self, ops: &Seq<Op>, table: u32, pos: u64) -> Result<Applied, NoMemory>
+        requires up_to { IsUpTo pos self.now.versions }
+        requires fit { ops_fit table ops.now (rows_of self.now.versions) ≡ true }
+        ensures table { IfOk result (λ a. Follows table ops.now pos self.now a.table) }
+        ensures effect { IfOk result (λ a. IsEffect table ops.now (in_order (visible_rows pos self.now.versions)) a.effect) }
+    {
+        let mut done = Applied {
+            table: self.copy()?,
+            effect: Effect::none(),
+        };
+        let mut left = ops.items();
+        while let [op, rest @ ..] = left {
+            done = done.and(op, table, pos)?;
+            left = rest;
+        }
+        Ok(done)
+    }
+
+    /// The rows of the span that are visible at a position. Ticks once for each stored row, removed
+    /// or not, in the chunks that meet the span.
+    pub fn scan<L>(&self, pos: u64, span: Span, steps: &mut Steps<L>) -> Result<Seq<Row>, NoMemory>
+        ensures rows { IfOk result (λ rows. rows ≡ filter (λ row. in_span span row.at) (visible_rows pos self.now.versions)) }
+        ensures read { MatchResult result (λ _. steps.new ≡ raised_by (rows_near self.now.interval (rows_of self.now.versions) (span ∷ [])) steps.old) (λ _. steps.new ≤ raised_by (rows_near self.now.interval (rows_of self.now.versions) (span ∷ [])) steps.old) }
+    {
+        self.chunks.scan(pos, span, steps)
+    }
+
+    /// The greatest time that is visible at a position, and `None` exactly where no row is.
+    pub fn last(&self, pos: u64) -> Option<i64>
+        ensures last { result ≡ latest_at pos self.now.versions }
+    {
+        self.chunks.last(pos)
+    }
+}
+
+impl Applied {
+    /// The same after one more operation.
+    fn and(self, op: &Op, table: u32, pos: u64) -> Result<Applied, NoMemory>
+        requires up_to { IsUpTo pos self.table.versions }
+        requires fit { ops_fit table (op.now ∷ []) (rows_of self.table.versions) ≡ true }
+        ensures table { IfOk result (λ a. Follows table (op.now ∷ []) pos self.table a.table) }
+        ensures effect { IfOk result (λ a. Counts table (op.now ∷ []) (in_order (visible_rows pos self.table.versions)) self.effect a.effect) }
+    {
+        match op {
+            Op::Insert { table: other, rows } => {
+                if *other == table {
+                    self.and_insert(rows, pos)
+                } else {
+                    Ok(self)
+                }
+            }
+            Op::Delete {
+                table: other,
+                tests,
+            } => {
+                if *other == table {
+                    self.and_delete(tests, pos)
+                } else {
+                    Ok(self)
+                }
+            }
+        }
+    }
+
+    /// The same after an insert.
+    fn and_insert(self, rows: &Seq<Row>, pos: u64) -> Result<Applied, NoMemory>
+        requires up_to { IsUpTo pos self.table.versions }
+        requires times { HaveTimes rows.now }
+        ensures table { IfOk result (λ a. (t : ℕ) → Follows t (Insert t rows.now ∷ []) pos self.table a.table) }
+        ensures effect { IfOk result (λ a. (t : ℕ) → Counts t (Insert t rows.now ∷ []) (in_order (visible_rows pos self.table.versions)) self.effect a.effect) }
+    {
+        let effect = self.effect.and_inserted(rows.items())?;
+        let chunks = self.table.chunks.put(rows.copy()?, pos)?;
+        Ok(Applied {
+            table: Table { chunks },
+            effect,
+        })
+    }
+
+    /// The same after a delete.
+    fn and_delete(self, tests: &Seq<Test>, pos: u64) -> Result<Applied, NoMemory>
+        requires up_to { IsUpTo pos self.table.versions }
+        requires fit { rows_fit tests.now (rows_of self.table.versions) ≡ true }
+        ensures table { IfOk result (λ a. (t : ℕ) → Follows t (Delete t tests.now ∷ []) pos self.table a.table) }
+        ensures effect { IfOk result (λ a. (t : ℕ) → Counts t (Delete t tests.now ∷ []) (in_order (visible_rows pos self.table.versions)) self.effect a.effect) }
+    {
+        let killed = self.table.chunks.kill(tests, pos)?;
+        let effect = self.effect.and_removed(killed.removed, killed.hull)?;
+        Ok(Applied {
+            table: Table {
+                chunks: killed.chunks,
+            },
+            effect,
+        })
+    }
+}
