@@ -1,11 +1,11 @@
 -- How far a run has come, where the source tells its bytes.
 use Rattle.std.proofs.Common.{◌≡◌, ℕ, ◌+◌, ◌<◌, Bool, false, true, ◌||◌, List, [], ◌∷◌, ◌++◌, Option, Some, None, IfSome, length, refl, sym, ap, ◌∙◌, subst, arith}
 use Rattle.std.specs.Prelude.{⊤}
-use Rattle.std.specs.Io.KnownBytes.{Appends, IsAtEnd, prepend_known}
+use Rattle.std.specs.Io.KnownBytes.{Appends, prepend_known}
 use Rattle.result_text.specs.Replies.{line_fault_text}
 use Rattle.ts_io.specs.Whole.{AppendsPart}
 use Rattle.ts_io.specs.Lines.{lines_within}
-use Rattle.ts_io.specs.Reader.{ReadsLine, SkipsLong}
+use Rattle.ts_io.specs.Reader.{ReadsLine, SkipsLong, SpendsAlike}
 use Rattle.ts_io.specs.declared.whole.TheConstants.{INPUT_LIMIT}
 use Rattle.ts_io.specs.declared.line_reader.TheConstants.{LINE_LIMIT}
 use Rattle.ts_io.specs.declared.line_reader.LineEnd.TheVariants.{Line, LineLong, End, InputLong}
@@ -17,16 +17,16 @@ use Rattle.script_run.specs.declared.ends.RunEnd.TheVariants as ends
 use Rattle.script_run.specs.declared.stages.Stop.{Stop}
 use Rattle.script_run.specs.declared.stages.Stop.TheVariants as stops
 use Rattle.script_run.specs.Plays.{LineWritten, LineCut}
-use Rattle.script_run.specs.Runs.{executed, has_fault, Left, Executed, CutShort, Ran}
+use Rattle.script_run.specs.Runs.{executed, has_fault, Left, ReadWhole, Executed, CutShort, Ran}
 use Rattle.script_run.specs.Stopped.{end_of_stop, end_of_input}
 use Rattle.script_run.proofs.DeedLaws.{long_line}
 use Rattle.script_run.proofs.Progress.{Progress, starts, goes_on, ends as ends_whole, stops as stops_short, stops_at}
 
--- R holds of the lines that are executed and of those that are left
+-- as many bytes of the input are gone as of its limit, and R holds of the lines that are executed and of those that are left
 abbrev pub Told : Option (List ℕ) → ℕ → Option (List ℕ) → (List (List ℕ) → List (List ℕ) → Type 0) → Type 0
 Told None n now R = ⊤
 Told (Some input) n None R = ⊥
-Told (Some input) n (Some text) R = R (executed input) (lines_within n text)
+Told (Some input) n (Some text) R = (length input + n ≡ length text + INPUT_LIMIT) × R (executed input) (lines_within n text)
 
 -- a run that stopped at a line, or for want of memory, was cut short
 cut_ran : {P : Type 0} (stop : Stop) (play : Play P) (h : History) (input : List ℕ) (rest : Option (List ℕ)) (left : Left) → CutShort play h (executed input) left
@@ -35,7 +35,7 @@ cut_ran stops.WriteFault play h input rest left c = c
 cut_ran stops.DiskFault play h input rest left c = c
 cut_ran stops.NoMemory play h input rest left c = c
 
-end_ran : {P : Type 0} (refused : Bool) (play : Play P) (h : History) (input : List ℕ) (rest : Option (List ℕ)) (left : Left) → IsAtEnd rest → Executed play h (executed input) left
+end_ran : {P : Type 0} (refused : Bool) (play : Play P) (h : History) (input : List ℕ) (rest : Option (List ℕ)) (left : Left) → ReadWhole input rest → Executed play h (executed input) left
     → has_fault play h (executed input) ≡ refused → Ran (end_of_input refused) play h input rest left
 end_ran true play h input rest left e x f = (e, x, f)
 end_ran false play h input rest left e x f = (e, x, f)
@@ -57,7 +57,7 @@ module _ {P : Type 0} (play : Play P) (h : History) (start : Option (List ℕ)) 
 pub at_start : {P : Type 0} (play : Play P) (h : History) (a old : Option (List ℕ)) (held : List ℕ) (n k : ℕ) (scene : Scene P) (refused : Bool)
     → held ≡ [] → n ≡ INPUT_LIMIT → k ≡ 1 → scene ≡ opening_scene h → refused ≡ false → Come play h a old n (prepend_known held a) old k scene refused
 at_start play h None old held n k scene refused none whole first opening quiet = tt
-at_start play h (Some input) old held n k scene refused none whole first opening quiet = rw (none, whole, first, opening, quiet) (starts play h (executed input) old)
+at_start play h (Some input) old held n k scene refused none whole first opening quiet = rw (none, whole, first, opening, quiet) (refl, starts play h (executed input) old)
 
 -- nothing was begun
 pub never_begun : {P : Type 0} (play : Play P) (h : History) (a old : Option (List ℕ)) (halted : Bool) → Has play h a old ends.NoMemory a old h halted
@@ -107,29 +107,31 @@ module _ {P : Type 0} (play : Play P) (h : History) (start old now : Option (Lis
   Here = Come play h start old n left now k scene was
 
   -- a line was played and answered
-  pub line_on : (next : Scene P) (halted : Bool) (after : Option (List ℕ)) (j : ℕ) (is : Bool) → ReadsLine Line n left m new line → j ≡ k + 1
+  pub line_on : (next : Scene P) (halted : Bool) (after : Option (List ℕ)) (j : ℕ) (is : Bool) → ReadsLine Line n left m new line → SpendsAlike n left m new → j ≡ k + 1
       → LineWritten (plays play scene k line) next halted now after was is → Here → Come play h start old m new after j next is
-  line_on next halted after j is reads e w c = by start left new reads c
+  line_on next halted after j is reads alike e w c = by start left new reads alike c
     where
-      by : (start left new : Option (List ℕ)) → ReadsLine Line n left m new line → Come play h start old n left now k scene was → Come play h start old m new after j next is
-      by None left new reads c = tt
-      by (Some input) None new reads c = absurd c
-      by (Some input) (Some text) None reads c = absurd reads
-      by (Some input) (Some text) (Some rest) reads c =
-          goes_on play h (executed input) (lines_within m rest) line old now after k j scene next halted was is e
-          (subst (λ ls. Progress play h (executed input) ls old now k scene was) reads.0 c) w
+      by : (start left new : Option (List ℕ)) → ReadsLine Line n left m new line → SpendsAlike n left m new → Come play h start old n left now k scene was → Come play h start old m new after j next is
+      by None left new reads alike c = tt
+      by (Some input) None new reads alike c = absurd c
+      by (Some input) (Some text) None reads alike c = absurd reads
+      by (Some input) (Some text) (Some rest) reads alike c = (
+        omega (arith, alike, c.0),
+        goes_on play h (executed input) (lines_within m rest) line old now after k j scene next halted was is e
+            (subst (λ ls. Progress play h (executed input) ls old now k scene was) reads.0 c.1) w,
+      )
 
   -- a line was refused for its length
-  pub long_line_on : (next : Scene P) (halted : Bool) (after : Option (List ℕ)) (j : ℕ) (is : Bool) → ReadsLine LineLong n left m new line → j ≡ k + 1
+  pub long_line_on : (next : Scene P) (halted : Bool) (after : Option (List ℕ)) (j : ℕ) (is : Bool) → ReadsLine LineLong n left m new line → SpendsAlike n left m new → j ≡ k + 1
       → next ≡ scene → halted ≡ false → Appends now after (line_fault_text k (bare 1)) → is ≡ true → Here → Come play h start old m new after j next is
-  long_line_on next halted after j is reads e kept going wrote refused c = by start left new reads c
+  long_line_on next halted after j is reads alike e kept going wrote refused c = by start left new reads alike c
     where
-      by : (start left new : Option (List ℕ)) → ReadsLine LineLong n left m new line → Come play h start old n left now k scene was → Come play h start old m new after j next is
-      by None left new reads c = tt
-      by (Some input) None new reads c = absurd c
-      by (Some input) (Some text) None reads c = absurd reads
-      by (Some input) (Some text) (Some rest) reads c =
-          long_on play h old now k scene was (executed input) (lines_within n text) (lines_within m rest) next halted after j is reads e kept going wrote refused c
+      by : (start left new : Option (List ℕ)) → ReadsLine LineLong n left m new line → SpendsAlike n left m new → Come play h start old n left now k scene was → Come play h start old m new after j next is
+      by None left new reads alike c = tt
+      by (Some input) None new reads alike c = absurd c
+      by (Some input) (Some text) None reads alike c = absurd reads
+      by (Some input) (Some text) (Some rest) reads alike c =
+          (omega (arith, alike, c.0), long_on play h old now k scene was (executed input) (lines_within n text) (lines_within m rest) next halted after j is reads e kept going wrote refused c.1)
 
   -- a line was cut short
   pub line_ends : (end : RunEnd) (stop : Stop) (after rest : Option (List ℕ)) (seen : History) (halted : Bool) → end ≡ end_of_stop stop → ReadsLine Line n left m new line
@@ -142,7 +144,7 @@ module _ {P : Type 0} (play : Play P) (h : History) (start old now : Option (Lis
       by (Some input) (Some text) None reads c = absurd reads
       by (Some input) (Some text) (Some rest_text) reads c =
           cut_ran stop play h input rest _ (stops_at play h (executed input) (lines_within m rest_text) line old now after k scene seen halted was
-          (subst (λ ls. Progress play h (executed input) ls old now k scene was) reads.0 c) w)
+          (subst (λ ls. Progress play h (executed input) ls old now k scene was) reads.0 c.1) w)
 
   pub long_line_ends : (end : RunEnd) (stop : Stop) (after rest : Option (List ℕ)) (halted : Bool) → end ≡ end_of_stop stop → ReadsLine LineLong n left m new line
       → AppendsPart now after (line_fault_text k (bare 1)) → Here → Has play h start old end rest after scene.history halted
@@ -153,7 +155,7 @@ module _ {P : Type 0} (play : Play P) (h : History) (start old now : Option (Lis
       by (Some input) None new reads c = absurd c
       by (Some input) (Some text) None reads c = absurd reads
       by (Some input) (Some text) (Some rest_text) reads c =
-          cut_ran stop play h input rest _ (long_cut play h old now k scene was (executed input) (lines_within n text) (lines_within m rest_text) halted after reads part c)
+          cut_ran stop play h input rest _ (long_cut play h old now k scene was (executed input) (lines_within n text) (lines_within m rest_text) halted after reads part c.1)
 
   -- a read failed
   pub read_ends : (rest : Option (List ℕ)) (halted : Bool) → Here → Has play h start old ends.ReadFault rest now scene.history halted
@@ -162,7 +164,7 @@ module _ {P : Type 0} (play : Play P) (h : History) (start old now : Option (Lis
       by : (start left : Option (List ℕ)) → Come play h start old n left now k scene was → Has play h start old ends.ReadFault rest now scene.history halted
       by None left c = tt
       by (Some input) None c = absurd c
-      by (Some input) (Some text) c = stops_short play h (executed input) (lines_within n text) old now k scene halted was c
+      by (Some input) (Some text) c = stops_short play h (executed input) (lines_within n text) old now k scene halted was c.1
 
   -- no line is left
   pub input_ends : (end : RunEnd) (held : List ℕ) (rest : Option (List ℕ)) (halted : Bool) → end ≡ end_of_input was → ReadsLine End n left m (prepend_known held rest) line
@@ -174,8 +176,8 @@ module _ {P : Type 0} (play : Play P) (h : History) (start old now : Option (Lis
       by (Some input) None rest reads c = absurd c
       by (Some input) (Some text) None reads c = absurd reads
       by (Some input) (Some text) (Some bytes) reads c =
-          let done = ends_whole play h (executed input) old now k scene halted was going (subst (λ ls. Progress play h (executed input) ls old now k scene was) reads.0 c) in
-          end_ran was play h input (Some bytes) _ (end_of_all held bytes reads.2) done.0 done.1
+          let done = ends_whole play h (executed input) old now k scene halted was going (subst (λ ls. Progress play h (executed input) ls old now k scene was) reads.0 c.1) in
+          end_ran was play h input (Some bytes) _ (record { within = omega (arith, ap length reads.1, c.0); at_end = end_of_all held bytes reads.2 }) done.0 done.1
 
   -- no line that ends within the limit is left
   pub long_input_ends : (rest : Option (List ℕ)) (halted : Bool) → ReadsLine InputLong n left m new line → halted ≡ false → Here → Has play h start old ends.InputLong rest now scene.history halted
@@ -186,4 +188,4 @@ module _ {P : Type 0} (play : Play P) (h : History) (start old now : Option (Lis
       by (Some input) None new reads c = absurd c
       by (Some input) (Some text) None reads c = absurd reads
       by (Some input) (Some text) (Some bytes) reads c =
-          (ends_whole play h (executed input) old now k scene halted was going (subst (λ ls. Progress play h (executed input) ls old now k scene was) reads.0 c)).0
+          (omega (arith, reads.1, c.0), (ends_whole play h (executed input) old now k scene halted was going (subst (λ ls. Progress play h (executed input) ls old now k scene was) reads.0 c.1)).0)

@@ -1,5 +1,5 @@
 -- How a run ends, and what it has then done.
-use Rattle.std.specs.Prelude.{◌≡◌, ℕ, Bool, true, false, ⊤, List, ◌++◌, Option, take}
+use Rattle.std.specs.Prelude.{◌≡◌, ℕ, ◌<◌, ◌≤◌, Bool, true, false, ⊤, List, ◌++◌, Option, length, take}
 use Rattle.std.specs.Io.KnownBytes.{Appends, IsAtEnd}
 use Rattle.ts_io.specs.Lines.{lines_within}
 use Rattle.ts_io.specs.declared.whole.TheConstants.{INPUT_LIMIT}
@@ -29,6 +29,11 @@ pub record Left : Type 0 where
   pub before : Option (List ℕ)
   pub after : Option (List ℕ)
 
+-- the input is within its limit, and was read to its end
+pub record ReadWhole (input : List ℕ) (rest : Option (List ℕ)) : Type 0 where
+  pub within : length input ≤ INPUT_LIMIT
+  pub at_end : IsAtEnd rest
+
 -- the lines were executed to the last, and their replies written
 pub record Executed {P : Type 0} (play : Play P) (h : History) (lines : List (List ℕ)) (left : Left) : Type 0 where
   pub history : left.seen ≡ history_of play h lines
@@ -50,13 +55,13 @@ pub record CutShort {P : Type 0} (play : Play P) (h : History) (lines : List (Li
 
 -- what a run that ended so over a history has read of an input, executed of its lines, and written of their replies
 abbrev pub Ran : {P : Type 0} → RunEnd → Play P → History → List ℕ → Option (List ℕ) → Left → Type 0
-Ran Done play h input rest left = IsAtEnd rest × Executed play h (executed input) left × (has_fault play h (executed input) ≡ false)
-Ran Refused play h input rest left = IsAtEnd rest × Executed play h (executed input) left × (has_fault play h (executed input) ≡ true)
+Ran Done play h input rest left = ReadWhole input rest × Executed play h (executed input) left × (has_fault play h (executed input) ≡ false)
+Ran Refused play h input rest left = ReadWhole input rest × Executed play h (executed input) left × (has_fault play h (executed input) ≡ true)
 Ran ReadFault play h input rest left = CutShort play h (executed input) left
 Ran WriteFault play h input rest left = CutShort play h (executed input) left
 Ran DiskFault play h input rest left = CutShort play h (executed input) left
 Ran NoMemory play h input rest left = CutShort play h (executed input) left
-Ran InputLong play h input rest left = Executed play h (executed input) left
+Ran InputLong play h input rest left = (INPUT_LIMIT < length input) × Executed play h (executed input) left
 
 -- ---- causes
 

@@ -39,6 +39,12 @@ Spends End n m line = ⊤
 Spends InputLong n m line = ⊤
 Spends ReadFault n m line = ⊤
 
+-- as many bytes are gone from the text to come as from those that were allowed
+abbrev pub SpendsAlike : ℕ → Option (List ℕ) → ℕ → Option (List ℕ) → Type 0
+SpendsAlike n None m new = ⊤
+SpendsAlike n (Some text) m None = ⊥
+SpendsAlike n (Some text) m (Some rest) = length text + m ≡ length rest + n
+
 -- whether another line may follow
 abbrev pub goes_on : LineEnd → Bool
 goes_on Line = true

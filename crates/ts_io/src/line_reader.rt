@@ -4,7 +4,7 @@ ghost use Rattle.std.specs.Io.KnownBytes.{Consumes, IsAtEnd, prepend_known};
 ghost use Rattle.ts_schema.specs.Faults.{Rose};
 ghost use Rattle.ts_io.specs.Source.{Fills, IfFailed};
 ghost use Rattle.ts_io.specs.Lines.{ended_lines, IsFirstEnd};
-ghost use Rattle.ts_io.specs.Reader.{ReadsLine, Spends, goes_on, IfReadFault};
+ghost use Rattle.ts_io.specs.Reader.{ReadsLine, Spends, SpendsAlike, goes_on, IfReadFault};
 ghost use Rattle.ts_io.specs.declared.whole.TheConstants.{INPUT_LIMIT};
 ghost use Rattle.ts_io.specs.declared.pieces.TheConstants.{PIECE};
 
@@ -105,6 +105,8 @@ impl Lines {
         ensures line { ReadsLine result self.old.allowed (prepend_known self.old.held (S.left source.old))
             self.new.allowed (prepend_known self.new.held (S.left source.new)) self.new.line }
         ensures spends { Spends result self.old.allowed self.new.allowed self.new.line }
+        ensures alike { SpendsAlike self.old.allowed (prepend_known self.old.held (S.left source.old))
+            self.new.allowed (prepend_known self.new.held (S.left source.new)) }
         ensures is_open { self.new.is_open ≡ goes_on result }
         ensures asks_late { ended_lines (take self.old.allowed self.old.held) ≢ [] → source.new ≡ source.old }
         ensures bounded { length self.new.held ≤ HELD_LIMIT }
@@ -124,6 +126,8 @@ impl Lines {
         ensures line { ReadsLine result self.old.allowed (prepend_known self.old.held (S.left source.old))
             self.new.allowed (prepend_known self.new.held (S.left source.new)) self.new.line }
         ensures spends { Spends result self.old.allowed self.new.allowed self.new.line }
+        ensures alike { SpendsAlike self.old.allowed (prepend_known self.old.held (S.left source.old))
+            self.new.allowed (prepend_known self.new.held (S.left source.new)) }
         ensures is_open { self.new.is_open ≡ goes_on result }
         ensures bounded { length self.new.held ≤ HELD_LIMIT }
         ensures never_falls { S.faults source.old ≤ S.faults source.new }
@@ -154,6 +158,8 @@ impl Lines {
         ensures line { ReadsLine result self.old.allowed (prepend_known self.old.held (S.left source.old))
             self.new.allowed (prepend_known self.new.held (S.left source.new)) self.new.line }
         ensures spends { Spends result self.old.allowed self.new.allowed self.new.line }
+        ensures alike { SpendsAlike self.old.allowed (prepend_known self.old.held (S.left source.old))
+            self.new.allowed (prepend_known self.new.held (S.left source.new)) }
         ensures is_open { self.new.is_open ≡ goes_on result }
         ensures bounded { length self.new.held ≤ HELD_LIMIT }
         ensures never_falls { S.faults source.old ≤ S.faults source.new }
@@ -185,6 +191,7 @@ impl Lines {
         ensures line { (start left : Option (List ℕ)) → Consumes start (prepend_known self.old.held left) []
             → ReadsLine result self.old.allowed start self.new.allowed (prepend_known self.new.held left) self.new.line }
         ensures spends { Spends result self.old.allowed self.new.allowed self.new.line }
+        ensures alike { (left : Option (List ℕ)) → SpendsAlike self.old.allowed (prepend_known self.old.held left) self.new.allowed (prepend_known self.new.held left) }
         ensures is_open { self.new.is_open ≡ goes_on result }
         ensures not_failed { IfReadFault result ⊥ }
         ensures bounded { length self.new.held ≤ HELD_LIMIT }
@@ -206,6 +213,7 @@ impl Lines {
         ensures line { (start left : Option (List ℕ)) → IsAtEnd left → Consumes start (prepend_known self.old.held left) []
             → ReadsLine result self.old.allowed start self.new.allowed (prepend_known self.new.held left) self.new.line }
         ensures spends { Spends result self.old.allowed self.new.allowed self.new.line }
+        ensures alike { (left : Option (List ℕ)) → SpendsAlike self.old.allowed (prepend_known self.old.held left) self.new.allowed (prepend_known self.new.held left) }
         ensures is_open { self.new.is_open ≡ goes_on result }
         ensures not_failed { IfReadFault result ⊥ }
         ensures bounded { length self.new.held ≤ HELD_LIMIT }

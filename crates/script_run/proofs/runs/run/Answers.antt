@@ -32,7 +32,7 @@ loop-stage-preserved-in-Ok-play g c = record {
       c.line.result.now c.loop-stage.stage.line (scene_of g.A.Actor.places (g.B.Backend.seen c.loop-stage.backend) c.loop-stage.stage.cast.entries) c.loop-stage.stage.refused
       (scene_of g.A.Actor.places (g.B.Backend.seen c.play.new.backend) c.play.new.self.cast.entries) (g.B.Backend.halted c.play.new.backend) (g.K.Sink.written c.play.new.sink) c.play.new.self.line
       c.play.new.self.refused (read_as c.loop-stage.lines.allowed c.next.new.self.allowed _ _ c.next.new.self.line c.line.result.now c.line.ensures.line c.in-Line.ensures.line)
-      c.in-Ok-play.ensures.counted c.in-Ok-play.ensures.written c.loop-stage.invariant.progress;
+      c.in-Line.ensures.alike c.in-Ok-play.ensures.counted c.in-Ok-play.ensures.written c.loop-stage.invariant.progress;
   cast = c.in-Ok-play.ensures.cast;
   going = c.in-Ok-play.ensures.written.going;
   is_open = c.in-Line.ensures.is_open;
@@ -60,7 +60,7 @@ loop-stage-preserved g c =
           (prepend_known c.loop-stage.lines.held (g.S.Source.left c.loop-stage.source)) (prepend_known c.next.new.self.held (g.S.Source.left c.next.new.source))
           c.next.new.self.line c.loop-stage.stage.line (scene_of g.A.Actor.places (g.B.Backend.seen c.loop-stage.backend) c.loop-stage.stage.cast.entries) c.loop-stage.stage.refused
           (scene_of g.A.Actor.places (g.B.Backend.seen c.loop-stage.backend) c.refuse_long.new.self.cast.entries) (g.B.Backend.halted c.loop-stage.backend) (g.K.Sink.written c.refuse_long.new.sink)
-          c.refuse_long.new.self.line c.refuse_long.new.self.refused c.in-LineLong.ensures.line c.in-Ok-refuse_long.ensures.counted scene c.loop-stage.invariant.going
+          c.refuse_long.new.self.line c.refuse_long.new.self.refused c.in-LineLong.ensures.line c.in-LineLong.ensures.alike c.in-Ok-refuse_long.ensures.counted scene c.loop-stage.invariant.going
           c.in-Ok-refuse_long.ensures.wrote c.in-Ok-refuse_long.ensures.refused c.loop-stage.invariant.progress;
       cast = subst (λ cast. IsCast g.A.Actor.named g.A.Actor.holds (g.B.Backend.seen c.loop-stage.backend) cast.entries) (sym kept) c.loop-stage.invariant.cast;
       going = c.loop-stage.invariant.going;
