@@ -1,0 +1,12 @@
+pub mod Lists
+pub mod HistorySteps
+pub mod Timed
+pub mod PieceLaws
+pub mod MarkLaws
+pub mod EdgeLaws
+pub mod AskedLaws
+pub mod AnswerLaws
+pub mod ReadSteps
+pub mod LiveLaws
+pub mod HyperLaws
+pub mod StoreLaws

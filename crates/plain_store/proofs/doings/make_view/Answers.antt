@@ -1,0 +1,19 @@
+use Rattle.std.proofs.Common.{◌≡◌, None, suc, length, sym, ap, ◌∙◌}
+use Rattle.ts_model.specs.declared.events.Event.TheVariants.{View}
+use Rattle.ts_model.specs.History.{position}
+use Rattle.ts_model.specs.Roster.{is_taken, roster}
+use Rattle.ts_model.specs.Calls.{making_view}
+use Rattle.ts_model.proofs.MadeLaws.{calls_make_allowed}
+use Rattle.plain_store.specs.Doings.{relation_refusal}
+use Rattle.plain_store.specs.Histories.{history_of}
+use Rattle.plain_store.proofs.StoreLaws.{does_done, number_is, relation_made}
+use Rattle.plain_store.proofs.doings.make_view.Goals as goal
+
+pub returns-in-Ok-push : goal.returns-in-Ok-push
+returns-in-Ok-push c =
+    let h = history_of c.args.events.now.items in
+    let none : None ≡ relation_refusal (is_taken (roster (history_of c.args.events.now.items)) c.args.def.name) (length (roster (history_of c.args.events.now.items)).views) (history_of c.args.events.now.items) =
+    sym c.in-None.is ∙ c.in-Ok.ensures {u = tt} ∙ ap (λ es. relation_refusal (is_taken (roster (history_of es)) c.args.def.name) (length (roster (history_of es)).views) (history_of es)) c.as_slice.ensures.value in
+    does_done (making_view c.args.def) c.args.events.now.items c.push.new.events.items (View c.args.def) (suc (position h)) c.in-Ok-push.number
+    (relation_made (is_taken (roster h) c.args.def.name) (length (roster h).views) h (View c.args.def) none)
+    (calls_make_allowed.views c.args.def h c.requires.sound) c.requires.allowed (c.in-Ok-push.ensures {u = tt}).pushed (number_is c.args.events.now.items c.in-Ok-push.number (c.in-Ok-push.ensures {u = tt}).number)

@@ -1,0 +1,9 @@
+pub mod Histories
+pub mod Marks
+pub mod Near
+pub mod Pieces
+pub mod Pasts
+pub mod Shown
+pub mod Live
+pub mod Shots
+pub mod Doings
