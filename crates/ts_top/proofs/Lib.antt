@@ -1,9 +1,1 @@
-mod EndingLemmas
-mod LineLemmas
-mod NumberLemmas
-mod RollupLaws
-mod RollupLemmas
-mod ScriptLemmas
-mod StatementLaws
-mod TextLemmas
-mod Writing
+mod EndingLaws

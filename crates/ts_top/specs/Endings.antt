@@ -1,12 +1,16 @@
 -- How the top call ends, and what it has then read and written.
-use Rattle.std.specs.Prelude.{◌≡◌, ℕ, ◌<◌, ◌≤◌, Bool, true, false, ⊤, List, Option, length}
-use Rattle.std.specs.Io.KnownBytes.{Appends, IsAtEnd}
-use Rattle.ts_io.specs.Lines.{lines_within}
+use Rattle.std.specs.Prelude.{◌≡◌, ℕ, ◌<◌, Bool, true, false, ⊤, List, Option, length}
+use Rattle.std.specs.Io.KnownBytes.{Appends}
 use Rattle.ts_io.specs.Whole.{AppendsPart}
 use Rattle.ts_io.specs.declared.whole.TheConstants.{INPUT_LIMIT}
+use Rattle.ts_model.specs.History.{start}
+use Rattle.ts_sessions.specs.Script.{Play}
+use Rattle.ts_sessions.specs.Step.{Places, no_places, step}
+use Rattle.script_run.specs.Runs.{ReadWhole, executed, has_fault, output_of}
+use Rattle.script_run.specs.declared.ends.RunEnd.{RunEnd}
+use Rattle.script_run.specs.declared.ends.RunEnd.TheVariants as ends
 use Rattle.ts_top.specs.declared.endings.Status.{Status}
 use Rattle.ts_top.specs.declared.endings.Status.TheVariants.{Done, Refused, BadWords, ReadFault, WriteFault, NoMemory, InputLong}
-use Rattle.ts_top.specs.Replies.{replies_to, has_fault}
 
 -- the exit status of a program that ends so
 abbrev pub exit_status : Status → ℕ
@@ -18,49 +22,37 @@ exit_status WriteFault = 4
 exit_status NoMemory = 7
 exit_status InputLong = 8
 
--- the lines of an input that are executed: those that end within the limit
-abbrev pub executed : List ℕ → List (List ℕ)
-executed input = lines_within INPUT_LIMIT input
+-- sessions play by their step, and begin in no block
+abbrev pub session_play : Play Places
+session_play = record { opening = no_places; does = step }
 
--- the lines were executed to the last, and a reply is a FAULT or none is
-pub record Answered (lines : List (List ℕ)) (fault : Bool) (old new : Option (List ℕ)) : Type 0 where
-  pub refused : has_fault lines ≡ fault
-  pub wrote : Appends old new (replies_to lines)
+-- what a script writes: the replies of its lines that end within the limit, over the empty history
+abbrev pub replies_to : List ℕ → List ℕ
+replies_to input = output_of session_play start (executed input)
 
--- the input is within its limit, and was read to its end
-pub record ReadWhole (input : List ℕ) (left : Option (List ℕ)) : Type 0 where
-  pub within : length input ≤ INPUT_LIMIT
-  pub at_end : IsAtEnd left
+-- one of its replies is a FAULT
+abbrev pub is_faulted : List ℕ → Bool
+is_faulted input = has_fault session_play start (executed input)
 
--- what a run that ended so has read of an input, and written of the replies to its lines
+-- how the call ends whose script ended so; a store in memory has no disk that could fail
+abbrev pub status_of : RunEnd → Status
+status_of ends.Done = Done
+status_of ends.Refused = Refused
+status_of ends.ReadFault = ReadFault
+status_of ends.WriteFault = WriteFault
+status_of ends.DiskFault = NoMemory
+status_of ends.NoMemory = NoMemory
+status_of ends.InputLong = InputLong
+
+-- what a run that ended so has read of a script, and written of its replies
 abbrev pub Ran : Status → List ℕ → Option (List ℕ) → Option (List ℕ) → Option (List ℕ) → Type 0
-Ran Done input left old new = ReadWhole input left × Answered (executed input) false old new
-Ran Refused input left old new = ReadWhole input left × Answered (executed input) true old new
+Ran Done input left old new = ReadWhole input left × (is_faulted input ≡ false) × Appends old new (replies_to input)
+Ran Refused input left old new = ReadWhole input left × (is_faulted input ≡ true) × Appends old new (replies_to input)
 Ran BadWords input left old new = ⊤
-Ran ReadFault input left old new = AppendsPart old new (replies_to (executed input))
-Ran WriteFault input left old new = AppendsPart old new (replies_to (executed input))
-Ran NoMemory input left old new = AppendsPart old new (replies_to (executed input))
-Ran InputLong input left old new = (INPUT_LIMIT < length input) × Appends old new (replies_to (executed input))
-
--- what a run of lines that ended so has written, where the input was read to its end
-abbrev pub Wrote : Status → List (List ℕ) → Option (List ℕ) → Option (List ℕ) → Type 0
-Wrote Done lines old new = Answered lines false old new
-Wrote Refused lines old new = Answered lines true old new
-Wrote BadWords lines old new = ⊥
-Wrote ReadFault lines old new = ⊥
-Wrote WriteFault lines old new = AppendsPart old new (replies_to lines)
-Wrote NoMemory lines old new = AppendsPart old new (replies_to lines)
-Wrote InputLong lines old new = ⊥
-
--- and where the input went on beyond the limit
-abbrev pub WroteFront : Status → List (List ℕ) → Option (List ℕ) → Option (List ℕ) → Type 0
-WroteFront Done lines old new = ⊥
-WroteFront Refused lines old new = ⊥
-WroteFront BadWords lines old new = ⊥
-WroteFront ReadFault lines old new = ⊥
-WroteFront WriteFault lines old new = AppendsPart old new (replies_to lines)
-WroteFront NoMemory lines old new = AppendsPart old new (replies_to lines)
-WroteFront InputLong lines old new = Appends old new (replies_to lines)
+Ran ReadFault input left old new = AppendsPart old new (replies_to input)
+Ran WriteFault input left old new = AppendsPart old new (replies_to input)
+Ran NoMemory input left old new = AppendsPart old new (replies_to input)
+Ran InputLong input left old new = (INPUT_LIMIT < length input) × Appends old new (replies_to input)
 
 -- P holds where the source failed
 abbrev pub IfReadFault : Status → Type 0 → Type 0

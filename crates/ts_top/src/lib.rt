@@ -1,17 +1,18 @@
 //! The top call: from the words of the command line and the bytes of a script to the bytes of its
 //! replies.
+//!
+//! - `commands`: what words ask for.
+//! - `run`: the top call.
+//! - `speakers`: the sessions of its scripts, over the store that it keeps.
+//! - `endings`: how a call ended.
 #![tactic(auto)]
 
 mod commands;
 mod endings;
-mod fixed;
-mod laws;
-mod lines;
 mod run;
-mod scripts;
+mod speakers;
 
 pub use endings::Status;
-pub use laws::{rollup_law, statement_law};
 pub use run::run_words;
 
 #[cfg(test)]
