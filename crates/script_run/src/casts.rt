@@ -46,9 +46,11 @@ where
     requires within { skip ≤ length text.now }
     requires cast { IsCast A.named A.holds (B.seen backend.old) cast.old.entries }
     ensures plays { let scene = scene_of A.places (B.seen backend.old) cast.old.entries in
-        LinePlayed result (plays_as A.play scene name.now text.now skip (places_of name.now scene.cast)) (B.seen backend.old) (scene_of A.places (B.seen backend.new) cast.new.entries) (B.halted backend.new) }
+        LinePlayed result (plays_as A.play scene name.now text.now skip (places_of name.now scene.cast))
+        (B.seen backend.old) (scene_of A.places (B.seen backend.new) cast.new.entries) (B.halted backend.new) }
     ensures cast { IsCast A.named A.holds (B.seen backend.new) cast.new.entries }
-    ensures tallied { Tallied B.alone (B.first_faults backend.old) (B.faults backend.old) (is_disk_fault_end result) (B.first_faults backend.new) (B.faults backend.new) }
+    ensures tallied { Tallied B.alone (B.first_faults backend.old) (B.faults backend.old) (is_disk_fault_end result)
+        (B.first_faults backend.new) (B.faults backend.new) }
 {
     match cast.get_index_of(name) {
         Some(place) => {
@@ -83,9 +85,11 @@ where
     requires cast { IsCast A.named A.holds (B.seen backend.old) cast.old.entries }
     requires absent { places_of name.now (cast_of A.places cast.old.entries) ≡ None }
     ensures plays { let scene = scene_of A.places (B.seen backend.old) cast.old.entries in
-        LinePlayed result (plays_as A.play scene name.now text.now skip None) (B.seen backend.old) (scene_of A.places (B.seen backend.new) cast.new.entries) (B.halted backend.new) }
+        LinePlayed result (plays_as A.play scene name.now text.now skip None)
+        (B.seen backend.old) (scene_of A.places (B.seen backend.new) cast.new.entries) (B.halted backend.new) }
     ensures cast { IsCast A.named A.holds (B.seen backend.new) cast.new.entries }
-    ensures tallied { Tallied B.alone (B.first_faults backend.old) (B.faults backend.old) (is_disk_fault_end result) (B.first_faults backend.new) (B.faults backend.new) }
+    ensures tallied { Tallied B.alone (B.first_faults backend.old) (B.faults backend.old) (is_disk_fault_end result)
+        (B.first_faults backend.new) (B.faults backend.new) }
 {
     let session = match session_name(alloc, name) {
         Ok(session) => session,
@@ -121,9 +125,11 @@ where
     requires few { index_map_len cast.old < 64 }
     requires cast { IsCast A.named A.holds (B.seen backend.old) cast.old.entries }
     ensures plays { let scene = scene_of A.places (B.seen backend.old) cast.old.entries in
-        LinePlayed result (takes_turn scene session (A.play.does A.play.opening text.now skip)) (B.seen backend.old) (scene_of A.places (B.seen backend.new) cast.new.entries) (B.halted backend.new) }
+        LinePlayed result (takes_turn scene session (A.play.does A.play.opening text.now skip))
+        (B.seen backend.old) (scene_of A.places (B.seen backend.new) cast.new.entries) (B.halted backend.new) }
     ensures cast { IsCast A.named A.holds (B.seen backend.new) cast.new.entries }
-    ensures tallied { Tallied B.alone (B.first_faults backend.old) (B.faults backend.old) (is_disk_fault_end result) (B.first_faults backend.new) (B.faults backend.new) }
+    ensures tallied { Tallied B.alone (B.first_faults backend.old) (B.faults backend.old) (is_disk_fault_end result)
+        (B.first_faults backend.new) (B.faults backend.new) }
 {
     let number = cast.len() as u32;
     let key = match make_room(alloc, cast, &session) {

@@ -34,9 +34,12 @@ where
     requires going { B.halted backend.old ≡ false }
     requires short { length line.now ≤ 65536 }
     requires cast { IsCast A.named A.holds (B.seen backend.old) cast.old.entries }
-    ensures plays { LinePlayed result (plays A.play (scene_of A.places (B.seen backend.old) cast.old.entries) number line.now) (B.seen backend.old) (scene_of A.places (B.seen backend.new) cast.new.entries) (B.halted backend.new) }
+    ensures plays { LinePlayed result
+        (plays A.play (scene_of A.places (B.seen backend.old) cast.old.entries) number line.now)
+        (B.seen backend.old) (scene_of A.places (B.seen backend.new) cast.new.entries) (B.halted backend.new) }
     ensures cast { IsCast A.named A.holds (B.seen backend.new) cast.new.entries }
-    ensures tallied { Tallied B.alone (B.first_faults backend.old) (B.faults backend.old) (is_disk_fault_end result) (B.first_faults backend.new) (B.faults backend.new) }
+    ensures tallied { Tallied B.alone (B.first_faults backend.old) (B.faults backend.old) (is_disk_fault_end result)
+        (B.first_faults backend.new) (B.faults backend.new) }
 {
     match split_line(line) {
         LineKind::Blank => silence(alloc),
@@ -75,9 +78,11 @@ where
     requires cast { IsCast A.named A.holds (B.seen backend.old) cast.old.entries }
     ensures plays { let scene = scene_of A.places (B.seen backend.old) cast.old.entries in
         let name = session_name line.now name_len skip in
-        LinePlayed result (plays_as A.play scene name (take end line.now) skip (places_of name scene.cast)) (B.seen backend.old) (scene_of A.places (B.seen backend.new) cast.new.entries) (B.halted backend.new) }
+        LinePlayed result (plays_as A.play scene name (take end line.now) skip (places_of name scene.cast))
+        (B.seen backend.old) (scene_of A.places (B.seen backend.new) cast.new.entries) (B.halted backend.new) }
     ensures cast { IsCast A.named A.holds (B.seen backend.new) cast.new.entries }
-    ensures tallied { Tallied B.alone (B.first_faults backend.old) (B.faults backend.old) (is_disk_fault_end result) (B.first_faults backend.new) (B.faults backend.new) }
+    ensures tallied { Tallied B.alone (B.first_faults backend.old) (B.faults backend.old) (is_disk_fault_end result)
+        (B.first_faults backend.new) (B.faults backend.new) }
 {
     let from = skip as usize - 1 - name_len as usize;
     let name = name_at(line, from, name_len as usize);

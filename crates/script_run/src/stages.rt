@@ -79,8 +79,13 @@ impl<A> Stage<A> {
         requires short { length line.now ≤ 65536 }
         requires room { self.old.line + 1 < 2 ^ 64 }
         requires cast { IsCast A.named A.holds (B.seen backend.old) self.old.cast.entries }
-        ensures written { OnOk result (LineWritten (plays A.play (scene_of A.places (B.seen backend.old) self.old.cast.entries) self.old.line line.now) (scene_of A.places (B.seen backend.new) self.new.cast.entries) (B.halted backend.new) (K.written sink.old) (K.written sink.new) self.old.refused self.new.refused) }
-        ensures cut { OnErr result (LineCut (plays A.play (scene_of A.places (B.seen backend.old) self.old.cast.entries) self.old.line line.now) (B.seen backend.old) (B.seen backend.new) (K.written sink.old) (K.written sink.new)) }
+        ensures written { OnOk result (LineWritten
+            (plays A.play (scene_of A.places (B.seen backend.old) self.old.cast.entries) self.old.line line.now)
+            (scene_of A.places (B.seen backend.new) self.new.cast.entries) (B.halted backend.new)
+            (K.written sink.old) (K.written sink.new) self.old.refused self.new.refused) }
+        ensures cut { OnErr result (LineCut
+            (plays A.play (scene_of A.places (B.seen backend.old) self.old.cast.entries) self.old.line line.now)
+            (B.seen backend.old) (B.seen backend.new) (K.written sink.old) (K.written sink.new)) }
         ensures counted { OnOk result (self.new.line ≡ self.old.line + 1) }
         ensures cast { IsCast A.named A.holds (B.seen backend.new) self.new.cast.entries }
         ensures writes_on { K.faults sink.old ≤ K.faults sink.new }
