@@ -23,9 +23,13 @@ mod rosters;
 mod rows;
 mod scratch;
 mod snapshots;
+pub mod sound;
 mod store;
 mod windows;
 
 pub use jobs::PlainJob;
 pub use snapshots::PlainShot;
 pub use store::PlainStore;
+
+#[cfg(test)]
+mod tests;
