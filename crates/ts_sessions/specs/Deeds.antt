@@ -27,3 +27,9 @@ abbrev pub ending_as : {A B : Type 0} → (A → B) → Deed A → Deed B
 ending_as f (looks g) = looks (λ h. ending_as f (g h))
 ending_as f (adds e next stopped) = adds e (ending_as f next) (ending_as f stopped)
 ending_as f (ends a) = ends (f a)
+
+-- one deed, and then another by what the first ended with
+abbrev pub followed_by : {A B : Type 0} → Deed A → (A → Deed B) → Deed B
+followed_by (looks g) k = looks (λ h. followed_by (g h) k)
+followed_by (adds e next stopped) k = adds e (followed_by next k) (followed_by stopped k)
+followed_by (ends a) k = k a

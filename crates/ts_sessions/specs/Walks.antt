@@ -1,6 +1,6 @@
 -- How a deed goes over a store that others may change too, and what it comes to over one that is alone.
-use Rattle.std.specs.Prelude.{◌≡◌, ℕ, suc, Bool, true, false, List, [], ◌∷◌, ◌++◌, ◌⊎◌}
-use Rattle.ts_model.specs.History.{History, ◌▸◌, position}
+use Rattle.std.specs.Prelude.{◌≡◌, ℕ, suc, ◌≤◌, Bool, true, false, List, [], ◌∷◌, ◌++◌, ◌⊎◌, Option, Some}
+use Rattle.ts_model.specs.History.{History, ◌▸◌, event_at, position, prefix}
 use Rattle.ts_model.specs.Calls.{Found, Leaves}
 use Rattle.ts_sessions.specs.Deeds.{Deed, looks, adds, ends}
 
@@ -35,3 +35,16 @@ abbrev pub ending : {A : Type 0} → Deed A → History → A
 ending (looks f) h = ending (f h) h
 ending (adds e next stopped) h = ending next (h ▸ e)
 ending (ends a) h = a
+
+-- ---- over a whole history
+
+-- what a deed comes to over a whole history, which stopped at a position if it did, by the positions of its looks, the last of which was at `at`: they never fall, and each event is the one directly after the last look,
+-- unless the store had stopped there
+abbrev pub SaidAt : {A : Type 0} → History → Option ℕ → ℕ → Deed A → List ℕ → A → Type 0
+SaidAt all stop at (looks f) [] y = ⊥
+SaidAt all stop at (looks f) (p ∷ ps) y = (at ≤ p) × (p ≤ position all) × SaidAt all stop p (f (prefix all p)) ps y
+SaidAt all stop at (adds e next stopped) ps y =
+    ((stop ≡ Some at) × SaidAt all stop at stopped ps y)
+    ⊎ ((event_at all (suc at) ≡ Some e) × SaidAt all stop (suc at) next ps y)
+SaidAt all stop at (ends a) [] y = y ≡ a
+SaidAt all stop at (ends a) (p ∷ ps) y = ⊥

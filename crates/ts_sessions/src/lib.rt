@@ -9,12 +9,14 @@
 //! - `queries`: queries.
 //! - `endings`: how statements end.
 //! - `replies`: what a session answers to a line.
+//! - `laws`: laws of what lines do.
 #![tactic(auto)]
 
 mod actors;
 mod endings;
 mod events;
 mod kinds;
+pub mod laws;
 mod looks;
 mod queries;
 mod replies;
