@@ -282,3 +282,49 @@ fn a_fault_leaves_a_prefix(rt: HostRuntime) -> Result<(), Fail> {
     }
     Ok(())
 }
+
+#[test]
+fn an_input_may_have_67108864_bytes(rt: HostRuntime) -> Result<(), Fail> {
+    // Blank lines that fill the limit, and a byte more.
+    for (more, want) in [(0, Status::Done), (1, Status::InputLong)] {
+        let mut script = Vec::new(rt.alloc());
+        for _ in 0..1024 {
+            script.extend_from_slice(&vec![in rt.alloc(); b' '; 65_535]?)?;
+            script.push(b'\n')?;
+        }
+        script.extend_from_slice(&vec![in rt.alloc(); b'\n'; more]?)?;
+        assert!(rt; replies(&rt, &script, want, b"")?);
+    }
+    Ok(())
+}
+
+#[test]
+fn a_line_may_have_65536_bytes(rt: HostRuntime) -> Result<(), Fail> {
+    // How many blanks stand behind the statement of nine bytes.
+    let rows: [(usize, &[u8]); 2] = [
+        (65_536 - 9, b"a: FAULT E18 no_block\n"),
+        (65_536 - 8, b"line 1: FAULT E01 line_long\n"),
+    ];
+    for (blanks, text) in rows {
+        let mut script = b"a: COMMIT".to_vec(rt.alloc())?;
+        script.extend_from_slice(&vec![in rt.alloc(); b' '; blanks]?)?;
+        assert!(rt; replies(&rt, &script, Status::Refused, text)?);
+    }
+    Ok(())
+}
+
+#[test]
+fn each_ending_has_its_exit_status(rt: HostRuntime) {
+    let rows = [
+        (Status::Done, 0),
+        (Status::Refused, 1),
+        (Status::BadWords, 2),
+        (Status::ReadFault, 3),
+        (Status::WriteFault, 4),
+        (Status::NoMemory, 7),
+        (Status::InputLong, 8),
+    ];
+    for (status, code) in rows {
+        assert_eq!(rt; status.code(), code);
+    }
+}
