@@ -1,0 +1,4 @@
+pub mod ActLaws
+pub mod Images
+pub mod PickLaws
+pub mod Replays

@@ -1,0 +1,34 @@
+-- What the calls of a disk do to the bytes that it tells, and what stays.
+use Rattle.std.specs.Prelude.{◌≡◌, ℕ, ◌≤◌, List, Option, None, Some, IsSome, IfSome, Result, MatchResult, length, take, drop}
+use Rattle.ts_schema.specs.Faults.{Rose}
+use Rattle.ts_disk.specs.CrashImage.{written}
+
+-- the count of faults stays where a call succeeds, and rises where it fails
+abbrev pub Counted : {T E : Type 0} → ℕ → ℕ → Result T E → Type 0
+Counted before now result = MatchResult result (λ _. now ≡ before) (λ _. Rose before now)
+
+-- told bytes have n bytes
+abbrev pub HasLength : Option (List ℕ) → ℕ → Type 0
+HasLength told n = IfSome told (λ file. n ≡ length file)
+
+-- told bytes hold a range from this place on
+abbrev pub HasRange : Option (List ℕ) → ℕ → Type 0
+HasRange told end = IfSome told (λ file. end ≤ length file)
+
+-- these are the told bytes from this place on
+abbrev pub IsRange : Option (List ℕ) → ℕ → List ℕ → Type 0
+IsRange told at bytes = IfSome told (λ file. bytes ≡ take (length bytes) (drop at file))
+
+-- a write puts its piece at its place; one that failed leaves other bytes, which are told too; what isn't told stays so
+abbrev pub Writes : {T E : Type 0} → Option (List ℕ) → ℕ → List ℕ → Result T E → Option (List ℕ) → Type 0
+Writes None at piece result new = new ≡ None
+Writes (Some file) at piece result new = MatchResult result (λ _. new ≡ Some (written file at piece)) (λ _. IsSome new)
+
+-- the bytes, the moment, and what a crash may leave or might have left, stay as they were
+pub record Keeps {D : Type 0} (bytes : D → Option (List ℕ)) (may_leave : D → List ℕ → Type 0) (moment : D → ℕ) (left_since : D → ℕ → List ℕ → Type 0) (old new : D) : Type 0 where
+  pub same : bytes new ≡ bytes old
+  pub at_moment : moment new ≡ moment old
+  pub leaves : (c : List ℕ) → may_leave new c → may_leave old c
+  pub left : (c : List ℕ) → may_leave old c → may_leave new c
+  pub past : (t : ℕ) (c : List ℕ) → left_since new t c → left_since old t c
+  pub past_left : (t : ℕ) (c : List ℕ) → left_since old t c → left_since new t c

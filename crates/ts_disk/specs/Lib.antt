@@ -1,0 +1,6 @@
+pub mod CrashImage
+pub mod Disk
+pub mod FailDisk
+pub mod ImageLaws
+pub mod MemDisk
+pub mod Picks

@@ -1,0 +1,20 @@
+//! What is done to a disk.
+use ts_schema::Seq;
+
+/// Bytes that were written at a place.
+#[derive(Drop, Debug)]
+pub struct Piece {
+    /// The place of the first byte, counted from 0.
+    pub at: u64,
+    /// The bytes.
+    pub bytes: Seq<u8>,
+}
+
+/// A call that changed a disk, or what a crash may leave of it.
+#[derive(Drop, Debug)]
+pub enum Act {
+    /// Bytes were written.
+    Write(Piece),
+    /// All bytes were put onto the disk.
+    Sync,
+}

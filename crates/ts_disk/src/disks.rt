@@ -1,0 +1,82 @@
+//! What a disk promises.
+ghost use Rattle.std.specs.Prelude.{◌≡◌, ◌⊎◌, ℕ, ◌+◌, ◌≤◌, List, Option, length, IfOk, OnOk, IfSome};
+ghost use Rattle.ts_disk.specs.CrashImage.{Torn, Follows, LeavesNoMore, Only, Elapses};
+ghost use Rattle.ts_disk.specs.Disk.{Counted, HasLength, HasRange, IsRange, Writes, Keeps};
+
+/// No disk has more bytes.
+pub const MOST_BYTES: u64 = 1 << 62;
+
+/// A call of a disk failed, and its count of faults rose.
+#[derive(Clone, Copy, Debug, PartialEq, Eq)]
+pub struct Failed;
+
+/// Bytes by their places, of which a crash may lose what wasn't synced, with a count of its faults.
+///
+/// Between two syncs each written range, and the part past the old end, may hold any bytes after a
+/// crash, and the length may be any number from the old to the new one. Bytes outside stay. After a
+/// sync that succeeds a crash leaves what a read gives.
+pub trait Disk {
+    /// The bytes that reads give, where they are told.
+    ghost bytes: { Self → Option (List ℕ) };
+
+    /// What a crash at this moment may leave.
+    ghost may_leave: { Self → List ℕ → Type 0 };
+
+    /// The moment, as a number that doesn't fall.
+    ghost moment: { Self → ℕ };
+
+    /// What a crash at some moment from that one on might have left, during a call or between two.
+    ghost left_since: { Self → ℕ → List ℕ → Type 0 };
+
+    /// How many calls have failed.
+    ghost faults: { Self → ℕ };
+
+    /// How many calls have failed. At `u64::MAX` the count stands still.
+    fn faults(&self) -> u64
+        ensures { result ≡ faults self.now };
+
+    /// How many bytes there are.
+    fn len(&mut self) -> Result<u64, Failed>
+        ensures length { IfOk result (λ n. HasLength (bytes self.old) n) }
+        ensures most { IfOk result (λ n. n ≤ MOST_BYTES) }
+        ensures kept { Keeps bytes may_leave moment left_since self.old self.new }
+        ensures counted { Counted (faults self.old) (faults self.new) result };
+
+    /// Reads the bytes from place `at` on, as many as there is room for.
+    fn read_at(&mut self, at: u64, into: &mut [u8]) -> Result<(), Failed>
+        requires most { at + length into.old ≤ MOST_BYTES }
+        requires range { HasRange (bytes self.old) (at + length into.old) }
+        ensures bytes { OnOk result (IsRange (bytes self.old) at into.new) }
+        ensures kept { Keeps bytes may_leave moment left_since self.old self.new }
+        ensures counted { Counted (faults self.old) (faults self.new) result };
+
+    /// Writes bytes at place `at`, over what is there and past the end. A write that would end above
+    /// `MOST_BYTES` fails.
+    fn write_at(&mut self, at: u64, piece: &[u8]) -> Result<(), Failed>
+        requires most { at ≤ MOST_BYTES }
+        requires range { HasRange (bytes self.old) at }
+        ensures written { Writes (bytes self.old) at piece.now result (bytes self.new) }
+        ensures most { OnOk result (at + length piece.now ≤ MOST_BYTES) }
+        ensures crash { Follows (Torn at (length piece.now)) (may_leave self.old) (may_leave self.new) }
+        ensures time { Elapses (moment self.old) (moment self.new) (left_since self.old) (left_since self.new)
+            (may_leave self.new) }
+        ensures counted { Counted (faults self.old) (faults self.new) result };
+
+    /// Puts all that was written onto the disk. Once this succeeds, a crash leaves what a read gives.
+    fn sync(&mut self) -> Result<(), Failed>
+        ensures same { bytes self.new ≡ bytes self.old }
+        ensures durable { OnOk result (IfSome (bytes self.old) (λ file. Only file (may_leave self.new))) }
+        ensures crash { LeavesNoMore (may_leave self.old) (may_leave self.new) }
+        ensures time { Elapses (moment self.old) (moment self.new) (left_since self.old) (left_since self.new)
+            (may_leave self.new) }
+        ensures counted { Counted (faults self.old) (faults self.new) result };
+
+    /// This moment is one of those since an earlier one.
+    ghost counts_now: { (disk : Self) (t : ℕ) (c : List ℕ) → t ≤ moment disk → may_leave disk c → left_since disk t c };
+
+    /// Since this moment there is no other.
+    ghost only_now: { (disk : Self) (c : List ℕ) → left_since disk (moment disk) c → may_leave disk c };
+
+    /// A crash may leave what a read gives.
+    ghost shows_an_image: { (disk : Self) → IfSome (bytes disk) (may_leave disk) };
+}

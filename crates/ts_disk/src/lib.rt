@@ -1,0 +1,20 @@
+//! A disk as a journal sees it: what reads give, what a crash at each moment may leave, and a count of
+//! its faults; in memory, in memory with calls that fail, and over a real file.
+#![tactic(auto)]
+
+mod acts;
+mod disks;
+mod edits;
+mod fail_disks;
+mod file_disks;
+mod mem_disks;
+mod picks;
+
+pub use acts::{Act, Piece};
+pub use disks::{Disk, Failed, MOST_BYTES};
+pub use fail_disks::{FailDisk, Kind, Plan};
+pub use file_disks::FileDisk;
+pub use mem_disks::MemDisk;
+
+#[cfg(test)]
+mod tests;
