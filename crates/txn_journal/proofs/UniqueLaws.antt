@@ -1,0 +1,93 @@
+-- What a file stands for is one list, and so is what stands before the damage.
+use Rattle.std.proofs.Common.{◌≡◌, ◌≢◌, ◌⊎◌, inl, inr, ⊎_elim, ℕ, ◌<◌, ◌≤◌, List, [], ◌∷◌, ◌++◌, length, take, drop, refl, sym, ◌∙◌, ap, subst, arith, append_assoc, length-append}
+use Rattle.std.proofs.lemmas.List.{take_at, drop_at, append_cancel_left}
+use Rattle.std.proofs.lemmas.Nat.{from_le_bytes-to_le_bytes_4}
+use Rattle.std.specs.Int.{w32, to_le_bytes, from_le_bytes}
+use Rattle.txn_journal.specs.Frames.{AllFit, Fits, Holds, StandsFor, IsDamaged, IsShort, body, frames, front, magic}
+use Rattle.txn_journal.proofs.FrameLaws.{length-body}
+
+-- the frames end here: the gate is closed, or too little stands behind it
+abbrev Stops : ℕ → List ℕ → Type 0
+Stops gate rest = (gate ≢ 1) ⊎ IsShort rest
+
+-- a whole frame follows an open gate, so they don't end there
+goes_on : (payload rest : List ℕ) → Fits payload → Stops 1 (body payload ++ rest) → 0 < length rest → ⊥
+goes_on payload rest fits (inl shut) more = shut refl
+goes_on payload rest fits (inr (inl few)) more = absurd (omega (arith, length-append (body payload) rest, length-body payload))
+goes_on payload rest fits (inr (inr less)) more =
+    let first : take 4 (body payload ++ rest) ≡ to_le_bytes w32 (length payload) =
+    ap (take 4) (append_assoc (to_le_bytes w32 (length payload)) payload rest) ∙ take_at (to_le_bytes w32 (length payload)) (payload ++ rest) 4 refl in
+    let count : from_le_bytes w32 (take 4 (body payload ++ rest)) ≡ length payload = ap (from_le_bytes w32) first ∙ from_le_bytes-to_le_bytes_4 (length payload) fits in
+    absurd (omega (arith, less, count, length-append (body payload) rest, length-body payload))
+
+-- two frames that begin alike hold the same payload
+same_payload : (p q x y : List ℕ) → Fits p → Fits q → body p ++ x ≡ body q ++ y → (p ≡ q) × (x ≡ y)
+same_payload p q x y fits_p fits_q is =
+    let a : take 4 (body p ++ x) ≡ to_le_bytes w32 (length p) = ap (take 4) (append_assoc (to_le_bytes w32 (length p)) p x) ∙ take_at (to_le_bytes w32 (length p)) (p ++ x) 4 refl in
+    let b : take 4 (body q ++ y) ≡ to_le_bytes w32 (length q) = ap (take 4) (append_assoc (to_le_bytes w32 (length q)) q y) ∙ take_at (to_le_bytes w32 (length q)) (q ++ y) 4 refl in
+    let size : length p ≡ length q = sym (from_le_bytes-to_le_bytes_4 (length p) fits_p) ∙ ap (from_le_bytes w32) (sym a ∙ ap (take 4) is ∙ b) ∙ from_le_bytes-to_le_bytes_4 (length q) fits_q in
+    let c : drop 4 (body p ++ x) ≡ p ++ x = ap (drop 4) (append_assoc (to_le_bytes w32 (length p)) p x) ∙ drop_at (to_le_bytes w32 (length p)) (p ++ x) 4 refl in
+    let d : drop 4 (body q ++ y) ≡ q ++ y = ap (drop 4) (append_assoc (to_le_bytes w32 (length q)) q y) ∙ drop_at (to_le_bytes w32 (length q)) (q ++ y) 4 refl in
+    let both : p ++ x ≡ q ++ y = sym c ∙ ap (drop 4) is ∙ d in (
+      sym (take_at p x (length p) refl) ∙ ap (take (length p)) both ∙ take_at q y (length p) (sym size),
+      sym (drop_at p x (length p) refl) ∙ ap (drop (length p)) both ∙ drop_at q y (length p) (sym size),
+    )
+
+frames_one : (a b : List (List ℕ)) (g h : ℕ) (r s : List ℕ) → AllFit a → AllFit b → Stops g r → Stops h s → frames a ++ g ∷ r ≡ frames b ++ h ∷ s → (a ≡ b) × (g ≡ h)
+frames_one [] [] g h r s fit_a fit_b stop_g stop_h is = let same : g ≡ h = cc is in (refl, same)
+frames_one [] (q ∷ b) g h r s fit_a fit_b stop_g stop_h is =
+    let open_g : g ≡ 1 = cc is in
+    let rest : r ≡ body q ++ frames b ++ h ∷ s = cc is in
+    let rest_there : r ≡ body q ++ (frames b ++ h ∷ s) = rest ∙ append_assoc (body q) (frames b) (h ∷ s) in
+    absurd (goes_on q (frames b ++ h ∷ s) fit_b.0 (subst (λ (l : List ℕ). Stops 1 l) rest_there (subst (λ (n : ℕ). Stops n r) open_g stop_g)) (omega (arith, length-append (frames b) (h ∷ s))))
+frames_one (p ∷ a) [] g h r s fit_a fit_b stop_g stop_h is =
+    let open_h : h ≡ 1 = cc is in
+    let rest : s ≡ body p ++ frames a ++ g ∷ r = cc is in
+    let rest_there : s ≡ body p ++ (frames a ++ g ∷ r) = rest ∙ append_assoc (body p) (frames a) (g ∷ r) in
+    absurd (goes_on p (frames a ++ g ∷ r) fit_a.0 (subst (λ (l : List ℕ). Stops 1 l) rest_there (subst (λ (n : ℕ). Stops n s) open_h stop_h)) (omega (arith, length-append (frames a) (g ∷ r))))
+frames_one (p ∷ a) (q ∷ b) g h r s fit_a fit_b stop_g stop_h is =
+    let behind : body p ++ frames a ++ g ∷ r ≡ body q ++ frames b ++ h ∷ s = cc is in
+    let parts = same_payload p q (frames a ++ g ∷ r) (frames b ++ h ∷ s) fit_a.0 fit_b.0 (sym (append_assoc (body p) (frames a) (g ∷ r)) ∙ behind ∙ append_assoc (body q) (frames b) (h ∷ s)) in
+    let rest = frames_one a b g h r s fit_a.1 fit_b.1 stop_g stop_h parts.1 in
+    ((λ k. parts.0 k ∷ rest.0 k), rest.1)
+
+fronts_one : (file : List ℕ) (a b : List (List ℕ)) (g h : ℕ) (r s : List ℕ) → AllFit a → AllFit b → Stops g r → Stops h s → file ≡ front a ++ g ∷ r → file ≡ front b ++ h ∷ s → (a ≡ b) × (g ≡ h)
+fronts_one file a b g h r s fit_a fit_b stop_g stop_h is_a is_b =
+    frames_one a b g h r s fit_a fit_b stop_g stop_h
+    (append_cancel_left magic (frames a ++ g ∷ r) (frames b ++ h ∷ s) (sym (append_assoc magic (frames a) (g ∷ r)) ∙ sym is_a ∙ is_b ∙ append_assoc magic (frames b) (h ∷ s)))
+
+-- a file of at most nine bytes holds no payload
+none_held : (file : List ℕ) (payloads : List (List ℕ)) → length file ≤ 9 → Holds file payloads → payloads ≡ []
+none_held file [] short holds = refl
+none_held file (p ∷ payloads) short holds =
+    absurd (omega (arith, short, ap length holds.split, length-append (front (p ∷ payloads)) (holds.gate ∷ holds.ignored), length-append magic (frames (p ∷ payloads)), length-append (body p) (frames payloads), length-body p))
+
+pub stands_once : (file : List ℕ) (a b : List (List ℕ)) → StandsFor file a → StandsFor file b → a ≡ b
+stands_once file a b (inl x) (inl y) = x.1 ∙ sym y.1
+stands_once file a b (inl x) (inr y) = x.1 ∙ sym (none_held file b x.0 y)
+stands_once file a b (inr x) (inl y) = none_held file a y.0 x ∙ sym y.1
+stands_once file a b (inr x) (inr y) = (fronts_one file a b x.gate y.gate x.ignored y.ignored x.fit y.fit (inl x.closed) (inl y.closed) x.split y.split).0
+
+begins_magic : (file : List ℕ) (payloads : List (List ℕ)) (rest : List ℕ) → file ≡ front payloads ++ rest → take 8 file ≡ magic
+begins_magic file payloads rest is = ap (take 8) (is ∙ append_assoc magic (frames payloads) rest) ∙ take_at magic (frames payloads ++ rest) 8 refl
+
+pub damaged_or_not : (file : List ℕ) (a b : List (List ℕ)) (at : ℕ) → StandsFor file a → IsDamaged file b at → ⊥
+damaged_or_not file a b at (inl x) damage = absurd (omega (arith, x.0, damage.long))
+damaged_or_not file a b at (inr x) damage = ⊎_elim
+    (λ other. other.begins (begins_magic file a (x.gate ∷ x.ignored) x.split))
+    (λ broken. x.closed (fronts_one file a b x.gate 1 x.ignored broken.rest x.fit broken.fit (inl x.closed) (inr broken.short) x.split broken.split).1)
+    damage.broken
+
+pub damaged_once : (file : List ℕ) (a b : List (List ℕ)) (p q : ℕ) → IsDamaged file a p → IsDamaged file b q → (a ≡ b) × (p ≡ q)
+damaged_once file a b p q x y = ⊎_elim
+    (λ one. ⊎_elim
+    (λ other. (one.none ∙ sym other.none, one.place ∙ sym other.place))
+    (λ other. absurd (one.begins (begins_magic file b (1 ∷ other.rest) other.split)))
+    y.broken)
+    (λ one. ⊎_elim
+    (λ other. absurd (other.begins (begins_magic file a (1 ∷ one.rest) one.split)))
+    (λ other.
+    let same = (fronts_one file a b 1 1 one.rest other.rest one.fit other.fit (inr one.short) (inr other.short) one.split other.split).0 in
+    (same, one.place ∙ ap (λ (ps : List (List ℕ)). length (front ps)) same ∙ sym other.place))
+    y.broken)
+    x.broken

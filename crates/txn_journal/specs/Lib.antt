@@ -1,0 +1,7 @@
+pub mod Calls
+pub mod Frames
+pub mod Opening
+pub mod Places
+pub mod Reading
+pub mod Recovering
+pub mod Writes

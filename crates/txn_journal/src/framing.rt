@@ -1,0 +1,43 @@
+//! How frames are made.
+ghost use Rattle.std.specs.Prelude.{◌≡◌, ◌<◌, ◌^◌, drop, IfOk};
+ghost use Rattle.std.specs.Int.{w32, to_le_bytes};
+ghost use Rattle.txn_journal.specs.Frames.{Fits, body};
+
+use crate::frames::Frame;
+use std::alloc::Global;
+use ts_schema::{NoMemory, Seq};
+
+/// The bytes of a length and of a gate.
+const AROUND: usize = 5;
+
+/// The frame of a payload.
+pub fn frame(alloc: Global, payload: &Seq<u8>) -> Result<Frame, NoMemory>
+    requires fits { Fits payload.now }
+    ensures same { IfOk result (λ made. made ≡ payload.now) }
+{
+    let mut bytes = open_frame(alloc, payload.len())?;
+    bytes.extend_from_slice(payload.items())?;
+    close_frame(bytes)
+}
+
+/// The beginning of a frame of a payload of so many bytes, with room for all of it. The payload is
+/// appended to it, and `close_frame` makes the frame, so that no payload is copied.
+pub fn open_frame(alloc: Global, length: usize) -> Result<Vec<u8>, NoMemory>
+    requires { length < 2 ^ 32 }
+    ensures begun { IfOk result (λ bytes. bytes.items ≡ to_le_bytes w32 length) }
+{
+    let mut bytes = Vec::with_capacity(alloc, length + AROUND)?;
+    bytes.extend_from_slice(&(length as u32).to_le_bytes())?;
+    Ok(bytes)
+}
+
+/// The frame of the payload that stands behind its length.
+pub fn close_frame(bytes: Vec<u8>) -> Result<Frame, NoMemory>
+    requires begun { bytes.items ≡ body (drop 4 bytes.items) }
+    requires fits { Fits (drop 4 bytes.items) }
+    ensures payload { IfOk result (λ made. made ≡ drop 4 bytes.items) }
+{
+    let mut bytes = bytes;
+    bytes.push(0)?;
+    Ok(Frame::of(bytes))
+}

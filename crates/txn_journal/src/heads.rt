@@ -1,0 +1,112 @@
+//! How a file and its frames begin.
+ghost use Rattle.std.specs.Prelude.{◌≡◌, ◌≢◌, ℕ, ◌+◌, ◌<◌, ◌≤◌, List, Some, length, IfOk};
+ghost use Rattle.ts_disk.specs.Disk.{Counted, HasLength, Keeps};
+ghost use Rattle.txn_journal.specs.Frames.{magic, header};
+ghost use Rattle.txn_journal.specs.Reading.{StartsAs, IsHead, IsStart, IsSized, JudgesHead, EndsWithin};
+
+use ts_disk::{Disk, Failed, MOST_BYTES};
+
+/// What a journal begins with.
+pub const MAGIC: [u8; 8] = *b"TSCTLJ01";
+
+/// The magic bytes and a closed gate.
+pub const HEADER: [u8; 9] = *b"TSCTLJ01\0";
+
+/// The place of the first gate.
+pub const FIRST_GATE: u64 = 8;
+
+/// A gate in front of a frame that counts.
+pub const OPEN: u8 = 1;
+
+/// The bytes of a gate and of a length.
+const HEAD_BYTES: usize = 5;
+
+/// How a file begins.
+#[derive(Clone, Copy)]
+pub enum Start {
+    /// It has at most nine bytes, and isn't a header.
+    Bare,
+    /// It begins with the magic bytes and is longer than they and a gate, or it is a header.
+    Journal,
+    /// It is longer than a header, and begins otherwise.
+    Foreign,
+}
+
+/// How a file of so many bytes begins.
+pub fn read_start<D: Disk>(disk: &mut D, size: u64) -> Result<Start, Failed>
+    requires size { HasLength (D.bytes disk.old) size }
+    ensures starts { (file : List ℕ) → D.bytes disk.old ≡ Some file → IfOk result (λ start. StartsAs start file) }
+    ensures sized { IfOk result (λ start. IsSized start size) }
+    ensures kept { Keeps D.bytes D.may_leave D.moment D.left_since disk.old disk.new }
+    ensures counted { Counted (D.faults disk.old) (D.faults disk.new) result }
+{
+    if size < HEADER.len() as u64 {
+        return Ok(Start::Bare);
+    }
+    let mut head = [0; 9];
+    disk.read_at(0, &mut head)?;
+    Ok(judge_start(&head, size))
+}
+
+/// How a file of so many bytes begins, by its first nine.
+fn judge_start(head: &[u8; 9], size: u64) -> Start
+    requires { 9 ≤ size }
+    ensures { IsStart result head.now size }
+{
+    if size > HEADER.len() as u64 {
+        if &head[..8] == MAGIC.as_slice() {
+            Start::Journal
+        } else {
+            Start::Foreign
+        }
+    } else if *head == HEADER {
+        Start::Journal
+    } else {
+        Start::Bare
+    }
+}
+
+/// What stands at a gate.
+#[derive(Clone, Copy)]
+pub enum Head {
+    /// The gate is closed.
+    Closed,
+    /// The gate is open, and a whole frame of a payload of so many bytes follows.
+    Frame(u64),
+    /// The gate is open, and too few bytes follow.
+    Short,
+}
+
+/// What stands at the gate at place `at` of a file of so many bytes.
+pub fn read_head<D: Disk>(disk: &mut D, at: u64, size: u64) -> Result<Head, Failed>
+    requires within { at < size }
+    requires most { size ≤ MOST_BYTES }
+    requires size { HasLength (D.bytes disk.old) size }
+    ensures head { (file : List ℕ) → D.bytes disk.old ≡ Some file → IfOk result (λ head. IsHead head file at) }
+    ensures within { IfOk result (λ head. EndsWithin head at size) }
+    ensures kept { Keeps D.bytes D.may_leave D.moment D.left_since disk.old disk.new }
+    ensures counted { Counted (D.faults disk.old) (D.faults disk.new) result }
+{
+    let room = (size - at).min(HEAD_BYTES as u64) as usize;
+    let mut head = [0; HEAD_BYTES];
+    disk.read_at(at, &mut head[..room])?;
+    Ok(judge_head(&head, size - at))
+}
+
+/// What stands at a gate with its first bytes, where so many bytes stand from it on.
+fn judge_head(head: &[u8; 5], left: u64) -> Head
+    requires { 0 < left }
+    ensures { JudgesHead result head.now left }
+{
+    if head[0] != OPEN {
+        return Head::Closed;
+    }
+    if left < HEAD_BYTES as u64 {
+        return Head::Short;
+    }
+    let length = u32::from_le_bytes([head[1], head[2], head[3], head[4]]) as u64;
+    if left - HEAD_BYTES as u64 <= length {
+        return Head::Short;
+    }
+    Head::Frame(length)
+}

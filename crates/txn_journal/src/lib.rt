@@ -1,0 +1,25 @@
+//! A journal of payloads on a disk: each is there whole or not at all, whenever a crash comes, and what
+//! was answered with `Done` stays. Reading it writes nothing.
+#![tactic(auto)]
+
+mod frames;
+mod framing;
+mod heads;
+mod journals;
+pub mod laws;
+mod openings;
+mod payloads;
+mod readers;
+mod recovery;
+mod writes;
+
+pub use frames::Frame;
+pub use framing::{close_frame, frame, open_frame};
+pub use journals::{Append, Journal, Standing};
+pub use openings::Opened;
+pub use payloads::Payload;
+pub use readers::{Next, Reader};
+pub use recovery::{Recovered, recover};
+
+#[cfg(test)]
+mod tests;

@@ -1,0 +1,11 @@
+//! What a journal holds.
+use ts_schema::Seq;
+
+/// A payload of a journal.
+#[derive(Drop, Debug)]
+pub struct Payload {
+    /// Its bytes.
+    pub bytes: Seq<u8>,
+    /// The place of its open gate, from the beginning of the journal.
+    pub at: u64,
+}

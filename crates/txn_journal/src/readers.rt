@@ -1,0 +1,164 @@
+//! A journal that is read payload by payload.
+ghost use Rattle.std.specs.Prelude.{◌≡◌, ◌≢◌, ℕ, ◌+◌, ◌≤◌, [], List, true, false, length};
+ghost use Rattle.ts_disk.specs.CrashImage.{Only};
+ghost use Rattle.ts_disk.specs.Disk.{HasRange, Keeps};
+ghost use Rattle.txn_journal.specs.Calls.{IsAtRest};
+ghost use Rattle.txn_journal.specs.Places.{IsReading};
+ghost use Rattle.txn_journal.specs.Reading.{HasRead, Steps, Moves, Takes, IfTaken, CountsNext, CountsTaken, is_end};
+
+use crate::heads::{FIRST_GATE, Head, read_head};
+use crate::journals::{Journal, Standing};
+use std::alloc::Global;
+use std::marker::Model;
+use ts_disk::{Disk, Failed, MOST_BYTES};
+
+/// Reads the payloads of a journal in order, and holds one of them at a time. It writes nothing.
+#[derive(Drop)]
+pub struct Reader<D: Disk> {
+    disk: D,
+    /// How the file begins: bare or ready.
+    standing: Standing,
+    /// How many bytes the file has.
+    size: u64,
+    /// The place of the next gate.
+    at: u64,
+    payload: Vec<u8>,
+    is_done: bool,
+}
+
+impl<D: Disk> Model for Reader<D> {
+    ghost use Rattle.txn_journal.specs.Reading.{Progress};
+
+    ghost Value = { Progress D };
+
+    ghost use Rattle.txn_journal.specs.Places.{IsReading};
+
+    ghost view = { λ r. record {
+      disk = r.disk;
+      standing = r.standing;
+      size = r.size;
+      at = r.at;
+      payload = r.payload.items;
+      is_done = r.is_done;
+    } };
+
+    ghost invariant = { λ r. IsReading (D.bytes r.disk) r.standing r.size r.at };
+}
+
+/// What one step of reading found.
+#[derive(Clone, Copy, Debug, PartialEq, Eq)]
+pub enum Next {
+    /// A payload, which `Reader::payload` gives, with the place of its open gate.
+    Payload(u64),
+    /// A closed gate ends the journal.
+    End,
+    /// Behind the open gate at this place the file is too short for its frame and a next gate.
+    Damaged(u64),
+    /// The disk failed. Another step tries again.
+    DiskFault,
+    /// There is no memory for the payload. Another step tries again.
+    NoMemory,
+}
+
+impl<D: Disk> Reader<D> {
+    /// A reader that has read no payload.
+    pub(crate) fn start(alloc: Global, disk: D, size: u64, standing: Standing) -> Reader<D>
+        requires reading { IsReading (D.bytes disk) standing size 8 }
+        ensures made { result ≡ record { disk = disk; standing = standing; size = size; at = 8; payload = []; is_done = false } }
+    {
+        Reader {
+            disk,
+            standing,
+            size,
+            at: FIRST_GATE,
+            payload: Vec::new(alloc),
+            is_done: false,
+        }
+    }
+
+    /// Reads the next payload. After `Payload` there may be others; `End` and `Damaged` come again.
+    pub fn next(&mut self) -> Next
+        ensures steps { (file : List ℕ) (payloads : List (List ℕ)) → HasRead D.bytes self.old file payloads
+            → Steps D.bytes result file payloads self.old self.new }
+        ensures moves { Moves result self.old self.new }
+        ensures done { self.new.is_done ≡ is_end result }
+        ensures kept { Keeps D.bytes D.may_leave D.moment D.left_since self.old.disk self.new.disk }
+        ensures counted { CountsNext result (D.faults self.old.disk) (D.faults self.new.disk) }
+    {
+        self.is_done = false;
+        if let Standing::Bare = self.standing {
+            self.is_done = true;
+            return Next::End;
+        }
+        match read_head(&mut self.disk, self.at, self.size) {
+            Ok(Head::Closed) => {
+                self.is_done = true;
+                Next::End
+            }
+            Ok(Head::Frame(length)) => {
+                match read_payload(&mut self.disk, self.at + 5, length, &mut self.payload) {
+                    Taken::Done => {
+                        let at = self.at;
+                        self.at += 5 + length;
+                        Next::Payload(at)
+                    }
+                    Taken::DiskFault => Next::DiskFault,
+                    Taken::NoMemory => Next::NoMemory,
+                }
+            }
+            Ok(Head::Short) => Next::Damaged(self.at),
+            Err(Failed) => Next::DiskFault,
+        }
+    }
+
+    /// The payload of the last `Payload`.
+    pub fn payload(&self) -> &[u8]
+        ensures payload { result.now ≡ self.now.payload }
+    {
+        &self.payload
+    }
+
+    /// The journal, once the end was found.
+    pub fn finish(self) -> Journal<D>
+        requires done { self.is_done ≡ true }
+        ensures disk { result.disk ≡ self.disk }
+        ensures goes_on { result.standing ≢ Standing.Still }
+        ensures at_rest { (file : List ℕ) (payloads : List (List ℕ)) → HasRead D.bytes self file payloads
+            → Only file (D.may_leave self.disk) → IsAtRest D.bytes D.may_leave result payloads }
+    {
+        Journal::new(self.disk, self.at, self.standing)
+    }
+
+    /// The disk.
+    pub fn close(self) -> D
+        ensures disk { result ≡ self.disk }
+    {
+        self.disk
+    }
+}
+
+/// Whether the bytes of a payload were read.
+#[derive(Clone, Copy)]
+enum Taken {
+    Done,
+    DiskFault,
+    NoMemory,
+}
+
+/// Reads `count` bytes from place `at` on into a payload.
+fn read_payload<D: Disk>(disk: &mut D, at: u64, count: u64, payload: &mut Vec<u8>) -> Taken
+    requires most { at + count ≤ MOST_BYTES }
+    requires range { HasRange (D.bytes disk.old) (at + count) }
+    ensures taken { Takes result (D.bytes disk.old) at payload.new.items }
+    ensures size { IfTaken result (length payload.new.items ≡ count) }
+    ensures kept { Keeps D.bytes D.may_leave D.moment D.left_since disk.old disk.new }
+    ensures counted { CountsTaken result (D.faults disk.old) (D.faults disk.new) }
+{
+    if payload.resize(count as usize, 0).is_err() {
+        return Taken::NoMemory;
+    }
+    match disk.read_at(at, payload.as_mut_slice()) {
+        Ok(()) => Taken::Done,
+        Err(Failed) => Taken::DiskFault,
+    }
+}

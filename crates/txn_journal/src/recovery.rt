@@ -1,0 +1,96 @@
+//! A journal that is read at once.
+ghost use Rattle.std.specs.Prelude.{◌≡◌, ℕ, [], ◌∷◌, ◌++◌, List, Some, IfOk, OnErr};
+ghost use Rattle.ts_disk.specs.CrashImage.{Only};
+ghost use Rattle.ts_disk.specs.Disk.{Keeps};
+ghost use Rattle.txn_journal.specs.Reading.{HasRead};
+ghost use Rattle.txn_journal.specs.Recovering.{Recovers, RestsAfter, disk_of, CountsRecovered};
+
+use crate::journals::Journal;
+use crate::openings::Opened;
+use crate::payloads::Payload;
+use crate::readers::{Next, Reader};
+use std::alloc::Global;
+use ts_disk::Disk;
+use ts_schema::{NoMemory, Seq};
+
+/// What reading a journal found.
+#[derive(Drop)]
+pub enum Recovered<D: Disk> {
+    /// The payloads of the open frames, and the journal behind them.
+    Ready {
+        journal: Journal<D>,
+        payloads: Seq<Payload>,
+    },
+    /// The least damaged place, and the payloads of the open frames before it.
+    Damaged {
+        disk: D,
+        payloads: Seq<Payload>,
+        at: u64,
+    },
+    /// The disk failed.
+    DiskFault(D),
+    /// There is no memory for the payloads.
+    NoMemory(D),
+}
+
+/// Reads a journal. It writes nothing. It holds all payloads at once; `Reader` holds one at a time.
+pub fn recover<D: Disk>(alloc: Global, disk: D) -> Recovered<D>
+    ensures recovers { (file : List ℕ) → D.bytes disk ≡ Some file → Recovers result file }
+    ensures at_rest { (file : List ℕ) → D.bytes disk ≡ Some file → Only file (D.may_leave disk)
+        → RestsAfter D.bytes D.may_leave result }
+    ensures kept { Keeps D.bytes D.may_leave D.moment D.left_since disk (disk_of result) }
+    ensures counted { CountsRecovered result (D.faults disk) (D.faults (disk_of result)) }
+{
+    match Reader::open(alloc, disk) {
+        Opened::Reading(reader) => read_all(alloc, reader),
+        Opened::Damaged { disk, at } => Recovered::Damaged {
+            disk,
+            payloads: Seq::new(alloc),
+            at,
+        },
+        Opened::DiskFault(disk) => Recovered::DiskFault(disk),
+    }
+}
+
+/// Reads all payloads, where none was read yet.
+fn read_all<D: Disk>(alloc: Global, reader: Reader<D>) -> Recovered<D>
+    ensures recovers { (file : List ℕ) → HasRead D.bytes reader file [] → Recovers result file }
+    ensures at_rest { (file : List ℕ) → HasRead D.bytes reader file [] → Only file (D.may_leave reader.disk)
+        → RestsAfter D.bytes D.may_leave result }
+    ensures kept { Keeps D.bytes D.may_leave D.moment D.left_since reader.disk (disk_of result) }
+    ensures counted { CountsRecovered result (D.faults reader.disk) (D.faults (disk_of result)) }
+{
+    let mut reader = reader;
+    let mut payloads = Seq::new(alloc);
+    'payloads: loop {
+        match reader.next() {
+            Next::Payload(at) => match keep(alloc, &mut payloads, reader.payload(), at) {
+                Ok(()) => {}
+                Err(NoMemory) => return Recovered::NoMemory(reader.close()),
+            },
+            Next::End => {
+                return Recovered::Ready {
+                    journal: reader.finish(),
+                    payloads,
+                };
+            }
+            Next::Damaged(at) => {
+                return Recovered::Damaged {
+                    disk: reader.close(),
+                    payloads,
+                    at,
+                };
+            }
+            Next::DiskFault => return Recovered::DiskFault(reader.close()),
+            Next::NoMemory => return Recovered::NoMemory(reader.close()),
+        }
+    }
+}
+
+/// Keeps a copy of a payload.
+fn keep(alloc: Global, payloads: &mut Seq<Payload>, bytes: &[u8], at: u64) -> Result<(), NoMemory>
+    ensures kept { IfOk result (λ _. payloads.new ≡ payloads.old ++ record { bytes = bytes.now; at = at } ∷ []) }
+{
+    let copy = Seq::of(Vec::from_slice(alloc, bytes)?);
+    payloads.push(Payload { bytes: copy, at })
+}

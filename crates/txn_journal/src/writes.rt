@@ -1,0 +1,48 @@
+//! A write that is put onto the disk before anything else.
+ghost use Rattle.std.specs.Prelude.{◌≡◌, ℕ, ◌+◌, ◌≤◌, [], ◌∷◌, ◌++◌, List, Some, length, OnOk, IsSome};
+ghost use Rattle.ts_disk.specs.CrashImage.{written, Torn, Only, LeavesOnly};
+ghost use Rattle.ts_disk.specs.Disk.{Counted, HasRange};
+ghost use Rattle.txn_journal.specs.Frames.{Fits, WithOrWithout};
+ghost use Rattle.txn_journal.specs.Writes.{IsWritten, Rests};
+
+use crate::frames::Frame;
+use crate::heads::OPEN;
+use ts_disk::{Disk, Failed, MOST_BYTES};
+
+/// Writes bytes at a place and syncs.
+pub fn write_synced<D: Disk>(disk: &mut D, at: u64, piece: &[u8]) -> Result<(), Failed>
+    requires most { at ≤ MOST_BYTES }
+    requires range { HasRange (D.bytes disk.old) at }
+    // From a disk whose bytes are all on it, a crash at any moment leaves them as the write may tear them.
+    ensures crash { (file : List ℕ) → D.bytes disk.old ≡ Some file → Only file (D.may_leave disk.old)
+        → LeavesOnly D.moment D.left_since disk.old disk.new (Torn at (length piece.now) file) }
+    ensures done { OnOk result ((file : List ℕ) → D.bytes disk.old ≡ Some file
+        → IsWritten D.bytes D.may_leave disk.new (written file at piece.now)) }
+    ensures grown { (end : ℕ) → HasRange (D.bytes disk.old) end → OnOk result (HasRange (D.bytes disk.new) end) }
+    ensures reaches { OnOk result (HasRange (D.bytes disk.new) (at + length piece.now)) }
+    ensures told { (file : List ℕ) → D.bytes disk.old ≡ Some file → IsSome (D.bytes disk.new) }
+    ensures most { OnOk result (at + length piece.now ≤ MOST_BYTES) }
+    ensures counted { Counted (D.faults disk.old) (D.faults disk.new) result }
+{
+    disk.write_at(at, piece)?;
+    disk.sync()
+}
+
+/// Writes a frame behind the closed gate at place `end` and syncs, and then opens that gate and syncs.
+pub fn put_frame<D: Disk>(disk: &mut D, end: u64, frame: &Frame) -> Result<(), Failed>
+    requires most { end + 1 ≤ MOST_BYTES }
+    requires range { HasRange (D.bytes disk.old) (end + 1) }
+    ensures any_moment { (payloads : List (List ℕ)) → Rests D.bytes D.may_leave disk.old end payloads
+        → LeavesOnly D.moment D.left_since disk.old disk.new (WithOrWithout payloads frame.now) }
+    ensures done { OnOk result ((payloads : List (List ℕ)) → Rests D.bytes D.may_leave disk.old end payloads
+        → Rests D.bytes D.may_leave disk.new (end + 5 + length frame.now) (payloads ++ frame.now ∷ [])) }
+    ensures told { (file : List ℕ) → D.bytes disk.old ≡ Some file → IsSome (D.bytes disk.new) }
+    ensures reaches { OnOk result (HasRange (D.bytes disk.new) (end + 6 + length frame.now)) }
+    ensures most { OnOk result (end + 6 + length frame.now ≤ MOST_BYTES) }
+    ensures counted { Counted (D.faults disk.old) (D.faults disk.new) result }
+{
+    // The gate is opened by a write of its own, over a byte that stands closed on the disk. With the frame
+    // in one write, a crash might leave the gate open and the frame torn.
+    write_synced(disk, end + 1, frame.bytes())?;
+    write_synced(disk, end, &[OPEN])
+}
