@@ -1,0 +1,13 @@
+pub mod Formats
+pub mod NumberLaws
+pub mod Coded
+pub mod Parts
+pub mod EventLaws
+pub mod Shifts
+pub mod Begun
+pub mod Fronts
+pub mod Loops
+pub mod NameLaws
+pub mod Decodings
+pub mod BytesCounted
+pub mod GrowthLaws

@@ -1,0 +1,8 @@
+pub mod Codes
+pub mod Spelling
+pub mod Formed
+pub mod Prefixes
+pub mod Growing
+pub mod Reading
+pub mod Decoding
+pub mod Laws

@@ -1,0 +1,22 @@
+//! The bytes of events: each event has one spelling, and no event's bytes begin another's.
+#![tactic(auto)]
+
+mod codes;
+mod conditions;
+mod errors;
+mod events;
+mod fields;
+mod kinds;
+pub mod laws;
+mod names;
+mod numbers;
+mod ops;
+mod reader;
+mod rows;
+mod tables;
+mod views;
+
+pub use events::{Decoded, decode, encode, put_event_bytes};
+
+#[cfg(test)]
+mod tests;
