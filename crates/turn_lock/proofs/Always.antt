@@ -20,17 +20,17 @@ use Rattle.turn_lock.proofs.Numbers.{times_between}
 
 module _ {E : Type 0} where
   -- the holder of a ticket is where the ticket says
-  ticket_place : (next serving : ℕ) (holder : ℕ → ℕ) (log : List E) (shut : Bool) (away : Type 0) (j n : ℕ) (g : Stage E) → InPlace next serving holder log shut away j g → HasTicket g n → j ≡ holder n
+  ticket_place : (next serving : ℕ) (holder : ℕ → ℕ) (log : List E) (shut : Option E) (away : Type 0) (j n : ℕ) (g : Stage E) → InPlace next serving holder log shut away j g → HasTicket g n → j ≡ holder n
   ticket_place next serving holder log shut away j n Idle p h = absurd h
   ticket_place next serving holder log shut away j n (Waiting t) p h = sym p.2 ∙ ap holder h
   ticket_place next serving holder log shut away j n (Turn t xs c) p h = sym p.2 ∙ ap holder h
 
-  turn_served : (next serving : ℕ) (holder : ℕ → ℕ) (log : List E) (shut : Bool) (away : Type 0) (j : ℕ) (g : Stage E) → InPlace next serving holder log shut away j g → HasTurn g → HasTicket g serving
+  turn_served : (next serving : ℕ) (holder : ℕ → ℕ) (log : List E) (shut : Option E) (away : Type 0) (j : ℕ) (g : Stage E) → InPlace next serving holder log shut away j g → HasTurn g → HasTicket g serving
   turn_served next serving holder log shut away j Idle p h = absurd h
   turn_served next serving holder log shut away j (Waiting t) p h = absurd h
   turn_served next serving holder log shut away j (Turn t xs c) p h = p.0
 
-module _ {V B E : Type 0} (base : V → B) (first : B → ℕ) (events : V → List E) (closed : V → Bool) (key : Opening V) (s : State (Option V) (Knows B E)) (r : Kept base first events closed key s) where
+module _ {V B E : Type 0} (base : V → B) (first : B → ℕ) (events : V → List E) (closed : V → Option E) (key : Opening V) (s : State (Option V) (Knows B E)) (r : Kept base first events closed key s) where
   abbrev root : B
   root = base key.value.value
 
@@ -70,8 +70,8 @@ module _ {V B E : Type 0} (base : V → B) (first : B → ℕ) (events : V → L
     seen = λ i j v w a b. let f = (r.fits i v a).seen in let g = (r.fits j w b).seen in dite (dec_le (length v.seen) (length w.seen))
         (λ le. inl (prefix_shorter v.seen w.seen r.log f g le)) (λ gt. inr (prefix_shorter w.seen v.seen r.log g f (omega arith)));
     below = λ j v a. let l = prefix_length v.seen r.log (r.fits j v a).seen in let e = end_is in omega (arith, l, e);
-    ends = λ j v a t. ap (end_of (first root)) ((r.fits j v a).closed t).0 ∙ sym end_is;
-    closes = λ j v x a t h. (home_value x h).as_shut ∙ ((r.fits j v a).closed t).1;
+    ends = λ j v e a t. ap (end_of (first root)) ((r.fits j v a).closed e t).0 ∙ sym end_is;
+    closes = λ j v x e a t h. (home_value x h).as_shut ∙ ((r.fits j v a).closed e t).1;
     made = λ p. r.made p ∙ ap (λ (k : ℕ). times p (positions_between (opening_end base first events closed key) k)) (sym end_is)
         ∙ times_between (opening_end base first events closed key) p (slice_index s.words 2) (let l = r.longer in let e = end_is in omega (arith, l, e));
     bases = λ j v a l. ((r.fits j v a).live l).0;

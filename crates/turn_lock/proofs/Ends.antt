@@ -17,7 +17,7 @@ use Rattle.turn_lock.proofs.Lists.{one_at, only_one, prefix_self, prefix_none, s
 use Rattle.turn_lock.proofs.Numbers.{positions_none, counts_permute}
 use Rattle.turn_lock.proofs.Views.{turn_shares}
 
-module _ {V B E : Type 0} (base : V → B) (first : B → ℕ) (events : V → List E) (closed : V → Bool) (key : Opening V) where
+module _ {V B E : Type 0} (base : V → B) (first : B → ℕ) (events : V → List E) (closed : V → Option E) (key : Opening V) where
   abbrev Holds : State (Option V) (Knows B E) → Type 0
   Holds = Kept base first events closed key
 
@@ -30,7 +30,7 @@ module _ {V B E : Type 0} (base : V → B) (first : B → ℕ) (events : V → L
   opens : (v : V) (pos : ℕ) → key.value.value ≡ v → pos ≡ end_of (first (base v)) (events v) → 0 < key.shares → key.shares < 2 ^ 32 → Holds (opening (0 ∷ 0 ∷ pos ∷ []) (Some v ∷ []) whole)
   opens v pos same is live few =
       let log = events key.value.value in let shut = closed key.value.value in
-      let fit : Fits root log shut whole = record { seen = prefix_self log; other_seen = prefix_none log; closed = λ e. (refl, e); live = λ _. (refl, refl); gone = λ e. absurd (omega arith) } in
+      let fit : Fits root log shut whole = record { seen = prefix_self log; other_seen = prefix_none log; closed = λ e is. (refl, is); other_closed = λ e is. absurd (cc is); live = λ _. (refl, refl); gone = λ e. absurd (omega arith) } in
       record {
         next = 0;
         serving = 0;

@@ -1,6 +1,6 @@
 -- The steps of sharing keep the rule: a split, a join, and the look back that follows it.
 use Rattle.std.proofs.Common.{◌≡◌, ◌⊎◌, ℕ, suc, ◌<◌, ◌≤◌, ◌||◌, Bool, true, false, cond, List, [], ◌∷◌, ◌++◌, length, set, refl, sym, ap, ◌∙◌, subst, inl, inr, ⊎_elim, arith}
-use Rattle.std.specs.Prelude.{Option, Some, nat_lt}
+use Rattle.std.specs.Prelude.{Option, Some, None, nat_lt}
 use Rattle.std.proofs.lemmas.Bool.Decides.{nat_tests}
 use Rattle.std.proofs.lemmas.List.Sums.{sum_by-append}
 use mathlib.Core.Logic.{dite}
@@ -14,9 +14,9 @@ use Rattle.turn_lock.specs.declared.view.Stage.{Stage}
 use Rattle.turn_lock.specs.declared.view.Stage.TheVariants.{Idle}
 use Rattle.turn_lock.specs.declared.view.Knows.{Knows}
 use Rattle.turn_lock.specs.declared.opening.Opening.{Opening}
-use Rattle.turn_lock.specs.Pass.{longer}
+use Rattle.turn_lock.specs.Pass.{longer, either, StaysClosed}
 use Rattle.turn_lock.specs.Positions.{times}
-use Rattle.turn_lock.specs.Steps.{shorter, spent, left_with, given, joined, Counts}
+use Rattle.turn_lock.specs.Steps.{shorter, shorter_shut, joined_shut, IsCounted, spent, left_with, given, joined, Counts}
 use Rattle.turn_lock.specs.Rule.{HasTicket, HasTurn, InPlace, Rules, Fits, Newest, Kept}
 use Rattle.turn_lock.proofs.Lists.{one_at, set_at, all_set, prefix_none, prefix_length, prefix_shorter, prefix_whole, sum_at}
 use Rattle.turn_lock.proofs.Numbers.{times-append}
@@ -45,20 +45,99 @@ module _ {E : Type 0} where
       (λ c. c.1 ∙ prefix_whole xs log p (let le = c.0 in ⊎_elim {C = length log ≤ length xs} (λ h. h) (λ h. omega arith) short))
       (longer_cases xs ys)
 
-or_cases : (a b : Bool) → (a || b) ≡ true → (a ≡ true) ⊎ (b ≡ true)
-or_cases true b e = inl refl
-or_cases false b e = inr e
+module _ {E : Type 0} where
+  either_left : (a b : Option E) (e : E) → a ≡ Some e → either a b ≡ Some e
+  either_left None b e is = absurd (cc is)
+  either_left (Some x) b e is = is
 
-or_same : (a b c : Bool) → a ≡ c → (b ≡ true → c ≡ true) → (a || b) ≡ c
-or_same true b c e f = e
-or_same false true c e f = sym (f refl)
-or_same false false c e f = e
+  either_cases : (a b : Option E) (e : E) → either a b ≡ Some e → (a ≡ Some e) ⊎ (b ≡ Some e)
+  either_cases None b e is = inr is
+  either_cases (Some x) b e is = inl is
 
-or_same_right : (a b c : Bool) → b ≡ c → (a ≡ true → c ≡ true) → (a || b) ≡ c
-or_same_right true b c e f = sym (f refl)
-or_same_right false b c e f = e
+  either_same : (a b c : Option E) → a ≡ c → ((e : E) → b ≡ Some e → c ≡ Some e) → either a b ≡ c
+  either_same None None c is f = is
+  either_same None (Some x) c is f = sym (f x refl)
+  either_same (Some x) b c is f = is
 
-module _ {V B E : Type 0} (base : V → B) (first : B → ℕ) (events : V → List E) (closed : V → Bool) (key : Opening V) where
+  either_same_right : (a b c : Option E) → b ≡ c → ((e : E) → a ≡ Some e → c ≡ Some e) → either a b ≡ c
+  either_same_right None b c is f = is
+  either_same_right (Some x) b c is f = sym (f x refl)
+
+module _ {B E : Type 0} where
+  -- where one of two passes has seen the value closed, so has what both become, by the same
+  joined_cases : (k l : Knows B E) (e : E) → joined_shut k l ≡ Some e → (k.shut ≡ Some e) ⊎ (l.shut ≡ Some e)
+  joined_cases k l e =
+      elim (nat_lt (length k.seen) (length l.seen)) as (λ t. cond t (either l.shut k.shut) (either k.shut l.shut) ≡ Some e → (k.shut ≡ Some e) ⊎ (l.shut ≡ Some e)) [
+        | true ↦ λ is. ⊎_elim (λ c. inr c) (λ c. inl c) (either_cases l.shut k.shut e is)
+        | false ↦ λ is. either_cases k.shut l.shut e is
+      ]
+
+  joined_left : (k l : Knows B E) (c : Option E) → k.shut ≡ c → ((e : E) → l.shut ≡ Some e → c ≡ Some e) → joined_shut k l ≡ c
+  joined_left k l c is f =
+      elim (nat_lt (length k.seen) (length l.seen)) as (λ t. cond t (either l.shut k.shut) (either k.shut l.shut) ≡ c) [
+        | true ↦ either_same_right l.shut k.shut c is f
+        | false ↦ either_same k.shut l.shut c is f
+      ]
+
+  joined_right : (k l : Knows B E) (c : Option E) → l.shut ≡ c → ((e : E) → k.shut ≡ Some e → c ≡ Some e) → joined_shut k l ≡ c
+  joined_right k l c is f =
+      elim (nat_lt (length k.seen) (length l.seen)) as (λ t. cond t (either l.shut k.shut) (either k.shut l.shut) ≡ c) [
+        | true ↦ either_same l.shut k.shut c is f
+        | false ↦ either_same_right k.shut l.shut c is f
+      ]
+
+  -- where the pass with the shorter list has seen the value closed, that list is the whole
+  shorter_closed : (root : B) (log : List E) (shut : Option E) (k l : Knows B E) → Fits root log shut k → Fits root log shut l → (e : E) → shorter_shut k l ≡ Some e → (shorter k.seen l.seen ≡ log) × (shut ≡ Some e)
+  shorter_closed root log shut k l f g e =
+      elim (nat_lt (length k.seen) (length l.seen)) as (λ t. cond t k.shut l.shut ≡ Some e → (cond t k.seen l.seen ≡ log) × (shut ≡ Some e)) [
+        | true ↦ f.closed e
+        | false ↦ g.closed e
+      ]
+
+  -- and what both become has seen it closed by the same
+  shorter_joined : (root : B) (log : List E) (shut : Option E) (k l : Knows B E) → Fits root log shut k → Fits root log shut l → (e : E) → shorter_shut k l ≡ Some e → joined_shut k l ≡ Some e
+  shorter_joined root log shut k l f g e is =
+      let whole = (shorter_closed root log shut k l f g e is).1 in
+      elim (nat_lt (length k.seen) (length l.seen)) as (λ t. cond t k.shut l.shut ≡ Some e → cond t (either l.shut k.shut) (either k.shut l.shut) ≡ Some e) [
+        | true ↦ λ mine. either_same_right l.shut k.shut (Some e) mine (λ x its. sym whole ∙ (g.closed x its).1)
+        | false ↦ λ mine. either_same_right k.shut l.shut (Some e) mine (λ x its. sym whole ∙ (f.closed x its).1)
+      ] is
+
+  -- and the longer list is no longer
+  seen_all : (log : List E) (k : Knows B E) → IsPrefix k.seen log → k.other_seen ≡ log → length k.other_seen ≤ length k.seen → k.seen ≡ k.other_seen
+  seen_all log k p whole le = prefix_whole k.seen log p (let l = ap length whole in omega (arith, l, le)) ∙ sym whole
+
+  -- of two joined passes each that has seen the value closed has seen what both have
+  stays_left : (k l : Knows B E) → IsCounted (joined k l) → StaysClosed k.shut k.seen (joined_shut k l) (longer k.seen l.seen)
+  stays_left k l c e is =
+      elim (nat_lt (length k.seen) (length l.seen)) as (λ t. nat_lt (length k.seen) (length l.seen) ≡ t → (cond t k.shut l.shut ≡ Some e → length (cond t k.seen l.seen) ≤ length (cond t l.seen k.seen) → (cond t l.seen k.seen ≡ cond t k.seen l.seen) × (cond t (either l.shut k.shut) (either k.shut l.shut) ≡ Some e)) → (cond t (either l.shut k.shut) (either k.shut l.shut) ≡ Some e) × (cond t l.seen k.seen ≡ k.seen)) [
+        | true ↦ λ less stays. let s = stays is (grind (arith, nat_tests, less)) in (s.1, s.0)
+        | false ↦ λ _ _. (either_left k.shut l.shut e is, refl)
+      ] refl (c.stays e)
+
+  stays_right : (k l : Knows B E) → IsCounted (joined k l) → StaysClosed l.shut l.seen (joined_shut k l) (longer k.seen l.seen)
+  stays_right k l c e is =
+      elim (nat_lt (length k.seen) (length l.seen)) as (λ t. nat_lt (length k.seen) (length l.seen) ≡ t → (cond t k.shut l.shut ≡ Some e → length (cond t k.seen l.seen) ≤ length (cond t l.seen k.seen) → (cond t l.seen k.seen ≡ cond t k.seen l.seen) × (cond t (either l.shut k.shut) (either k.shut l.shut) ≡ Some e)) → (cond t (either l.shut k.shut) (either k.shut l.shut) ≡ Some e) × (cond t l.seen k.seen ≡ l.seen)) [
+        | true ↦ λ _ _. (either_left l.shut k.shut e is, refl)
+        | false ↦ λ less stays. let s = stays is (grind (arith, nat_tests, less)) in (s.1, s.0)
+      ] refl (c.stays e)
+
+  -- and what both become is closed by what closed the one or the other
+  pub closed_both : (k l : Knows B E) → IsCounted (joined k l) → joined_shut k l ≡ either k.shut l.shut
+  closed_both k l c = by_shut k.shut refl
+    where
+      by_other : k.shut ≡ None → (b : Option E) → l.shut ≡ b → joined_shut k l ≡ either k.shut l.shut
+      by_other missing None is = joined_left k l None missing (λ e its. absurd (let both = sym is ∙ its in cc both)) ∙ sym (ap (λ a. either a l.shut) missing ∙ is)
+      by_other missing (Some e) is = (stays_right k l c e is).0 ∙ sym (ap (λ a. either a l.shut) missing ∙ is)
+
+      by_shut : (a : Option E) → k.shut ≡ a → joined_shut k l ≡ either k.shut l.shut
+      by_shut None is = by_other is l.shut refl
+      by_shut (Some e) is = (stays_left k l c e is).0 ∙ sym (either_left k.shut l.shut e is)
+
+  pub stays_both : (k l : Knows B E) → IsCounted (joined k l) → StaysClosed k.shut k.seen (joined_shut k l) (longer k.seen l.seen) × StaysClosed l.shut l.seen (joined_shut k l) (longer k.seen l.seen)
+  stays_both k l c = (stays_left k l c, stays_right k l c)
+
+module _ {V B E : Type 0} (base : V → B) (first : B → ℕ) (events : V → List E) (closed : V → Option E) (key : Opening V) where
   abbrev St : Type 0
   St = State (Option V) (Knows B E)
 
@@ -68,7 +147,7 @@ module _ {V B E : Type 0} (base : V → B) (first : B → ℕ) (events : V → L
   abbrev root : B
   root = base key.value.value
 
-  given_place : (next serving : ℕ) (holder : ℕ → ℕ) (log : List E) (shut : Bool) (away : Type 0) (n j : ℕ) (v u : Knows B E) → given n v ≡ u → InPlace next serving holder log shut away j u.stage
+  given_place : (next serving : ℕ) (holder : ℕ → ℕ) (log : List E) (shut : Option E) (away : Type 0) (n j : ℕ) (v u : Knows B E) → given n v ≡ u → InPlace next serving holder log shut away j u.stage
   given_place next serving holder log shut away n j v u e = subst (λ (q : Knows B E). InPlace next serving holder log shut away j q.stage) e tt
 
   pub splits : (id : ℕ) (v : Knows B E) (n : ℕ) → 0 < n → n < v.shares → Splits Holds id v (left_with n v) (given n v)
@@ -77,8 +156,8 @@ module _ {V B E : Type 0} (base : V → B) (first : B → ℕ) (events : V → L
       let views = set s.views id left in
       let f = r.fits id v at in
       let live : (v.base ≡ Some root) × (v.other_base ≡ Some root) = f.live (omega arith) in
-      let left_fits : Fits root r.log r.shut left = record { seen = f.seen; other_seen = f.other_seen; closed = f.closed; live = λ _. live; gone = λ e. absurd (omega arith) } in
-      let right_fits : Fits root r.log r.shut right = record { seen = f.seen; other_seen = prefix_none r.log; closed = f.closed; live = λ _. (live.0, live.0); gone = λ e. absurd (omega arith) } in
+      let left_fits : Fits root r.log r.shut left = record { seen = f.seen; other_seen = f.other_seen; closed = f.closed; other_closed = f.other_closed; live = λ _. live; gone = λ e. absurd (omega arith) } in
+      let right_fits : Fits root r.log r.shut right = record { seen = f.seen; other_seen = prefix_none r.log; closed = f.closed; other_closed = λ e is. absurd (cc is); live = λ _. (live.0, live.0); gone = λ e. absurd (omega arith) } in
       let newest = leads_set s.views id r.last r.log r.shut v left at (λ h. record { live = omega arith; seen = h.seen; closed = h.closed }) r.newest in
       record {
         next = r.next;
@@ -122,22 +201,23 @@ module _ {V B E : Type 0} (base : V → B) (first : B → ℕ) (events : V → L
       let both_fits : Fits root r.log r.shut both = record {
         seen = longer_begins v.seen w.seen r.log f.seen g.seen;
         other_seen = shorter_begins v.seen w.seen r.log f.seen g.seen;
-        closed = λ e. ⊎_elim
-            (λ t. let c = f.closed t in (longer_all v.seen w.seen r.log f.seen g.seen (inl c.0), c.1))
-            (λ t. let c = g.closed t in (longer_all v.seen w.seen r.log f.seen g.seen (inr c.0), c.1))
-            (or_cases v.shut w.shut e);
+        closed = λ e is. ⊎_elim
+            (λ t. let c = f.closed e t in (longer_all v.seen w.seen r.log f.seen g.seen (inl c.0), c.1))
+            (λ t. let c = g.closed e t in (longer_all v.seen w.seen r.log f.seen g.seen (inr c.0), c.1))
+            (joined_cases v w e is);
+        other_closed = λ e is. let d = shorter_closed root r.log r.shut v w f g e is in (d.0, d.1, shorter_joined root r.log r.shut v w f g e is);
         live = λ _. ((f.live live).0, (g.live live').0);
         gone = λ e. absurd (omega arith);
       } in
       let left_newest : Newest r.log r.shut v → Newest r.log r.shut both = λ h. record {
         live = omega arith;
         seen = longer_all v.seen w.seen r.log f.seen g.seen (inl h.seen);
-        closed = or_same v.shut w.shut r.shut h.closed (λ t. (g.closed t).1);
+        closed = joined_left v w r.shut h.closed (λ e t. (g.closed e t).1);
       } in
       let right_newest : Newest r.log r.shut w → Newest r.log r.shut both = λ h. record {
         live = omega arith;
         seen = longer_all v.seen w.seen r.log f.seen g.seen (inr h.seen);
-        closed = or_same_right v.shut w.shut r.shut h.closed (λ t. (f.closed t).1);
+        closed = joined_right v w r.shut h.closed (λ e t. (f.closed e t).1);
       } in
       let here : get_elem? views id ≡ some both = set_else one other id spent (λ e. ne (sym e)) ∙ set_at s.views id v both at in
       let newest : (j : ℕ) × Leads views j r.log r.shut = dite (ℕ_discrete r.last other)
@@ -181,6 +261,7 @@ module _ {V B E : Type 0} (base : V → B) (first : B → ℕ) (events : V → L
             fits = let a = sum_at (λ (u : Knows B E). u.shares) s.views id me.0 at in let b = r.shares in let c = r.few in omega (arith, a, b, c);
             one_base = (f.live live).1 ∙ sym (f.live live).0;
             begins = λ le. prefix_shorter me.0.other_seen me.0.seen r.log f.other_seen f.seen le;
+            stays = λ e is le. let d = f.other_closed e is in (seen_all r.log me.0 f.seen d.0 le, d.2);
           },
         ),
       )

@@ -15,6 +15,7 @@ use Rattle.turn_lock.specs.declared.view.Stage.TheVariants.{Idle, Waiting, Turn}
 use Rattle.turn_lock.specs.declared.view.Knows.{Knows}
 use Rattle.turn_lock.specs.declared.opening.Opening.{Opening}
 use Rattle.turn_lock.specs.Positions.{positions_between, times, end_of}
+use Rattle.turn_lock.specs.Pass.{StaysClosed}
 use Rattle.turn_lock.specs.Steps.{at_stage, published, Draws, Looks, LooksAt, Posts, PostsAt, Advances}
 use Rattle.turn_lock.specs.Rule.{HasTicket, HasTurn, InPlace, Queues, Rules, Fits, IsValue, Stands, Kept}
 use Rattle.turn_lock.proofs.Lists.{one_at, set_at, all_set, prefix_self, prefix_then, prefix_length}
@@ -31,7 +32,7 @@ drawn_here holder t id = ap (λ b. cond b id (holder t)) (eq-eqb t t refl)
 drawn_before : (holder : ℕ → ℕ) (t id n : ℕ) → n < t → drawn_by holder t id n ≡ holder n
 drawn_before holder t id n lt = ap (λ b. cond b id (holder n)) (ne_eqb n t (λ e. omega arith))
 
-module _ {E : Type 0} (log : List E) (shut : Bool) where
+module _ {E : Type 0} (log : List E) (shut : Option E) where
   place_drawn : (next serving id : ℕ) (holder : ℕ → ℕ) (away : Type 0) (j : ℕ) (g : Stage E) → InPlace next serving holder log shut away j g
       → InPlace (next + 1) serving (drawn_by holder next id) log shut away j g
   place_drawn next serving id holder away j Idle p = tt
@@ -45,7 +46,7 @@ module _ {E : Type 0} (log : List E) (shut : Bool) where
   place_out next serving holder away away' f j (Turn t xs c) p = (p.0, p.1, p.2, p.3, p.4, f p.5)
 
   -- another view than the one with the turn has no turn
-  place_posted : (next serving : ℕ) (holder : ℕ → ℕ) (away away' : Type 0) (log' : List E) (shut' : Bool) (j : ℕ) → j ≢ holder serving → (g : Stage E)
+  place_posted : (next serving : ℕ) (holder : ℕ → ℕ) (away away' : Type 0) (log' : List E) (shut' : Option E) (j : ℕ) → j ≢ holder serving → (g : Stage E)
       → InPlace next serving holder log shut away j g → InPlace next serving holder log' shut' away' j g
   place_posted next serving holder away away' log' shut' j ne Idle p = tt
   place_posted next serving holder away away' log' shut' j ne (Waiting t) p = p
@@ -63,7 +64,7 @@ module _ {E : Type 0} (log : List E) (shut : Bool) where
   turn_below next serving holder away j (Waiting t) p h = absurd h
   turn_below next serving holder away j (Turn t xs c) p h = let a = p.0 in let b = p.1 in omega arith
 
-module _ {V B E : Type 0} (base : V → B) (first : B → ℕ) (events : V → List E) (closed : V → Bool) (key : Opening V) where
+module _ {V B E : Type 0} (base : V → B) (first : B → ℕ) (events : V → List E) (closed : V → Option E) (key : Opening V) where
   abbrev St : Type 0
   St = State (Option V) (Knows B E)
 
@@ -180,7 +181,7 @@ module _ {V B E : Type 0} (base : V → B) (first : B → ℕ) (events : V → L
               after = refl {a = now};
               one_base = (f.live live).0 ∙ ap Some (sym val.on_root);
               begins = subst (IsPrefix me.0.seen) (sym val.all) f.seen;
-              stays = λ e. (val.as_shut ∙ (f.closed e).1, val.all ∙ sym (f.closed e).0);
+              stays = λ e is. (val.as_shut ∙ (f.closed e is).1, val.all ∙ sym (f.closed e is).0);
             },
           )),
           λ miss. absurd {A = now ≡ me} (miss hit),
@@ -201,17 +202,17 @@ module _ {V B E : Type 0} (base : V → B) (first : B → ℕ) (events : V → L
       (λ miss. still s 1 id me told at r (subst (λ (g : Stage E). LooksAt base events closed g me y me) (sym waits) ((λ hit. absurd (miss hit)), λ _. refl)))
 
   -- what a pass with the turn did to the value, as far as the rule is concerned
-  pub record Turned (v : Knows B E) (t : ℕ) (xs : List E) (c : Bool) (x : V) : Type 0 where
+  pub record Turned (v : Knows B E) (t : ℕ) (xs : List E) (c : Option E) (x : V) : Type 0 where
     pub turn : v.stage ≡ Turn t xs c
     pub live : 0 < v.shares
     pub one_base : v.base ≡ Some (base x)
     pub grown : IsPrefix xs (events x)
-    pub stays : c ≡ true → (closed x ≡ true) × (events x ≡ xs)
+    pub stays : StaysClosed c xs (closed x) (events x)
 
   some_is : (a b : B) → Some a ≡ Some b → a ≡ b
   some_is a b e = cc
 
-  posts_all : (s : St) (id : ℕ) (v : Knows B E) (t pos : ℕ) (xs : List E) (c : Bool) (x : V) → (r : Holds s) → get_elem? s.views id ≡ some v → Turned v t xs c x → pos ≡ end_of (first (base x)) (events x)
+  posts_all : (s : St) (id : ℕ) (v : Knows B E) (t pos : ℕ) (xs : List E) (c : Option E) (x : V) → (r : Holds s) → get_elem? s.views id ≡ some v → Turned v t xs c x → pos ≡ end_of (first (base x)) (events x)
       → Holds record { words = set s.words 2 pos; homes = s.homes; views = set s.views id (published t (first (base x)) xs (events x) (closed x) v) }
   posts_all s id v t pos xs c x r at did is =
       let w = published t (first (base x)) xs (events x) (closed x) v in
@@ -220,11 +221,12 @@ module _ {V B E : Type 0} (base : V → B) (first : B → ℕ) (events : V → L
       let mine : id ≡ r.holder r.serving = sym place.2 ∙ ap r.holder place.0 in
       let one : base x ≡ root = some_is (base x) root (sym did.one_base ∙ ((r.fits id v at).live did.live).0) in
       let more : IsPrefix r.log (events x) = subst (λ l. IsPrefix l (events x)) place.3 did.grown in
-      let closes : r.shut ≡ true → (closed x ≡ true) × (events x ≡ r.log) = λ e. let d = did.stays (place.4 ∙ e) in (d.0, d.1 ∙ place.3) in
+      let closes : StaysClosed r.shut r.log (closed x) (events x) = λ e is. let d = did.stays e (place.4 ∙ is) in (d.0, d.1 ∙ place.3) in
       let fit : (u : Knows B E) → Fits root r.log r.shut u → Fits root (events x) (closed x) u = λ u f. record {
         seen = prefix_then u.seen r.log (events x) f.seen more;
         other_seen = prefix_then u.other_seen r.log (events x) f.other_seen more;
-        closed = λ e. let d = f.closed e in let k = closes d.1 in (d.0 ∙ sym k.1, k.0);
+        closed = λ e is. let d = f.closed e is in let k = closes e d.1 in (d.0 ∙ sym k.1, k.0);
+        other_closed = λ e is. let d = f.other_closed e is in let k = closes e d.1 in (d.0 ∙ sym k.1, k.0, d.2);
         live = f.live;
         gone = f.gone;
       } in
@@ -246,7 +248,7 @@ module _ {V B E : Type 0} (base : V → B) (first : B → ℕ) (events : V → L
             (place.0, place.1, place.2, refl, refl, place.5)
             (λ j u ne a. place_posted r.log r.shut r.next r.serving r.holder (r.home ≡ none) (r.home ≡ none) (events x) (closed x) j (λ e. ne (e ∙ sym mine)) u.stage (r.places j u a));
         fits = all_set (λ j. Fits root (events x) (closed x)) s.views id w
-            record { seen = prefix_self (events x); other_seen = mine_fits.other_seen; closed = λ e. (refl, e); live = mine_fits.live; gone = λ e. absurd (let l = did.live in omega arith) }
+            record { seen = prefix_self (events x); other_seen = mine_fits.other_seen; closed = λ e is. (refl, is); other_closed = λ e is. let d = mine_fits.other_closed e is in (d.0, d.1, d.1); live = mine_fits.live; gone = λ e. absurd (let l = did.live in omega arith) }
             (λ j u ne a. fit u (r.fits j u a));
         stands = subst (Stands base events closed root (events x) (closed x) (Rules (set s.views id w) (r.holder r.serving))) (sym place.5)
             (w, subst (λ k. get_elem? (set s.views id w) k ≡ some w) mine (set_at s.views id v w at), tt);
@@ -267,7 +269,7 @@ module _ {V B E : Type 0} (base : V → B) (first : B → ℕ) (events : V → L
             omega (arith, a, b, d, m, n, h);
       }
 
-  pub posts : (n id : ℕ) (me : M) (t pos : ℕ) (xs : List E) (c : Bool) (x : V) → Turned me.0 t xs c x → me.1 ≡ (0, Some x) ∷ [] → pos ≡ end_of (first (base x)) (events x)
+  pub posts : (n id : ℕ) (me : M) (t pos : ℕ) (xs : List E) (c : Option E) (x : V) → Turned me.0 t xs c x → me.1 ≡ (0, Some x) ∷ [] → pos ≡ end_of (first (base x)) (events x)
       → Allows Holds n id me 2 (λ _. pos) (λ _. Posts base first events closed (step n 2 pos 0 none) me pos)
   posts n id me t pos xs c x did out is s r wide at small =
       let w = published t (first (base x)) xs (events x) (closed x) me.0 in (
@@ -279,7 +281,7 @@ module _ {V B E : Type 0} (base : V → B) (first : B → ℕ) (events : V → L
       )
 
   -- what a post told, where the turn and the value are known
-  pub posted_is : (me n : M) (t : ℕ) (xs : List E) (c : Bool) (x : V) → me.0.stage ≡ Turn t xs c → me.1 ≡ (0, Some x) ∷ [] → PostsAt base first events closed me.0.stage me.1 me n
+  pub posted_is : (me n : M) (t : ℕ) (xs : List E) (c : Option E) (x : V) → me.0.stage ≡ Turn t xs c → me.1 ≡ (0, Some x) ∷ [] → PostsAt base first events closed me.0.stage me.1 me n
       → n ≡ (published t (first (base x)) xs (events x) (closed x) me.0, me.1)
   posted_is me n t xs c x turn out told = subst (λ (l : List (ℕ × Option V)). PostsAt base first events closed (Turn t xs c) l me n) out (subst (λ (g : Stage E). PostsAt base first events closed g me.1 me n) turn told)
 

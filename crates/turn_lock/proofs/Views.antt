@@ -36,10 +36,10 @@ module _ {B E : Type 0} where
       (λ ne. (q.0, set_else views id j w ne ∙ q.1, q.2))
 
   -- some view is the newest
-  abbrev pub Leads : List (Knows B E) → ℕ → List E → Bool → Type 0
+  abbrev pub Leads : List (Knows B E) → ℕ → List E → Option E → Type 0
   Leads views j log shut = (v : Knows B E) × (get_elem? views j ≡ some v) × Newest log shut v
 
-  pub leads_set : (views : List (Knows B E)) (id j : ℕ) (log : List E) (shut : Bool) (v w : Knows B E) → get_elem? views id ≡ some v → (Newest log shut v → Newest log shut w) → Leads views j log shut → Leads (set views id w) j log shut
+  pub leads_set : (views : List (Knows B E)) (id j : ℕ) (log : List E) (shut : Option E) (v w : Knows B E) → get_elem? views id ≡ some v → (Newest log shut v → Newest log shut w) → Leads views j log shut → Leads (set views id w) j log shut
   leads_set views id j log shut v w at keep q = dite (ℕ_discrete j id)
       (λ e. (
         w,
@@ -61,31 +61,31 @@ module _ {B E : Type 0} where
   same_made p views id v w at e = let s = made_set p views id v w at in let t = ap (times p) e in omega (arith, s, t)
 
   -- a view with shares is not spent, also at another stage
-  pub at_stage_fits : (root : B) (log : List E) (shut : Bool) (g : Stage E) (v : Knows B E) → 0 < v.shares → Fits root log shut v → Fits root log shut (at_stage g v)
-  at_stage_fits root log shut g v some_shares f = record { seen = f.seen; other_seen = f.other_seen; closed = f.closed; live = f.live; gone = λ e. absurd (omega arith) }
+  pub at_stage_fits : (root : B) (log : List E) (shut : Option E) (g : Stage E) (v : Knows B E) → 0 < v.shares → Fits root log shut v → Fits root log shut (at_stage g v)
+  at_stage_fits root log shut g v some_shares f = record { seen = f.seen; other_seen = f.other_seen; closed = f.closed; other_closed = f.other_closed; live = f.live; gone = λ e. absurd (omega arith) }
 
-  pub newest_at_stage : (log : List E) (shut : Bool) (g : Stage E) (v : Knows B E) → Newest log shut v → Newest log shut (at_stage g v)
+  pub newest_at_stage : (log : List E) (shut : Option E) (g : Stage E) (v : Knows B E) → Newest log shut v → Newest log shut (at_stage g v)
   newest_at_stage log shut g v n = record { live = n.live; seen = n.seen; closed = n.closed }
 
-  pub spent_fits : (root : B) (log : List E) (shut : Bool) → Fits root log shut spent
-  spent_fits root log shut = record { seen = (log, refl); other_seen = (log, refl); closed = λ e. absurd (cc e); live = λ h. absurd (omega arith); gone = λ e. refl }
+  pub spent_fits : (root : B) (log : List E) (shut : Option E) → Fits root log shut spent
+  spent_fits root log shut = record { seen = (log, refl); other_seen = (log, refl); closed = λ e is. absurd (cc is); other_closed = λ e is. absurd (cc is); live = λ h. absurd (omega arith); gone = λ e. refl }
 
   no_turn_spent : (v : Knows B E) → v ≡ spent → HasTurn v.stage → ⊥
   no_turn_spent v e h = subst (λ (u : Knows B E). HasTurn u.stage) e h
 
   -- a view with the turn has shares
-  pub turn_shares : (root : B) (log : List E) (shut : Bool) (v : Knows B E) → Fits root log shut v → HasTurn v.stage → 0 < v.shares
+  pub turn_shares : (root : B) (log : List E) (shut : Option E) (v : Knows B E) → Fits root log shut v → HasTurn v.stage → 0 < v.shares
   turn_shares root log shut v f turn = dite (ℕ_discrete v.shares 0) (λ e. absurd (no_turn_spent v (f.gone e) turn)) (λ ne. omega arith)
 
-module _ {V B E : Type 0} (base : V → B) (events : V → List E) (closed : V → Bool) where
+module _ {V B E : Type 0} (base : V → B) (events : V → List E) (closed : V → Option E) where
   -- away with another, or at home as before
-  pub stands_as : (root : B) (log : List E) (shut : Bool) (away away' : Type 0) (home : maybe.Option (Option V)) → (home ≡ none → away → away')
+  pub stands_as : (root : B) (log : List E) (shut : Option E) (away away' : Type 0) (home : maybe.Option (Option V)) → (home ≡ none → away → away')
       → Stands base events closed root log shut away home → Stands base events closed root log shut away' home
   stands_as root log shut away away' none f h = f refl h
   stands_as root log shut away away' (some None) f h = h
   stands_as root log shut away away' (some (Some v)) f h = h
 
-module _ {V B E : Type 0} (base : V → B) (first : B → ℕ) (events : V → List E) (closed : V → Bool) where
+module _ {V B E : Type 0} (base : V → B) (first : B → ℕ) (events : V → List E) (closed : V → Option E) where
   -- a load and no change of the view leave all as it is
   pub rests : (key : Opening V) (s : State (Option V) (Knows B E)) (i id : ℕ) (v : Knows B E) → get_elem? s.views id ≡ some v → Kept base first events closed key s
       → Kept base first events closed key record { words = set s.words i (get_or s.words i 0); homes = s.homes; views = set s.views id v }

@@ -10,7 +10,7 @@ use Rattle.turn_lock.specs.Positions.{end_of}
 use Rattle.turn_lock.specs.Steps.{spent}
 use Rattle.turn_lock.specs.Rule.{HasTicket, HasTurn, shares_in, times_made}
 
-module _ {V B E : Type 0} (base : V → B) (first : B → ℕ) (events : V → List E) (closed : V → Bool) where
+module _ {V B E : Type 0} (base : V → B) (first : B → ℕ) (events : V → List E) (closed : V → Option E) where
   abbrev pub ViewAt : State (Option V) (Knows B E) → ℕ → Knows B E → Type 0
   ViewAt s j v = get_elem? s.views j ≡ some v
 
@@ -47,9 +47,9 @@ module _ {V B E : Type 0} (base : V → B) (first : B → ℕ) (events : V → L
     pub seen : (i j : ℕ) (v w : Knows B E) → ViewAt s i v → ViewAt s j w → IsPrefix v.seen w.seen ⊎ IsPrefix w.seen v.seen
     -- no seen list ends above word 2
     pub below : (j : ℕ) (v : Knows B E) → ViewAt s j v → seen_end key v ≤ slice_index s.words 2
-    -- where a view has seen the value closed, its list ends at word 2, and a value at home is closed
-    pub ends : (j : ℕ) (v : Knows B E) → ViewAt s j v → v.shut ≡ true → seen_end key v ≡ slice_index s.words 2
-    pub closes : (j : ℕ) (v : Knows B E) (x : V) → ViewAt s j v → v.shut ≡ true → AtHome s x → closed x ≡ true
+    -- where a view has seen the value closed, its list ends at word 2, and a value at home is closed by the same
+    pub ends : (j : ℕ) (v : Knows B E) (e : E) → ViewAt s j v → v.shut ≡ Some e → seen_end key v ≡ slice_index s.words 2
+    pub closes : (j : ℕ) (v : Knows B E) (x : V) (e : E) → ViewAt s j v → v.shut ≡ Some e → AtHome s x → closed x ≡ Some e
     -- the made lists share no position, and together are all positions above the opening position up to word 2
     pub made : (p : ℕ) → times_made p s.views ≡ cond (nat_lt (opening_end key) p && nat_le p (slice_index s.words 2)) 1 0
     -- all views that are not spent have one base

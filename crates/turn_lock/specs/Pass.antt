@@ -29,15 +29,24 @@ found_at Idle = []
 found_at (Waiting t) = []
 found_at (Turn t xs c) = xs
 
--- whether a turn found the value closed
-abbrev pub found_closed_at : {E : Type 0} → Stage E → Bool
-found_closed_at Idle = false
-found_closed_at (Waiting t) = false
+-- what closed the value that a turn found, if it was closed
+abbrev pub found_closed_at : {E : Type 0} → Stage E → Option E
+found_closed_at Idle = None
+found_closed_at (Waiting t) = None
 found_closed_at (Turn t xs c) = c
+
+-- the first where there is one, else the second
+abbrev pub either : {E : Type 0} → Option E → Option E → Option E
+either None b = b
+either (Some a) b = Some a
 
 -- the longer of two lists, and the first where neither is longer
 abbrev pub longer : {E : Type 0} → List E → List E → List E
 longer xs ys = cond (nat_lt (length xs) (length ys)) ys xs
+
+-- what was closed before is closed now, by the same and with the same events
+abbrev pub StaysClosed : {E : Type 0} → Option E → List E → Option E → List E → Type 0
+StaysClosed {E} was before «is» after = (e : E) → was ≡ Some e → («is» ≡ Some e) × (after ≡ before)
 
 module _ {V B E : Type 0} where
   -- the number of its shares
@@ -52,8 +61,8 @@ module _ {V B E : Type 0} where
   abbrev pub seen_of : Carried V B E → List E
   seen_of pass = pass.knows.seen
 
-  -- whether it has seen the value closed with these events
-  abbrev pub closed_of : Carried V B E → Bool
+  -- what closed the value with these events, if it has seen it closed
+  abbrev pub closed_of : Carried V B E → Option E
   closed_of pass = pass.knows.shut
 
   -- the positions that it, or a pass joined into it, added
@@ -72,8 +81,8 @@ module _ {V B E : Type 0} where
   abbrev pub found_of : Carried V B E → List E
   found_of pass = found_at pass.knows.stage
 
-  -- whether its turn found the value closed
-  abbrev pub found_closed_of : Carried V B E → Bool
+  -- what closed the value that its turn found, if it was closed
+  abbrev pub found_closed_of : Carried V B E → Option E
   found_closed_of pass = found_closed_at pass.knows.stage
 
   -- the pass holds the turn that `held` came from
@@ -89,6 +98,10 @@ module _ {V B E : Type 0} where
     pub closed : closed_of new ≡ closed_of old
     pub made : made_of new ≡ made_of old
 
+  -- where the pass has seen the value closed, the whole has seen so, with the same events
+  abbrev pub StaysIn : Carried V B E → Carried V B E → Type 0
+  StaysIn whole pass = StaysClosed (closed_of pass) (seen_of pass) (closed_of whole) (seen_of whole)
+
   -- the pass, but for the number of its shares
   abbrev pub with_shares : ℕ → Carried V B E → Carried V B E
   with_shares n pass = record pass { knows = record pass.knows { shares = n } }
@@ -97,10 +110,6 @@ module _ {V B E : Type 0} where
   abbrev pub longest_seen : Carried V B E → List (Carried V B E) → List E
   longest_seen pass others = fold (λ xs other. longer xs (seen_of other)) (seen_of pass) others
 
-  -- whether one of the passes has seen the value closed
-  abbrev pub any_closed : Carried V B E → List (Carried V B E) → Bool
-  any_closed pass others = fold (λ c other. c || closed_of other) (closed_of pass) others
-
--- what was closed before is closed now, with the same events
-abbrev pub StaysClosed : {E : Type 0} → Bool → List E → Bool → List E → Type 0
-StaysClosed was before «is» after = was ≡ true → («is» ≡ true) × (after ≡ before)
+  -- what closed the value, if one of the passes has seen it closed
+  abbrev pub any_closed : Carried V B E → List (Carried V B E) → Option E
+  any_closed pass others = fold (λ c other. either c (closed_of other)) (closed_of pass) others

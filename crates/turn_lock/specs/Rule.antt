@@ -25,7 +25,7 @@ module _ {E : Type 0} where
   HasTurn (Turn t xs c) = Unit {0}
 
   -- the stage of the view j: its ticket has not been served before, was drawn, and is its own, and with the turn it is the one served, and what it found stands
-  abbrev pub InPlace : (next serving : ℕ) (holder : ℕ → ℕ) (log : List E) (shut : Bool) (away : Type 0) (j : ℕ) → Stage E → Type 0
+  abbrev pub InPlace : (next serving : ℕ) (holder : ℕ → ℕ) (log : List E) (shut : Option E) (away : Type 0) (j : ℕ) → Stage E → Type 0
   InPlace next serving holder log shut away j Idle = Unit {0}
   InPlace next serving holder log shut away j (Waiting t) = (serving ≤ t) × (t < next) × (holder t ≡ j)
   InPlace next serving holder log shut away j (Turn t xs c) = (t ≡ serving) × (t < next) × (holder t ≡ j) × (xs ≡ log) × (c ≡ shut) × away
@@ -40,15 +40,16 @@ module _ {B E : Type 0} where
   Rules views j = (v : Knows B E) × (get_elem? views j ≡ some v) × HasTurn v.stage
 
   -- what a view has seen begins the events, and a view without shares is spent
-  pub record Fits (root : B) (log : List E) (shut : Bool) (v : Knows B E) : Type 0 where
+  pub record Fits (root : B) (log : List E) (shut : Option E) (v : Knows B E) : Type 0 where
     pub seen : IsPrefix v.seen log
     pub other_seen : IsPrefix v.other_seen log
-    pub closed : v.shut ≡ true → (v.seen ≡ log) × (shut ≡ true)
+    pub closed : (e : E) → v.shut ≡ Some e → (v.seen ≡ log) × (shut ≡ Some e)
+    pub other_closed : (e : E) → v.other_shut ≡ Some e → (v.other_seen ≡ log) × (shut ≡ Some e) × (v.shut ≡ Some e)
     pub live : 0 < v.shares → (v.base ≡ Some root) × (v.other_base ≡ Some root)
     pub gone : v.shares ≡ 0 → v ≡ spent
 
   -- a view with shares that has seen all
-  pub record Newest (log : List E) (shut : Bool) (v : Knows B E) : Type 0 where
+  pub record Newest (log : List E) (shut : Option E) (v : Knows B E) : Type 0 where
     pub live : 0 < v.shares
     pub seen : v.seen ≡ log
     pub closed : v.shut ≡ shut
@@ -59,27 +60,27 @@ module _ {B E : Type 0} where
   abbrev pub times_made : ℕ → List (Knows B E) → ℕ
   times_made p views = sum_by (λ v. times p v.made) views
 
-module _ {V B E : Type 0} (base : V → B) (events : V → List E) (closed : V → Bool) where
+module _ {V B E : Type 0} (base : V → B) (events : V → List E) (closed : V → Option E) where
   -- the value at home is the base with the events, closed or not
-  pub record IsValue (root : B) (log : List E) (shut : Bool) (v : V) : Type 0 where
+  pub record IsValue (root : B) (log : List E) (shut : Option E) (v : V) : Type 0 where
     pub on_root : base v ≡ root
     pub all : events v ≡ log
     pub as_shut : closed v ≡ shut
 
   -- the value is away with the view whose ticket is served, or at home
-  abbrev pub Stands : (root : B) (log : List E) (shut : Bool) (away : Type 0) → maybe.Option (Option V) → Type 0
+  abbrev pub Stands : (root : B) (log : List E) (shut : Option E) (away : Type 0) → maybe.Option (Option V) → Type 0
   Stands root log shut away none = away
   Stands root log shut away (some None) = ⊥
   Stands root log shut away (some (Some v)) = IsValue root log shut v
 
-module _ {V B E : Type 0} (base : V → B) (first : B → ℕ) (events : V → List E) (closed : V → Bool) where
+module _ {V B E : Type 0} (base : V → B) (first : B → ℕ) (events : V → List E) (closed : V → Option E) where
   pub record Kept (key : Opening V) (s : State (Option V) (Knows B E)) : Type 0 where
     pub next : ℕ
     pub serving : ℕ
     pub holder : ℕ → ℕ
     pub home : maybe.Option (Option V)
     pub log : List E
-    pub shut : Bool
+    pub shut : Option E
     pub last : ℕ
     pub words : s.words ≡ next ∷ serving ∷ end_of (first (base key.value.value)) log ∷ []
     pub homes : s.homes ≡ home ∷ []

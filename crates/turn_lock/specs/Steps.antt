@@ -6,7 +6,7 @@ use Rattle.turn_lock.specs.declared.view.Stage.{Stage}
 use Rattle.turn_lock.specs.declared.view.Stage.TheVariants.{Idle, Waiting, Turn}
 use Rattle.turn_lock.specs.declared.view.Knows.{Knows}
 use Rattle.turn_lock.specs.Positions.{positions_between, end_of}
-use Rattle.turn_lock.specs.Pass.{longer}
+use Rattle.turn_lock.specs.Pass.{longer, either, StaysClosed}
 
 -- the list that is not the longer one
 abbrev pub shorter : {E : Type 0} → List E → List E → List E
@@ -14,39 +14,48 @@ shorter xs ys = cond (nat_lt (length xs) (length ys)) xs ys
 
 module _ {B E : Type 0} where
   -- the first pass: all shares, the base and the events of the value
-  abbrev pub fresh : ℕ → B → List E → Bool → Knows B E
-  fresh n b xs c = record { stage = Idle; shares = n; base = Some b; seen = xs; shut = c; made = []; other_base = Some b; other_seen = [] }
+  abbrev pub fresh : ℕ → B → List E → Option E → Knows B E
+  fresh n b xs c = record { stage = Idle; shares = n; base = Some b; seen = xs; shut = c; made = []; other_base = Some b; other_seen = []; other_shut = None }
 
   -- what is left of a pass that was joined into another
   abbrev pub spent : Knows B E
-  spent = record { stage = Idle; shares = 0; base = None; seen = []; shut = false; made = []; other_base = None; other_seen = [] }
+  spent = record { stage = Idle; shares = 0; base = None; seen = []; shut = None; made = []; other_base = None; other_seen = []; other_shut = None }
 
   abbrev pub at_stage : Stage E → Knows B E → Knows B E
   at_stage g k = record k { stage = g }
 
   -- the pass has published the events xs, which a turn found as ys, over a base that ends at p
-  abbrev pub published : ℕ → ℕ → List E → List E → Bool → Knows B E → Knows B E
+  abbrev pub published : ℕ → ℕ → List E → List E → Option E → Knows B E → Knows B E
   published t p ys xs c k = record k { stage = Turn t xs c; seen = xs; shut = c; made = k.made ++ positions_between (end_of p ys) (end_of p xs) }
 
   abbrev pub left_with : ℕ → Knows B E → Knows B E
   left_with n k = record k { shares = k.shares - n }
 
   abbrev pub given : ℕ → Knows B E → Knows B E
-  given n k = record { stage = Idle; shares = n; base = k.base; seen = k.seen; shut = k.shut; made = []; other_base = k.base; other_seen = [] }
+  given n k = record { stage = Idle; shares = n; base = k.base; seen = k.seen; shut = k.shut; made = []; other_base = k.base; other_seen = []; other_shut = None }
+
+  -- what closed the value, if the one with the shorter list has seen it closed
+  abbrev pub shorter_shut : Knows B E → Knows B E → Option E
+  shorter_shut k l = cond (nat_lt (length k.seen) (length l.seen)) k.shut l.shut
+
+  -- what closed the value, if one of the two has seen it closed, by the longer list first
+  abbrev pub joined_shut : Knows B E → Knows B E → Option E
+  joined_shut k l = cond (nat_lt (length k.seen) (length l.seen)) (either l.shut k.shut) (either k.shut l.shut)
 
   -- one view of two; it keeps the other's base and the shorter list, of which the next step tells
   abbrev pub joined : Knows B E → Knows B E → Knows B E
-  joined k l = record { stage = Idle; shares = k.shares + l.shares; base = k.base; seen = longer k.seen l.seen; shut = k.shut || l.shut; made = k.made ++ l.made; other_base = l.base; other_seen = shorter k.seen l.seen }
+  joined k l = record { stage = Idle; shares = k.shares + l.shares; base = k.base; seen = longer k.seen l.seen; shut = joined_shut k l; made = k.made ++ l.made; other_base = l.base; other_seen = shorter k.seen l.seen; other_shut = shorter_shut k l }
 
   -- a draw gives the ticket where the word was still the one expected
   abbrev pub Draws : {S : Type 0} → Step S → Me S (Knows B E) → ℕ → Me S (Knows B E) → Type 0
   Draws s m found n = (found ≡ s.first → n ≡ (at_stage (Waiting s.first) m.0, m.1)) × (found ≢ s.first → n ≡ m)
 
-  -- a count tells that the shares fit a u32, that the two bases were one, and that the shorter list begins the longer
+  -- a count tells that the shares fit a u32, that the two bases were one, that the shorter list begins the longer, and is as long and closed by the same where its value was closed
   pub record IsCounted (k : Knows B E) : Type 0 where
     pub fits : k.shares < 2 ^ 32
     pub one_base : k.other_base ≡ k.base
     pub begins : length k.other_seen ≤ length k.seen → IsPrefix k.other_seen k.seen
+    pub stays : (e : E) → k.other_shut ≡ Some e → length k.other_seen ≤ length k.seen → (k.seen ≡ k.other_seen) × (k.shut ≡ Some e)
 
   abbrev pub Counts : {S : Type 0} → Step S → Me S (Knows B E) → ℕ → Me S (Knows B E) → Type 0
   Counts s m found n = (n ≡ m) × IsCounted m.0
@@ -55,13 +64,13 @@ module _ {B E : Type 0} where
   abbrev pub Advances : {S : Type 0} → Step S → Me S (Knows B E) → ℕ → Me S (Knows B E) → Type 0
   Advances s m found n = n ≡ (at_stage Idle m.0, rest m.1)
 
-module _ {V B E : Type 0} (base : V → B) (events : V → List E) (closed : V → Bool) where
+module _ {V B E : Type 0} (base : V → B) (events : V → List E) (closed : V → Option E) where
   -- the turn by ticket t, in which the value v was found
   pub record Found (t : ℕ) (m n : Me (Option V) (Knows B E)) (v : V) : Type 0 where
     pub after : n ≡ (at_stage (Turn t (events v) (closed v)) m.0, (0, Some v) ∷ m.1)
     pub one_base : m.0.base ≡ Some (base v)
     pub begins : IsPrefix m.0.seen (events v)
-    pub stays : m.0.shut ≡ true → (closed v ≡ true) × (events v ≡ m.0.seen)
+    pub stays : StaysClosed m.0.shut m.0.seen (closed v) (events v)
 
   -- a look finds the turn where the word is the ticket
   abbrev pub LooksAt : Stage E → Me (Option V) (Knows B E) → ℕ → Me (Option V) (Knows B E) → Type 0
@@ -72,7 +81,7 @@ module _ {V B E : Type 0} (base : V → B) (events : V → List E) (closed : V �
   abbrev pub Looks : Step (Option V) → Me (Option V) (Knows B E) → ℕ → Me (Option V) (Knows B E) → Type 0
   Looks s m found n = LooksAt m.0.stage m found n
 
-module _ {V B E : Type 0} (base : V → B) (first : B → ℕ) (events : V → List E) (closed : V → Bool) where
+module _ {V B E : Type 0} (base : V → B) (first : B → ℕ) (events : V → List E) (closed : V → Option E) where
   -- the value that is out has become what the pass has seen
   abbrev pub PostsAt : Stage E → List (ℕ × Option V) → Me (Option V) (Knows B E) → Me (Option V) (Knows B E) → Type 0
   PostsAt Idle taken m n = Unit {0}

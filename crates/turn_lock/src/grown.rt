@@ -1,5 +1,5 @@
 //! What the lock asks of the value that it guards.
-ghost use Rattle.std.specs.Prelude.{◌≡◌, ◌+◌, ℕ, Bool, List, length};
+ghost use Rattle.std.specs.Prelude.{◌≡◌, ◌+◌, ℕ, List, Option, length};
 
 /// A value that is a base and the events after it. Each event raises its position by one.
 pub trait Grown {
@@ -18,8 +18,8 @@ pub trait Grown {
     // The events after the base, in order.
     ghost events: { Self → List Self.Entry };
 
-    // Whether the events stay as they are from now on.
-    ghost closed: { Self → Bool };
+    // What closed the value, if it is closed: its events, to which this doesn't belong, stay as they are from now on.
+    ghost closed: { Self → Option Self.Entry };
 
     /// The position at which the events end.
     fn position(&self) -> u64

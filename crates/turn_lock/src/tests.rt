@@ -1,5 +1,5 @@
 //! A log of numbers under the lock, over a base that ends at some position.
-ghost use Rattle.std.specs.Prelude.{◌≡◌, ◌⊎◌, ◌+◌, ◌<◌, ◌++◌, ◌∷◌, [], true};
+ghost use Rattle.std.specs.Prelude.{◌≡◌, ◌⊎◌, ◌+◌, ◌<◌, ◌++◌, ◌∷◌, [], ℕ, Some, IsTrue, is_some};
 ghost use Rattle.std.specs.Thread.{IsSync};
 ghost use Rattle.turn_lock.specs.Pass.{IsPassOf, IsIdle, shares_of};
 
@@ -18,7 +18,8 @@ const TURNS: u32 = 1000;
 struct Log {
     start: u32,
     entries: Vec<u32>,
-    shut: bool,
+    // The entry that closes it, which isn't among its entries.
+    shut: Option<u32>,
 }
 
 impl Grown for Log {
@@ -43,19 +44,30 @@ fn empty_log(alloc: Global, start: u32) -> Log {
     Log {
         start,
         entries: Vec::new(alloc),
-        shut: false,
+        shut: None,
     }
 }
 
 impl Log {
+    // Shuts the log by an entry, unless it is shut.
+    fn shut_by(&mut self, entry: u32)
+        ensures base { self.new.start ≡ self.old.start }
+        ensures entries { self.new.entries.items ≡ self.old.entries.items }
+        ensures stays { (e : ℕ) → self.old.shut ≡ Some e → self.new.shut ≡ Some e }
+    {
+        if self.shut.is_none() {
+            self.shut = Some(entry);
+        }
+    }
+
     // Adds an entry. Where the log is shut, or memory runs out, it stays as it was.
     fn add(&mut self, entry: u32)
         ensures base { self.new.start ≡ self.old.start }
         ensures shut { self.new.shut ≡ self.old.shut }
         ensures entries { self.new.entries.items ≡ self.old.entries.items ⊎ self.new.entries.items ≡ self.old.entries.items ++ entry ∷ [] }
-        ensures stays { self.old.shut ≡ true → self.new.entries.items ≡ self.old.entries.items }
+        ensures stays { IsTrue (is_some self.old.shut) → self.new.entries.items ≡ self.old.entries.items }
     {
-        if !self.shut {
+        if self.shut.is_none() {
             let _ = self.entries.push(entry);
         }
     }
@@ -162,7 +174,7 @@ fn shut_and_look<R: Threads + Wait + Abort + Sync>(
 {
     append(rt, lock, &mut first, 7);
     let mut held = lock.take(rt, &mut first);
-    held.value.shut = true;
+    held.value.shut_by(9);
     lock.give(&mut first, held);
     append(rt, lock, &mut second, 8);
     assert_eq!(rt; second.position(), 1);
@@ -217,7 +229,7 @@ fn a_shut_log_stays_as_it_is(rt: HostRuntime) {
     let other = lock.split(&mut pass, 1);
     let all = shut_and_look(&rt, &lock, pass, other);
     let log = lock.close(all);
-    assert!(rt; log.shut && log.entries.as_slice() == [7].as_slice());
+    assert!(rt; log.shut == Some(9) && log.entries.as_slice() == [7].as_slice());
 }
 
 // With memory it makes the lock; where `rt try --test --fail-alloc N` refuses any, it hands the value back.
@@ -227,7 +239,7 @@ fn want_of_memory_hands_the_value_back(rt: HostRuntime) {
         MadeLock::Made { lock, pass } => lock.close(pass),
         MadeLock::NoMemory(log) => log,
     };
-    assert_eq!(rt; (log.start, log.position(), log.shut), (9, 9, false));
+    assert_eq!(rt; (log.start, log.position(), log.shut), (9, 9, None));
 }
 
 #[test]

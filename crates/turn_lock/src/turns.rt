@@ -13,7 +13,7 @@ use std::thread::Threads;
 
 impl<V: Grown> TurnLock<V> {
     /// Waits for the turn of the pass, and takes the value. While it waits it yields the processor.
-    pub fn take<R: Threads + Wait + Sync>(&self, rt: &R, pass: &mut Pass<V>) -> Held<V>
+    pub fn take<R: Threads + Wait>(&self, rt: &R, pass: &mut Pass<V>) -> Held<V>
         requires lock { IsPassOf self.now pass.old }
         requires idle { IsIdle pass.old }
         ensures lock { IsPassOf self.now pass.new }

@@ -6,8 +6,8 @@ pub enum Stage<E> {
     Idle,
     /// It has this ticket.
     Waiting(u64),
-    /// It has the turn by this ticket. With it, the events of the value as the others know them, and whether it is closed.
-    Turn(u64, LinkedList<E>, bool),
+    /// It has the turn by this ticket. With it, the events of the value as the others know them, and what closed it, if it is closed.
+    Turn(u64, LinkedList<E>, Option<E>),
 }
 
 /// What a pass knows and has done.
@@ -16,11 +16,13 @@ pub struct Knows<B, E> {
     pub shares: u32,
     pub base: Option<B>,
     pub seen: LinkedList<E>,
-    /// Whether it has seen the value closed with the events seen.
-    pub shut: bool,
+    /// What closed the value with the events seen, if it has seen it closed.
+    pub shut: Option<E>,
     pub made: LinkedList<u64>,
     /// The base of the pass that was joined last.
     pub other_base: Option<B>,
     /// The shorter list of the two at that join.
     pub other_seen: LinkedList<E>,
+    /// What closed the value, if the pass with that list had seen it closed.
+    pub other_shut: Option<E>,
 }

@@ -2,9 +2,9 @@ use Rattle.std.proofs.Common.{rules, All, subst, sym, ◌∙◌, map-id}
 use Rattle.std.proofs.lemmas.Iterator.Consumers.{YieldsList-end}
 use Rattle.std.proofs.lemmas.Iterator.Adapters.{YieldsList-from_vec}
 use mathlib.Core.List.{IsPrefix}
-use Rattle.turn_lock.specs.Pass.{seen_of}
+use Rattle.turn_lock.specs.Pass.{seen_of, StaysIn}
 use Rattle.turn_lock.proofs.Lists.{prefix_then}
-use Rattle.turn_lock.proofs.Gathering.{shares_more, seen_more, closed_more, made_more, begins_more}
+use Rattle.turn_lock.proofs.Gathering.{shares_more, seen_more, closed_more, made_more, begins_more, stays_then, stays_more}
 use Rattle.turn_lock.proofs.lock.TurnLock.gather.Goals as goal
 
 pub loop-pass-preserved : goal.loop-pass-preserved
@@ -20,6 +20,8 @@ loop-pass-preserved g c =
       begins = prefix_then _ (seen_of a) (seen_of r) old.begins one.begins.0;
       each_begins = begins_more first a p r done one.begins.0 one.begins.1 old.each_begins;
       closed = closed_more first a p r done one.closed old.closed;
+      stays = stays_then r a first old.stays one.stays.0;
+      each_stays = stays_more first a p r done one.stays.0 one.stays.1 old.each_stays;
       made = made_more first a p r done one.made old.made;
     }
 
@@ -29,3 +31,10 @@ returns-clause-begins g c =
     c.loop-pass.yielded c.loop-pass.pass-iterator c.loop-pass.yielded_by c.next.result c.next.new.self c.in-None.is c.next.ensures.steps in
     let all = sym (map-id c.loop-pass.yielded) ∙ end.0 in
     (c.loop-pass.invariant.begins, subst (All (λ pass. IsPrefix (seen_of pass) (seen_of c.loop-pass.all))) all c.loop-pass.invariant.each_begins)
+
+pub returns-clause-stays : goal.returns-clause-stays
+returns-clause-stays g c =
+    let end = YieldsList-end (YieldsList-from_vec {s = c.into_iter-pass-iterator.result} c.args.others.items (search rules) (search rules))
+    c.loop-pass.yielded c.loop-pass.pass-iterator c.loop-pass.yielded_by c.next.result c.next.new.self c.in-None.is c.next.ensures.steps in
+    let all = sym (map-id c.loop-pass.yielded) ∙ end.0 in
+    (c.loop-pass.invariant.stays, subst (All (StaysIn c.loop-pass.all)) all c.loop-pass.invariant.each_stays)
