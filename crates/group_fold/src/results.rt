@@ -1,7 +1,7 @@
 //! What a group shows.
 ghost use Rattle.std.specs.Prelude.{◌≡◌, IfOk, map, ◌++◌};
 ghost use Rattle.ts_num.specs.Aggregates.{shown_or_null};
-ghost use Rattle.group_fold.specs.Grouping.{cells_of, shown_each};
+ghost use Rattle.ts_model.specs.Groups.{cells_of, shown_each};
 
 use partial_agg::{Group, Partial};
 use std::alloc::Global;

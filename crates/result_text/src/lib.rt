@@ -4,6 +4,7 @@
 #![tactic(auto)]
 
 mod answers;
+pub mod codes;
 mod events;
 mod pieces;
 mod refusals;

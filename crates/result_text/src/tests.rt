@@ -109,8 +109,7 @@ fn an_answer_shows_its_counts_its_cells_and_its_stale_ranges(rt: HostRuntime) ->
 #[test]
 fn refusals_have_their_words_and_tails(rt: HostRuntime) -> Result<(), Fail> {
     let words = [
-        (0, b"FAULT E00 not_built\n".as_slice()),
-        (1, b"FAULT E01 line_long\n"),
+        (1, b"FAULT E01 line_long\n".as_slice()),
         (2, b"FAULT E02 not_ascii\n"),
         (3, b"FAULT E03 no_session\n"),
         (4, b"FAULT E04 no_token at 11\n"),
@@ -134,11 +133,17 @@ fn refusals_have_their_words_and_tails(rt: HostRuntime) -> Result<(), Fail> {
         (22, b"FAULT E22 not_aggregate @3\n"),
         (23, b"FAULT E23 too_many_sessions\n"),
         (24, b"FAULT E24 stopped @3\n"),
+        (25, b"FAULT E25 image_long @3 bytes 11\n"),
+        (26, b"FAULT E26 bad_policy @3\n"),
+        (27, b"FAULT E27 too_many_policies @3 count 11\n"),
+        (28, b"FAULT E28 bad_rollup @3\n"),
+        (29, b"FAULT E29 bad_unit @3\n"),
+        (30, b"FAULT E30 history_full @3\n"),
+        (0, b"FAULT E00 unnamed\n"),
+        (31, b"FAULT E31 unnamed\n"),
+        (255, b"FAULT E255 unnamed\n"),
     ];
     for (code, text) in words {
-        if code > 24 {
-            continue;
-        }
         let mut out = Vec::new(rt.alloc());
         put_refusal(
             &Refusal {

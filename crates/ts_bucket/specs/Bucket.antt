@@ -35,10 +35,9 @@ pub record IsNearTimes (t : ℤ) : Type 0 where
   pub low : negsuc (2 ^ 62 + 2 ^ 41 - 1) ≤ℤ t
   pub high : t ≤ℤ pos (2 ^ 62 - 1 + 2 ^ 41)
 
--- t lies within 2 ^ 42 of the range of times
-pub record IsWithinReach (t : ℤ) : Type 0 where
-  pub low : negsuc (2 ^ 62 + 2 ^ 42 - 1) ≤ℤ t
-  pub high : t ≤ℤ pos (2 ^ 62 - 1 + 2 ^ 42)
+-- t lies at most 2 ^ 42 below the range of times
+abbrev pub IsInReach : ℤ → Type 0
+IsInReach t = negsuc (2 ^ 62 + 2 ^ 42 - 1) ≤ℤ t
 
 -- the bucket that starts at b holds t: it is at or below t, and t is below its end
 abbrev pub holds : WidthValue → ℤ → ℤ → Bool

@@ -1,8 +1,15 @@
 pub mod Deeds
 pub mod Walks
+pub mod Gives
+pub mod Places
+pub mod Made
 pub mod Step
 pub mod Script
-pub mod Holding
+pub mod Steady
 pub mod Laws
+pub mod Held
+pub mod Holding
+pub mod Tried
+pub mod Jobs
 pub mod Sessions
 pub mod Sound

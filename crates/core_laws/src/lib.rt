@@ -1,0 +1,5 @@
+//! Laws.
+#![tactic(auto)]
+
+/// Nothing.
+pub fn nothing() {}

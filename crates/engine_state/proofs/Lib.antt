@@ -1,0 +1,9 @@
+pub mod EachLaws
+pub mod RosterSteps
+pub mod GroupSteps
+pub mod ViewSteps
+pub mod TableSteps
+pub mod OneLaws
+pub mod StateSteps
+pub mod RefreshSteps
+pub mod NoteLaws

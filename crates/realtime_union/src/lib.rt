@@ -1,0 +1,11 @@
+//! What an aggregate shows: its materialised groups, and at or above its mark the groups of the rows.
+#![tactic(auto)]
+
+mod live;
+mod shown;
+mod tables;
+mod unions;
+
+pub use live::live_span;
+pub use tables::folded_rows;
+pub use unions::union_rows;
