@@ -1,13 +1,12 @@
 -- What the code computes for the bucket of a time, free of its casts.
-use Rattle.std.proofs.Common.{◌≡◌, ℤ, pos, negsuc, ◌+ℤ◌, ◌-ℤ◌, ◌≤ℤ◌, ◌<ℤ◌, sym, ap, ◌∙◌, subst, arith}
+use Rattle.std.proofs.Common.{◌≡◌, ◌-◌, ◌^◌, ℤ, pos, ◌-ℤ◌, ◌≤ℤ◌, ◌<ℤ◌, sym, ap, ◌∙◌, subst, arith}
 use Rattle.std.specs.Int.{int_rem_euclid, w64, cast_signed, cast_unsigned}
 use Rattle.std.proofs.lemmas.Int.{ints}
-use Rattle.ts_bucket.specs.Bucket.{WidthValue, IsWidth, bucket_of}
-use Rattle.ts_bucket.specs.Windows.{start_from}
+use Rattle.ts_bucket.specs.Bucket.{WidthValue, IsWidth, IsInReach, bucket_of}
 use Rattle.ts_bucket.proofs.Remainders.{remainder_bounds}
 
 -- the time less the remainder that the code finds is the start of its bucket
-pub computed_bucket : (v w : WidthValue) (t r : ℤ) → v ≡ w → IsWidth v → negsuc 4611690416473899007 ≤ℤ t → t ≤ℤ pos 4611690416473899007 → r ≡ int_rem_euclid (cast_signed w64 (cast_unsigned w64 (cast_signed w64 (cast_unsigned w64 t) -ℤ cast_signed w64 (cast_unsigned w64 v.shift)))) (cast_signed w64 (cast_unsigned w64 v.step)) → cast_signed w64 (cast_unsigned w64 (cast_signed w64 (cast_unsigned w64 t) -ℤ cast_signed w64 (cast_unsigned w64 r))) ≡ bucket_of w t
+pub computed_bucket : (v w : WidthValue) (t r : ℤ) → v ≡ w → IsWidth v → IsInReach t → t ≤ℤ pos (2 ^ 63 - 1) → r ≡ int_rem_euclid (cast_signed w64 (cast_unsigned w64 (cast_signed w64 (cast_unsigned w64 t) -ℤ cast_signed w64 (cast_unsigned w64 v.shift)))) (cast_signed w64 (cast_unsigned w64 v.step)) → cast_signed w64 (cast_unsigned w64 (cast_signed w64 (cast_unsigned w64 t) -ℤ cast_signed w64 (cast_unsigned w64 r))) ≡ bucket_of w t
 computed_bucket v w t r same h low high e =
     let shifted : cast_signed w64 (cast_unsigned w64 (cast_signed w64 (cast_unsigned w64 t) -ℤ cast_signed w64 (cast_unsigned w64 v.shift))) ≡ t -ℤ v.shift = omega (arith, ints) in
     let step : cast_signed w64 (cast_unsigned w64 v.step) ≡ v.step = omega (arith, ints) in
@@ -17,7 +16,3 @@ computed_bucket v w t r same h low high e =
     let below : r <ℤ v.step = subst (λ z. z <ℤ v.step) (sym is) bounds.1 in
     let plain : cast_signed w64 (cast_unsigned w64 (cast_signed w64 (cast_unsigned w64 t) -ℤ cast_signed w64 (cast_unsigned w64 r))) ≡ t -ℤ r = omega (arith, ints) in
     plain ∙ ap (λ z. t -ℤ z) is ∙ ap (λ x. bucket_of x t) same
-
--- the bucket of the last number that the bucket before t could hold is the first start from t on
-pub computed_start : (w : WidthValue) (t x b : ℤ) → b ≡ bucket_of w x → x ≡ t +ℤ (w.step -ℤ pos 1) → b ≡ start_from w t
-computed_start w t x b e p = e ∙ ap (bucket_of w) p

@@ -26,6 +26,10 @@ pub record IsWidth (w : WidthValue) : Type 0 where
   pub from_zero : pos 0 ≤ℤ w.shift
   pub below_step : w.shift <ℤ w.step
 
+-- those four as one test
+abbrev pub is_width : WidthValue → Bool
+is_width w = int_lt (pos 0) w.step && int_le w.step max_step && int_le (pos 0) w.shift && int_lt w.shift w.step
+
 -- t is a time
 abbrev pub is_time : ℤ → Bool
 is_time t = int_le min_time t && int_le t max_time
@@ -35,10 +39,9 @@ pub record IsNearTimes (t : ℤ) : Type 0 where
   pub low : negsuc (2 ^ 62 + 2 ^ 41 - 1) ≤ℤ t
   pub high : t ≤ℤ pos (2 ^ 62 - 1 + 2 ^ 41)
 
--- t lies within 2 ^ 42 of the range of times
-pub record IsWithinReach (t : ℤ) : Type 0 where
-  pub low : negsuc (2 ^ 62 + 2 ^ 42 - 1) ≤ℤ t
-  pub high : t ≤ℤ pos (2 ^ 62 - 1 + 2 ^ 42)
+-- t lies at most 2 ^ 42 below the range of times
+abbrev pub IsInReach : ℤ → Type 0
+IsInReach t = negsuc (2 ^ 62 + 2 ^ 42 - 1) ≤ℤ t
 
 -- the bucket that starts at b holds t: it is at or below t, and t is below its end
 abbrev pub holds : WidthValue → ℤ → ℤ → Bool

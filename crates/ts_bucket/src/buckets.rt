@@ -1,7 +1,7 @@
 //! Widths, and the bucket of a time.
 
 ghost use Rattle.std.specs.Prelude.{◌≡◌, ◌↔◌, IsTrue, IsSome, IfSome};
-ghost use Rattle.ts_bucket.specs.Bucket.{IsWidth, IsBucketOf, IsNearTimes, IsWithinReach, bucket_of, first_of};
+ghost use Rattle.ts_bucket.specs.Bucket.{IsWidth, IsBucketOf, IsNearTimes, IsInReach, bucket_of, first_of};
 
 use crate::times::MIN_TIME;
 use crate::widths::Width;
@@ -21,10 +21,9 @@ pub fn width(step: i64, shift: i64) -> Option<Width>
     }
 }
 
-/// The start of the bucket that holds `t`, which lies a little further outside the range of times
-/// than `bucket` allows.
+/// The start of the bucket that holds `t`, which lies at most a little below the range of times.
 pub(crate) fn bucket_start(w: Width, t: i64) -> i64
-    requires { IsWithinReach t }
+    requires { IsInReach t }
     ensures bucket { IsBucketOf w t result }
     ensures value { result ≡ bucket_of w t }
     ensures bounds { IsWidth w }

@@ -1,17 +1,21 @@
-//! Buckets of time, without allocation: widths, spans and hulls, the bucket of a time, and the
-//! whole buckets of a window.
+//! Buckets of time, without allocation: widths, spans and hulls, the bucket of a time, the whole
+//! buckets of a window and of a span, and the chunk of a time.
 #![tactic(auto)]
 
 mod buckets;
+mod chunks;
 mod spans;
 #[cfg(test)]
 mod tests;
 mod times;
+mod whole_spans;
 mod widths;
 mod windows;
 
 pub use buckets::{bucket, first, width};
+pub use chunks::chunk_start;
 pub use spans::{Hull, Span};
-pub use times::{MAX_TIME, MIN_TIME};
+pub use times::{MAX_TIME, MIN_TIME, times_law};
+pub use whole_spans::{all_buckets, buckets_in, touched};
 pub use widths::Width;
 pub use windows::{inscribe, meets};

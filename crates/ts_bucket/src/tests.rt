@@ -52,3 +52,55 @@ fn hulls_meet_spans_that_share_a_number(rt: HostRuntime) {
     assert!(rt; !meets(hull, Span { lo: 0, hi: 5 }));
     assert!(rt; !meets(hull, Span { lo: 7, hi: 7 }));
 }
+
+#[test]
+fn a_span_is_given_the_buckets_that_start_in_it(rt: HostRuntime) -> Result<(), Fail> {
+    let tens = width(10, 3).ok_or("tens")?;
+    let all = all_buckets(tens);
+    assert_eq!(rt; all.lo, first(tens));
+    assert_eq!(rt; all.hi, 9_223_372_036_854_775_803);
+    assert_eq!(rt;
+        buckets_in(tens, Span { lo: 3, hi: 23 }),
+        Span { lo: 3, hi: 23 }
+    );
+    assert_eq!(rt;
+        buckets_in(tens, Span { lo: 4, hi: 24 }),
+        Span { lo: 13, hi: 33 }
+    );
+    assert_eq!(rt;
+        buckets_in(
+            tens,
+            Span {
+                lo: i64::MIN,
+                hi: i64::MAX
+            }
+        ),
+        all
+    );
+    let none = buckets_in(
+        tens,
+        Span {
+            lo: i64::MIN,
+            hi: MIN_TIME - 100,
+        },
+    );
+    assert_eq!(rt; none.lo, none.hi);
+    assert_eq!(rt;
+        touched(
+            tens,
+            Hull {
+                least: 12,
+                most: 13
+            }
+        ),
+        Span { lo: 3, hi: 23 }
+    );
+    Ok(())
+}
+
+#[test]
+fn times_fall_into_their_chunks(rt: HostRuntime) {
+    assert_eq!(rt; chunk_start(10, 29), 20);
+    assert_eq!(rt; chunk_start(10, -1), -10);
+    assert_eq!(rt; chunk_start(1 << 50, MIN_TIME), MIN_TIME);
+}

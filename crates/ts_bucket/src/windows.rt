@@ -1,22 +1,26 @@
 //! The whole buckets of a window, and what meets what.
 
-ghost use Rattle.std.specs.Prelude.{◌≡◌, ◌↔◌, IsTrue, MatchOption};
+ghost use Rattle.std.specs.Prelude.{◌≡◌, ◌↔◌, ◌≤ℤ◌, IsTrue, MatchOption};
 ghost use Rattle.std.specs.Option.{ForSome};
-ghost use Rattle.ts_bucket.specs.Bucket.{IsWidth, IsNearTimes};
+ghost use Rattle.ts_bucket.specs.Bucket.{IsWidth, IsInReach, IsNearTimes};
 ghost use Rattle.ts_bucket.specs.Spans.{overlaps, SharesTime};
+ghost use Rattle.ts_bucket.specs.WholeSpans.{whole_span};
 ghost use Rattle.ts_bucket.specs.Windows.{IsInscribed, HasNoBucket, nonempty_span, start_from, window_start, inscribed};
 
 use crate::buckets::{bucket, bucket_start, first};
 use crate::spans::{Hull, Span};
 use crate::widths::Width;
 
-/// The first start of a bucket at or above `t`.
-fn next_start(w: Width, t: i64) -> i64
-    requires { IsNearTimes t }
-    ensures { result ≡ start_from w t }
+/// The first start of a bucket at or above `t`, which lies at most a little below the range of
+/// times and at or below the end of the range of buckets.
+pub(crate) fn next_start(w: Width, t: i64) -> i64
+    requires low { IsInReach t }
+    requires high { t ≤ℤ (whole_span w).hi }
+    ensures value { result ≡ start_from w t }
+    ensures bounds { IsWidth w }
 {
-    let step = w.step;
-    bucket_start(w, t + (step - 1))
+    let start = bucket_start(w, t);
+    if start < t { start + w.step } else { t }
 }
 
 /// Where the whole buckets of a window start: from the first bucket on.

@@ -1,6 +1,5 @@
 use Rattle.std.specs.Prelude.{ℤ, Bool, true, false, not, List, Option, Some, None}
-use Rattle.std.specs.Prelude.{ℕ, ◌≤◌}
-use Rattle.std.specs.List.{list_all, AllByRecursion}
+use Rattle.std.specs.List.{list_all}
 use Rattle.std.specs.Ordering.{int_eq}
 use Rattle.std.specs.Prelude.{int_lt, int_le}
 use Rattle.ts_schema.specs.Rows.{field_of}
@@ -35,7 +34,3 @@ passes_one row t = compares t.cmp (field_of row t.col) t.num
 -- whether a row passes every test
 abbrev pub passes_all : Row → List Test → Bool
 passes_all row tests = list_all (passes_one row) tests
-
--- each test is on the time or on one of so many other columns
-abbrev pub ColumnsAreThere : ℕ → List Test → Type 0
-ColumnsAreThere columns tests = AllByRecursion (λ t. t.col ≤ columns) tests

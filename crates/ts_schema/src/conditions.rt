@@ -1,6 +1,6 @@
 //! Tests on rows.
-ghost use Rattle.std.specs.Prelude.{◌≡◌, ◌≤◌, length};
-ghost use Rattle.ts_schema.specs.Conditions.{ColumnsAreThere, compares, passes_all, passes_one};
+ghost use Rattle.std.specs.Prelude.{◌≡◌};
+ghost use Rattle.ts_schema.specs.Conditions.{compares, passes_all, passes_one};
 
 use crate::rows::{Row, field};
 use crate::sequences::Seq;
@@ -31,30 +31,13 @@ pub struct Test {
 
 /// Whether a row passes every test. A comparison with NULL isn't true.
 pub fn passes(row: &Row, tests: &Seq<Test>) -> bool
-    requires { ColumnsAreThere (length row.now.vals) tests.now }
-    ensures all { result ≡ passes_all row.now tests.now }
+    ensures tests { result ≡ passes_all row.now tests.now }
 {
-    passes_each(row, tests.items())
-}
-
-/// Whether a row passes each of these tests.
-pub fn passes_each(row: &Row, tests: &[Test]) -> bool
-    requires { ColumnsAreThere (length row.now.vals) tests.now }
-    ensures all { result ≡ passes_all row.now tests.now }
-{
-    let mut left = tests;
-    while let [test, rest @ ..] = left {
-        if !passes_test(row, test) {
-            return false;
-        }
-        left = rest;
-    }
-    true
+    tests.items().iter().all(|test| passes_test(row, test))
 }
 
 /// Whether a row passes one test.
 fn passes_test(row: &Row, test: &Test) -> bool
-    requires { test.now.col ≤ length row.now.vals }
     ensures { result ≡ passes_one row.now test.now }
 {
     holds(test.cmp, field(row, test.col), test.num)

@@ -1,5 +1,5 @@
 //! Rows and their order.
-ghost use Rattle.std.specs.Prelude.{◌≡◌, ◌≤◌, length};
+ghost use Rattle.std.specs.Prelude.{◌≡◌};
 ghost use Rattle.std.specs.Cmp.Lexicographic.{slice_cmp};
 ghost use Rattle.ts_schema.specs.Rows.{field_of, row_cmp, value_cmp};
 
@@ -15,20 +15,19 @@ pub struct Row {
     pub vals: Seq<Option<i64>>,
 }
 
-/// The value of column `col`: column 0 is the time, the others count from 1.
+/// The value of column `col`: column 0 is the time, the others count from 1. A row that has no such
+/// column has NULL there.
 pub fn field(row: &Row, col: u32) -> Option<i64>
-    requires { col ≤ length row.now.vals }
     ensures value { result ≡ field_of row.now col }
 {
     match col {
         0 => Some(row.at),
-        _ => *row.vals.get(col as usize - 1),
+        _ => row.vals.items().get(col as usize - 1).copied().flatten(),
     }
 }
 
 /// Rows by time, and then by their other columns, where NULL is greater than every number.
 pub fn row_order(a: &Row, b: &Row) -> Ordering
-    requires { length a.now.vals ≡ length b.now.vals }
     ensures order { result ≡ row_cmp a.now b.now }
 {
     a.at.cmp(&b.at)

@@ -1,14 +1,10 @@
 //! Tables of cases, with answers worked by hand.
-ghost use Rattle.std.specs.Prelude.{◌≡◌, length, IfOk};
-
 use crate::{Cmp, Column, Name, Row, Seq, Steps, Test, field, passes, row_order};
 use std::alloc::Global;
 use std::cmp::Ordering;
 use std::test::Fail;
 
-fn row(alloc: Global, at: i64, value: Option<i64>) -> Result<Row, Fail>
-    ensures { IfOk result (λ r. length r.vals ≡ 1) }
-{
+fn row(alloc: Global, at: i64, value: Option<i64>) -> Result<Row, Fail> {
     let mut vals = Seq::new(alloc);
     vals.push(value)?;
     Ok(Row { at, vals })
@@ -69,6 +65,8 @@ fn null_is_greater_than_every_number_and_no_comparison_with_it_is_true(
     assert_eq!(rt; row_order(&null, &null), Ordering::Equal);
     assert_eq!(rt; field(&null, 0), Some(3));
     assert_eq!(rt; field(&null, 1), None);
+    assert_eq!(rt; field(&number, 1), Some(i64::MAX));
+    assert_eq!(rt; field(&number, 2), None);
     for (cmp, with_number, with_null) in [
         (Cmp::Eq, true, false),
         (Cmp::Ne, false, false),

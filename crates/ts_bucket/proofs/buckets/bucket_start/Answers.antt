@@ -1,5 +1,6 @@
 -- The code's remainder is that of the definition, and the bucket so found meets the three conditions.
-use Rattle.std.proofs.Common.{subst, sym, arith}
+use Rattle.std.proofs.Common.{subst, sym, arith, FitsSigned}
+use Rattle.std.specs.Int.{w64}
 use Rattle.std.proofs.lemmas.Int.{ints}
 use Rattle.ts_bucket.specs.Bucket.{IsWidth, IsBucketOf}
 use Rattle.ts_bucket.proofs.Computed.{computed_bucket}
@@ -7,7 +8,9 @@ use Rattle.ts_bucket.proofs.BucketLaws.{bucket_of_meets}
 use Rattle.ts_bucket.proofs.buckets.bucket_start.Goals as goal
 
 pub returns-clause-value : goal.returns-clause-value
-returns-clause-value c = computed_bucket _ c.args.w c.args.t c.rem_euclid.result c.w.view_is c.w.invariant (omega (arith, ints)) (omega (arith, ints)) c.rem_euclid.ensures.value
+returns-clause-value c =
+    let fits : FitsSigned w64 c.args.t = c.ranges.t in
+    computed_bucket _ c.args.w c.args.t c.rem_euclid.result c.w.view_is c.w.invariant c.requires (omega (arith, ints)) c.rem_euclid.ensures.value
 
 pub returns-clause-bucket : goal.returns-clause-bucket
 returns-clause-bucket c =
