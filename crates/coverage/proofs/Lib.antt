@@ -1,4 +1,3 @@
-pub mod PositionLaws
 pub mod LogLaws
 pub mod ModelLaws
 pub mod StepLaws

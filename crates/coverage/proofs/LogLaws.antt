@@ -1,26 +1,21 @@
 -- Laws of a log: what its hulls touch, and what feeding them makes pending.
-use Rattle.std.proofs.Common.{◌≡◌, ℕ, suc, ◌≤◌, max, true, false, ◌&&◌, cond, nat_lt, nat_le, List, [], ◌∷◌, ◌++◌, ℤ, ◌+ℤ◌, ◌≤ℤ◌, int_lt, Option, Some, None, refl, sym, ap, ◌∙◌, arith}
+use Rattle.std.proofs.Common.{◌≡◌, ℕ, suc, ◌≤◌, max, Bool, true, false, ◌||◌, ◌&&◌, cond, nat_lt, nat_le, List, [], ◌∷◌, ◌++◌, ℤ, ◌+ℤ◌, ◌≤ℤ◌, int_lt, Option, Some, None, refl, sym, ap, ◌∙◌, arith}
 use Rattle.std.specs.Prelude.{is_some}
 use Rattle.std.proofs.lemmas.Bool.{true≢false, and_parts, and_from}
 use Rattle.std.proofs.lemmas.Bool.Decides.{nat_tests}
 use Rattle.std.proofs.lemmas.Int.{ints}
-use Rattle.ts_bucket.specs.Positions.{later, is_above, is_before, above}
+use Rattle.ts_bucket.specs.Positions.{later, is_above, is_before, above, above_last}
 use Rattle.ts_bucket.specs.Spans.{meets}
 use Rattle.ts_bucket.specs.declared.spans.Hull.{Hull}
 use Rattle.ts_bucket.specs.declared.widths.Width.{Width}
-use Rattle.ts_bucket.proofs.PositionLaws.{later-none, later-assoc, above-later}
+use Rattle.ts_bucket.proofs.PositionLaws.{later-none, later-assoc, above-later, above-nothing, above-above_last, above_last-later, above_last-twice, above_last-before, above_last-nothing, is_some-later, is_some-above}
+use Rattle.ts_bucket.proofs.TouchLaws.{log_touch-append}
+use Rattle.ts_bucket.specs.Touches.{Noted, log_touch}
 use Rattle.ts_model.specs.Refreshes.{is_met}
-use Rattle.coverage.specs.Notes.{Noted, logged, fed_one, fed}
-use Rattle.coverage.specs.Coverage.{log_touch, above_last, RisesFrom, is_upto}
-use Rattle.coverage.proofs.PositionLaws.{above-nothing, above-above_last, above_last-later, above_last-twice, above_last-before, above_last-nothing}
+use Rattle.coverage.specs.Notes.{logged, fed_one, fed}
+use Rattle.coverage.specs.Coverage.{RisesFrom, is_upto}
 
 -- ---- what a log touches
-
-pub log_touch-append : (w : Width) (b : ℤ) (log : List Noted) (entry : Noted) → log_touch w b (log ++ (entry ∷ [])) ≡ later (log_touch w b log) (cond (meets w b entry.hull) (Some entry.at) None)
-log_touch-append w b [] entry = later-none _
-log_touch-append w b (e ∷ log) entry =
-    ap (later (cond (meets w b e.hull) (Some e.at) None)) (log_touch-append w b log entry)
-    ∙ sym (later-assoc (cond (meets w b e.hull) (Some e.at) None) (log_touch w b log) (cond (meets w b entry.hull) (Some entry.at) None))
 
 missed : (w : Width) (b threshold : ℤ) (hull : Hull) → (b +ℤ w.step) ≤ℤ threshold → int_lt hull.least threshold ≡ false → meets w b hull ≡ false
 missed w b threshold hull below above = grind (arith, ints)
@@ -123,6 +118,47 @@ pub is_some-fed : (w : Width) (b : ℤ) (last p : Option ℕ) (log : List Noted)
 is_some-fed w b last p [] e = e
 is_some-fed w b last p (entry ∷ log) e =
     is_some-fed w b last (fed_one w b last entry p) log (elim (meets w b entry.hull && is_before entry.at last) as (λ t. is_some (cond t (Some entry.at) p) ≡ true) [ true ↦ refl | false ↦ e ])
+
+-- an entry that meets the bucket is fed exactly where it is above the last refresh
+fed_above : (last : Option ℕ) (q : ℕ) → is_some (above_last last (Some q)) ≡ is_before q last
+fed_above None q = refl
+fed_above (Some s) q = is_some-above s (Some q)
+
+some_one : (w : Width) (b : ℤ) (last p : Option ℕ) (entry : Noted) → is_some (fed_one w b last entry p) ≡ (is_some p || is_some (above_last last (cond (meets w b entry.hull) (Some entry.at) None)))
+some_one w b last p entry =
+    elim (meets w b entry.hull) as (λ m. is_some (cond (m && is_before entry.at last) (Some entry.at) p) ≡ (is_some p || is_some (above_last last (cond m (Some entry.at) None)))) [
+      | true ↦ choice (is_before entry.at last) p ∙ ap (λ t. is_some p || t) (sym (fed_above last entry.at))
+      | false ↦ sym (ap (λ q. is_some p || is_some q) (above_last-nothing last) ∙ or_nothing (is_some p))
+    ]
+  where
+    choice : (t : Bool) (p : Option ℕ) → is_some (cond t (Some entry.at) p) ≡ (is_some p || t)
+    choice true None = refl
+    choice true (Some q) = refl
+    choice false None = refl
+    choice false (Some q) = refl
+
+    or_nothing : (t : Bool) → (t || false) ≡ t
+    or_nothing true = refl
+    or_nothing false = refl
+
+-- something is pending after a log was fed exactly where something was pending, or the log touches the bucket above the last refresh
+pub some-fed : (w : Width) (b : ℤ) (last p : Option ℕ) (log : List Noted) → is_some (fed w b last log p) ≡ (is_some p || is_some (above_last last (log_touch w b log)))
+some-fed w b last p [] = sym (ap (λ q. is_some p || is_some q) (above_last-nothing last) ∙ or_nothing (is_some p))
+  where
+    or_nothing : (t : Bool) → (t || false) ≡ t
+    or_nothing true = refl
+    or_nothing false = refl
+some-fed w b last p (entry ∷ log) =
+    let here : Option ℕ = cond (meets w b entry.hull) (Some entry.at) None in
+    let rest : Option ℕ = log_touch w b log in
+    some-fed w b last (fed_one w b last entry p) log
+    ∙ ap (λ t. t || is_some (above_last last rest)) (some_one w b last p entry)
+    ∙ or_or (is_some p) (is_some (above_last last here)) (is_some (above_last last rest))
+    ∙ ap (λ t. is_some p || t) (sym (ap is_some (above_last-later last here rest) ∙ is_some-later (above_last last here) (above_last last rest)))
+  where
+    or_or : (x y z : Bool) → ((x || y) || z) ≡ (x || (y || z))
+    or_or true y z = refl
+    or_or false y z = refl
 
 -- and above the last refresh
 fresh_one : (w : Width) (b : ℤ) (last p : Option ℕ) (entry : Noted) → above_last last p ≡ p → above_last last (fed_one w b last entry p) ≡ fed_one w b last entry p

@@ -1,5 +1,5 @@
 -- Coverage of whole histories.
-use Rattle.std.proofs.Common.{◌≡◌, ◌≢◌, ℕ, suc, ◌≤◌, Bool, true, false, ◌&&◌, not, cond, ◌==◌, length, ℤ, pos, ◌+ℤ◌, ◌≤ℤ◌, ◌<ℤ◌, int_le, int_lt, Option, Some, None, refl, sym, ap, ◌∙◌, subst, arith}
+use Rattle.std.proofs.Common.{◌≡◌, ◌≢◌, ℕ, suc, ◌≤◌, Bool, true, false, ◌&&◌, not, cond, ◌==◌, length, ℤ, pos, ◌+ℤ◌, ◌-ℤ◌, ◌≤ℤ◌, ◌<ℤ◌, int_le, int_lt, Option, Some, None, refl, sym, ap, ◌∙◌, subst, arith}
 use Rattle.std.specs.Prelude.{is_some}
 use Rattle.std.specs.Int.{int_max}
 use Rattle.std.proofs.lemmas.Bool.{true≢false, and_parts, eqb-true, eq-eqb}
@@ -10,17 +10,24 @@ use Rattle.ts_num.specs.Aggregates.{greater}
 use Rattle.ts_bucket.specs.Bucket.{IsWidth, is_bucket, bucket_of, first_of}
 use Rattle.ts_bucket.specs.declared.spans.Span.{Span}
 use Rattle.ts_bucket.specs.declared.widths.Width.{Width}
-use Rattle.ts_bucket.proofs.BucketLaws.{bucket_of_meets, buckets_apart, is_bucket-bucket_of, bucket_of-last, is_bucket-next}
-use Rattle.ts_model.specs.declared.events.Event.TheVariants.{Table, Hyper, View, Mode, Commit, Cut, Built}
+use Rattle.ts_bucket.proofs.BucketLaws.{bucket_of_meets, buckets_apart, is_bucket-bucket_of, bucket_of-last, is_bucket-next, is_bucket-before}
+use Rattle.ts_bucket.proofs.SpanLaws.{in_span-from_ends}
+use Rattle.ts_bucket.specs.Spans.{in_span}
+use Rattle.ts_bucket.specs.WholeSpans.{greatest}
+use Rattle.ts_model.specs.declared.events.Event.TheVariants.{View, Commit, Cut, Built}
 use Rattle.ts_model.specs.declared.views.Fold.{Fold}
 use Rattle.ts_model.specs.declared.views.ViewDef.{ViewDef}
 use Rattle.ts_model.specs.History.{History, start, ◌▸◌, position}
 use Rattle.ts_model.specs.Roster.{roster, view_of}
 use Rattle.ts_model.specs.Refreshes.{is_over, threshold}
-use Rattle.ts_model.specs.Allowed.{span_fits, all_allowed}
-use Rattle.coverage.specs.Notes.{Notes, lowest, greatest, no_notes, begun, cut_to, notes_after, notes_of}
+use Rattle.ts_model.specs.Allowed.{allowed, all_allowed}
+use Rattle.ts_model.specs.Limits.{is_word}
+use Rattle.ts_model.proofs.SoundLaws.{view_width}
+use Rattle.ts_model.proofs.CutLaws.{cuts_fit, span_was_cut}
+use Rattle.ts_model.specs.Sound.{span_fits}
+use Rattle.coverage.specs.Notes.{Notes, lowest, no_notes, begun, cut_to, notes_after, notes_of}
 use Rattle.coverage.specs.Coverage.{IsCovered}
-use Rattle.coverage.specs.Laws.{IsOf, EventsKeep, HistoriesCovered, HistoriesTell, number_of, ThresholdsAre, ThresholdsReach, AllBucketsAre}
+use Rattle.coverage.specs.Laws.{EndsWhole, IsOf, EventsKeep, HistoriesCovered, HistoriesTell, number_of, ThresholdsAre, ThresholdsReach, AllBucketsAre}
 use Rattle.coverage.proofs.ModelLaws.{cut_view, is_of_before, is_of_itself}
 use Rattle.coverage.proofs.StepLaws.{commits_keep, cuts_keep, finishes_keep, quiet_keeps, beginnings_cover}
 use Rattle.coverage.proofs.TellLaws.{covered_tells}
@@ -37,22 +44,44 @@ view_keeps n def h made notes ok covered =
       | false ↦ λ other. quiet_keeps n def h (View made) notes (ap not other) covered
     ] refl
 
--- a cut of the aggregate is of one over its table, and has a span of whole buckets
-cut_of : (n : ℕ) (def : ViewDef) (span : Span) (o : Option ViewDef) → IsOf def o → span_fits span o ≡ true → (span_fits span (Some def) ≡ true) × (is_over def.table o ≡ true)
-cut_of n def span None i fits = absurd (true≢false (sym fits))
-cut_of n def span (Some d) i fits =
-    let same_width : span_fits span (Some d) ≡ span_fits span (Some def) = ap (λ (f : Fold). is_bucket f.width span.lo && is_bucket f.width span.hi && int_lt span.lo span.hi && int_le (first_of f.width) span.lo) i.1 in
-    (sym same_width ∙ fits, eq-eqb d.table def.table i.0)
+-- a span that fits an aggregate is one of whole buckets that isn't empty
+pub record IsWholeOf (w : Width) (span : Span) : Type 0 where
+  pub starts : is_bucket w span.lo ≡ true
+  pub ends : is_bucket w span.hi ≡ true
+  pub some : span.lo <ℤ span.hi
+
+span_bounds : (def : ViewDef) (span : Span) → span_fits span (Some def) ≡ true → IsWholeOf def.fold.width span
+span_bounds def span fits =
+    let high = and_parts _ (is_word span.hi) fits in
+    let low = and_parts _ (is_word span.lo) high.0 in
+    let first = and_parts _ (int_le (first_of def.fold.width) span.lo) low.0 in
+    let some = and_parts _ (int_lt span.lo span.hi) first.0 in
+    let ends = and_parts (is_bucket def.fold.width span.lo) (is_bucket def.fold.width span.hi) some.0 in
+    record { starts = ends.0; ends = ends.1; some = less span.lo span.hi some.1 }
+  where
+    less : (x y : ℤ) → int_lt x y ≡ true → x <ℤ y
+    less x y e = grind (arith, ints)
+
+span_ends : (def : ViewDef) (span : Span) → span_fits span (Some def) ≡ true → is_bucket def.fold.width span.hi ≡ true
+span_ends def span fits = (span_bounds def span fits).ends
+
+-- a cut of the aggregate is of one over its table, and has a span that ends where a bucket does
+cut_of : (n : ℕ) (def : ViewDef) (span : Span) (o : Option ViewDef) → ((d : ViewDef) → o ≡ Some d → IsWidth d.fold.width) → IsOf def o → span_fits span o ≡ true → EndsWhole def.fold.width span × (is_over def.table o ≡ true)
+cut_of n def span None wide i fits = absurd (true≢false (sym fits))
+cut_of n def span (Some d) wide i fits =
+    let ends : is_bucket d.fold.width span.hi ≡ true = span_ends d span fits in
+    let whole : EndsWhole d.fold.width span = record { width = wide d refl; ends = ends } in
+    (subst (λ (f : Fold). EndsWhole f.width span) i.1 whole, eq-eqb d.table def.table i.0)
 
 not_same : (t : Bool) → t ≢ true → not t ≡ true
 not_same true e = absurd (e refl)
 not_same false e = refl
 
-cut_keeps : (n : ℕ) (def : ViewDef) (h : History) (v : ℕ) (span : Span) (notes : Notes) → span_fits span (view_of (roster h) v) ≡ true → IsOf def (view_of (roster h) n) → IsCovered n def h notes → IsCovered n def (h ▸ Cut v span) (notes_after n def h (Cut v span) notes)
-cut_keeps n def h v span notes fits i covered =
-    let mine : (v == n) ≡ true → (span_fits span (Some def) ≡ true) × (is_over def.table (view_of (roster h) v) ≡ true) = λ e.
+cut_keeps : (n : ℕ) (def : ViewDef) (h : History) (v : ℕ) (span : Span) (notes : Notes) → all_allowed h ≡ true → span_fits span (view_of (roster h) v) ≡ true → IsOf def (view_of (roster h) n) → IsCovered n def h notes → IsCovered n def (h ▸ Cut v span) (notes_after n def h (Cut v span) notes)
+cut_keeps n def h v span notes ok fits i covered =
+    let mine : (v == n) ≡ true → EndsWhole def.fold.width span × (is_over def.table (view_of (roster h) v) ≡ true) = λ e.
     let it : v ≡ n = eqb-true v n e in
-    cut_of n def span (view_of (roster h) v) (subst (λ x. IsOf def (view_of (roster h) x)) (sym it) i) fits
+    cut_of n def span (view_of (roster h) v) (λ d there. view_width h v d ok there) (subst (λ x. IsOf def (view_of (roster h) x)) (sym it) i) fits
     in
     elim (is_over def.table (view_of (roster h) v)) as (λ t. is_over def.table (view_of (roster h) v) ≡ t → IsCovered n def (h ▸ Cut v span) (cond t (cut_to def.fold.width span.hi notes) notes)) [
       | true ↦ λ _. cuts_keep n def h v span notes (λ e. (mine e).0) covered
@@ -60,40 +89,39 @@ cut_keeps n def h v span notes fits i covered =
     ] refl
 
 pub events_keep : EventsKeep
-events_keep n def h (Table made) notes width ok i covered = quiet_keeps n def h (Table made) notes refl covered
-events_keep n def h (Hyper t hyper) notes width ok i covered = quiet_keeps n def h (Hyper t hyper) notes refl covered
-events_keep n def h (View made) notes width ok i covered = view_keeps n def h made notes (and_parts _ _ ok).0 covered
-events_keep n def h (Mode v only) notes width ok i covered = quiet_keeps n def h (Mode v only) notes refl covered
-events_keep n def h (Commit ops) notes width ok i covered = commits_keep n def h ops notes width covered
-events_keep n def h (Cut v span) notes width ok i covered = cut_keeps n def h v span notes (cut_view h v span (and_parts _ _ ok).1) i covered
-events_keep n def h (Built cut snap) notes width ok i covered = finishes_keep n def h cut snap notes covered
+events_keep n def h (View made) notes ok i covered = view_keeps n def h made notes (and_parts (all_allowed h) _ ok).0 covered
+events_keep n def h (Commit ops) notes ok i covered = commits_keep n def h ops notes covered
+events_keep n def h (Cut v span) notes ok i covered =
+    let parts = and_parts (all_allowed h) (allowed h (Cut v span)) ok in
+    cut_keeps n def h v span notes parts.0 (cut_view h v span parts.1) i covered
+events_keep n def h (Built cut snap) notes ok i covered = finishes_keep n def h cut snap notes covered
+events_keep n def h x notes ok i covered = quiet_keeps n def h x notes refl covered
 
 -- ---- whole histories
 
 start_covered : (n : ℕ) (def : ViewDef) → IsCovered n def start no_notes
 start_covered n def = record {
   refreshed = λ b bucket. refl;
-  exact = λ b s k bucket cut at low. absurd (true≢false (sym cut));
+  exact = λ b s bucket cut low. absurd (true≢false (sym cut));
   fresh = λ b bucket. refl;
   marked = λ b bucket there inside. absurd (true≢false (sym there));
-  whole = λ k span cut. absurd (cc);
-  below = λ k span cut. absurd (cc);
-  rising = λ b k bucket cut. tt;
+  below = λ b s bucket cut. absurd (true≢false (sym cut));
+  rising = λ b s bucket cut. tt;
   pending_past = λ b bucket. refl;
   log_past = refl;
 }
 
-covered_so_far : (n : ℕ) (def : ViewDef) (h : History) → IsWidth def.fold.width → all_allowed h ≡ true → IsOf def (view_of (roster h) n) → IsCovered n def h (notes_of n def h)
-covered_so_far n def start width ok i = start_covered n def
-covered_so_far n def (h ▸ e) width ok i =
+covered_so_far : (n : ℕ) (def : ViewDef) (h : History) → all_allowed h ≡ true → IsOf def (view_of (roster h) n) → IsCovered n def h (notes_of n def h)
+covered_so_far n def start ok i = start_covered n def
+covered_so_far n def (h ▸ e) ok i =
     let before = is_of_before def h e n i in
-    events_keep n def h e (notes_of n def h) width ok before (covered_so_far n def h width (and_parts _ _ ok).0 before)
+    events_keep n def h e (notes_of n def h) ok before (covered_so_far n def h (and_parts (all_allowed h) _ ok).0 before)
 
 pub histories_covered : HistoriesCovered
-histories_covered n def h width ok there = covered_so_far n def h width ok (is_of_itself def (view_of (roster h) n) there)
+histories_covered n def h ok there = covered_so_far n def h ok (is_of_itself def (view_of (roster h) n) there)
 
 pub histories_tell : HistoriesTell
-histories_tell n def h width ok there = covered_tells n def h (notes_of n def h) ok (ap is_some there) (histories_covered n def h width ok there)
+histories_tell n def h ok there = covered_tells n def h (notes_of n def h) ok (ap is_some there) (histories_covered n def h ok there)
 
 -- ---- thresholds
 
@@ -108,22 +136,33 @@ number_raised (Some x) false hi = refl
 
 pub thresholds_are : ThresholdsAre
 thresholds_are n def start = refl
-thresholds_are n def (h ▸ Table made) = thresholds_are n def h
-thresholds_are n def (h ▸ Hyper t hyper) = thresholds_are n def h
 thresholds_are n def (h ▸ View made) =
     elim (length (roster h).views == n) as (λ t. (cond t (begun def.fold.width (suc (position h)) (notes_of n def h)) (notes_of n def h)).threshold ≡ number_of (threshold def.table h)) [ true ↦ thresholds_are n def h | false ↦ thresholds_are n def h ]
-thresholds_are n def (h ▸ Mode v only) = thresholds_are n def h
-thresholds_are n def (h ▸ Commit ops) = thresholds_are n def h
 thresholds_are n def (h ▸ Cut v span) =
     elim (is_over def.table (view_of (roster h) v)) as (λ t. (cond t (cut_to def.fold.width span.hi (notes_of n def h)) (notes_of n def h)).threshold ≡ number_of (greater (threshold def.table h) (cond t (Some span.hi) None))) [
       | true ↦ ap (λ x. int_max x span.hi) (thresholds_are n def h) ∙ number_raised (threshold def.table h) true span.hi
       | false ↦ thresholds_are n def h ∙ number_raised (threshold def.table h) false span.hi
     ]
-thresholds_are n def (h ▸ Built cut snap) = thresholds_are n def h
+thresholds_are n def (h ▸ x) = thresholds_are n def h
+
+-- the last bucket of a span of whole buckets ends where the span does
+last_bucket : (w : Width) (span : Span) → IsWidth w → is_bucket w span.lo ≡ true → is_bucket w span.hi ≡ true → span.lo <ℤ span.hi → (is_bucket w (span.hi -ℤ w.step) ≡ true) × (in_span span (span.hi -ℤ w.step) ≡ true)
+last_bucket w span width starts ends some =
+    let positive : pos 0 <ℤ w.step = width.positive in
+    let apart : (span.lo +ℤ w.step) ≤ℤ span.hi = buckets_apart w span.lo span.hi width starts ends some in
+    (is_bucket-before w span.hi width ∙ ends, in_span-from_ends span (span.hi -ℤ w.step) (omega (arith, ints)) (omega (arith, ints)))
+
+end_reached : (w : Width) (hi threshold : ℤ) → ((hi -ℤ w.step) +ℤ w.step) ≤ℤ threshold → hi ≤ℤ threshold
+end_reached w hi threshold l = omega (arith, ints)
 
 pub thresholds_reach : ThresholdsReach
-thresholds_reach n v def other h k span width ok there same_table cut =
-    let below : span.hi ≤ℤ (notes_of v other h).threshold = (histories_covered v other h width ok there).below k span cut in
+thresholds_reach n v def other h k span ok there same_table cut =
+    let width = view_width h v other ok there in
+    let fits = cuts_fit v other h k span ok there cut in
+    let bounds = span_bounds other span fits in
+    let last = last_bucket other.fold.width span width bounds.starts bounds.ends bounds.some in
+    let was = span_was_cut v h k k span (span.hi -ℤ other.fold.width.step) cut last.1 (omega arith) in
+    let below : span.hi ≤ℤ (notes_of v other h).threshold = end_reached other.fold.width span.hi (notes_of v other h).threshold ((histories_covered v other h ok there).below (span.hi -ℤ other.fold.width.step) k last.0 was) in
     let same : (notes_of v other h).threshold ≡ (notes_of n def h).threshold = thresholds_are v other h ∙ (ap (λ t. number_of (threshold t h)) same_table ∙ sym (thresholds_are n def h)) in
     let P : ℤ → Type 0 = λ x. span.hi ≤ℤ x in
     subst P same below

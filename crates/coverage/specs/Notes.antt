@@ -1,25 +1,22 @@
 -- Notes of what is out of date: the log of a table, and what is pending and was refreshed of one aggregate over it, and what each event does to them.
-use Rattle.std.specs.Prelude.{◌≡◌, ℕ, suc, true, cond, ◌&&◌, ◌==◌, ◌-◌, ◌^◌, List, [], ◌∷◌, ◌++◌, length, ℤ, pos, negsuc, int_lt, Option, Some, None}
+use Rattle.std.specs.Prelude.{◌≡◌, ℕ, suc, true, cond, ◌&&◌, ◌==◌, ◌-◌, ◌^◌, List, [], ◌∷◌, ◌++◌, length, ℤ, negsuc, int_lt, Option, Some, None}
 use Rattle.std.specs.Int.{int_max}
-use Rattle.ts_bucket.specs.Bucket.{is_bucket, bucket_of, first_of}
+use Rattle.ts_bucket.specs.Bucket.{is_bucket}
 use Rattle.ts_bucket.specs.Positions.{later, above, is_before}
 use Rattle.ts_bucket.specs.Spans.{in_span, meets}
+use Rattle.ts_bucket.specs.Touches.{Noted}
+use Rattle.ts_bucket.specs.WholeSpans.{whole_span}
 use Rattle.ts_bucket.specs.declared.spans.Hull.{Hull}
 use Rattle.ts_bucket.specs.declared.spans.Span.{Span}
 use Rattle.ts_bucket.specs.declared.widths.Width.{Width}
 use Rattle.ts_model.specs.declared.events.Event.{Event}
-use Rattle.ts_model.specs.declared.events.Event.TheVariants.{Table, Hyper, View, Mode, Commit, Cut, Built}
+use Rattle.ts_model.specs.declared.events.Event.TheVariants.{View, Commit, Cut, Built}
 use Rattle.ts_model.specs.declared.views.ViewDef.{ViewDef}
 use Rattle.ts_model.specs.History.{History, start, ◌▸◌, position}
 use Rattle.ts_model.specs.Roster.{roster, view_of}
 use Rattle.ts_model.specs.Rows.{rows}
 use Rattle.ts_model.specs.Effect.{hull_of_ops}
 use Rattle.ts_model.specs.Refreshes.{span_of_cut, is_covered, is_over}
-
--- a hull that was noted, and the position of its commit
-pub record Noted : Type 0 where
-  pub hull : Hull
-  pub at : ℕ
 
 -- the threshold and the log of a table, and two partial functions of the buckets of an aggregate over it: the position that is pending, and that of the last refresh
 pub record Notes : Type 0 where
@@ -28,26 +25,19 @@ pub record Notes : Type 0 where
   pub pending : ℤ → Option ℕ
   pub refreshed : ℤ → Option ℕ
 
--- the least and the greatest number of 64 bits
+-- the least number of 64 bits
 abbrev pub lowest : ℤ
 lowest = negsuc (2 ^ 63 - 1)
-
-abbrev pub greatest : ℤ
-greatest = pos (2 ^ 63 - 1)
 
 -- before there is anything to note, the threshold is below every time
 abbrev pub no_notes : Notes
 no_notes = record { threshold = lowest; log = []; pending = λ b. None; refreshed = λ b. None }
 
--- the buckets from the first one on that end at or below the greatest number
-abbrev pub all_buckets : Width → Span
-all_buckets w = record { lo = first_of w; hi = bucket_of w greatest }
-
 -- ---- what events do
 
 -- an aggregate that was made by event number k has each of its buckets pending there, and none refreshed
 abbrev pub begun : Width → ℕ → Notes → Notes
-begun w k notes = record { threshold = notes.threshold; log = notes.log; pending = λ b. cond (in_span (all_buckets w) b) (Some k) None; refreshed = λ b. None }
+begun w k notes = record { threshold = notes.threshold; log = notes.log; pending = λ b. cond (in_span (whole_span w) b) (Some k) None; refreshed = λ b. None }
 
 -- the log after a commit with number k: its hull, if it has one, is logged exactly where it begins below the threshold
 abbrev pub logged : Option Hull → ℕ → ℤ → List Noted → List Noted
@@ -67,9 +57,17 @@ abbrev pub fed : Width → ℤ → Option ℕ → List Noted → Option ℕ → 
 fed w b refreshed [] pending = pending
 fed w b refreshed (entry ∷ entries) pending = fed w b refreshed entries (fed_one w b refreshed entry pending)
 
+-- what is pending at b after all that is logged was fed
+abbrev pub fed_at : Width → Notes → ℤ → Option ℕ
+fed_at w notes b = fed w b (notes.refreshed b) notes.log (notes.pending b)
+
+-- all that is logged is fed, and the log is empty
+abbrev pub all_fed : Width → Notes → Notes
+all_fed w notes = record { threshold = notes.threshold; log = []; pending = fed_at w notes; refreshed = notes.refreshed }
+
 -- a cut of a span that ends at hi, of any aggregate over the table, raises the threshold, empties the log, and feeds its entries
 abbrev pub cut_to : Width → ℤ → Notes → Notes
-cut_to w hi notes = record { threshold = int_max notes.threshold hi; log = []; pending = λ b. fed w b (notes.refreshed b) notes.log (notes.pending b); refreshed = notes.refreshed }
+cut_to w hi notes = record { threshold = int_max notes.threshold hi; log = []; pending = fed_at w notes; refreshed = notes.refreshed }
 
 -- a finish with a snapshot settles the span of its cut, where that is a cut of the aggregate: what is pending up to the snapshot goes, and the last refresh is raised to it
 abbrev pub settled : Option Span → ℕ → Notes → Notes
@@ -82,13 +80,11 @@ settled span snap notes = record {
 
 -- what an event after h does to the notes of aggregate n
 abbrev pub notes_after : ℕ → ViewDef → History → Event → Notes → Notes
-notes_after n def h (Table made) notes = notes
-notes_after n def h (Hyper t hyper) notes = notes
 notes_after n def h (View made) notes = cond (length (roster h).views == n) (begun def.fold.width (suc (position h)) notes) notes
-notes_after n def h (Mode v only) notes = notes
 notes_after n def h (Commit ops) notes = noted (hull_of_ops def.table ops (rows def.table h)) (suc (position h)) notes
 notes_after n def h (Cut v span) notes = cond (is_over def.table (view_of (roster h) v)) (cut_to def.fold.width span.hi notes) notes
 notes_after n def h (Built cut snap) notes = settled (span_of_cut n h cut) snap notes
+notes_after n def h e notes = notes
 
 -- the notes of aggregate n, event by event
 abbrev pub notes_of : ℕ → ViewDef → History → Notes

@@ -1,6 +1,6 @@
 //! One law for each kind of event: notes that covered an aggregate cover it after the event. Each is the
 //! clause of a function that does nothing.
-ghost use Rattle.coverage.specs.Laws.{BeginningsCover, CommitsKeep, CoveredTells, CutsKeep, EventsKeep, FinishesClear, FinishesKeep, QuietKeeps, SameCover};
+ghost use Rattle.coverage.specs.Laws.{BeginningsCover, CommitsKeep, CoveredTells, CoveredTellsFed, CutsKeep, EventsKeep, FeedsKeep, FeedsTell, FinishesClear, FinishesKeep, ModesKeep, QuietKeeps, SameCover};
 
 /// A commit that logs its hull, where that begins below the threshold, keeps coverage.
 pub fn commits_keep_coverage()
@@ -47,4 +47,25 @@ pub fn covering_notes_tell_what_is_pending()
 /// before it.
 pub fn finishes_clear_up_to_their_snapshot()
     ensures { FinishesClear }
+{}
+
+/// Feeding all that is logged keeps coverage.
+pub fn feeds_keep_coverage()
+    ensures { FeedsKeep }
+{}
+
+/// Whether an aggregate shows materialised rows only plays no part in coverage.
+pub fn modes_keep_coverage()
+    ensures { ModesKeep }
+{}
+
+/// Something is pending after all that is logged was fed exactly where something was pending, or a
+/// noted hull meets the bucket after its last refresh.
+pub fn feeds_tell_what_is_noted()
+    ensures { FeedsTell }
+{}
+
+/// Notes that cover an aggregate tell exactly what is out of date once all that is logged was fed.
+pub fn covering_notes_tell_what_is_fed()
+    ensures { CoveredTellsFed }
 {}

@@ -2,7 +2,7 @@
 use Rattle.std.proofs.Common.{◌≡◌, ℕ, suc, ◌≤◌, Bool, true, false, ◌&&◌, cond, nat_le, ◌==◌, List, [], ◌∷◌, ℤ, Option, Some, None, sym, refl, ap, ◌∙◌, subst, arith}
 use Rattle.std.specs.Prelude.{is_some}
 use Rattle.std.specs.List.{list_all}
-use Rattle.std.proofs.lemmas.Bool.{true≢false, or_left, and_parts, and_from, le-ltb, leb-true, le-leb, eqb-true, cond-false}
+use Rattle.std.proofs.lemmas.Bool.{true≢false, or_left, and_parts, and_from, leb-true, le-leb, eqb-true}
 use Rattle.std.proofs.lemmas.Bool.Decides.{nat_tests}
 use Rattle.ts_bucket.specs.Positions.{is_above}
 use Rattle.ts_bucket.specs.declared.spans.Span.{Span}
@@ -17,14 +17,19 @@ use Rattle.ts_model.specs.declared.tables.Hyper.{Hyper as HyperInfo}
 use Rattle.ts_model.specs.declared.tables.TableDef.{TableDef}
 use Rattle.ts_model.specs.declared.tables.TableInfo.{TableInfo}
 use Rattle.ts_model.specs.declared.views.ViewDef.{ViewDef}
-use Rattle.ts_model.specs.History.{History, start, ◌▸◌, position, Begins, same, further}
-use Rattle.ts_model.specs.Roster.{roster, table_of, view_of}
-use Rattle.ts_model.specs.Rows.{rows}
-use Rattle.ts_model.specs.Refreshes.{span_of_cut, last_touch, last_touch_at}
+use Rattle.ts_model.specs.History.{History, start, ◌▸◌, position, base_position, Begins, same, further}
+use Rattle.ts_model.specs.Roster.{roster, table_of, view_of, of_hyper, of_table}
+use Rattle.ts_model.specs.Rows.{rows, rows_at}
+use Rattle.ts_model.specs.Refreshes.{span_of_cut, last_touch, last_touch_at, was_refreshed}
 use Rattle.ts_model.specs.Answers.{answer}
-use Rattle.ts_model.specs.Allowed.{last_end, of_hyper, of_table, op_fits, hyper_fits, view_fits, span_fits, finished_by, pending, is_known, is_sound_in, rows_at, rows_of_spans, was_refreshed, job_rows}
+use Rattle.ts_model.specs.Groups.{groups_of}
+use Rattle.ts_model.specs.Windows.{last_end}
+use Rattle.ts_model.specs.Sound.{op_fits, hyper_fits, view_fits, span_fits, finish_fits, sound_in, sound_at}
+use Rattle.ts_model.specs.Allowed.{all_allowed}
+use Rattle.ts_model.specs.Pending.{finished_by, pending, is_known}
+use Rattle.ts_model.specs.Jobs.{rows_of_spans, job_rows}
 use Rattle.ts_model.specs.Laws.{KeepsHyper, KeepsTable, KeepsView, KeepsRelations, SoundStays, AnswersStay, FitsStays}
-use Rattle.ts_model.proofs.HistoryLaws.{position_begins, prefix_begins}
+use Rattle.ts_model.proofs.HistoryLaws.{position_begins, base_begins, prefix_begins, prefix_stays}
 use Rattle.ts_model.proofs.RosterLaws.{relations_stay}
 
 -- ---- what an event names stays there
@@ -33,7 +38,7 @@ hyper_stays : (test : TableDef → HyperInfo → Bool) (def : TableDef) (was now
 hyper_stays test def None now k e = absurd (true≢false (sym e))
 hyper_stays test def (Some hyper) now k e = ap (of_hyper test def) k ∙ e
 
-table_stays : (test : TableDef → HyperInfo → Bool) (was found : Option TableInfo) → ((info : TableInfo) → was ≡ Some info → KeepsTable info found) → of_table test was ≡ true → of_table test found ≡ true
+pub table_stays : (test : TableDef → HyperInfo → Bool) (was found : Option TableInfo) → ((info : TableInfo) → was ≡ Some info → KeepsTable info found) → of_table test was ≡ true → of_table test found ≡ true
 table_stays test None found k e = absurd (true≢false (sym e))
 table_stays test (Some info) found k e =
     let kept = k info refl in
@@ -72,13 +77,9 @@ known_finished k (Finished f) e = refl
 known_finished k Unknown e = e
 
 known_further : (h : History) (x : Event) (k : ℕ) → is_known (pending h k) ≡ true → is_known (pending (h ▸ x) k) ≡ true
-known_further h (Table def) k e = e
-known_further h (Hyper t hyper) k e = e
-known_further h (View def) k e = e
-known_further h (Mode v only) k e = e
-known_further h (Commit ops) k e = e
 known_further h (Cut v span) k e = elim (k == suc (position h)) as (λ t. is_known (cond t (Waiting v) (pending h k)) ≡ true) [ true ↦ refl | false ↦ e ]
 known_further h (Built cut snap) k e = elim (k == cut) as (λ t. is_known (cond t (finished_by (suc (position h)) (pending h k)) (pending h k)) ≡ true) [ true ↦ known_finished (suc (position h)) (pending h k) e | false ↦ e ]
+known_further h x k e = e
 
 pub known_stays : {g h : History} (k : ℕ) → Begins g h → is_known (pending g k) ≡ true → is_known (pending h k) ≡ true
 known_stays k same e = e
@@ -86,26 +87,40 @@ known_stays k (further {h = h} {e = x} q) e = known_further h x k (known_stays k
 
 -- ---- what is sound stays sound
 
-sound_in_stays : (g h : History) (e : Event) → Begins g h → KeepsRelations (roster g) (roster h) → is_sound_in g e ≡ true → is_sound_in h e ≡ true
-sound_in_stays g h (Table def) q k e = e
-sound_in_stays g h (Hyper t hyper) q k e = hyper_fits_stays hyper (table_of (roster g) t) (table_of (roster h) t) (k.tables t) e
-sound_in_stays g h (View def) q k e = table_stays (view_fits def) (table_of (roster g) def.table) (table_of (roster h) def.table) (k.tables def.table) e
-sound_in_stays g h (Mode v only) q k e = view_stays (view_of (roster g) v) (view_of (roster h) v) (k.views v) e
-sound_in_stays g h (Commit ops) q k e =
-    let parts = and_parts _ (list_all (op_fits (roster g)) ops) e in
-    and_from _ _ parts.0 (ops_stay (roster g) (roster h) ops k parts.1)
-sound_in_stays g h (Cut v span) q k e = span_stays span (view_of (roster g) v) (view_of (roster h) v) (k.views v) e
-sound_in_stays g h (Built cut snap) q k e =
-    let parts = and_parts (is_known (pending g cut) && nat_le cut snap) (nat_le snap (position g)) e in
-    let first = and_parts (is_known (pending g cut)) (nat_le cut snap) parts.0 in
+pub sound_in_stays : (r s : Roster) (e : Event) → KeepsRelations r s → sound_in r e ≡ true → sound_in s e ≡ true
+sound_in_stays r s (Table def) k e = e
+sound_in_stays r s (Hyper t hyper) k e = hyper_fits_stays hyper (table_of r t) (table_of s t) (k.tables t) e
+sound_in_stays r s (View def) k e = table_stays (view_fits def) (table_of r def.table) (table_of s def.table) (k.tables def.table) e
+sound_in_stays r s (Mode v only) k e = view_stays (view_of r v) (view_of s v) (k.views v) e
+sound_in_stays r s (Commit ops) k e =
+    let parts = and_parts _ (list_all (op_fits r) ops) e in
+    and_from _ _ parts.0 (ops_stay r s ops k parts.1)
+sound_in_stays r s (Cut v span) k e = span_stays span (view_of r v) (view_of s v) (k.views v) e
+sound_in_stays r s (Built cut snap) k e = refl
+
+finish_stays : (g h : History) (cut snap : ℕ) → Begins g h → finish_fits g cut snap ≡ true → finish_fits h cut snap ≡ true
+finish_stays g h cut snap q e =
+    let parts = and_parts _ (nat_le snap (position g)) e in
+    let first = and_parts _ (nat_le (base_position g) snap) parts.0 in
+    let cuts = and_parts (is_known (pending g cut)) (nat_le cut snap) first.0 in
     let before : snap ≤ position g = leb-true snap (position g) parts.1 in
     let longer : position g ≤ position h = position_begins q in
-    and_from _ _ (and_from _ _ (known_stays cut q first.0) first.1) (le-leb snap (position h) (omega arith))
+    let from_base : nat_le (base_position h) snap ≡ true = ap (λ p. nat_le p snap) (base_begins q) ∙ first.1 in
+    and_from _ _ (and_from _ _ (and_from _ _ (known_stays cut q cuts.0) cuts.1) from_base) (le-leb snap (position h) (omega arith))
+
+sound_at_stays : (g h : History) (e : Event) → Begins g h → sound_at g e ≡ true → sound_at h e ≡ true
+sound_at_stays g h (Built cut snap) q e = finish_stays g h cut snap q e
+sound_at_stays g h x q e = sound_in_stays (roster g) (roster h) x (relations_stay g h q) e
 
 pub sound_stays : SoundStays
 sound_stays g h e q s =
-    let parts = and_parts (is_sound_in g e) _ s in
-    and_from _ _ (sound_in_stays g h e q (relations_stay g h q) parts.0) parts.1
+    let parts = and_parts (sound_at g e) _ s in
+    and_from _ _ (sound_at_stays g h e q parts.0) parts.1
+
+-- whatever an allowed history begins with is allowed
+pub allowed_begins : {g h : History} → Begins g h → all_allowed h ≡ true → all_allowed g ≡ true
+allowed_begins same ok = ok
+allowed_begins (further {h = h} q) ok = allowed_begins q (and_parts (all_allowed h) _ ok).0
 
 -- ---- answers stay
 
@@ -115,13 +130,8 @@ answers_stay query g h q = ap (answer query) (prefix_begins q)
 -- ---- jobs that fit go on fitting
 
 -- a cut is not after the history
-cut_bounded : (n : ℕ) (h : History) (k : ℕ) (span : Span) → span_of_cut n h k ≡ Some span → k ≤ position h
+pub cut_bounded : (n : ℕ) (h : History) (k : ℕ) (span : Span) → span_of_cut n h k ≡ Some span → k ≤ position h
 cut_bounded n start k span e = absurd (cc)
-cut_bounded n (h ▸ Table made) k span e = omega (arith, cut_bounded n h k span e)
-cut_bounded n (h ▸ Hyper t hyper) k span e = omega (arith, cut_bounded n h k span e)
-cut_bounded n (h ▸ View made) k span e = omega (arith, cut_bounded n h k span e)
-cut_bounded n (h ▸ Mode v only) k span e = omega (arith, cut_bounded n h k span e)
-cut_bounded n (h ▸ Commit ops) k span e = omega (arith, cut_bounded n h k span e)
 cut_bounded n (h ▸ Cut v made) k span e =
     elim ((k == suc (position h)) && (v == n)) as (λ t. ((k == suc (position h)) && (v == n)) ≡ t → cond t (Some made) (span_of_cut n h k) ≡ Some span → k ≤ suc (position h)) [
       | true ↦ λ here _.
@@ -129,19 +139,14 @@ cut_bounded n (h ▸ Cut v made) k span e =
           omega arith
       | false ↦ λ _ f. omega (arith, cut_bounded n h k span f)
     ] refl e
-cut_bounded n (h ▸ Built cut snap) k span e = omega (arith, cut_bounded n h k span e)
+cut_bounded n (h ▸ x) k span e = omega (arith, cut_bounded n h k span e)
 
-cut_further : (n : ℕ) (h : History) (x : Event) (k : ℕ) (span : Span) → span_of_cut n h k ≡ Some span → span_of_cut n (h ▸ x) k ≡ Some span
-cut_further n h (Table made) k span e = e
-cut_further n h (Hyper t hyper) k span e = e
-cut_further n h (View made) k span e = e
-cut_further n h (Mode v only) k span e = e
-cut_further n h (Commit ops) k span e = e
+pub cut_further : (n : ℕ) (h : History) (x : Event) (k : ℕ) (span : Span) → span_of_cut n h k ≡ Some span → span_of_cut n (h ▸ x) k ≡ Some span
 cut_further n h (Cut v made) k span e =
     let l : k ≤ position h = cut_bounded n h k span e in
     let other : (k == suc (position h)) ≡ false = grind (arith, nat_tests) in
     ap (λ t. cond (t && (v == n)) (Some made) (span_of_cut n h k)) other ∙ e
-cut_further n h (Built cut snap) k span e = e
+cut_further n h x k span e = e
 
 -- a cut of an aggregate stays
 pub cut_stays : (n : ℕ) {g h : History} (k : ℕ) (span : Span) → Begins g h → span_of_cut n g k ≡ Some span → span_of_cut n h k ≡ Some span
@@ -150,40 +155,33 @@ cut_stays n k span (further {h = h} {e = x} q) e = cut_further n h x k span (cut
 
 -- rows and last touches of an earlier position stay
 pub rows_at_stay : (t : ℕ) {g h : History} (s : ℕ) → Begins g h → s ≤ position g → rows_at t h s ≡ rows_at t g s
-rows_at_stay t s same l = refl
-rows_at_stay t {g} s (further {h = h} {e = x} q) l =
-    let m : position g ≤ position h = position_begins q in
-    cond-false _ (rows t (h ▸ x)) (rows_at t h s) (le-ltb (position h) s (omega arith)) ∙ rows_at_stay t s q l
+rows_at_stay t s q l = ap (rows t) (prefix_stays s q l)
 
 pub last_touch_at_stays : (n : ℕ) (def : ViewDef) {g h : History} (s : ℕ) (b : ℤ) → Begins g h → s ≤ position g → last_touch_at n def h s b ≡ last_touch_at n def g s b
-last_touch_at_stays n def s b same l = refl
-last_touch_at_stays n def {g} s b (further {h = h} {e = x} q) l =
-    let m : position g ≤ position h = position_begins q in
-    cond-false _ (last_touch n def (h ▸ x) b) (last_touch_at n def h s b) (le-ltb (position h) s (omega arith)) ∙ last_touch_at_stays n def s b q l
+last_touch_at_stays n def s b q l = ap (λ g. last_touch n def g b) (prefix_stays s q l)
 
 refreshed_further : (n : ℕ) (h : History) (x : Event) (b : ℤ) (r : ℕ) → was_refreshed n h b r ≡ true → was_refreshed n (h ▸ x) b r ≡ true
-refreshed_further n h (Table made) b r e = e
-refreshed_further n h (Hyper t hyper) b r e = e
-refreshed_further n h (View made) b r e = e
-refreshed_further n h (Mode v only) b r e = e
-refreshed_further n h (Commit ops) b r e = e
-refreshed_further n h (Cut v span) b r e = e
 refreshed_further n h (Built cut snap) b r e = or_left _ _ e
+refreshed_further n h x b r e = e
 
 pub refreshed_stays : (n : ℕ) {g h : History} (b : ℤ) (r : ℕ) → Begins g h → was_refreshed n g b r ≡ true → was_refreshed n h b r ≡ true
 refreshed_stays n b r same e = e
 refreshed_stays n b r (further {h = h} {e = x} q) e = refreshed_further n h x b r (refreshed_stays n b r q e)
 
 pub fits_stays : FitsStays
-fits_stays n def g h cut snap span spans top q f =
+fits_stays n def g h cut snap span spans groups top q f =
     let longer : position g ≤ position h = position_begins q in
+    let same_base : base_position h ≡ base_position g = base_begins q in
+    let above_base : base_position g ≤ snap = f.above_base in
     let same_rows : job_rows def h snap spans ≡ job_rows def g snap spans = ap (rows_of_spans def.fold spans) (rows_at_stay def.table snap q f.taken) in
     let taken : snap ≤ position h = omega (arith, f.taken) in (
       record {
         cut_is = cut_stays n cut span q f.cut_is;
         after_cut = f.after_cut;
+        above_base = omega arith;
         taken = taken;
         whole = f.whole;
+        groups_are = f.groups_are ∙ ap (groups_of def.fold) (sym same_rows);
         top_is = f.top_is ∙ ap (last_end def.fold.width) (sym same_rows);
         others = λ b bucket inside apart.
             let other = f.others b bucket inside apart in

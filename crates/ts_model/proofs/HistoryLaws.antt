@@ -1,8 +1,8 @@
 -- Laws of histories: what begins with what, and positions.
-use Rattle.std.proofs.Common.{◌≡◌, ℕ, ◌+◌, ◌≤◌, true, false, cond, nat_lt, List, [], ◌∷◌, ◌++◌, length, refl, ◌∙◌, arith}
-use Rattle.std.proofs.lemmas.Bool.{lt-ltb, le-ltb, cond-true, cond-false}
+use Rattle.std.proofs.Common.{◌≡◌, ℕ, ◌+◌, ◌≤◌, true, false, cond, nat_lt, List, [], ◌∷◌, ◌++◌, length, sym, refl, ap, ◌∙◌, arith}
+use Rattle.std.proofs.lemmas.Bool.{lt-ltb, le-ltb, ltb-true, ltb-false, cond-true, cond-false}
 use Rattle.ts_model.specs.declared.events.Event.{Event}
-use Rattle.ts_model.specs.History.{History, start, ◌▸◌, ◌▸▸◌, position, prefix, Begins, same, further}
+use Rattle.ts_model.specs.History.{History, start, ◌▸◌, ◌▸▸◌, position, root, base_position, prefix, events_of, Begins, same, further}
 
 -- each history begins with the empty one
 pub begins_start : (h : History) → Begins start h
@@ -33,12 +33,53 @@ pub prefix_begins : {g h : History} → Begins g h → prefix h (position g) ≡
 prefix_begins {g} same = prefix_end g (position g) (omega arith)
 prefix_begins {g} (further {h} {e} q) = prefix_further h e (position g) (position_begins q) ∙ prefix_begins q
 
+-- more events change no earlier position
+pub prefix_stays : {g h : History} (p : ℕ) → Begins g h → p ≤ position g → prefix h p ≡ prefix g p
+prefix_stays p same l = refl
+prefix_stays {g} p (further {h} {e} q) l =
+    let m : position g ≤ position h = position_begins q in
+    prefix_further h e p (omega arith) ∙ prefix_stays p q l
+
 -- a history begins with each of its prefixes
 pub begins_prefix : (h : History) (p : ℕ) → Begins (prefix h p) h
 begins_prefix start p = same
 begins_prefix (h ▸ e) p =
     let P : History → Type 0 = λ g. Begins g (h ▸ e) in
     elim (nat_lt (position h) p) as (λ b. P (cond b (h ▸ e) (prefix h p))) [ true ↦ same | false ↦ further (begins_prefix h p) ]
+
+pub position_prefix : (h : History) (p : ℕ) → p ≤ position h → position (prefix h p) ≤ p
+position_prefix start p l = omega arith
+position_prefix (h ▸ e) p l =
+    elim (nat_lt (position h) p) as (λ t. nat_lt (position h) p ≡ t → position (cond t (h ▸ e) (prefix h p)) ≤ p) [
+      | true ↦ λ after. omega (arith, ltb-true (position h) p after)
+      | false ↦ λ before. position_prefix h p (ltb-false (position h) p before)
+    ] refl
+
+-- a prefix of a prefix
+pub prefix_prefix : (h : History) (p s : ℕ) → p ≤ s → prefix (prefix h s) p ≡ prefix h p
+prefix_prefix start p s l = refl
+prefix_prefix (h ▸ e) p s l =
+    elim (nat_lt (position h) s) as (λ t. nat_lt (position h) s ≡ t → prefix (cond t (h ▸ e) (prefix h s)) p ≡ prefix (h ▸ e) p) [
+      | true ↦ λ _. refl
+      | false ↦ λ before. prefix_prefix h p s l ∙ sym (prefix_further h e p (omega (arith, ltb-false (position h) s before, l)))
+    ] refl
+
+-- ---- where a history begins
+
+pub begins_root : (h : History) → Begins (root h) h
+begins_root start = same
+begins_root (h ▸ e) = further (begins_root h)
+
+-- a history begins where whatever it begins with begins
+pub root_begins : {g h : History} → Begins g h → root h ≡ root g
+root_begins same = refl
+root_begins (further q) = root_begins q
+
+pub base_begins : {g h : History} → Begins g h → base_position h ≡ base_position g
+base_begins q = ap position (root_begins q)
+
+pub base_below : (h : History) → base_position h ≤ position h
+base_below h = position_begins (begins_root h)
 
 -- events after a history
 pub begins_followed : (h : History) (es : List Event) → Begins h (h ▸▸ es)
@@ -55,3 +96,11 @@ followed_append h (e ∷ es) fs = followed_append (h ▸ e) es fs
 
 pub followed_push : (h : History) (es : List Event) (e : Event) → h ▸▸ (es ++ (e ∷ [])) ≡ (h ▸▸ es) ▸ e
 followed_push h es e = followed_append h es (e ∷ [])
+
+-- a history is its root followed by its events, and its position is that of its root and their number
+pub root_followed : (h : History) → root h ▸▸ events_of h ≡ h
+root_followed start = refl
+root_followed (h ▸ e) = followed_push (root h) (events_of h) e ∙ ap (λ g. g ▸ e) (root_followed h)
+
+pub position_is : (h : History) → position h ≡ base_position h + length (events_of h)
+position_is h = ap position (sym (root_followed h)) ∙ position_followed (root h) (events_of h)

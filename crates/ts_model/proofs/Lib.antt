@@ -1,10 +1,14 @@
 pub mod WorkedRows
 pub mod HistoryLaws
 pub mod CallLaws
+pub mod GroupLaws
 pub mod UntouchedLaws
-pub mod RefreshLaws
 pub mod RosterLaws
 pub mod AllowedLaws
+pub mod SoundLaws
+pub mod FitLaws
+pub mod MarkLaws
+pub mod RefreshLaws
 pub mod MadeLaws
 pub mod RangeLaws
 pub mod OrderLaws
@@ -12,3 +16,11 @@ pub mod SumLaws
 pub mod RowLaws
 pub mod SameRanges
 pub mod ReadLaws
+pub mod PositionLaws
+pub mod CountLaws
+pub mod CutLaws
+pub mod ModeLaws
+pub mod WaitingLaws
+pub mod FinishLaws
+pub mod ClipLaws
+pub mod FieldLaws

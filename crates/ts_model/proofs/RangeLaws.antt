@@ -11,8 +11,8 @@ use Rattle.ts_bucket.specs.declared.spans.Span.{Span}
 use Rattle.ts_bucket.specs.declared.widths.Width.{Width}
 use Rattle.ts_bucket.proofs.BucketLaws.{buckets_apart, is_bucket-next, holds-is, bucket_of-bucket}
 use Rattle.ts_model.specs.Answers.{numbers_from, count_of, buckets_in, with_bucket, ranges}
-use Rattle.ts_model.specs.Allowed.{lies_in}
-use Rattle.ts_model.specs.Laws.{is_asked, IsWholeRange, RiseApart, RangesAreMaximal}
+use Rattle.ts_bucket.specs.Ranges.{lies_in, is_asked, IsWholeRange, RiseApart}
+use Rattle.ts_model.specs.Laws.{RangesAreMaximal}
 
 -- ---- the buckets of a span
 

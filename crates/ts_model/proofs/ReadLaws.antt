@@ -14,8 +14,9 @@ use Rattle.ts_bucket.proofs.BucketLaws.{buckets_apart, bucket_of_meets, bucket_o
 use Rattle.ts_bucket.proofs.SpanLaws.{in_span-from_ends, in_span-ends}
 use Rattle.ts_schema.specs.declared.rows.Row.{Row}
 use Rattle.ts_model.specs.Answers.{buckets_in}
-use Rattle.ts_model.specs.Laws.{is_asked, IsWholeRange}
-use Rattle.ts_model.specs.Reads.{chunk_of, spans_meet, rows_near}
+use Rattle.ts_bucket.specs.Ranges.{is_asked, IsWholeRange}
+use Rattle.ts_model.specs.Reads.{spans_meet, rows_near}
+use Rattle.ts_bucket.specs.Chunks.{chunk_of}
 use Rattle.ts_model.proofs.RangeLaws.{among, among-buckets_in}
 
 -- ---- some bucket that passes
@@ -48,7 +49,7 @@ pub record Meet (a b : Span) : Type 0 where
   pub some_a : a.lo <ℤ a.hi
   pub some_b : b.lo <ℤ b.hi
 
-meet_parts : (a b : Span) → spans_meet a b ≡ true → Meet a b
+pub meet_parts : (a b : Span) → spans_meet a b ≡ true → Meet a b
 meet_parts a b e =
     let first = and_parts _ _ e in
     let second = and_parts _ _ first.0 in
@@ -63,7 +64,7 @@ meet_parts a b e =
     less : (x y : ℤ) → int_lt x y ≡ true → x <ℤ y
     less x y e = grind (arith, ints)
 
-meet_from : (a b : Span) → Meet a b → spans_meet a b ≡ true
+pub meet_from : (a b : Span) → Meet a b → spans_meet a b ≡ true
 meet_from a b m = and_from _ _ (and_from _ _ (and_from _ _ (less a.lo b.hi m.before) (less b.lo a.hi m.after)) (less a.lo a.hi m.some_a)) (less b.lo b.hi m.some_b)
   where
     less : (x y : ℤ) → x <ℤ y → int_lt x y ≡ true

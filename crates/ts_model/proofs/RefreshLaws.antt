@@ -1,6 +1,6 @@
 -- Laws of refreshes: what was last refreshed stays as it was, nothing stood at or above the watermark, and watermark and threshold never fall.
-use Rattle.std.proofs.Common.{◌≡◌, ℕ, ◌<◌, ◌≤◌, max, Bool, true, false, ◌&&◌, ◌||◌, cond, nat_lt, List, [], ◌∷◌, ℤ, ◌+ℤ◌, int_lt, Option, Some, None, ◌⊎◌, inl, inr, ⊎_elim, sym, refl, ap, ◌∙◌, subst, arith}
-use Rattle.std.proofs.lemmas.Bool.{true≢false, or_parts, or_left, and_left, and_right, and_parts, lt-ltb, le-ltb, leb-true, cond-true, cond-false, cases_Bool, cases_lt}
+use Rattle.std.proofs.Common.{◌≡◌, ℕ, ◌<◌, ◌≤◌, max, Bool, true, false, ◌&&◌, ◌||◌, cond, nat_le, List, [], ◌∷◌, map, ℤ, ◌+ℤ◌, int_lt, Option, Some, None, ◌⊎◌, inl, inr, ⊎_elim, sym, refl, ap, ◌∙◌, subst, arith}
+use Rattle.std.proofs.lemmas.Bool.{true≢false, or_parts, or_left, and_left, and_right, and_parts, leb-true, cond-false, cases_Bool, cases_lt}
 use Rattle.std.proofs.lemmas.Int.{ints}
 use Rattle.ts_num.specs.Aggregates.{greater}
 use Rattle.ts_bucket.specs.Bucket.{IsWidth, holds, is_bucket, bucket_of}
@@ -12,35 +12,35 @@ use Rattle.ts_bucket.proofs.BucketLaws.{holds-one}
 use Rattle.ts_schema.specs.declared.rows.Row.{Row}
 use Rattle.ts_schema.specs.Conditions.{passes_all}
 use Rattle.ts_model.specs.declared.events.Event.{Event}
-use Rattle.ts_model.specs.declared.events.Event.TheVariants.{Table, Hyper, View, Mode, Commit, Cut, Built}
+use Rattle.ts_model.specs.declared.events.Event.TheVariants.{Cut, Built}
 use Rattle.ts_model.specs.declared.views.ViewDef.{ViewDef}
 use Rattle.ts_model.specs.declared.views.Fold.{Fold}
 use Rattle.ts_model.specs.History.{History, start, ◌▸◌, position, Begins, same, further}
 use Rattle.ts_model.specs.Roster.{roster, view_of}
-use Rattle.ts_model.specs.Rows.{rows}
-use Rattle.ts_model.specs.Scratch.{bucket_rows, group_rows, scratch, scratch_at}
-use Rattle.ts_model.specs.Refreshes.{span_of_cut, last, is_covered, is_below, top_in, top_at, top_of, watermark, is_over, threshold}
-use Rattle.ts_model.specs.Allowed.{allowed, all_allowed, sound}
+use Rattle.ts_model.specs.Rows.{rows, rows_at}
+use Rattle.ts_model.specs.Scratch.{bucket_rows, group_rows, scratch}
+use Rattle.ts_model.specs.Groups.{groups_in, cells_of, scratch_at}
+use Rattle.ts_model.specs.Refreshes.{span_of_cut, last, is_covered, top_in, top_at, top_of, watermark, is_over, threshold}
+use Rattle.ts_bucket.specs.WholeSpans.{is_below}
+use Rattle.ts_model.specs.Allowed.{allowed, all_allowed}
+use Rattle.ts_model.specs.Sound.{finish_fits, sound}
 use Rattle.ts_model.specs.Laws.{NothingAboveWatermark, WatermarkNeverFalls, ThresholdNeverFalls}
-use Rattle.ts_model.proofs.HistoryLaws.{position_begins}
+use Rattle.ts_model.proofs.HistoryLaws.{prefix_end, prefix_stays}
+use Rattle.ts_model.proofs.GroupLaws.{scratch_at_is}
+use Rattle.ts_model.proofs.SoundLaws.{view_width}
 
 -- ---- what a history has at an earlier position
 
 -- at its end, or later, a history has its own aggregation
 pub scratch_at_end : (n : ℕ) (def : ViewDef) (h : History) (s : ℕ) (b : ℤ) → position h ≤ s → scratch_at n def h s b ≡ scratch def h b
-scratch_at_end n def start s b l = refl
-scratch_at_end n def (h ▸ e) s b l = cond-true _ (scratch def (h ▸ e) b) (scratch_at n def h s b) (lt-ltb (position h) s (omega arith))
+scratch_at_end n def h s b l = scratch_at_is n def h s b ∙ ap (λ g. scratch def g b) (prefix_end h s l)
 
--- one more event changes no aggregation of an earlier position
-pub scratch_at_further : (n : ℕ) (def : ViewDef) (h : History) (e : Event) (s : ℕ) (b : ℤ) → s ≤ position h → scratch_at n def (h ▸ e) s b ≡ scratch_at n def h s b
-scratch_at_further n def h e s b l = cond-false _ (scratch def (h ▸ e) b) (scratch_at n def h s b) (le-ltb (position h) s l)
-
--- nor do more events
+-- more events change no aggregation of an earlier position
 pub scratch_at_begins : (n : ℕ) (def : ViewDef) {g h : History} (s : ℕ) (b : ℤ) → Begins g h → s ≤ position g → scratch_at n def h s b ≡ scratch_at n def g s b
-scratch_at_begins n def s b same l = refl
-scratch_at_begins n def {g} s b (further {h} {e} q) l =
-    let m : position g ≤ position h = position_begins q in
-    scratch_at_further n def h e s b (omega arith) ∙ scratch_at_begins n def s b q l
+scratch_at_begins n def s b q l = ap (λ k. map (cells_of def.fold) (groups_in def.fold (rows def.table k) b)) (prefix_stays s q l)
+
+pub scratch_at_further : (n : ℕ) (def : ViewDef) (h : History) (e : Event) (s : ℕ) (b : ℤ) → s ≤ position h → scratch_at n def (h ▸ e) s b ≡ scratch_at n def h s b
+scratch_at_further n def h e s b l = scratch_at_begins n def s b (further same) l
 
 -- ---- marks and positions
 
@@ -73,7 +73,7 @@ row_missed w span b t true width bucket inside e =
     (λ (apart : holds w b t ≡ false). and_left (holds w b t) true apart)
     (cases_Bool (holds w b t))
 
-none_above : (fold : Fold) (span : Span) (b : ℤ) (xs : List Row) → IsWidth fold.width → is_bucket fold.width b ≡ true → in_span span b ≡ true → is_below b (top_in fold span xs) ≡ false → bucket_rows fold b xs ≡ []
+pub none_above : (fold : Fold) (span : Span) (b : ℤ) (xs : List Row) → IsWidth fold.width → is_bucket fold.width b ≡ true → in_span span b ≡ true → is_below b (top_in fold span xs) ≡ false → bucket_rows fold b xs ≡ []
 none_above fold span b [] width bucket inside e = refl
 none_above fold span b (row ∷ xs) width bucket inside e =
     let parts = or_parts _ _ (sym (is_below-greater b (cond (in_span span (bucket_of fold.width row.at) && passes_all row fold.tests) (Some (bucket_of fold.width row.at +ℤ fold.width.step)) None) (top_in fold span xs)) ∙ e) in
@@ -81,42 +81,32 @@ none_above fold span b (row ∷ xs) width bucket inside e =
     ∙ none_above fold span b xs width bucket inside parts.1
 
 -- a bucket of a span at or above the span's top at a position had no result row there
-pub none_at : (n : ℕ) (def : ViewDef) (h : History) (s : ℕ) (span : Span) (b : ℤ) → IsWidth def.fold.width → is_bucket def.fold.width b ≡ true → in_span span b ≡ true → is_below b (top_at n def h s span) ≡ false → scratch_at n def h s b ≡ []
-none_at n def start s span b width bucket inside e = refl
-none_at n def (h ▸ x) s span b width bucket inside e =
-    elim (nat_lt (position h) s) as (λ t. is_below b (cond t (top_in def.fold span (rows def.table (h ▸ x))) (top_at n def h s span)) ≡ false → cond t (scratch def (h ▸ x) b) (scratch_at n def h s b) ≡ []) [
-      | true ↦ λ f. ap (group_rows def.fold b) (none_above def.fold span b (rows def.table (h ▸ x)) width bucket inside f)
-      | false ↦ λ f. none_at n def h s span b width bucket inside f
-    ] e
+pub none_at : (n : ℕ) (def : ViewDef) (h : History) (s : ℕ) (span : Span) (b : ℤ) → IsWidth def.fold.width → is_bucket def.fold.width b ≡ true → in_span span b ≡ true → is_below b (top_at def h s span) ≡ false → scratch_at n def h s b ≡ []
+none_at n def h s span b width bucket inside e = scratch_at_is n def h s b ∙ ap (group_rows def.fold b) (none_above def.fold span b (rows_at def.table h s) width bucket inside e)
 
 -- ---- the last refresh
 
 -- a snapshot of an allowed finish is not after the history
-built_bounds : (h : History) (cut snap : ℕ) → allowed h (Built cut snap) ≡ true → snap ≤ position h
+pub built_bounds : (h : History) (cut snap : ℕ) → allowed h (Built cut snap) ≡ true → snap ≤ position h
 built_bounds h cut snap e =
-    let is_sound = and_parts _ _ (and_parts (sound h (Built cut snap)) _ e).0 in
-    leb-true snap (position h) (and_parts _ _ is_sound.0).1
+    let is_sound = and_parts (finish_fits h cut snap) _ (and_parts (sound h (Built cut snap)) _ e).0 in
+    leb-true snap (position h) (and_parts _ (nat_le snap (position h)) is_sound.0).1
 
-covered_snap : (covered : Bool) (snap s : ℕ) → cond covered (Some snap) None ≡ Some s → (covered ≡ true) × (snap ≡ s)
+pub covered_snap : (covered : Bool) (snap s : ℕ) → cond covered (Some snap) None ≡ Some s → (covered ≡ true) × (snap ≡ s)
 covered_snap true snap s e = (refl, cc)
 covered_snap false snap s e = absurd (cc)
 
 -- the last refresh of a bucket is not after the history
 pub last_bounded : (n : ℕ) (h : History) (b : ℤ) (s : ℕ) → all_allowed h ≡ true → last n h b ≡ Some s → s ≤ position h
 last_bounded n start b s ok e = absurd (cc)
-last_bounded n (h ▸ Table made) b s ok e = omega (arith, last_bounded n h b s (and_parts _ _ ok).0 e)
-last_bounded n (h ▸ Hyper t hyper) b s ok e = omega (arith, last_bounded n h b s (and_parts _ _ ok).0 e)
-last_bounded n (h ▸ View made) b s ok e = omega (arith, last_bounded n h b s (and_parts _ _ ok).0 e)
-last_bounded n (h ▸ Mode v only) b s ok e = omega (arith, last_bounded n h b s (and_parts _ _ ok).0 e)
-last_bounded n (h ▸ Commit ops) b s ok e = omega (arith, last_bounded n h b s (and_parts _ _ ok).0 e)
-last_bounded n (h ▸ Cut v span) b s ok e = omega (arith, last_bounded n h b s (and_parts _ _ ok).0 e)
 last_bounded n (h ▸ Built cut snap) b s ok e =
     ⊎_elim
     (λ before. omega (arith, last_bounded n h b s (and_parts _ _ ok).0 before))
     (λ now. omega (arith, built_bounds h cut snap (and_parts _ _ ok).1, (covered_snap _ snap s now).1))
     (later_is (last n h b) (cond (is_covered b (span_of_cut n h cut)) (Some snap) None) s e)
+last_bounded n (h ▸ x) b s ok e = omega (arith, last_bounded n h b s (and_parts _ _ ok).0 e)
 
-covering : (n : ℕ) (def : ViewDef) (h : History) (snap : ℕ) (b : ℤ) (o : Option Span) → IsWidth def.fold.width → is_bucket def.fold.width b ≡ true → is_covered b o ≡ true → is_below b (top_of n def h snap o) ≡ false → scratch_at n def h snap b ≡ []
+covering : (n : ℕ) (def : ViewDef) (h : History) (snap : ℕ) (b : ℤ) (o : Option Span) → IsWidth def.fold.width → is_bucket def.fold.width b ≡ true → is_covered b o ≡ true → is_below b (top_of def h snap o) ≡ false → scratch_at n def h snap b ≡ []
 covering n def h snap b None width bucket covered e = absurd (true≢false (sym covered))
 covering n def h snap b (Some span) width bucket covered e = none_at n def h snap span b width bucket covered e
 
@@ -126,7 +116,7 @@ nothing_above_further n def h x b s ok e before =
 
 nothing_above_built : (n : ℕ) (def : ViewDef) (h : History) (cut snap : ℕ) (b : ℤ) (s : ℕ) → IsWidth def.fold.width → is_bucket def.fold.width b ≡ true → all_allowed (h ▸ Built cut snap) ≡ true → last n (h ▸ Built cut snap) b ≡ Some s → is_below b (watermark n def (h ▸ Built cut snap)) ≡ false → (last n h b ≡ Some s → is_below b (watermark n def h) ≡ false → scratch_at n def h s b ≡ []) → scratch_at n def (h ▸ Built cut snap) s b ≡ []
 nothing_above_built n def h cut snap b s width bucket ok e mark before =
-    let marks = or_parts _ _ (sym (is_below-greater b (watermark n def h) (top_of n def h snap (span_of_cut n h cut))) ∙ mark) in
+    let marks = or_parts _ _ (sym (is_below-greater b (watermark n def h) (top_of def h snap (span_of_cut n h cut))) ∙ mark) in
     ⊎_elim
     (λ earlier. nothing_above_further n def h (Built cut snap) b s ok earlier (before earlier marks.0))
     (λ now.
@@ -136,40 +126,28 @@ nothing_above_built n def h cut snap b s width bucket ok e mark before =
     subst P this.1 (scratch_at_further n def h (Built cut snap) snap b (built_bounds h cut snap (and_parts _ _ ok).1) ∙ none))
     (later_is (last n h b) (cond (is_covered b (span_of_cut n h cut)) (Some snap) None) s e)
 
+nothing_above : (n : ℕ) (def : ViewDef) (h : History) (b : ℤ) (s : ℕ) → IsWidth def.fold.width → is_bucket def.fold.width b ≡ true → all_allowed h ≡ true → last n h b ≡ Some s → is_below b (watermark n def h) ≡ false → scratch_at n def h s b ≡ []
+nothing_above n def start b s width bucket ok e mark = refl
+nothing_above n def (h ▸ Built cut snap) b s width bucket ok e mark =
+    nothing_above_built n def h cut snap b s width bucket ok e mark (λ earlier below. nothing_above n def h b s width bucket (and_parts _ _ ok).0 earlier below)
+nothing_above n def (h ▸ x) b s width bucket ok e mark = nothing_above_further n def h x b s ok e (nothing_above n def h b s width bucket (and_parts _ _ ok).0 e mark)
+
 pub nothing_above_watermark : NothingAboveWatermark
-nothing_above_watermark n def start b s width bucket ok e mark = refl
-nothing_above_watermark n def (h ▸ Table made) b s width bucket ok e mark = nothing_above_further n def h (Table made) b s ok e (nothing_above_watermark n def h b s width bucket (and_parts _ _ ok).0 e mark)
-nothing_above_watermark n def (h ▸ Hyper t hyper) b s width bucket ok e mark = nothing_above_further n def h (Hyper t hyper) b s ok e (nothing_above_watermark n def h b s width bucket (and_parts _ _ ok).0 e mark)
-nothing_above_watermark n def (h ▸ View made) b s width bucket ok e mark = nothing_above_further n def h (View made) b s ok e (nothing_above_watermark n def h b s width bucket (and_parts _ _ ok).0 e mark)
-nothing_above_watermark n def (h ▸ Mode v only) b s width bucket ok e mark = nothing_above_further n def h (Mode v only) b s ok e (nothing_above_watermark n def h b s width bucket (and_parts _ _ ok).0 e mark)
-nothing_above_watermark n def (h ▸ Commit ops) b s width bucket ok e mark = nothing_above_further n def h (Commit ops) b s ok e (nothing_above_watermark n def h b s width bucket (and_parts _ _ ok).0 e mark)
-nothing_above_watermark n def (h ▸ Cut v span) b s width bucket ok e mark = nothing_above_further n def h (Cut v span) b s ok e (nothing_above_watermark n def h b s width bucket (and_parts _ _ ok).0 e mark)
-nothing_above_watermark n def (h ▸ Built cut snap) b s width bucket ok e mark =
-    nothing_above_built n def h cut snap b s width bucket ok e mark (λ earlier below. nothing_above_watermark n def h b s width bucket (and_parts _ _ ok).0 earlier below)
+nothing_above_watermark n def h b s ok there bucket e mark = nothing_above n def h b s (view_width h n def ok there) bucket ok e mark
 
 -- ---- watermark and threshold never fall
 
 watermark_further : (n : ℕ) (def : ViewDef) (h : History) (e : Event) (b : ℤ) → is_below b (watermark n def h) ≡ true → is_below b (watermark n def (h ▸ e)) ≡ true
-watermark_further n def h (Table made) b l = l
-watermark_further n def h (Hyper t hyper) b l = l
-watermark_further n def h (View made) b l = l
-watermark_further n def h (Mode v only) b l = l
-watermark_further n def h (Commit ops) b l = l
-watermark_further n def h (Cut v span) b l = l
-watermark_further n def h (Built cut snap) b l = is_below-greater b (watermark n def h) (top_of n def h snap (span_of_cut n h cut)) ∙ or_left _ _ l
+watermark_further n def h (Built cut snap) b l = is_below-greater b (watermark n def h) (top_of def h snap (span_of_cut n h cut)) ∙ or_left _ _ l
+watermark_further n def h e b l = l
 
 pub watermark_never_falls : WatermarkNeverFalls
 watermark_never_falls n def g h b same l = l
 watermark_never_falls n def g h b (further {h = k} {e = e} q) l = watermark_further n def k e b (watermark_never_falls n def g k b q l)
 
 threshold_further : (t : ℕ) (h : History) (e : Event) (b : ℤ) → is_below b (threshold t h) ≡ true → is_below b (threshold t (h ▸ e)) ≡ true
-threshold_further t h (Table made) b l = l
-threshold_further t h (Hyper u hyper) b l = l
-threshold_further t h (View made) b l = l
-threshold_further t h (Mode v only) b l = l
-threshold_further t h (Commit ops) b l = l
 threshold_further t h (Cut v span) b l = is_below-greater b (threshold t h) (cond (is_over t (view_of (roster h) v)) (Some span.hi) None) ∙ or_left _ _ l
-threshold_further t h (Built cut snap) b l = l
+threshold_further t h e b l = l
 
 pub threshold_never_falls : ThresholdNeverFalls
 threshold_never_falls t g h b same l = l

@@ -61,7 +61,7 @@ prefix_len-change_at q [] j f e = refl
 prefix_len-change_at q (x ∷ xs) zero f e = ap (λ b. cond b (1 + prefix_len q xs) 0) (e x)
 prefix_len-change_at q (x ∷ xs) (suc j) f e = ap (λ n. cond (q x) (1 + n) 0) (prefix_len-change_at q xs j f e)
 
-length-change_at : {X : Type 0} (xs : List X) (j : ℕ) (f : X → X) → length (change_at xs j f) ≡ length xs
+pub length-change_at : {X : Type 0} (xs : List X) (j : ℕ) (f : X → X) → length (change_at xs j f) ≡ length xs
 length-change_at [] j f = refl
 length-change_at (x ∷ xs) zero f = refl
 length-change_at (x ∷ xs) (suc j) f = ap suc (length-change_at xs j f)

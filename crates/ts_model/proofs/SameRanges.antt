@@ -11,8 +11,7 @@ use Rattle.ts_bucket.specs.declared.spans.Span.{Span}
 use Rattle.ts_bucket.specs.declared.widths.Width.{Width}
 use Rattle.ts_bucket.proofs.SpanLaws.{in_span-from_ends, in_span-ends}
 use Rattle.ts_model.specs.Answers.{buckets_in}
-use Rattle.ts_model.specs.Allowed.{lies_in}
-use Rattle.ts_model.specs.Laws.{is_asked, IsWholeRange, RiseApart, AreRangesOf}
+use Rattle.ts_bucket.specs.Ranges.{lies_in, is_asked, IsWholeRange, RiseApart, AreRanges}
 use Rattle.ts_model.proofs.RangeLaws.{among, RisingBuckets, rising-buckets_in, among-buckets_in}
 
 -- ---- ranges that rise apart
@@ -119,7 +118,7 @@ same_ranges w (s ∷ ss) (t ∷ ts) wa wb ra rb same =
     λ i. first i ∷ rest i
 
 -- there is one list of maximal ranges
-pub one_list_of_ranges : (w : Width) (starts : Span) (test : ℤ → Bool) (a b : List Span) → AreRangesOf w starts test a → AreRangesOf w starts test b → a ≡ b
+pub one_list_of_ranges : (w : Width) (starts : Span) (test : ℤ → Bool) (a b : List Span) → AreRanges w starts test a → AreRanges w starts test b → a ≡ b
 one_list_of_ranges w starts test a b p q = same_ranges w a b p.whole q.whole p.rising q.rising (λ c bucket. p.exact c bucket ∙ sym (q.exact c bucket))
 
 -- ---- functions over the buckets of a span

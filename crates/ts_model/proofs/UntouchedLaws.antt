@@ -1,10 +1,13 @@
 -- A bucket that no commit touched after a position has the aggregation that it had there.
-use Rattle.std.proofs.Common.{◌≡◌, ℕ, suc, ◌<◌, Bool, true, false, ◌&&◌, ◌||◌, not, cond, nat_lt, ◌==◌, List, [], ◌∷◌, ◌++◌, filter, ℤ, Option, Some, None, sym, refl, ap, ◌∙◌, arith}
+use Rattle.std.proofs.Common.{◌≡◌, ℕ, suc, ◌<◌, ◌≤◌, Bool, true, false, ◌&&◌, ◌||◌, not, cond, nat_lt, ◌==◌, List, [], ◌∷◌, ◌++◌, filter, ℤ, Option, Some, None, sym, refl, ap, ◌∙◌, arith}
 use Rattle.std.specs.List.{list_any}
 use Rattle.std.specs.Ordering.{is_gt}
-use Rattle.std.proofs.lemmas.Bool.{true≢false, or_parts, or_from, and_left, lt-ltb, ltb-false}
+use Rattle.std.proofs.lemmas.Bool.{true≢false, and_parts, and_from, or_parts, or_from, and_left, lt-ltb, ltb-false}
 use Rattle.std.proofs.lemmas.Int.{ints}
-use Rattle.ts_bucket.specs.Bucket.{holds}
+use Rattle.ts_bucket.specs.Bucket.{IsWidth, holds, is_bucket, bucket_of}
+use Rattle.ts_bucket.specs.Ranges.{lies_in}
+use Rattle.ts_bucket.specs.declared.spans.Span.{Span}
+use Rattle.ts_bucket.proofs.BucketLaws.{holds-one}
 use Rattle.ts_bucket.specs.Spans.{meets}
 use Rattle.ts_bucket.specs.Positions.{is_above}
 use Rattle.ts_bucket.specs.declared.spans.Hull.{Hull}
@@ -13,17 +16,21 @@ use Rattle.ts_bucket.proofs.PositionLaws.{is_above-later}
 use Rattle.ts_schema.specs.declared.rows.Row.{Row}
 use Rattle.ts_schema.specs.Rows.{row_cmp}
 use Rattle.ts_schema.specs.Conditions.{passes_all}
-use Rattle.ts_model.specs.declared.events.Event.TheVariants.{Table, Hyper, View, Mode, Commit, Cut, Built}
+use Rattle.ts_model.specs.declared.events.Event.TheVariants.{Commit}
 use Rattle.ts_model.specs.declared.events.Op.{Op}
 use Rattle.ts_model.specs.declared.events.Op.TheVariants.{Insert, Delete}
 use Rattle.ts_model.specs.declared.views.ViewDef.{ViewDef}
 use Rattle.ts_model.specs.declared.views.Fold.{Fold}
-use Rattle.ts_model.specs.History.{History, start, ◌▸◌, position}
-use Rattle.ts_model.specs.Rows.{with_row, with_rows, after_op, after_ops, rows}
+use Rattle.ts_model.specs.History.{History, start, ◌▸◌, position, prefix}
+use Rattle.ts_model.specs.Rows.{with_row, with_rows, after_op, after_ops, rows, rows_at}
 use Rattle.ts_model.specs.Effect.{appended_by, taken_by, all_appended, all_taken, hull_with, hull_of, hull_of_ops}
-use Rattle.ts_model.specs.Scratch.{bucket_rows, group_rows, scratch, scratch_at}
-use Rattle.ts_model.specs.Refreshes.{is_met, touches, last_touch, touched}
-use Rattle.ts_model.specs.Laws.{UntouchedKeeps}
+use Rattle.ts_model.specs.Scratch.{bucket_rows, group_rows}
+use Rattle.ts_model.specs.Groups.{bucket_groups}
+use Rattle.ts_model.specs.Refreshes.{is_met, touches, last_touch, last_touch_at, touched}
+use Rattle.ts_model.specs.Laws.{UntouchedKeepsRows, UntouchedKeepsGroups, UntouchedKeeps, UntouchedBetween, SpansKeepGroups}
+use Rattle.ts_model.specs.Jobs.{rows_of_spans}
+use Rattle.ts_model.proofs.HistoryLaws.{prefix_prefix}
+use Rattle.ts_model.proofs.GroupLaws.{scratch_at_is}
 
 -- ---- what a test selects, where all rows that move fail it
 
@@ -99,29 +106,85 @@ bucket_rows-after_ops fold b t ops xs e =
 
 -- ---- the law
 
--- either way the value of a choice is one of two that are equal
-either_way : {X : Type 0} (t : Bool) (x y : X) → x ≡ y → x ≡ cond t x y
-either_way true x y e = refl
-either_way false x y e = e
+-- either way a choice between two histories with the same value has that value
+either_way : {X : Type 0} (f : History → X) (t : Bool) (g h : History) → f g ≡ f h → f g ≡ f (cond t g h)
+either_way f true g h e = refl
+either_way f false g h e = e
 
-untouched_commit : (n : ℕ) (def : ViewDef) (h : History) (ops : List Op) (b : ℤ) (s : ℕ) → touched n def (h ▸ Commit ops) b s ≡ false → (touched n def h b s ≡ false → scratch def h b ≡ scratch_at n def h s b) → scratch def (h ▸ Commit ops) b ≡ scratch_at n def (h ▸ Commit ops) s b
+untouched_commit : (n : ℕ) (def : ViewDef) (h : History) (ops : List Op) (b : ℤ) (s : ℕ) → touched n def (h ▸ Commit ops) b s ≡ false → (touched n def h b s ≡ false → bucket_rows def.fold b (rows def.table h) ≡ bucket_rows def.fold b (rows_at def.table h s)) → bucket_rows def.fold b (rows def.table (h ▸ Commit ops)) ≡ bucket_rows def.fold b (rows_at def.table (h ▸ Commit ops) s)
 untouched_commit n def h ops b s e before =
     let parts : (is_above s (last_touch n def h b) ≡ false) × (is_above s (cond (touches def ops h b) (Some (suc (position h))) None) ≡ false) = or_parts _ _ (sym (is_above-later s (last_touch n def h b) (cond (touches def ops h b) (Some (suc (position h))) None)) ∙ e) in
-    elim (nat_lt (position h) s) as (λ t. nat_lt (position h) s ≡ t → scratch def (h ▸ Commit ops) b ≡ cond t (scratch def (h ▸ Commit ops) b) (scratch_at n def h s b)) [
+    elim (nat_lt (position h) s) as (λ t. nat_lt (position h) s ≡ t → bucket_rows def.fold b (rows def.table (h ▸ Commit ops)) ≡ bucket_rows def.fold b (rows def.table (cond t (h ▸ Commit ops) (prefix h s)))) [
       | true ↦ λ _. refl
       | false ↦ λ at_or_before.
           let l : s < suc (position h) = omega (arith, ltb-false (position h) s at_or_before) in
           let newer : nat_lt s (suc (position h)) ≡ true = lt-ltb s (suc (position h)) l in
           let missed : touches def ops h b ≡ false = elim (touches def ops h b) as (λ t. is_above s (cond t (Some (suc (position h))) None) ≡ false → t ≡ false) [ true ↦ λ f. absurd (true≢false (sym newer ∙ f)) | false ↦ λ _. refl ] parts.1 in
-          ap (group_rows def.fold b) (bucket_rows-after_ops def.fold b def.table ops (rows def.table h) missed) ∙ before parts.0
+          bucket_rows-after_ops def.fold b def.table ops (rows def.table h) missed ∙ before parts.0
     ] refl
 
+pub untouched_rows : UntouchedKeepsRows
+untouched_rows n def start b s e = refl
+untouched_rows n def (h ▸ Commit ops) b s e = untouched_commit n def h ops b s e (λ f. untouched_rows n def h b s f)
+untouched_rows n def (h ▸ x) b s e = either_way (λ g. bucket_rows def.fold b (rows def.table g)) (nat_lt (position h) s) (h ▸ x) (prefix h s) (untouched_rows n def h b s e)
+
+pub untouched_groups : UntouchedKeepsGroups
+untouched_groups n def h b s e = ap (bucket_groups def.fold b) (untouched_rows n def h b s e)
+
 pub untouched_keeps : UntouchedKeeps
-untouched_keeps n def start b s e = refl
-untouched_keeps n def (h ▸ Table made) b s e = either_way _ _ _ (untouched_keeps n def h b s e)
-untouched_keeps n def (h ▸ Hyper t hyper) b s e = either_way _ _ _ (untouched_keeps n def h b s e)
-untouched_keeps n def (h ▸ View made) b s e = either_way _ _ _ (untouched_keeps n def h b s e)
-untouched_keeps n def (h ▸ Mode v only) b s e = either_way _ _ _ (untouched_keeps n def h b s e)
-untouched_keeps n def (h ▸ Commit ops) b s e = untouched_commit n def h ops b s e (λ f. untouched_keeps n def h b s f)
-untouched_keeps n def (h ▸ Cut v span) b s e = either_way _ _ _ (untouched_keeps n def h b s e)
-untouched_keeps n def (h ▸ Built cut snap) b s e = either_way _ _ _ (untouched_keeps n def h b s e)
+untouched_keeps n def h b s e = ap (group_rows def.fold b) (untouched_rows n def h b s e) ∙ sym (scratch_at_is n def h s b)
+
+-- ---- between two positions
+
+rows_between : (n : ℕ) (def : ViewDef) (h : History) (b : ℤ) (r s : ℕ) → r ≤ s → is_above r (last_touch_at n def h s b) ≡ false → bucket_rows def.fold b (rows_at def.table h s) ≡ bucket_rows def.fold b (rows_at def.table h r)
+rows_between n def h b r s l e = untouched_rows n def (prefix h s) b r e ∙ ap (λ g. bucket_rows def.fold b (rows def.table g)) (prefix_prefix h r s l)
+
+pub untouched_between : UntouchedBetween
+untouched_between = record {
+  rows = rows_between;
+  groups = λ n def h b r s l e. ap (bucket_groups def.fold b) (rows_between n def h b r s l e);
+}
+
+-- ---- rows of spans
+
+span_rows_inside : (fold : Fold) (spans : List Span) (xs : List Row) (b : ℤ) → IsWidth fold.width → is_bucket fold.width b ≡ true → lies_in spans b ≡ true → bucket_rows fold b (rows_of_spans fold spans xs) ≡ bucket_rows fold b xs
+span_rows_inside fold spans [] b width bucket inside = refl
+span_rows_inside fold spans (row ∷ xs) b width bucket inside =
+    let t = bucket_of fold.width row.at in
+    let rest = span_rows_inside fold spans xs b width bucket inside in
+    elim (holds fold.width b row.at && passes_all row fold.tests) as (λ c. (holds fold.width b row.at && passes_all row fold.tests) ≡ c → bucket_rows fold b (cond (lies_in spans t && passes_all row fold.tests) (row ∷ rows_of_spans fold spans xs) (rows_of_spans fold spans xs)) ≡ cond c (row ∷ bucket_rows fold b xs) (bucket_rows fold b xs)) [
+      | true ↦ λ e.
+          let parts = and_parts (holds fold.width b row.at) (passes_all row fold.tests) e in
+          let lies : (lies_in spans t && passes_all row fold.tests) ≡ true = and_from _ _ (ap (lies_in spans) (sym (holds-one fold.width b row.at width bucket parts.0)) ∙ inside) parts.1 in
+          ap (λ c. bucket_rows fold b (cond c (row ∷ rows_of_spans fold spans xs) (rows_of_spans fold spans xs))) lies
+          ∙ ap (λ c. cond c (row ∷ bucket_rows fold b (rows_of_spans fold spans xs)) (bucket_rows fold b (rows_of_spans fold spans xs))) e
+          ∙ ap (λ ys. row ∷ ys) rest
+      | false ↦ λ e. dropped (lies_in spans t && passes_all row fold.tests) e ∙ rest
+    ] refl
+  where
+    dropped : (c : Bool) → (holds fold.width b row.at && passes_all row fold.tests) ≡ false → bucket_rows fold b (cond c (row ∷ rows_of_spans fold spans xs) (rows_of_spans fold spans xs)) ≡ bucket_rows fold b (rows_of_spans fold spans xs)
+    dropped true e = ap (λ c. cond c (row ∷ bucket_rows fold b (rows_of_spans fold spans xs)) (bucket_rows fold b (rows_of_spans fold spans xs))) e
+    dropped false e = refl
+
+span_rows_outside : (fold : Fold) (spans : List Span) (xs : List Row) (b : ℤ) → IsWidth fold.width → is_bucket fold.width b ≡ true → lies_in spans b ≡ false → bucket_rows fold b (rows_of_spans fold spans xs) ≡ []
+span_rows_outside fold spans [] b width bucket outside = refl
+span_rows_outside fold spans (row ∷ xs) b width bucket outside =
+    let t = bucket_of fold.width row.at in
+    let rest = span_rows_outside fold spans xs b width bucket outside in
+    elim (holds fold.width b row.at && passes_all row fold.tests) as (λ c. (holds fold.width b row.at && passes_all row fold.tests) ≡ c → bucket_rows fold b (cond (lies_in spans t && passes_all row fold.tests) (row ∷ rows_of_spans fold spans xs) (rows_of_spans fold spans xs)) ≡ []) [
+      | true ↦ λ e.
+          let parts = and_parts (holds fold.width b row.at) (passes_all row fold.tests) e in
+          let none : (lies_in spans t && passes_all row fold.tests) ≡ false = and_left _ _ (ap (lies_in spans) (sym (holds-one fold.width b row.at width bucket parts.0)) ∙ outside) in
+          ap (λ c. bucket_rows fold b (cond c (row ∷ rows_of_spans fold spans xs) (rows_of_spans fold spans xs))) none ∙ rest
+      | false ↦ λ e. dropped (lies_in spans t && passes_all row fold.tests) e ∙ rest
+    ] refl
+  where
+    dropped : (c : Bool) → (holds fold.width b row.at && passes_all row fold.tests) ≡ false → bucket_rows fold b (cond c (row ∷ rows_of_spans fold spans xs) (rows_of_spans fold spans xs)) ≡ bucket_rows fold b (rows_of_spans fold spans xs)
+    dropped true e = ap (λ c. cond c (row ∷ bucket_rows fold b (rows_of_spans fold spans xs)) (bucket_rows fold b (rows_of_spans fold spans xs))) e
+    dropped false e = refl
+
+pub spans_keep_groups : SpansKeepGroups
+spans_keep_groups = record {
+  inside = λ fold spans rows b width bucket inside. ap (bucket_groups fold b) (span_rows_inside fold spans rows b width bucket inside);
+  outside = λ fold spans rows b width bucket outside. ap (bucket_groups fold b) (span_rows_outside fold spans rows b width bucket outside);
+}

@@ -1,5 +1,5 @@
 -- Worked rows: small histories, with every cell, stale range, window and watermark that they show, computed on the definitions.
-use Rattle.std.proofs.Common.{◌≡◌, ℕ, Bool, true, false, List, [], ◌∷◌, ℤ, pos, negsuc, Some, None, refl}
+use Rattle.std.proofs.Common.{◌≡◌, ℕ, Bool, true, false, List, [], ◌∷◌, ℤ, pos, negsuc, Option, Some, None, refl}
 use Rattle.std.specs.Prelude.{codes}
 use Rattle.std.specs.List.{flat_map}
 use Rattle.ts_num.specs.Fractions.{greatest_common}
@@ -24,7 +24,10 @@ use Rattle.ts_model.specs.History.{History, start, ◌▸◌, prefix}
 use Rattle.ts_model.specs.Rows.{rows}
 use Rattle.ts_model.specs.Answers.{answer, numbers_from, shown}
 use Rattle.ts_model.specs.Refreshes.{watermark, last, stale, threshold}
-use Rattle.ts_model.specs.Allowed.{window, pending, waiting, all_allowed, event_bytes}
+use Rattle.ts_model.specs.Allowed.{allowed, all_allowed}
+use Rattle.ts_model.specs.Windows.{window}
+use Rattle.ts_model.specs.Pending.{pending, waiting}
+use Rattle.ts_model.specs.Bytes.{event_bytes}
 use Rattle.ts_model.specs.Reads.{reads}
 use Rattle.ts_model.specs.Calls.{committed}
 
@@ -328,6 +331,59 @@ caught_up_shown = refl
 
 caught_up_stale : (stale 0 hourly caught_up (pos 1704067200) ≡ false) × (stale 0 hourly caught_up (pos 1704070800) ≡ false) × (stale 0 hourly caught_up (pos 1704153600) ≡ false)
 caught_up_stale = (refl, refl, refl)
+
+-- ---- events that are not allowed
+
+abbrev tables_only : History
+tables_only = start ▸ Table (record { name = codes "m"; cols = column (codes "time") true ∷ column (codes "v") true ∷ [] }) ▸ Hyper 0 (record { at = 0; interval = pos 100 })
+
+-- the aggregate of the name, and the width of its buckets
+abbrev counts : List ℕ → Width → Event
+counts name width = View (record {
+  name = name;
+  table = 0;
+  fold = record { width = width; keys = []; aggs = record { fun = CountAll; col = 0 } ∷ []; tests = [] };
+  names = codes "b" ∷ codes "n" ∷ [];
+  only = false;
+})
+
+width_of_one : allowed tables_only (counts (codes "c") (record { step = pos 1; shift = pos 0 })) ≡ true
+width_of_one = refl
+
+width_of_zero : allowed tables_only (counts (codes "c") (record { step = pos 0; shift = pos 0 })) ≡ false
+width_of_zero = refl
+
+shift_of_a_step : allowed tables_only (counts (codes "c") (record { step = pos 10; shift = pos 10 })) ≡ false
+shift_of_a_step = refl
+
+name_in_upper_case : allowed tables_only (counts (codes "C") tens) ≡ false
+name_in_upper_case = refl
+
+-- one row of the column v
+abbrev value : Option ℤ → Event
+value v = inserted_rows (record { at = pos 1; vals = v ∷ [] } ∷ [])
+
+greatest_value : allowed tables_only (value (Some (pos 9223372036854775807))) ≡ true
+greatest_value = refl
+
+value_beyond : allowed tables_only (value (Some (pos 9223372036854775808))) ≡ false
+value_beyond = refl
+
+null_that_must_not_be : allowed tables_only (value None) ≡ false
+null_that_must_not_be = refl
+
+test_beyond : allowed tables_only (Commit (Delete 0 (record { col = 1; cmp = Lt; num = pos 9223372036854775808 } ∷ []) ∷ [])) ≡ false
+test_beyond = refl
+
+-- the snapshot of a finish is from its cut on, and not after the history
+snapshot_before_cut : allowed cut_only (Built 5 4) ≡ false
+snapshot_before_cut = refl
+
+snapshot_after_history : allowed cut_only (Built 5 6) ≡ false
+snapshot_after_history = refl
+
+finished_twice : allowed (cut_only ▸ Built 5 5) (Built 5 6) ≡ false
+finished_twice = refl
 
 -- ---- the bytes of an event in a journal
 

@@ -1,5 +1,6 @@
 -- Answers: what a query shows at a history.
-use Rattle.std.specs.Prelude.{ℕ, zero, suc, Bool, ◌&&◌, cond, List, [], ◌∷◌, map, filter, flat_map, insert, ℤ, pos, negsuc, ◌+ℤ◌, ◌-ℤ◌, int_le, Option, Some, None}
+use Rattle.std.specs.Prelude.{ℕ, zero, suc, Bool, ◌&&◌, cond, nat_lt, List, [], ◌∷◌, map, filter, flat_map, insert, length, ℤ, pos, negsuc, ◌+ℤ◌, ◌-ℤ◌, int_le, Option, Some, None, is_some}
+use Rattle.std.specs.List.{list_all}
 use Rattle.std.specs.Ordering.{int_eq}
 use Rattle.ts_num.specs.Aggregates.{shown_or_null}
 use Rattle.ts_num.specs.declared.values.Datum.{Datum}
@@ -12,13 +13,17 @@ use Rattle.ts_schema.specs.Conditions.{passes_all}
 use Rattle.ts_model.specs.declared.queries.Query.{Query}
 use Rattle.ts_model.specs.declared.queries.Query.TheVariants.{Rows, Buckets, Aggregate}
 use Rattle.ts_model.specs.declared.queries.Answer.{Answer}
+use Rattle.ts_model.specs.declared.rosters.Roster.{Roster}
 use Rattle.ts_model.specs.declared.tables.Hyper.{Hyper}
+use Rattle.ts_model.specs.declared.views.Fold.{Fold}
 use Rattle.ts_model.specs.declared.views.ViewDef.{ViewDef}
 use Rattle.ts_model.specs.History.{History}
-use Rattle.ts_model.specs.Roster.{roster, hyper_of, view_of}
+use Rattle.ts_model.specs.Roster.{roster, table_of, hyper_of, of_table, view_of}
 use Rattle.ts_model.specs.Rows.{rows}
-use Rattle.ts_model.specs.Scratch.{scratch, scratch_at, fold_rows}
-use Rattle.ts_model.specs.Refreshes.{last, watermark, is_below, stale}
+use Rattle.ts_model.specs.Scratch.{scratch, fold_rows}
+use Rattle.ts_model.specs.Groups.{scratch_at}
+use Rattle.ts_model.specs.Refreshes.{last, watermark, stale}
+use Rattle.ts_bucket.specs.WholeSpans.{is_below}
 
 -- the next n numbers from a number on
 unfoldable pub numbers_from : ℤ → ℕ → List ℤ
@@ -86,3 +91,15 @@ abbrev pub answer : Query → History → Answer
 answer (Rows t tests) h = record { rows = passing_rows (rows t h) tests (hyper_of (roster h) t); stale = [] }
 answer (Buckets t fold) h = record { rows = fold_rows fold (rows t h); stale = [] }
 answer (Aggregate n starts) h = answer_of_view n h starts (view_of (roster h) n)
+
+-- ---- what may be asked
+
+-- the keys, the aggregates and the tests of a fold are on the first n columns
+abbrev pub columns_are_there : ℕ → Fold → Bool
+columns_are_there n fold = list_all (λ k. nat_lt k n) fold.keys && list_all (λ agg. nat_lt agg.col n) fold.aggs && list_all (λ t. nat_lt t.col n) fold.tests
+
+-- the hypertable or the aggregate of a query is there, and so are the columns that it names
+abbrev pub can_ask : Roster → Query → Bool
+can_ask r (Rows t tests) = of_table (λ def hyper. list_all (λ test. nat_lt test.col (length def.cols)) tests) (table_of r t)
+can_ask r (Buckets t fold) = of_table (λ def hyper. columns_are_there (length def.cols) fold) (table_of r t)
+can_ask r (Aggregate n starts) = is_some (view_of r n)

@@ -1,16 +1,21 @@
 -- Laws of the definitions, each in one sentence.
-use Rattle.std.specs.Prelude.{◌≡◌, ℕ, ◌^◌, ◌<◌, Bool, true, false, ◌&&◌, not, int_le, map, filter, negsuc, ◌-◌, List, [], ◌∷◌, length, ℤ, pos, neg_ℤ, ◌≤ℤ◌, ◌<ℤ◌, Option, Some, None}
+use Rattle.std.specs.Prelude.{◌≡◌, ℕ, ◌+◌, ◌^◌, ◌<◌, ◌≤◌, Bool, true, false, ◌&&◌, not, map, filter, negsuc, ◌-◌, List, [], ◌∷◌, length, count_by, ℤ, pos, neg_ℤ, ◌+ℤ◌, ◌-ℤ◌, ◌≤ℤ◌, Option, Some, None, IsTrue, IfSome}
 use Rattle.std.specs.List.{AllByRecursion, list_all, list_any}
 use Rattle.std.specs.Ordering.{is_gt, is_lt, int_cmp}
 use Rattle.std.specs.declared.cmp.Ordering.{Ordering}
-use Rattle.ts_num.specs.Aggregates.{sum_of}
+use Rattle.ts_num.specs.Aggregates.{sum_of, greater}
 use Rattle.ts_schema.specs.Conditions.{passes_all}
 use Rattle.ts_schema.specs.Rows.{row_cmp, values_cmp}
 use Rattle.ts_schema.specs.declared.rows.Row.{Row}
 use Rattle.ts_model.specs.declared.views.Fold.{Fold}
-use Rattle.ts_model.specs.Rows.{rows}
-use Rattle.ts_bucket.specs.Bucket.{IsWidth, is_bucket, first_of, bucket_of}
-use Rattle.ts_bucket.specs.Spans.{in_span}
+use Rattle.ts_model.specs.Rows.{with_rows, rows, rows_at}
+use Rattle.std.specs.Option.{ForSome}
+use Rattle.partial_agg.specs.declared.groups.Group.{Group}
+use Rattle.ts_bucket.specs.Bucket.{IsWidth, is_bucket, is_time, min_time, max_time, bucket_of}
+use Rattle.ts_bucket.specs.Chunks.{max_interval}
+use Rattle.ts_bucket.specs.WholeSpans.{IsMark, is_below}
+use Rattle.ts_bucket.specs.Ranges.{AreRanges, lies_in}
+use Rattle.ts_bucket.specs.Positions.{is_above}
 use Rattle.ts_bucket.specs.declared.widths.Width.{Width}
 use Rattle.ts_bucket.specs.declared.spans.Span.{Span}
 use Rattle.ts_model.specs.declared.events.Event.{Event}
@@ -19,24 +24,50 @@ use Rattle.ts_model.specs.declared.events.Op.{Op}
 use Rattle.ts_model.specs.declared.tables.TableDef.{TableDef}
 use Rattle.ts_model.specs.Calls.{Act, refuses, says, makes, making_table, making_hyper, making_view, setting_mode, committing, cutting, finishing}
 use Rattle.ts_model.specs.declared.queries.Query.{Query}
+use Rattle.ts_model.specs.declared.queries.Query.TheVariants.{Buckets}
 use Rattle.ts_model.specs.declared.rosters.Roster.{Roster}
 use Rattle.ts_model.specs.declared.tables.Hyper.{Hyper}
 use Rattle.ts_model.specs.declared.tables.TableInfo.{TableInfo}
 use Rattle.ts_model.specs.declared.views.ViewDef.{ViewDef}
 use Rattle.ts_model.specs.History.{History, position, prefix, Begins}
-use Rattle.ts_model.specs.Scratch.{scratch, scratch_at, keys_of, key_lists, occurring_buckets}
-use Rattle.ts_model.specs.Refreshes.{touched, last, watermark, is_below, threshold}
-use Rattle.ts_model.specs.Roster.{roster, table_of, view_of, table_named, view_named, set_only}
-use Rattle.ts_model.specs.Answers.{answer, buckets_in, ranges}
-use Rattle.ts_model.specs.Allowed.{all_allowed, allowed, sound, lies_in, Fits, job_rows}
+use Rattle.ts_model.specs.Scratch.{bucket_rows, scratch, keys_of, key_lists, occurring_buckets}
+use Rattle.ts_model.specs.Groups.{RowsFit, groups_in, groups_at, scratch_at}
+use Rattle.ts_model.specs.Refreshes.{last_touch_at, touched, last, watermark, threshold}
+use Rattle.ts_model.specs.Roster.{no_relations, roster, table_of, hyper_of, of_table, view_of, table_named, view_named, set_only}
+use Rattle.ts_model.specs.Answers.{answer, buckets_in, can_ask, ranges}
+use Rattle.ts_model.specs.Reads.{clipped, chunk_within, inserted, rows_near}
+use Rattle.ts_model.specs.Windows.{last_end}
+use Rattle.ts_model.specs.Allowed.{all_allowed, allowed}
+use Rattle.ts_model.specs.Fields.{fits_fields}
+use Rattle.ts_model.specs.Limits.{most_relations}
+use Rattle.ts_model.specs.Sound.{row_fits, hyper_fits, sound_in, sound}
+use Rattle.ts_model.specs.Jobs.{rows_of_spans, Fits, job_rows}
 
--- a bucket that no commit touched after a position has the aggregation that it had there
+-- a bucket that no commit touched after a position has the rows that it had there
+abbrev pub UntouchedKeepsRows : Type 0
+UntouchedKeepsRows = (n : ℕ) (def : ViewDef) (h : History) (b : ℤ) (s : ℕ) → touched n def h b s ≡ false → bucket_rows def.fold b (rows def.table h) ≡ bucket_rows def.fold b (rows_at def.table h s)
+
+-- so it has the groups that it had there
+abbrev pub UntouchedKeepsGroups : Type 0
+UntouchedKeepsGroups = (n : ℕ) (def : ViewDef) (h : History) (b : ℤ) (s : ℕ) → touched n def h b s ≡ false → groups_in def.fold (rows def.table h) b ≡ groups_at n def h s b
+
+-- and the aggregation
 abbrev pub UntouchedKeeps : Type 0
 UntouchedKeeps = (n : ℕ) (def : ViewDef) (h : History) (b : ℤ) (s : ℕ) → touched n def h b s ≡ false → scratch def h b ≡ scratch_at n def h s b
 
+-- the same between two positions: a bucket that no commit touched between them had the same rows and the same groups at both
+pub record UntouchedBetween : Type 0 where
+  pub rows : (n : ℕ) (def : ViewDef) (h : History) (b : ℤ) (r s : ℕ) → r ≤ s → is_above r (last_touch_at n def h s b) ≡ false → bucket_rows def.fold b (rows_at def.table h s) ≡ bucket_rows def.fold b (rows_at def.table h r)
+  pub groups : (n : ℕ) (def : ViewDef) (h : History) (b : ℤ) (r s : ℕ) → r ≤ s → is_above r (last_touch_at n def h s b) ≡ false → groups_at n def h s b ≡ groups_at n def h r b
+
+-- the rows of spans have the groups of all rows in each bucket that starts in one of the spans, and none in another
+pub record SpansKeepGroups : Type 0 where
+  pub inside : (fold : Fold) (spans : List Span) (rows : List Row) (b : ℤ) → IsWidth fold.width → is_bucket fold.width b ≡ true → lies_in spans b ≡ true → groups_in fold (rows_of_spans fold spans rows) b ≡ groups_in fold rows b
+  pub outside : (fold : Fold) (spans : List Span) (rows : List Row) (b : ℤ) → IsWidth fold.width → is_bucket fold.width b ≡ true → lies_in spans b ≡ false → groups_in fold (rows_of_spans fold spans rows) b ≡ []
+
 -- a bucket at or above the watermark that has a last refresh had no result row at that refresh's snapshot
 abbrev pub NothingAboveWatermark : Type 0
-NothingAboveWatermark = (n : ℕ) (def : ViewDef) (h : History) (b : ℤ) (s : ℕ) → IsWidth def.fold.width → is_bucket def.fold.width b ≡ true → all_allowed h ≡ true → last n h b ≡ Some s → is_below b (watermark n def h) ≡ false → scratch_at n def h s b ≡ []
+NothingAboveWatermark = (n : ℕ) (def : ViewDef) (h : History) (b : ℤ) (s : ℕ) → all_allowed h ≡ true → view_of (roster h) n ≡ Some def → is_bucket def.fold.width b ≡ true → last n h b ≡ Some s → is_below b (watermark n def h) ≡ false → scratch_at n def h s b ≡ []
 
 -- what is below the watermark, or below the threshold of a table, stays below it
 abbrev pub WatermarkNeverFalls : Type 0
@@ -73,6 +104,55 @@ pub record KeepsRelations (old new : Roster) : Type 0 where
 abbrev pub RelationsStay : Type 0
 RelationsStay = (g h : History) → Begins g h → KeepsRelations (roster g) (roster h)
 
+-- what makes a table a hypertable fits its columns, where it is one
+abbrev pub is_hyper_sound : TableInfo → Option Hyper → Bool
+is_hyper_sound info None = true
+is_hyper_sound info (Some hyper) = hyper_fits hyper (Some info)
+
+-- all that a table holds is in range
+abbrev pub is_table_sound : TableInfo → Bool
+is_table_sound info = sound_in no_relations (Table info.def) && is_hyper_sound info info.hyper
+
+-- all that a roster holds is there and in range, and there are no more tables and aggregates than there may be
+pub record IsSoundRoster (r : Roster) : Type 0 where
+  pub tables : (t : ℕ) (info : TableInfo) → table_of r t ≡ Some info → is_table_sound info ≡ true
+  pub views : (n : ℕ) (def : ViewDef) → view_of r n ≡ Some def → sound_in r (View def) ≡ true
+  pub few_tables : length r.tables ≤ most_relations
+  pub few_views : length r.views ≤ most_relations
+
+-- the roster of an allowed history is sound
+abbrev pub RostersAreSound : Type 0
+RostersAreSound = (h : History) → all_allowed h ≡ true → IsSoundRoster (roster h)
+
+-- the width of an aggregate of an allowed history keeps its bounds
+abbrev pub WidthsAreSound : Type 0
+WidthsAreSound = (h : History) (n : ℕ) (def : ViewDef) → all_allowed h ≡ true → view_of (roster h) n ≡ Some def → IsWidth def.fold.width
+
+-- a row fits a table of a roster, which is a hypertable
+abbrev pub fits_table : Roster → ℕ → Row → Bool
+fits_table r t row = of_table (λ def hyper. row_fits def hyper row) (table_of r t)
+
+-- each row that was ever inserted into a table of an allowed history fits the table, and so does each that it has at a position
+pub record RowsFitTables : Type 0 where
+  pub inserted : (t : ℕ) (h : History) → all_allowed h ≡ true → list_all (fits_table (roster h) t) (inserted t h) ≡ true
+  pub rows : (t : ℕ) (h : History) (s : ℕ) → all_allowed h ≡ true → list_all (fits_table (roster h) t) (rows_at t h s) ≡ true
+
+-- so each has a time
+pub record RowsAreTimes : Type 0 where
+  pub inserted : (t : ℕ) (h : History) → all_allowed h ≡ true → list_all (λ row. is_time row.at) (inserted t h) ≡ true
+  pub rows : (t : ℕ) (h : History) (s : ℕ) → all_allowed h ≡ true → list_all (λ row. is_time row.at) (rows_at t h s) ≡ true
+
+-- and the columns of each fold that may be asked of the table, which the fold of each of its aggregates may
+pub record RowsHaveColumns : Type 0 where
+  pub inserted : (t : ℕ) (fold : Fold) (h : History) → all_allowed h ≡ true → can_ask (roster h) (Buckets t fold) ≡ true → RowsFit fold (inserted t h)
+  pub rows : (t : ℕ) (fold : Fold) (h : History) (s : ℕ) → all_allowed h ≡ true → can_ask (roster h) (Buckets t fold) ≡ true → RowsFit fold (rows_at t h s)
+  pub views : (n : ℕ) (def : ViewDef) (h : History) → all_allowed h ≡ true → view_of (roster h) n ≡ Some def → can_ask (roster h) (Buckets def.table def.fold) ≡ true
+
+-- a watermark of an allowed history, and where a window without an end ends, are ends of buckets that hold a time
+pub record MarksAreEnds : Type 0 where
+  pub marks : (n : ℕ) (def : ViewDef) (h : History) → all_allowed h ≡ true → view_of (roster h) n ≡ Some def → IfSome (watermark n def h) (IsMark def.fold.width)
+  pub ends : (n : ℕ) (def : ViewDef) (h : History) → all_allowed h ≡ true → view_of (roster h) n ≡ Some def → IfSome (greater (watermark n def h) (last_end def.fold.width (rows def.table h))) (IsMark def.fold.width)
+
 -- an event whose parts are there and in range stays so as a history grows
 abbrev pub SoundStays : Type 0
 SoundStays = (g h : History) (e : Event) → Begins g h → sound g e ≡ true → sound h e ≡ true
@@ -83,7 +163,7 @@ AnswersStay = (query : Query) (g h : History) → Begins g h → answer query (p
 
 -- a job that fits a history fits every history that begins with it, and its groups are made of the same rows
 abbrev pub FitsStays : Type 0
-FitsStays = (n : ℕ) (def : ViewDef) (g h : History) (cut snap : ℕ) (span : Span) (spans : List Span) (top : Option ℤ) → Begins g h → Fits n def g cut snap span spans top → Fits n def h cut snap span spans top × (job_rows def h snap spans ≡ job_rows def g snap spans)
+FitsStays = (n : ℕ) (def : ViewDef) (g h : History) (cut snap : ℕ) (span : Span) (spans : List Span) (groups : List Group) (top : Option ℤ) → Begins g h → Fits n def g cut snap span spans groups top → Fits n def h cut snap span spans groups top × (job_rows def h snap spans ≡ job_rows def g snap spans)
 
 -- the event that a call makes, if it makes one, is allowed
 abbrev pub MakesAllowed : {A : Type 0} → History → Act A → Type 0
@@ -98,35 +178,12 @@ pub record CallsMakeAllowed : Type 0 where
   pub views : (def : ViewDef) (h : History) → sound h (View def) ≡ true → MakesAllowed h (making_view def h)
   pub modes : (n : ℕ) (only : Bool) (h : History) → sound h (Mode n only) ≡ true → MakesAllowed h (setting_mode n only h)
   pub commits : (ops : List Op) (h : History) → sound h (Commit ops) ≡ true → MakesAllowed h (committing ops h)
-  pub cuts : (n : ℕ) (lo hi : Option ℤ) (h : History) (def : ViewDef) → view_of (roster h) n ≡ Some def → IsWidth def.fold.width → MakesAllowed h (cutting n lo hi h)
+  pub cuts : (n : ℕ) (lo hi : Option ℤ) (h : History) → all_allowed h ≡ true → ForSome hi (λ t. IsTrue (is_time t)) → MakesAllowed h (cutting n lo hi h)
   pub finishes : (cut snap : ℕ) (h : History) → sound h (Built cut snap) ≡ true → MakesAllowed h (finishing cut snap h)
-
--- a bucket that a query asks for: one from the first on whose start lies in the span
-abbrev pub is_asked : Width → Span → ℤ → Bool
-is_asked w starts b = in_span starts b && (is_bucket w b && int_le (first_of w) b)
-
--- a range of whole buckets that isn't empty
-pub record IsWholeRange (w : Width) (range : Span) : Type 0 where
-  pub starts : is_bucket w range.lo ≡ true
-  pub ends : is_bucket w range.hi ≡ true
-  pub some : range.lo <ℤ range.hi
-
--- ranges rise and don't touch: the end of each is less than the start of the next
-abbrev pub RiseApart : List Span → Type 0
-RiseApart [] = Unit {0}
-RiseApart (s ∷ []) = Unit {0}
-RiseApart (s ∷ t ∷ ss) = (s.hi <ℤ t.lo) × RiseApart (t ∷ ss)
-
--- these are the maximal ranges of the buckets asked for that pass a test
-pub record AreRangesOf (w : Width) (starts : Span) (test : ℤ → Bool) (found : List Span) : Type 0 where
-  pub whole : AllByRecursion (IsWholeRange w) found
-  pub rising : RiseApart found
-  -- a bucket is in one of them exactly where it is asked for and passes
-  pub exact : (b : ℤ) → is_bucket w b ≡ true → lies_in found b ≡ (is_asked w starts b && test b)
 
 -- the ranges of the buckets in a span are the maximal ranges of those that pass
 abbrev pub RangesAreMaximal : Type 0
-RangesAreMaximal = (w : Width) (starts : Span) (test : ℤ → Bool) → IsWidth w → AreRangesOf w starts test (ranges w test (buckets_in w starts))
+RangesAreMaximal = (w : Width) (starts : Span) (test : ℤ → Bool) → IsWidth w → AreRanges w starts test (ranges w test (buckets_in w starts))
 
 -- no item is greater than a later one
 abbrev pub InOrder : {K : Type 0} → (K → K → Ordering) → List K → Type 0
@@ -160,3 +217,19 @@ IsWord v = (negsuc (2 ^ 63 - 1) ≤ℤ v) × (v ≤ℤ pos (2 ^ 63 - 1))
 -- the sum of fewer than 2 ^ 62 values of 64 bits lies within 2 ^ 125 of 0, and so fits 128 bits
 abbrev pub SumsFit : Type 0
 SumsFit = (vs : List ℤ) → AllByRecursion IsWord vs → length vs < 2 ^ 62 → (neg_ℤ (pos (2 ^ 125)) ≤ℤ sum_of vs) × (sum_of vs ≤ℤ pos (2 ^ 125))
+
+-- rows put in their places come in as often as they are given, and none is lost: as many pass each test
+abbrev pub InsertsKeepAll : Type 0
+InsertsKeepAll = (test : Row → Bool) (new rows : List Row) → count_by test (with_rows new rows) ≡ count_by test new + count_by test rows
+
+-- a span clipped to bounds between which all chunks lie is near the same rows
+abbrev pub ClippingKeepsNear : Type 0
+ClippingKeepsNear = (low high interval : ℤ) (stored : List Row) (span : Span) → list_all (chunk_within low high interval) stored ≡ true → rows_near interval stored (clipped low high span ∷ []) ≡ rows_near interval stored (span ∷ [])
+
+-- the chunks of all rows that were ever inserted lie at most the longest interval outside the range of times
+abbrev pub ChunksAreWithin : Type 0
+ChunksAreWithin = (t : ℕ) (hyper : Hyper) (h : History) → all_allowed h ≡ true → hyper_of (roster h) t ≡ Some hyper → list_all (chunk_within (min_time -ℤ max_interval) (max_time +ℤ max_interval) hyper.interval) (inserted t h) ≡ true
+
+-- each count and each number of a sound event of an allowed history fits its field in a journal
+abbrev pub CountsFit : Type 0
+CountsFit = (h : History) (e : Event) → all_allowed h ≡ true → sound h e ≡ true → fits_fields e ≡ true

@@ -1,11 +1,12 @@
 -- Reads: how many stored rows an answer or a snapshot of a refresh looks at.
-use Rattle.std.specs.Prelude.{ℕ, Bool, ◌&&◌, cond, not, List, [], ◌∷◌, ◌++◌, map, length, filter, count_by, sum_by, ℤ, ◌+ℤ◌, ◌-ℤ◌, int_lt, Option, Some, None}
+use Rattle.std.specs.Prelude.{ℕ, Bool, ◌&&◌, cond, not, List, [], ◌∷◌, ◌++◌, map, length, filter, count_by, sum_by, ℤ, int_le, int_lt, Option, Some, None}
 use Rattle.std.specs.List.{list_any}
-use Rattle.std.specs.Int.{int_rem_euclid}
+use Rattle.std.specs.Int.{int_min, int_max}
+use Rattle.ts_bucket.specs.Chunks.{chunk_of}
 use Rattle.ts_bucket.specs.Spans.{bucket_span}
 use Rattle.ts_bucket.specs.declared.spans.Span.{Span}
 use Rattle.ts_schema.specs.declared.rows.Row.{Row}
-use Rattle.ts_model.specs.declared.events.Event.TheVariants.{Table, Hyper, View, Mode, Commit, Cut, Built}
+use Rattle.ts_model.specs.declared.events.Event.TheVariants.{Commit}
 use Rattle.ts_model.specs.declared.queries.Query.{Query}
 use Rattle.ts_model.specs.declared.queries.Query.TheVariants.{Rows, Buckets, Aggregate}
 use Rattle.ts_model.specs.declared.tables.Hyper.{Hyper as HyperInfo}
@@ -13,30 +14,30 @@ use Rattle.ts_model.specs.declared.views.ViewDef.{ViewDef}
 use Rattle.ts_model.specs.History.{History, start, ◌▸◌}
 use Rattle.ts_model.specs.Roster.{roster, hyper_of, view_of}
 use Rattle.ts_model.specs.Effect.{all_appended}
-use Rattle.ts_model.specs.Refreshes.{watermark, is_below, invalid, span_of_cut}
+use Rattle.ts_model.specs.Refreshes.{watermark, invalid, span_of_cut}
+use Rattle.ts_bucket.specs.WholeSpans.{is_below}
 use Rattle.ts_model.specs.Answers.{buckets_in, ranges}
-use Rattle.ts_model.specs.Allowed.{pending}
+use Rattle.ts_model.specs.Pending.{pending}
 use Rattle.ts_model.specs.declared.refreshes.Pending.{Pending}
-use Rattle.ts_model.specs.declared.refreshes.Pending.TheVariants.{Waiting, Finished, Unknown}
+use Rattle.ts_model.specs.declared.refreshes.Pending.TheVariants.{Waiting}
 
 -- the rows that were ever inserted into table t, whether removed later or not
 abbrev pub inserted : ℕ → History → List Row
 inserted t start = []
-inserted t (h ▸ Table def) = inserted t h
-inserted t (h ▸ Hyper u hyper) = inserted t h
-inserted t (h ▸ View def) = inserted t h
-inserted t (h ▸ Mode v only) = inserted t h
 inserted t (h ▸ Commit ops) = inserted t h ++ all_appended t ops
-inserted t (h ▸ Cut v span) = inserted t h
-inserted t (h ▸ Built cut snap) = inserted t h
-
--- the chunk that holds a time, where chunks are this long: from a multiple of the interval to the next
-abbrev pub chunk_of : ℤ → ℤ → Span
-chunk_of interval t = record { lo = t -ℤ int_rem_euclid t interval; hi = (t -ℤ int_rem_euclid t interval) +ℤ interval }
+inserted t (h ▸ e) = inserted t h
 
 -- two spans have a number in common
 abbrev pub spans_meet : Span → Span → Bool
 spans_meet a b = int_lt a.lo b.hi && int_lt b.lo a.hi && int_lt a.lo a.hi && int_lt b.lo b.hi
+
+-- what a span has between two bounds
+abbrev pub clipped : ℤ → ℤ → Span → Span
+clipped low high span = record { lo = int_max low span.lo; hi = int_min high span.hi }
+
+-- the chunk of a row lies between two bounds
+abbrev pub chunk_within : ℤ → ℤ → ℤ → Row → Bool
+chunk_within low high interval row = int_le low (chunk_of interval row.at).lo && int_le (chunk_of interval row.at).hi high
 
 -- how many of these rows are in chunks that meet one of these spans, each row once
 abbrev pub rows_near : ℤ → List Row → List Span → ℕ
@@ -75,8 +76,7 @@ reads_of_snapshot n h (Some def) (Some span) = sum_by (λ range. rows_near_in (h
 -- the same, for the refresh with a number, which is that of its cut
 abbrev pub job_reads_of : History → ℕ → Pending → ℕ
 job_reads_of h cut (Waiting n) = reads_of_snapshot n h (view_of (roster h) n) (span_of_cut n h cut)
-job_reads_of h cut (Finished f) = 0
-job_reads_of h cut Unknown = 0
+job_reads_of h cut p = 0
 
 abbrev pub job_reads : History → ℕ → ℕ
 job_reads h cut = job_reads_of h cut (pending h cut)

@@ -1,54 +1,52 @@
 -- Refreshes of an aggregate: what was last refreshed, what commits touched since, how far the watermark has come, and what is stale.
-use Rattle.std.specs.Prelude.{ℕ, suc, Bool, true, false, ◌&&◌, cond, nat_lt, ◌==◌, List, [], ◌∷◌, ℤ, ◌+ℤ◌, int_lt, Option, Some, None}
+use Rattle.std.specs.Prelude.{ℕ, suc, Bool, true, false, ◌&&◌, ◌||◌, cond, nat_le, ◌==◌, List, [], ◌∷◌, ℤ, ◌+ℤ◌, Option, Some, None}
 use Rattle.ts_num.specs.Aggregates.{greater}
 use Rattle.ts_bucket.specs.Bucket.{bucket_of}
 use Rattle.ts_bucket.specs.Positions.{later, is_above}
+use Rattle.ts_bucket.specs.WholeSpans.{is_below}
 use Rattle.ts_bucket.specs.Spans.{in_span, meets}
 use Rattle.ts_bucket.specs.declared.spans.Span.{Span}
 use Rattle.ts_bucket.specs.declared.spans.Hull.{Hull}
 use Rattle.ts_bucket.specs.declared.widths.Width.{Width}
 use Rattle.ts_schema.specs.declared.rows.Row.{Row}
 use Rattle.ts_schema.specs.Conditions.{passes_all}
-use Rattle.ts_model.specs.declared.events.Event.TheVariants.{Table, Hyper, View, Mode, Commit, Cut, Built}
+use Rattle.ts_model.specs.declared.events.Event.TheVariants.{Commit, Cut, Built}
 use Rattle.ts_model.specs.declared.events.Op.{Op}
 use Rattle.ts_model.specs.declared.views.Fold.{Fold}
 use Rattle.ts_model.specs.declared.views.ViewDef.{ViewDef}
-use Rattle.ts_model.specs.History.{History, start, ◌▸◌, position}
+use Rattle.ts_model.specs.History.{History, start, ◌▸◌, position, prefix}
 use Rattle.ts_model.specs.Roster.{roster, view_of}
-use Rattle.ts_model.specs.Rows.{rows}
+use Rattle.ts_model.specs.Rows.{rows, rows_at}
 use Rattle.ts_model.specs.Effect.{hull_of_ops}
-
--- there is a mark, and b is below it
-abbrev pub is_below : ℤ → Option ℤ → Bool
-is_below b None = false
-is_below b (Some mark) = int_lt b mark
 
 -- the span of event k, where it is a cut of aggregate n
 abbrev pub span_of_cut : ℕ → History → ℕ → Option Span
 span_of_cut n start k = None
-span_of_cut n (h ▸ Table def) k = span_of_cut n h k
-span_of_cut n (h ▸ Hyper t hyper) k = span_of_cut n h k
-span_of_cut n (h ▸ View def) k = span_of_cut n h k
-span_of_cut n (h ▸ Mode v only) k = span_of_cut n h k
-span_of_cut n (h ▸ Commit ops) k = span_of_cut n h k
 span_of_cut n (h ▸ Cut v span) k = cond (k == suc (position h) && v == n) (Some span) (span_of_cut n h k)
-span_of_cut n (h ▸ Built cut snap) k = span_of_cut n h k
+span_of_cut n (h ▸ e) k = span_of_cut n h k
 
 -- there is a span, and b lies in it
 abbrev pub is_covered : ℤ → Option Span → Bool
 is_covered b None = false
 is_covered b (Some span) = in_span span b
 
+-- a bucket was cut: it lies in the span of a cut of aggregate n whose number is at most s
+abbrev pub was_cut : ℕ → History → ℤ → ℕ → Bool
+was_cut n start b s = false
+was_cut n (h ▸ Cut v span) b s = was_cut n h b s || (v == n && in_span span b && nat_le (suc (position h)) s)
+was_cut n (h ▸ e) b s = was_cut n h b s
+
 -- the last refresh of a bucket: the greatest snapshot of a finished refresh of aggregate n whose span holds it
 abbrev pub last : ℕ → History → ℤ → Option ℕ
 last n start b = None
-last n (h ▸ Table def) b = last n h b
-last n (h ▸ Hyper t hyper) b = last n h b
-last n (h ▸ View def) b = last n h b
-last n (h ▸ Mode v only) b = last n h b
-last n (h ▸ Commit ops) b = last n h b
-last n (h ▸ Cut v span) b = last n h b
 last n (h ▸ Built cut snap) b = later (last n h b) (cond (is_covered b (span_of_cut n h cut)) (Some snap) None)
+last n (h ▸ e) b = last n h b
+
+-- a bucket is covered by a finished refresh of aggregate n with snapshot r
+abbrev pub was_refreshed : ℕ → History → ℤ → ℕ → Bool
+was_refreshed n start b r = false
+was_refreshed n (h ▸ Built cut snap) b r = was_refreshed n h b r || (snap == r && is_covered b (span_of_cut n h cut))
+was_refreshed n (h ▸ e) b r = was_refreshed n h b r
 
 -- there is a hull, and it meets the bucket
 abbrev pub is_met : Width → ℤ → Option Hull → Bool
@@ -59,21 +57,15 @@ is_met w b (Some hull) = meets w b hull
 abbrev pub touches : ViewDef → List Op → History → ℤ → Bool
 touches def ops h b = is_met def.fold.width b (hull_of_ops def.table ops (rows def.table h))
 
--- the last touch of a bucket: the greatest number of a commit that touches it
+-- the last touch of a bucket: the greatest number of a commit that touches it. The aggregate's number is named, though commits alone don't need it: a saved image will tell by aggregate what was touched
 abbrev pub last_touch : ℕ → ViewDef → History → ℤ → Option ℕ
 last_touch n def start b = None
-last_touch n def (h ▸ Table made) b = last_touch n def h b
-last_touch n def (h ▸ Hyper t hyper) b = last_touch n def h b
-last_touch n def (h ▸ View made) b = last_touch n def h b
-last_touch n def (h ▸ Mode v only) b = last_touch n def h b
 last_touch n def (h ▸ Commit ops) b = later (last_touch n def h b) (cond (touches def ops h b) (Some (suc (position h))) None)
-last_touch n def (h ▸ Cut v span) b = last_touch n def h b
-last_touch n def (h ▸ Built cut snap) b = last_touch n def h b
+last_touch n def (h ▸ e) b = last_touch n def h b
 
 -- the last touch of a bucket at position s of a history
 abbrev pub last_touch_at : ℕ → ViewDef → History → ℕ → ℤ → Option ℕ
-last_touch_at n def start s b = last_touch n def start b
-last_touch_at n def (h ▸ e) s b = cond (nat_lt (position h) s) (last_touch n def (h ▸ e) b) (last_touch_at n def h s b)
+last_touch_at n def h s b = last_touch n def (prefix h s) b
 
 -- a bucket was touched after position s
 abbrev pub touched : ℕ → ViewDef → History → ℤ → ℕ → Bool
@@ -85,25 +77,19 @@ top_in fold span [] = None
 top_in fold span (row ∷ rows) = greater (cond (in_span span (bucket_of fold.width row.at) && passes_all row fold.tests) (Some (bucket_of fold.width row.at +ℤ fold.width.step)) None) (top_in fold span rows)
 
 -- that end at position s of a history
-abbrev pub top_at : ℕ → ViewDef → History → ℕ → Span → Option ℤ
-top_at n def start s span = top_in def.fold span (rows def.table start)
-top_at n def (h ▸ e) s span = cond (nat_lt (position h) s) (top_in def.fold span (rows def.table (h ▸ e))) (top_at n def h s span)
+abbrev pub top_at : ViewDef → History → ℕ → Span → Option ℤ
+top_at def h s span = top_in def.fold span (rows_at def.table h s)
 
 -- that end, where there is a span
-abbrev pub top_of : ℕ → ViewDef → History → ℕ → Option Span → Option ℤ
-top_of n def h s None = None
-top_of n def h s (Some span) = top_at n def h s span
+abbrev pub top_of : ViewDef → History → ℕ → Option Span → Option ℤ
+top_of def h s None = None
+top_of def h s (Some span) = top_at def h s span
 
 -- the watermark: the greatest end of a bucket that some finished refresh covers and that had a result row at its snapshot
 abbrev pub watermark : ℕ → ViewDef → History → Option ℤ
 watermark n def start = None
-watermark n def (h ▸ Table made) = watermark n def h
-watermark n def (h ▸ Hyper t hyper) = watermark n def h
-watermark n def (h ▸ View made) = watermark n def h
-watermark n def (h ▸ Mode v only) = watermark n def h
-watermark n def (h ▸ Commit ops) = watermark n def h
-watermark n def (h ▸ Cut v span) = watermark n def h
-watermark n def (h ▸ Built cut snap) = greater (watermark n def h) (top_of n def h snap (span_of_cut n h cut))
+watermark n def (h ▸ Built cut snap) = greater (watermark n def h) (top_of def h snap (span_of_cut n h cut))
+watermark n def (h ▸ e) = watermark n def h
 
 -- a bucket has no last refresh, or was touched after it
 abbrev pub is_invalid : ℕ → ViewDef → History → ℤ → Option ℕ → Bool
@@ -125,10 +111,5 @@ is_over t (Some def) = def.table == t
 -- the threshold of a table: the greatest end of a cut's span of an aggregate over it
 abbrev pub threshold : ℕ → History → Option ℤ
 threshold t start = None
-threshold t (h ▸ Table made) = threshold t h
-threshold t (h ▸ Hyper u hyper) = threshold t h
-threshold t (h ▸ View made) = threshold t h
-threshold t (h ▸ Mode v only) = threshold t h
-threshold t (h ▸ Commit ops) = threshold t h
 threshold t (h ▸ Cut v span) = greater (threshold t h) (cond (is_over t (view_of (roster h) v)) (Some span.hi) None)
-threshold t (h ▸ Built cut snap) = threshold t h
+threshold t (h ▸ e) = threshold t h

@@ -1,10 +1,11 @@
 -- The roster of a history: the tables and aggregates that it has made.
-use Rattle.std.specs.Prelude.{ℕ, zero, suc, Bool, ◌||◌, List, [], ◌∷◌, ◌++◌, Option, Some, None, is_some, unwrap_or, slice_get, position as place, nat_eq, option_and_then}
+use Rattle.std.specs.Prelude.{ℕ, zero, suc, Bool, false, ◌||◌, List, [], ◌∷◌, ◌++◌, Option, Some, None, is_some, unwrap_or, slice_get, position as place, nat_eq, option_and_then}
 use Rattle.std.specs.Cmp.Lexicographic.{pointwise}
 use Rattle.ts_model.specs.declared.events.Event.{Event}
-use Rattle.ts_model.specs.declared.events.Event.TheVariants.{Table, Hyper, View, Mode, Commit, Cut, Built}
+use Rattle.ts_model.specs.declared.events.Event.TheVariants.{Table, Hyper, View, Mode}
 use Rattle.ts_model.specs.declared.rosters.Roster.{Roster}
 use Rattle.ts_model.specs.declared.tables.Hyper.{Hyper as HyperInfo}
+use Rattle.ts_model.specs.declared.tables.TableDef.{TableDef}
 use Rattle.ts_model.specs.declared.tables.TableInfo.{TableInfo}
 use Rattle.ts_model.specs.declared.views.ViewDef.{ViewDef}
 use Rattle.ts_model.specs.History.{History, start, ◌▸◌}
@@ -33,9 +34,7 @@ roster_after r (Table def) = record r { tables = r.tables ++ (record { def = def
 roster_after r (Hyper t hyper) = record r { tables = change_at r.tables t (made_hyper hyper) }
 roster_after r (View def) = record r { views = r.views ++ (def ∷ []) }
 roster_after r (Mode v only) = record r { views = change_at r.views v (set_only only) }
-roster_after r (Commit ops) = r
-roster_after r (Cut v span) = r
-roster_after r (Built cut snap) = r
+roster_after r e = r
 
 -- the tables and aggregates of a history, each aggregate with its present mode
 abbrev pub roster : History → Roster
@@ -49,6 +48,15 @@ table_of r t = slice_get r.tables t
 -- what makes table number t a hypertable, where it is one
 abbrev pub hyper_of : Roster → ℕ → Option HyperInfo
 hyper_of r t = option_and_then (λ info. info.hyper) (table_of r t)
+
+-- the test holds of a table, where it is a hypertable
+abbrev pub of_hyper : (TableDef → HyperInfo → Bool) → TableDef → Option HyperInfo → Bool
+of_hyper test def None = false
+of_hyper test def (Some hyper) = test def hyper
+
+abbrev pub of_table : (TableDef → HyperInfo → Bool) → Option TableInfo → Bool
+of_table test None = false
+of_table test (Some info) = of_hyper test info.def info.hyper
 
 -- aggregate number n
 abbrev pub view_of : Roster → ℕ → Option ViewDef

@@ -4,10 +4,10 @@ use Rattle.std.specs.Ordering.{is_gt}
 use Rattle.ts_schema.specs.declared.rows.Row.{Row}
 use Rattle.ts_schema.specs.Rows.{row_cmp}
 use Rattle.ts_schema.specs.Conditions.{passes_all}
-use Rattle.ts_model.specs.declared.events.Event.TheVariants.{Table, Hyper, View, Mode, Commit, Cut, Built}
+use Rattle.ts_model.specs.declared.events.Event.TheVariants.{Commit}
 use Rattle.ts_model.specs.declared.events.Op.{Op}
 use Rattle.ts_model.specs.declared.events.Op.TheVariants.{Insert, Delete}
-use Rattle.ts_model.specs.History.{History, start, ◌▸◌}
+use Rattle.ts_model.specs.History.{History, start, ◌▸◌, prefix}
 
 -- rows in order, with one more row in its place
 abbrev pub with_row : Row → List Row → List Row
@@ -36,10 +36,9 @@ after_ops t (op ∷ ops) rows = after_ops t ops (after_op t op rows)
 -- the rows of table t at a history, in row order
 abbrev pub rows : ℕ → History → List Row
 rows t start = []
-rows t (h ▸ Table def) = rows t h
-rows t (h ▸ Hyper u hyper) = rows t h
-rows t (h ▸ View def) = rows t h
-rows t (h ▸ Mode v only) = rows t h
 rows t (h ▸ Commit ops) = after_ops t ops (rows t h)
-rows t (h ▸ Cut v span) = rows t h
-rows t (h ▸ Built cut snap) = rows t h
+rows t (h ▸ e) = rows t h
+
+-- the rows of table t at position s of a history
+abbrev pub rows_at : ℕ → History → ℕ → List Row
+rows_at t h s = rows t (prefix h s)

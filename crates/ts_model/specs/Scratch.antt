@@ -1,5 +1,5 @@
 -- The aggregation from scratch: the result rows of a bucket, from nothing but the rows.
-use Rattle.std.specs.Prelude.{ℕ, ◌&&◌, cond, List, [], ◌∷◌, map, filter, flat_map, ℤ, Option, ◌++◌}
+use Rattle.std.specs.Prelude.{ℕ, ◌&&◌, List, [], ◌∷◌, map, filter, flat_map, ℤ, Option, ◌++◌}
 use Rattle.std.specs.Ordering.{is_eq, int_cmp}
 use Rattle.std.specs.declared.cmp.Ordering.{Ordering}
 use Rattle.std.specs.BTreeSet.{insert_key}
@@ -13,9 +13,8 @@ use Rattle.ts_schema.specs.Conditions.{passes_all}
 use Rattle.ts_model.specs.declared.views.Agg.{Agg}
 use Rattle.ts_model.specs.declared.views.Fold.{Fold}
 use Rattle.ts_model.specs.declared.views.ViewDef.{ViewDef}
-use Rattle.ts_model.specs.History.{History, start, ◌▸◌, position}
+use Rattle.ts_model.specs.History.{History}
 use Rattle.ts_model.specs.Rows.{rows}
-use Rattle.std.specs.Prelude.{nat_lt}
 
 -- what an aggregate shows of a group of rows
 abbrev pub cell : List Row → Agg → Datum
@@ -57,11 +56,6 @@ scratch_of fold b rows = group_rows fold b (bucket_rows fold b rows)
 -- the aggregation from scratch of a bucket at a history
 abbrev pub scratch : ViewDef → History → ℤ → List (List Datum)
 scratch def h b = scratch_of def.fold b (rows def.table h)
-
--- the aggregation from scratch of a bucket at position s of a history
-abbrev pub scratch_at : ℕ → ViewDef → History → ℕ → ℤ → List (List Datum)
-scratch_at n def start s b = scratch def start b
-scratch_at n def (h ▸ e) s b = cond (nat_lt (position h) s) (scratch def (h ▸ e) b) (scratch_at n def h s b)
 
 -- the buckets that hold a row which passes every test, each once, in order
 abbrev pub occurring_buckets : Fold → List Row → List ℤ

@@ -1,5 +1,19 @@
 //! Laws of the definitions. Each is the clause of a function that does nothing.
-ghost use Rattle.ts_model.specs.Laws.{AnswersStay, CallsMakeAllowed, FitsStays, NothingAboveWatermark, RangesAreMaximal, RelationsStay, ResultsComeInOrder, RowsStandInOrder, SoundStays, SumsFit, ThresholdNeverFalls, UntouchedKeeps, WatermarkNeverFalls};
+ghost use Rattle.std.specs.Prelude.{◌≡◌};
+ghost use Rattle.ts_model.specs.Laws.{AnswersStay, CallsMakeAllowed, ChunksAreWithin, ClippingKeepsNear, CountsFit, FitsStays, InsertsKeepAll, MarksAreEnds, NothingAboveWatermark, RangesAreMaximal, RelationsStay, ResultsComeInOrder, RostersAreSound, RowsAreTimes, RowsFitTables, RowsHaveColumns, RowsStandInOrder, SoundStays, SpansKeepGroups, SumsFit, ThresholdNeverFalls, UntouchedBetween, UntouchedKeeps, UntouchedKeepsGroups, UntouchedKeepsRows, WatermarkNeverFalls, WidthsAreSound};
+ghost use Rattle.ts_model.specs.Limits.{bytes_limit, most_columns, most_relations};
+ghost use Rattle.ts_model.specs.PositionLaws.{AtPositions, PositionsCount};
+ghost use Rattle.ts_model.specs.RefreshLaws.{BucketsWereCut, CutsFit, FinishesMark, LastsAreLast, ModePlaysNoPart, WaitingIsPending};
+
+/// A bucket that no commit touched after a position has the rows that it had there.
+pub fn untouched_buckets_keep_their_rows()
+    ensures { UntouchedKeepsRows }
+{}
+
+/// A bucket that no commit touched after a position has the groups that it had there.
+pub fn untouched_buckets_keep_their_groups()
+    ensures { UntouchedKeepsGroups }
+{}
 
 /// A bucket that no commit touched after a position has the aggregation that it had there.
 pub fn untouched_buckets_keep_their_aggregation()
@@ -65,4 +79,113 @@ pub fn results_come_in_order()
 /// The sum of fewer than 2^62 values of 64 bits fits 128 bits.
 pub fn sums_fit()
     ensures { SumsFit }
+{}
+
+/// The numbers that events keep to.
+pub fn limits()
+    ensures relations { most_relations ≡ 64 }
+    ensures columns { most_columns ≡ 16 }
+    ensures bytes { bytes_limit ≡ 4294967296 }
+{}
+
+/// A position is that of the root of a history and the number of events after it.
+pub fn positions_count_events()
+    ensures { PositionsCount }
+{}
+
+/// What is at a position of a history is what the history with that position has.
+pub fn positions_have_their_prefix()
+    ensures { AtPositions }
+{}
+
+/// All that the roster of an allowed history holds is there and in range.
+pub fn rosters_are_sound()
+    ensures { RostersAreSound }
+{}
+
+/// The width of an aggregate of an allowed history keeps its bounds.
+pub fn widths_are_sound()
+    ensures { WidthsAreSound }
+{}
+
+/// Each row that was ever inserted into a table of an allowed history fits the table, and so does each that
+/// it has at a position.
+pub fn rows_fit_their_tables()
+    ensures { RowsFitTables }
+{}
+
+/// Each row of an allowed history has a time.
+pub fn rows_are_of_times()
+    ensures { RowsAreTimes }
+{}
+
+/// Each row of an allowed history has the columns of each fold that may be asked of its table.
+pub fn rows_have_columns()
+    ensures { RowsHaveColumns }
+{}
+
+/// A watermark of an allowed history is the end of a bucket that holds a time.
+pub fn marks_are_ends()
+    ensures { MarksAreEnds }
+{}
+
+/// The span of a cut of an allowed history is one of whole buckets of its aggregate.
+pub fn cuts_fit_their_aggregates()
+    ensures { CutsFit }
+{}
+
+/// A bucket of the span of a cut was cut, and so was one with a last refresh.
+pub fn refreshed_buckets_were_cut()
+    ensures { BucketsWereCut }
+{}
+
+/// A bucket was refreshed at its last refresh, and at no later snapshot.
+pub fn last_refreshes_are_last()
+    ensures { LastsAreLast }
+{}
+
+/// The refreshes that wait are, for each number, what pending says of it.
+pub fn waiting_refreshes_are_pending()
+    ensures { WaitingIsPending }
+{}
+
+/// A finish of a job that fits raises the watermark to the job's top.
+pub fn finishes_raise_the_watermark()
+    ensures { FinishesMark }
+{}
+
+/// Whether an aggregate shows materialised rows only plays no part in what is stale, nor in what stood in
+/// a bucket.
+pub fn modes_play_no_part()
+    ensures { ModePlaysNoPart }
+{}
+
+/// Rows put in their places come in as often as they are given, and none is lost.
+pub fn inserts_keep_all_rows()
+    ensures { InsertsKeepAll }
+{}
+
+/// A span clipped to bounds between which all chunks lie is near the same rows.
+pub fn clipped_spans_are_near_the_same()
+    ensures { ClippingKeepsNear }
+{}
+
+/// The chunks of an allowed history lie at most the longest interval outside the range of times.
+pub fn chunks_are_near_times()
+    ensures { ChunksAreWithin }
+{}
+
+/// Each count and each number of a sound event of an allowed history fits its field in a journal.
+pub fn counts_fit_their_fields()
+    ensures { CountsFit }
+{}
+
+/// A bucket that no commit touched between two positions had the same rows and groups at both.
+pub fn untouched_buckets_are_the_same_at_both_positions()
+    ensures { UntouchedBetween }
+{}
+
+/// The rows of spans have the groups of all rows in each bucket of the spans, and none in another.
+pub fn spans_keep_groups()
+    ensures { SpansKeepGroups }
 {}

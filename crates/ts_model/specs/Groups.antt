@@ -1,0 +1,77 @@
+-- Groups: the rows of a bucket with the same keys, aggregated, and what they show.
+use Rattle.std.specs.Prelude.{ℕ, ◌≤◌, List, [], ◌∷◌, ◌++◌, map, flat_map, length, Option, ℤ, IsTrue}
+use Rattle.std.specs.List.{AllByRecursion}
+use Rattle.ts_num.specs.Aggregates.{shown_or_null}
+use Rattle.ts_num.specs.declared.values.Datum.{Datum}
+use Rattle.ts_num.specs.declared.values.Datum.TheVariants.{Int}
+use Rattle.ts_schema.specs.declared.rows.Row.{Row}
+use Rattle.ts_schema.specs.Rows.{field_of}
+use Rattle.ts_bucket.specs.Bucket.{is_time}
+use Rattle.partial_agg.specs.declared.groups.Group.{Group}
+use Rattle.partial_agg.specs.Summaries.{Summary, summary, shown}
+use Rattle.ts_model.specs.declared.views.Agg.{Agg}
+use Rattle.ts_model.specs.declared.views.Fold.{Fold}
+use Rattle.ts_model.specs.declared.views.ViewDef.{ViewDef}
+use Rattle.ts_model.specs.History.{History}
+use Rattle.ts_model.specs.Rows.{rows_at}
+use Rattle.ts_model.specs.Scratch.{bucket_rows, key_lists, with_keys, occurring_buckets}
+
+-- ---- what rows are grouped into
+
+-- the column that an aggregate reads, of these rows
+abbrev pub column : List Row → Agg → List (Option ℤ)
+column rows agg = map (λ row. field_of row agg.col) rows
+
+-- the group of a bucket with these keys, over the rows of the bucket
+abbrev pub group_at : Fold → ℤ → List Row → List (Option ℤ) → Group
+group_at fold b found keys = record {
+  start = b;
+  keys = keys;
+  parts = map (λ agg. summary (column (with_keys fold keys found) agg)) fold.aggs;
+}
+
+-- the groups of a bucket over its rows: one for each list of keys, in order
+abbrev pub bucket_groups : Fold → ℤ → List Row → List Group
+bucket_groups fold b found = map (group_at fold b found) (key_lists fold found)
+
+-- the groups of a bucket over the rows of a table
+abbrev pub groups_in : Fold → List Row → ℤ → List Group
+groups_in fold rows b = bucket_groups fold b (bucket_rows fold b rows)
+
+-- the groups of all buckets over the rows of a table, in order
+abbrev pub groups_of : Fold → List Row → List Group
+groups_of fold rows = flat_map (groups_in fold rows) (occurring_buckets fold rows)
+
+-- ---- what groups show
+
+-- what each aggregate shows of its partial aggregate
+abbrev pub shown_each : List Agg → List Summary → List Datum
+shown_each [] parts = []
+shown_each (agg ∷ aggs) [] = []
+shown_each (agg ∷ aggs) (part ∷ parts) = shown agg.fun part ∷ shown_each aggs parts
+
+-- the result row of a group: the bucket, the keys, and each aggregate
+abbrev pub cells_of : Fold → Group → List Datum
+cells_of fold group = Int group.start ∷ (map shown_or_null group.keys ++ shown_each fold.aggs group.parts)
+
+-- ---- what rows have to have
+
+-- a row has a time, and the columns that a fold reads
+pub record RowFits (fold : Fold) (row : Row) : Type 0 where
+  pub time : IsTrue (is_time row.at)
+  pub keys : AllByRecursion (λ k. k ≤ length row.vals) fold.keys
+  pub aggs : AllByRecursion (λ agg. agg.col ≤ length row.vals) fold.aggs
+  pub tests : AllByRecursion (λ t. t.col ≤ length row.vals) fold.tests
+
+abbrev pub RowsFit : Fold → List Row → Type 0
+RowsFit fold rows = AllByRecursion (RowFits fold) rows
+
+-- ---- what stood in a bucket
+
+-- what stood in a bucket at position s of a history, as groups. The aggregate's number is named, though rows alone don't need it: a saved image will tell by aggregate what stood
+abbrev pub groups_at : ℕ → ViewDef → History → ℕ → ℤ → List Group
+groups_at n def h s b = groups_in def.fold (rows_at def.table h s) b
+
+-- what these groups show
+abbrev pub scratch_at : ℕ → ViewDef → History → ℕ → ℤ → List (List Datum)
+scratch_at n def h s b = map (cells_of def.fold) (groups_at n def h s b)

@@ -1,0 +1,18 @@
+-- Limits of what events hold.
+use Rattle.std.specs.Prelude.{ℕ, Bool, ◌&&◌, ◌-◌, ◌^◌, ℤ, pos, negsuc, int_le}
+
+-- the most tables, and the most aggregates
+abbrev pub most_relations : ℕ
+most_relations = 64
+
+-- the most columns of a table, and of an output
+abbrev pub most_columns : ℕ
+most_columns = 16
+
+-- an event takes fewer bytes than this
+abbrev pub bytes_limit : ℕ
+bytes_limit = 2 ^ 32
+
+-- a number of 64 bits
+abbrev pub is_word : ℤ → Bool
+is_word v = int_le (negsuc (2 ^ 63 - 1)) v && int_le v (pos (2 ^ 63 - 1))
