@@ -5,10 +5,9 @@ use Rattle.std.specs.Prelude.{Option}
 use Rattle.std.specs.Io.KnownBytes.{Consumes, IsAtEnd, prepend_known}
 use Rattle.std.proofs.KnownBytes.{Consumes-trans}
 use Rattle.ts_io.specs.Lines.{ended_lines, lines_within, IsFirstEnd}
-use Rattle.ts_io.specs.Reader.{IfReadFault, ReadsLine, SkipsLong}
-use Rattle.ts_io.specs.declared.line_reader.TheConstants.{LINE_LIMIT}
-use Rattle.ts_io.specs.declared.line_reader.LineEnd.{LineEnd}
-use Rattle.ts_io.specs.declared.line_reader.LineEnd.TheVariants.{Line, LineLong, End, InputLong, ReadFault}
+use Rattle.ts_io.specs.Reader.{ReadsLine, SkipsLong}
+use Rattle.ts_io.specs.declared.limits.TheConstants.{LINE_LIMIT}
+use Rattle.ts_io.specs.declared.line_reader.LineEnd.TheVariants.{Line, LineLong, End, InputLong}
 use Rattle.ts_io.proofs.LineLaws.{ended_lines-append_none}
 use Rattle.ts_io.proofs.LineEnds.{split_end}
 use Rattle.ts_io.proofs.Reading.{grown}
@@ -102,12 +101,9 @@ over_given (Some xs) (Some ys) gone held line n m took none fewer more over =
     ∙ ap (λ l. gone ++ l) (take-append-le m held ys (omega arith)) in
     (lines_within-cut n xs beyond ∙ ap ended_lines cut ∙ ended_lines-append_none gone (take m held) none more, beyond)
 
--- ---- faults
-
--- an answer that is no fault needs no cause
-pub never_failed : (end : LineEnd) (P : Type 0) → IfReadFault end ⊥ → IfReadFault end P
-never_failed Line P h = tt
-never_failed LineLong P h = tt
-never_failed End P h = tt
-never_failed InputLong P h = tt
-never_failed ReadFault P h = absurd h
+-- nothing is held and nothing is left
+pub end_given : (held : List ℕ) (left : Option (List ℕ)) (n : ℕ) (line : List ℕ) → held ≡ [] → IsAtEnd left → ReadsLine End n (prepend_known held left) n (prepend_known held left) line
+end_given held None n line empty end = tt
+end_given held (Some xs) n line empty end =
+    let none : held ++ xs ≡ [] = ap (λ l. l ++ xs) empty ∙ end in
+    (ap (lines_within n) none ∙ lines_within-nil n, none, none)

@@ -6,7 +6,7 @@ use Rattle.std.specs.Io.KnownBytes.{Consumes, IsAtEnd, prepend_known}
 use Rattle.std.proofs.KnownBytes.{Consumes-trans}
 use Rattle.ts_io.specs.Lines.{ended_lines, IsFirstEnd}
 use Rattle.ts_io.specs.Reader.{ReadsLine}
-use Rattle.ts_io.specs.declared.line_reader.TheConstants.{LINE_LIMIT}
+use Rattle.ts_io.specs.declared.limits.TheConstants.{LINE_LIMIT}
 use Rattle.ts_io.specs.declared.line_reader.LineEnd.TheVariants.{LineLong, InputLong}
 use Rattle.ts_io.proofs.LineLaws.{ended_lines-append_none}
 use Rattle.ts_io.proofs.Following.{gone_held, gone_same, same_filled, long_given, long_last_given, over_given}

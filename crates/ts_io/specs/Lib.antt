@@ -1,3 +1,4 @@
+pub mod Faults
 pub mod Lines
 pub mod MemSink
 pub mod MemSource
@@ -5,4 +6,5 @@ pub mod Reader
 pub mod Schedule
 pub mod Sink
 pub mod Source
+pub mod Standard
 pub mod Whole

@@ -1,13 +1,14 @@
 -- A source in memory.
-use Rattle.std.specs.Prelude.{◌≡◌, ℕ, List, length, drop, min, true, false}
+use Rattle.std.specs.Prelude.{◌≡◌, ℕ, Bool, true, false, ◌==◌, ◌&&◌, nat_lt, List, length, drop, min}
 use Rattle.ts_schema.specs.Counts.{one_more}
 use Rattle.ts_io.specs.Schedule.{is_listed}
 use Rattle.ts_io.specs.declared.sources.Got.{Got}
 use Rattle.ts_io.specs.declared.sources.Got.TheVariants.{Bytes, Failed}
 
--- the bytes left, the most that a call gives, the numbers of the calls that fail, and how many calls there were and how many failed
+-- the bytes left, whether the end was told, the most that a call gives, the numbers of the calls that fail, and how many calls there were and how many failed
 pub record Supply : Type 0 where
   pub left : List ℕ
+  pub ended : Bool
   pub most : ℕ
   pub fails : List ℕ
   pub calls : ℕ
@@ -16,5 +17,5 @@ pub record Supply : Type 0 where
 -- a read into this much room: a listed call fails and is counted, every other gives as much as may be
 abbrev pub Supplies : Supply → ℕ → Got → Supply → Type 0
 Supplies old room (Bytes n) new = (is_listed old.fails (one_more old.calls) ≡ false) × (n ≡ min old.most (min room (length old.left)))
-    × (new ≡ record old { left = drop n old.left; calls = one_more old.calls })
+    × (new ≡ record old { left = drop n old.left; ended = (n == 0) && nat_lt 0 room; calls = one_more old.calls })
 Supplies old room Failed new = (is_listed old.fails (one_more old.calls) ≡ true) × (new ≡ record old { calls = one_more old.calls; faults = one_more old.faults })

@@ -1,16 +1,18 @@
 -- A reader of lines over a source.
 use Rattle.std.specs.Prelude.{◌≡◌, ℕ, ◌+◌, ◌<◌, ◌≤◌, Bool, true, false, List, [], ◌∷◌, length, Option, None, Some, ⊤}
+use Rattle.std.specs.Io.KnownBytes.{IsAtEnd}
 use Rattle.ts_io.specs.Lines.{lines_within}
-use Rattle.ts_io.specs.declared.line_reader.TheConstants.{LINE_LIMIT}
+use Rattle.ts_io.specs.declared.limits.TheConstants.{LINE_LIMIT}
 use Rattle.ts_io.specs.declared.line_reader.LineEnd.{LineEnd}
 use Rattle.ts_io.specs.declared.line_reader.LineEnd.TheVariants.{Line, LineLong, End, InputLong, ReadFault}
 
--- the bytes taken and not yet given, how many bytes from these on lie within the limit of the input, the line given last, and whether there may be another
+-- the bytes taken and not yet given, how many bytes from these on lie within the limit of the input, the line given last, whether there may be another, and whether the source has told its end
 pub record Reading : Type 0 where
   pub held : List ℕ
   pub allowed : ℕ
   pub line : List ℕ
   pub is_open : Bool
+  pub at_end : Bool
 
 -- the first of the lines is too long, and these follow
 abbrev pub SkipsLong : List (List ℕ) → List (List ℕ) → Type 0
@@ -53,10 +55,15 @@ goes_on End = false
 goes_on InputLong = false
 goes_on ReadFault = false
 
--- P holds where a read failed
-abbrev pub IfReadFault : LineEnd → Type 0 → Type 0
-IfReadFault Line P = ⊤
-IfReadFault LineLong P = ⊤
-IfReadFault End P = ⊤
-IfReadFault InputLong P = ⊤
-IfReadFault ReadFault P = P
+-- a read failed
+abbrev pub is_read_fault : LineEnd → Bool
+is_read_fault Line = false
+is_read_fault LineLong = false
+is_read_fault End = false
+is_read_fault InputLong = false
+is_read_fault ReadFault = true
+
+-- a reader knows whether its source has told its end, and then no byte is left there
+pub record Follows (reading : Reading) (ended : Bool) (left : Option (List ℕ)) : Type 0 where
+  pub knows : ended ≡ reading.at_end
+  pub empty : reading.at_end ≡ true → IsAtEnd left

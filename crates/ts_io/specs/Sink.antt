@@ -1,5 +1,5 @@
 -- What a write does to the bytes that a sink holds.
-use Rattle.std.specs.Prelude.{ℕ, ◌<◌, ◌≤◌, List, Option, length, take, ⊤}
+use Rattle.std.specs.Prelude.{ℕ, ◌<◌, ◌≤◌, Bool, true, false, List, Option, length, take}
 use Rattle.std.specs.Io.KnownBytes.{Appends, Keeps}
 use Rattle.ts_io.specs.declared.sinks.Put.{Put}
 use Rattle.ts_io.specs.declared.sinks.Put.TheVariants.{Bytes, Failed}
@@ -9,7 +9,7 @@ abbrev pub Takes : Option (List ℕ) → Option (List ℕ) → Put → List ℕ 
 Takes old new (Bytes n) piece = (n ≤ length piece) × (0 < length piece → 0 < n) × Appends old new (take n piece)
 Takes old new Failed piece = Keeps old new
 
--- P holds where the write failed
-abbrev pub IfFailed : Put → Type 0 → Type 0
-IfFailed (Bytes n) P = ⊤
-IfFailed Failed P = P
+-- the write failed
+abbrev pub is_failed : Put → Bool
+is_failed (Bytes n) = false
+is_failed Failed = true

@@ -1,5 +1,5 @@
 -- What a read does to the bytes that a source has left.
-use Rattle.std.specs.Prelude.{◌≡◌, ℕ, ◌+◌, ◌<◌, ◌≤◌, List, Option, length, take, drop, ⊤}
+use Rattle.std.specs.Prelude.{◌≡◌, ℕ, ◌+◌, ◌<◌, ◌≤◌, Bool, true, false, ◌==◌, ◌&&◌, nat_lt, List, Option, length, take, drop}
 use Rattle.std.specs.Io.KnownBytes.{Consumes, IsAtEnd, Keeps}
 use Rattle.ts_io.specs.declared.sources.Got.{Got}
 use Rattle.ts_io.specs.declared.sources.Got.TheVariants.{Bytes, Failed}
@@ -9,10 +9,19 @@ abbrev pub Gives : Option (List ℕ) → Option (List ℕ) → Got → List ℕ 
 Gives old new (Bytes n) into = (n ≤ length into) × Consumes old new (take n into) × (n ≡ 0 → 0 < length into → IsAtEnd new)
 Gives old new Failed into = Keeps old new
 
--- P holds where the read failed
-abbrev pub IfFailed : Got → Type 0 → Type 0
-IfFailed (Bytes n) P = ⊤
-IfFailed Failed P = P
+-- the read failed
+abbrev pub is_failed : Got → Bool
+is_failed (Bytes n) = false
+is_failed Failed = true
+
+-- the read told the end: it gave no byte
+abbrev pub is_end : Got → Bool
+is_end (Bytes n) = n == 0
+is_end Failed = false
+
+-- whether a source has told its end after a read, which it does by giving no byte where there was room
+abbrev pub told_end : Got → List ℕ → Bool
+told_end got into = is_end got && nat_lt 0 (length into)
 
 -- a read whose bytes were appended to those held: it took what they grew by, and nothing only at the end
 abbrev pub Fills : Option (List ℕ) → Option (List ℕ) → Got → List ℕ → List ℕ → Type 0

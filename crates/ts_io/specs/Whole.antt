@@ -1,7 +1,7 @@
 -- A whole input and a whole text.
-use Rattle.std.specs.Prelude.{◌≡◌, ℕ, ◌+◌, ◌<◌, List, ◌++◌, Option, Some, None, length, take, drop, ⊤}
+use Rattle.std.specs.Prelude.{◌≡◌, ℕ, ◌+◌, ◌<◌, Bool, true, false, List, ◌++◌, Option, Some, None, length, take, drop, ⊤}
 use Rattle.std.specs.Io.KnownBytes.{Appends, Consumes, IsAtEnd}
-use Rattle.ts_io.specs.declared.whole.TheConstants.{INPUT_LIMIT}
+use Rattle.ts_io.specs.declared.limits.TheConstants.{INPUT_LIMIT}
 use Rattle.ts_io.specs.declared.whole.AllEnd.{AllEnd}
 use Rattle.ts_io.specs.declared.whole.AllEnd.TheVariants.{End, InputLong, ReadFault, NoMemory}
 
@@ -25,9 +25,9 @@ ReadsAll InputLong old new out = Passes INPUT_LIMIT old new out
 ReadsAll ReadFault old new out = Consumes old new out
 ReadsAll NoMemory old new out = Consumes old new out
 
--- P holds where reading ended by a fault
-abbrev pub IfReadFault : AllEnd → Type 0 → Type 0
-IfReadFault End P = ⊤
-IfReadFault InputLong P = ⊤
-IfReadFault ReadFault P = P
-IfReadFault NoMemory P = ⊤
+-- reading ended with a fault
+abbrev pub is_read_fault : AllEnd → Bool
+is_read_fault End = false
+is_read_fault InputLong = false
+is_read_fault ReadFault = true
+is_read_fault NoMemory = false

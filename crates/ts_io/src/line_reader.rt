@@ -1,23 +1,21 @@
 //! A reader of lines, which holds a bounded number of bytes at a time.
-ghost use Rattle.std.specs.Prelude.{◌≡◌, ◌≢◌, ℕ, ◌+◌, ◌-◌, ◌<◌, ◌≤◌, List, [], Option, true, false, length, take, drop, nat_lt, vec_len, vec_capacity, IfOk, IfSome, MatchOption};
+ghost use Rattle.std.specs.Prelude.{◌≡◌, ◌≢◌, ℕ, ◌+◌, ◌-◌, ◌<◌, ◌≤◌, List, [], Option, Bool, true, false, length, take, drop, nat_lt, vec_len, vec_capacity, IfOk, IfSome, MatchOption};
+ghost use Rattle.std.specs.Bool.{OnTrue};
 ghost use Rattle.std.specs.Io.KnownBytes.{Consumes, IsAtEnd, prepend_known};
-ghost use Rattle.ts_schema.specs.Faults.{Rose};
-ghost use Rattle.ts_io.specs.Source.{Fills, IfFailed};
+ghost use Rattle.ts_io.specs.Faults.{Counted};
+ghost use Rattle.ts_io.specs.Source.{Fills, is_end, is_failed};
 ghost use Rattle.ts_io.specs.Lines.{ended_lines, IsFirstEnd};
-ghost use Rattle.ts_io.specs.Reader.{ReadsLine, Spends, SpendsAlike, goes_on, IfReadFault};
-ghost use Rattle.ts_io.specs.declared.whole.TheConstants.{INPUT_LIMIT};
+ghost use Rattle.ts_io.specs.Reader.{Follows, ReadsLine, Spends, SpendsAlike, goes_on, is_read_fault};
+ghost use Rattle.ts_io.specs.declared.limits.TheConstants.{INPUT_LIMIT};
 ghost use Rattle.ts_io.specs.declared.pieces.TheConstants.{PIECE};
 
+use crate::limits::{INPUT_LIMIT, LINE_LIMIT};
 use crate::line_ends::first_end_after;
 use crate::pieces::{PIECE, read_into};
 use crate::sources::{Got, Source};
-use crate::whole::INPUT_LIMIT;
 use std::alloc::Global;
 use std::marker::Model;
 use ts_schema::NoMemory;
-
-/// How many bytes a line may have before its line end.
-pub const LINE_LIMIT: usize = 65_536;
 
 /// How many bytes a reader of lines holds at most.
 pub const HELD_LIMIT: usize = LINE_LIMIT + PIECE;
@@ -50,13 +48,15 @@ pub struct Lines {
     /// How many bytes from those held on lie within the limit of the input. One more may be held.
     allowed: usize,
     is_open: bool,
+    /// Whether the source has told its end. Then no byte is held.
+    at_end: bool,
     /// What one read fills.
     piece: Vec<u8>,
 }
 
 impl Model for Lines {
-    ghost use Rattle.std.specs.Prelude.{◌≡◌, ◌+◌, ◌≤◌, drop, slice_range, vec_len, vec_capacity};
-    ghost use Rattle.ts_io.specs.declared.whole.TheConstants.{INPUT_LIMIT};
+    ghost use Rattle.std.specs.Prelude.{◌≡◌, ◌+◌, ◌≤◌, true, drop, slice_range, vec_len, vec_capacity};
+    ghost use Rattle.ts_io.specs.declared.limits.TheConstants.{INPUT_LIMIT};
     ghost use Rattle.ts_io.specs.declared.pieces.TheConstants.{PIECE};
     ghost use Rattle.ts_io.specs.declared.line_reader.TheConstants.{HELD_LIMIT};
     ghost use Rattle.ts_io.specs.Reader.{Reading};
@@ -68,17 +68,19 @@ impl Model for Lines {
       allowed = s.allowed;
       line = slice_range s.bytes.items s.line_from s.line_to;
       is_open = s.is_open;
+      at_end = s.at_end;
     } };
 
     ghost invariant = { λ s. (s.start ≤ vec_len s.bytes) × (s.line_from ≤ s.line_to) × (s.line_to ≤ vec_len s.bytes)
         × (vec_len s.piece ≡ PIECE) × (vec_len s.bytes ≤ s.start + s.allowed + 1) × (s.allowed ≤ INPUT_LIMIT)
-        × (vec_len s.bytes ≤ HELD_LIMIT) × (HELD_LIMIT ≤ vec_capacity s.bytes) };
+        × (vec_len s.bytes ≤ HELD_LIMIT) × (HELD_LIMIT ≤ vec_capacity s.bytes) × (s.at_end ≡ true → vec_len s.bytes ≤ s.start) };
 }
 
 impl Lines {
     /// A reader that has taken nothing yet. This takes all the memory that it ever needs.
     pub fn new(alloc: Global) -> Result<Lines, NoMemory>
         ensures fresh { IfOk result (λ lines. (lines.held ≡ []) × (lines.allowed ≡ INPUT_LIMIT) × (lines.is_open ≡ true)) }
+        ensures follows { IfOk result (λ lines. (ended : Bool) (left : Option (List ℕ)) → ended ≡ false → Follows lines ended left) }
     {
         Ok(Lines {
             bytes: Vec::with_capacity(alloc, HELD_LIMIT)?,
@@ -87,6 +89,7 @@ impl Lines {
             line_to: 0,
             allowed: INPUT_LIMIT,
             is_open: true,
+            at_end: false,
             piece: vec![in alloc; 0; PIECE]?,
         })
     }
@@ -98,10 +101,11 @@ impl Lines {
         &self.bytes[self.line_from..self.line_to]
     }
 
-    /// The next line. It asks the source only where it holds no whole line, and takes no memory. After
-    /// `End`, `InputLong` or `ReadFault` there is no other.
+    /// The next line. It asks the source only where it holds no whole line and the source hasn't told
+    /// its end, and takes no memory. After `End`, `InputLong` or `ReadFault` there is no other.
     pub fn next<S: Source>(&mut self, source: &mut S) -> LineEnd
-        requires { self.old.is_open ≡ true }
+        requires is_open { self.old.is_open ≡ true }
+        requires follows { Follows self.old (S.ended source.old) (S.left source.old) }
         ensures line { ReadsLine result self.old.allowed (prepend_known self.old.held (S.left source.old))
             self.new.allowed (prepend_known self.new.held (S.left source.new)) self.new.line }
         ensures spends { Spends result self.old.allowed self.new.allowed self.new.line }
@@ -110,11 +114,12 @@ impl Lines {
         ensures is_open { self.new.is_open ≡ goes_on result }
         ensures asks_late { ended_lines (take self.old.allowed self.old.held) ≢ [] → source.new ≡ source.old }
         ensures bounded { length self.new.held ≤ HELD_LIMIT }
-        ensures never_falls { S.faults source.old ≤ S.faults source.new }
-        ensures cause { IfReadFault result (Rose (S.faults source.old) (S.faults source.new)) }
+        ensures follows { Follows self.new (S.ended source.new) (S.left source.new) }
+        ensures counted { Counted (S.faults source.old) (S.faults source.new) (is_read_fault result) }
     {
         match self.first_end(0) {
             Some(n) => self.give(n),
+            None if self.is_at_end() => self.stop(LineEnd::End),
             None => self.read_line(source),
         }
     }
@@ -123,6 +128,8 @@ impl Lines {
     fn read_line<S: Source>(&mut self, source: &mut S) -> LineEnd
         requires is_open { self.old.is_open ≡ true }
         requires none { ended_lines (take self.old.allowed self.old.held) ≡ [] }
+        requires untold { S.ended source.old ≡ false }
+        requires more { self.old.at_end ≡ false }
         ensures line { ReadsLine result self.old.allowed (prepend_known self.old.held (S.left source.old))
             self.new.allowed (prepend_known self.new.held (S.left source.new)) self.new.line }
         ensures spends { Spends result self.old.allowed self.new.allowed self.new.line }
@@ -130,8 +137,8 @@ impl Lines {
             self.new.allowed (prepend_known self.new.held (S.left source.new)) }
         ensures is_open { self.new.is_open ≡ goes_on result }
         ensures bounded { length self.new.held ≤ HELD_LIMIT }
-        ensures never_falls { S.faults source.old ≤ S.faults source.new }
-        ensures cause { IfReadFault result (Rose (S.faults source.old) (S.faults source.new)) }
+        ensures follows { Follows self.new (S.ended source.new) (S.left source.new) }
+        ensures counted { Counted (S.faults source.old) (S.faults source.new) (is_read_fault result) }
     {
         while self.held().len() <= LINE_LIMIT {
             if self.is_over() {
@@ -155,6 +162,8 @@ impl Lines {
         requires is_open { self.old.is_open ≡ true }
         requires none { ended_lines (take self.old.allowed self.old.held) ≡ [] }
         requires long { LINE_LIMIT < length self.old.held }
+        requires untold { S.ended source.old ≡ false }
+        requires more { self.old.at_end ≡ false }
         ensures line { ReadsLine result self.old.allowed (prepend_known self.old.held (S.left source.old))
             self.new.allowed (prepend_known self.new.held (S.left source.new)) self.new.line }
         ensures spends { Spends result self.old.allowed self.new.allowed self.new.line }
@@ -162,14 +171,17 @@ impl Lines {
             self.new.allowed (prepend_known self.new.held (S.left source.new)) }
         ensures is_open { self.new.is_open ≡ goes_on result }
         ensures bounded { length self.new.held ≤ HELD_LIMIT }
-        ensures never_falls { S.faults source.old ≤ S.faults source.new }
-        ensures cause { IfReadFault result (Rose (S.faults source.old) (S.faults source.new)) }
+        ensures follows { Follows self.new (S.ended source.new) (S.left source.new) }
+        ensures counted { Counted (S.faults source.old) (S.faults source.new) (is_read_fault result) }
     {
         while !self.is_over() {
             let skipped = self.held().len();
             self.advance(0, skipped);
             match self.ask(source) {
-                Got::Bytes(0) => return LineEnd::LineLong,
+                Got::Bytes(0) => {
+                    self.note_end();
+                    return LineEnd::LineLong;
+                }
                 Got::Bytes(_) => match self.first_end(0) {
                     Some(n) => {
                         self.advance(0, n + 1);
@@ -193,7 +205,8 @@ impl Lines {
         ensures spends { Spends result self.old.allowed self.new.allowed self.new.line }
         ensures alike { (left : Option (List ℕ)) → SpendsAlike self.old.allowed (prepend_known self.old.held left) self.new.allowed (prepend_known self.new.held left) }
         ensures is_open { self.new.is_open ≡ goes_on result }
-        ensures not_failed { IfReadFault result ⊥ }
+        ensures at_end { self.new.at_end ≡ self.old.at_end }
+        ensures not_failed { is_read_fault result ≡ false }
         ensures bounded { length self.new.held ≤ HELD_LIMIT }
     {
         self.advance(n, n + 1);
@@ -215,11 +228,13 @@ impl Lines {
         ensures spends { Spends result self.old.allowed self.new.allowed self.new.line }
         ensures alike { (left : Option (List ℕ)) → SpendsAlike self.old.allowed (prepend_known self.old.held left) self.new.allowed (prepend_known self.new.held left) }
         ensures is_open { self.new.is_open ≡ goes_on result }
-        ensures not_failed { IfReadFault result ⊥ }
+        ensures at_end { self.new.at_end ≡ true }
+        ensures not_failed { is_read_fault result ≡ false }
         ensures bounded { length self.new.held ≤ HELD_LIMIT }
     {
         let last = self.held().len();
         self.advance(last, last);
+        self.note_end();
         if last == 0 {
             return self.stop(LineEnd::End);
         }
@@ -234,6 +249,23 @@ impl Lines {
     {
         self.is_open = false;
         end
+    }
+
+    /// Notes that the source has told its end, where no byte is held.
+    fn note_end(&mut self)
+        requires empty { length self.old.held ≡ 0 }
+        ensures noted { self.new ≡ record self.old { at_end = true } }
+        ensures bounded { length self.new.held ≤ HELD_LIMIT }
+    {
+        self.at_end = true;
+    }
+
+    /// Whether the source has told its end.
+    fn is_at_end(&self) -> bool
+        ensures at_end { result ≡ self.now.at_end }
+        ensures empty { OnTrue result (self.now.held ≡ []) }
+    {
+        self.at_end
     }
 
     /// The bytes taken and not yet given.
@@ -274,6 +306,7 @@ impl Lines {
         ensures held { self.new.held ≡ drop past self.old.held }
         ensures allowed { self.new.allowed ≡ self.old.allowed - past }
         ensures is_open { self.new.is_open ≡ self.old.is_open }
+        ensures at_end { self.new.at_end ≡ self.old.at_end }
         ensures bounded { length self.new.held ≤ HELD_LIMIT }
     {
         self.line_from = self.start;
@@ -286,12 +319,15 @@ impl Lines {
     fn ask<S: Source>(&mut self, source: &mut S) -> Got
         requires allowed { length self.old.held ≤ self.old.allowed }
         requires short { length self.old.held ≤ LINE_LIMIT }
+        requires untold { S.ended source.old ≡ false }
+        requires more { self.old.at_end ≡ false }
         ensures filled { Fills (S.left source.old) (S.left source.new) result self.old.held self.new.held }
         ensures allowed { self.new.allowed ≡ self.old.allowed }
         ensures is_open { self.new.is_open ≡ self.old.is_open }
         ensures bounded { length self.new.held ≤ HELD_LIMIT }
-        ensures never_falls { S.faults source.old ≤ S.faults source.new }
-        ensures cause { IfFailed result (Rose (S.faults source.old) (S.faults source.new)) }
+        ensures at_end { self.new.at_end ≡ false }
+        ensures ended { S.ended source.new ≡ is_end result }
+        ensures counted { Counted (S.faults source.old) (S.faults source.new) (is_failed result) }
     {
         drop_front(&mut self.bytes, self.start);
         self.start = 0;

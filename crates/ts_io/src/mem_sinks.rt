@@ -1,7 +1,7 @@
 //! A sink in memory.
-ghost use Rattle.std.specs.Prelude.{◌≡◌, ◌<◌, ◌≤◌, [], Some};
-ghost use Rattle.ts_schema.specs.Faults.{Rose};
-ghost use Rattle.ts_io.specs.Sink.{Takes, IfFailed};
+ghost use Rattle.std.specs.Prelude.{◌≡◌, ◌<◌, [], Some};
+ghost use Rattle.ts_io.specs.Faults.{Counted};
+ghost use Rattle.ts_io.specs.Sink.{Takes, is_failed};
 ghost use Rattle.ts_io.specs.MemSink.{Stores};
 
 use crate::schedules::{Schedule, count_call, count_fault};
@@ -71,8 +71,7 @@ impl Sink for MemSink {
 
     fn write(&mut self, piece: &[u8]) -> Put
         ensures bytes { Takes (Some self.old.written) (Some self.new.written) result piece.now }
-        ensures never_falls { self.old.faults ≤ self.new.faults }
-        ensures cause { IfFailed result (Rose self.old.faults self.new.faults) }
+        ensures counted { Counted self.old.faults self.new.faults (is_failed result) }
         ensures exact { Stores self.old piece.now result self.new }
     {
         let n = self.schedule.most.min(piece.len());

@@ -1,11 +1,11 @@
 //! A source in memory.
-ghost use Rattle.std.specs.Prelude.{◌≡◌, ◌<◌, ◌≤◌, Some, length, min, take};
-ghost use Rattle.ts_schema.specs.Faults.{Rose};
-ghost use Rattle.ts_io.specs.Source.{Gives, IfFailed};
+ghost use Rattle.std.specs.Prelude.{◌≡◌, ◌<◌, Some, false, length, min, take, drop};
+ghost use Rattle.ts_io.specs.Faults.{Counted};
+ghost use Rattle.ts_io.specs.Source.{Gives, is_failed, told_end};
 ghost use Rattle.ts_io.specs.MemSource.{Supplies};
 
 use crate::schedules::{Schedule, count_call, count_fault};
-use crate::sources::{Got, Source};
+use crate::sources::{Got, Source, tells_end};
 use std::marker::Model;
 
 /// A source in memory. It tells its bytes, gives a bounded number at each call, and fails at the
@@ -14,6 +14,7 @@ use std::marker::Model;
 pub struct MemSource {
     bytes: Vec<u8>,
     at: usize,
+    ended: bool,
     schedule: Schedule,
 }
 
@@ -25,6 +26,7 @@ impl Model for MemSource {
 
     ghost view = { λ s. record {
       left = drop s.at s.bytes.items;
+      ended = s.ended;
       most = s.schedule.most;
       fails = s.schedule.fails.items;
       calls = s.schedule.calls;
@@ -39,11 +41,12 @@ impl MemSource {
     /// in `fails` fail.
     pub fn new(bytes: Vec<u8>, most: usize, fails: Vec<u64>) -> MemSource
         requires { 0 < most }
-        ensures made { result ≡ record { left = bytes.items; most = most; fails = fails.items; calls = 0; faults = 0 } }
+        ensures made { result ≡ record { left = bytes.items; ended = false; most = most; fails = fails.items; calls = 0; faults = 0 } }
     {
         MemSource {
             bytes,
             at: 0,
+            ended: false,
             schedule: Schedule {
                 most,
                 fails,
@@ -51,6 +54,17 @@ impl MemSource {
                 faults: 0,
             },
         }
+    }
+
+    /// Gives as much as may be from the front of the bytes left.
+    fn give(&mut self, into: &mut [u8]) -> usize
+        ensures count { result ≡ min self.old.most (min (length into.old) (length self.old.left)) }
+        ensures copied { take result into.new ≡ take result self.old.left }
+        ensures given { self.new ≡ record self.old { left = drop result self.old.left } }
+    {
+        let n = copy_front(&self.bytes[self.at..], into, self.schedule.most);
+        self.at += n;
+        n
     }
 }
 
@@ -67,6 +81,8 @@ fn copy_front(from: &[u8], into: &mut [u8], most: usize) -> usize
 impl Source for MemSource {
     ghost left = { λ s. Some s.left };
 
+    ghost ended = { λ s. s.ended };
+
     ghost faults = { λ s. s.faults };
 
     fn faults(&self) -> u64 {
@@ -74,17 +90,18 @@ impl Source for MemSource {
     }
 
     fn read(&mut self, into: &mut [u8]) -> Got
+        requires untold { self.old.ended ≡ false }
         ensures bytes { Gives (Some self.old.left) (Some self.new.left) result into.new }
-        ensures never_falls { self.old.faults ≤ self.new.faults }
-        ensures cause { IfFailed result (Rose self.old.faults self.new.faults) }
+        ensures ended { self.new.ended ≡ told_end result into.new }
+        ensures counted { Counted self.old.faults self.new.faults (is_failed result) }
         ensures exact { Supplies self.old (length into.old) result self.new }
     {
         if count_call(&mut self.schedule) {
             count_fault(&mut self.schedule);
             return Got::Failed;
         }
-        let n = copy_front(&self.bytes[self.at..], into, self.schedule.most);
-        self.at += n;
+        let n = self.give(into);
+        self.ended = tells_end(Got::Bytes(n), into);
         Got::Bytes(n)
     }
 }

@@ -1,7 +1,7 @@
 //! One read of a piece into room that is there.
-ghost use Rattle.std.specs.Prelude.{◌≡◌, ◌+◌, ◌<◌, ◌≤◌, ◌++◌, length, vec_len, vec_capacity};
-ghost use Rattle.ts_schema.specs.Faults.{Rose};
-ghost use Rattle.ts_io.specs.Source.{Fills, IfFailed};
+ghost use Rattle.std.specs.Prelude.{◌≡◌, false, ◌+◌, ◌<◌, ◌≤◌, ◌++◌, length, vec_len, vec_capacity};
+ghost use Rattle.ts_io.specs.Faults.{Counted};
+ghost use Rattle.ts_io.specs.Source.{Fills, is_end, is_failed};
 
 use crate::sources::{Got, Source};
 
@@ -11,14 +11,15 @@ pub const PIECE: usize = 65_536;
 /// Reads at most `most` bytes once, by way of `piece`, and appends what was given to `out`, which has
 /// the room.
 pub fn read_into<S: Source>(source: &mut S, piece: &mut [u8], most: usize, out: &mut Vec<u8>) -> Got
+    requires untold { S.ended source.old ≡ false }
     requires asks { 0 < most }
     requires fits { most ≤ length piece.old }
     requires room { vec_len out.old + most ≤ vec_capacity out.old }
     ensures filled { Fills (S.left source.old) (S.left source.new) result out.old.items out.new.items }
     ensures within { length out.new.items ≤ length out.old.items + most }
     ensures capacity { vec_capacity out.old ≤ vec_capacity out.new }
-    ensures never_falls { S.faults source.old ≤ S.faults source.new }
-    ensures cause { IfFailed result (Rose (S.faults source.old) (S.faults source.new)) }
+    ensures ended { S.ended source.new ≡ is_end result }
+    ensures counted { Counted (S.faults source.old) (S.faults source.new) (is_failed result) }
 {
     let front = &mut piece[..most];
     let got = source.read(front);

@@ -1,7 +1,7 @@
 //! Where bytes go.
-ghost use Rattle.std.specs.Prelude.{◌≡◌, ℕ, ◌≤◌, List, Option};
-ghost use Rattle.ts_schema.specs.Faults.{Rose};
-ghost use Rattle.ts_io.specs.Sink.{Takes, IfFailed};
+ghost use Rattle.std.specs.Prelude.{◌≡◌, ℕ, List, Option};
+ghost use Rattle.ts_io.specs.Faults.{Counted};
+ghost use Rattle.ts_io.specs.Sink.{Takes, is_failed};
 
 /// What a write took.
 #[derive(Clone, Copy, Debug, PartialEq, Eq)]
@@ -27,6 +27,5 @@ pub trait Sink {
     /// Writes the front of `piece`, as much of it as the sink likes.
     fn write(&mut self, piece: &[u8]) -> Put
         ensures bytes { Takes (written self.old) (written self.new) result piece.now }
-        ensures never_falls { faults self.old ≤ faults self.new }
-        ensures cause { IfFailed result (Rose (faults self.old) (faults self.new)) };
+        ensures counted { Counted (faults self.old) (faults self.new) (is_failed result) };
 }

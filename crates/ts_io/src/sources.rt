@@ -1,7 +1,7 @@
 //! Where bytes come from.
-ghost use Rattle.std.specs.Prelude.{◌≡◌, ℕ, ◌≤◌, List, Option};
-ghost use Rattle.ts_schema.specs.Faults.{Rose};
-ghost use Rattle.ts_io.specs.Source.{Gives, IfFailed};
+ghost use Rattle.std.specs.Prelude.{◌≡◌, ℕ, Bool, false, List, Option};
+ghost use Rattle.ts_io.specs.Faults.{Counted};
+ghost use Rattle.ts_io.specs.Source.{Gives, is_failed, told_end};
 
 /// What a read gave.
 #[derive(Clone, Copy, Debug, PartialEq, Eq)]
@@ -13,10 +13,23 @@ pub enum Got {
     Failed,
 }
 
+/// Whether what a read gave tells the end: no byte, though there was room.
+pub(crate) fn tells_end(got: Got, into: &[u8]) -> bool
+    ensures { result ≡ told_end got into.now }
+{
+    match got {
+        Got::Bytes(n) => n == 0 && !into.is_empty(),
+        Got::Failed => false,
+    }
+}
+
 /// Gives bytes in order, and counts its faults.
 pub trait Source {
     /// The bytes that are left, where they are told.
     ghost left: { Self → Option (List ℕ) };
+
+    /// Whether it has told its end.
+    ghost ended: { Self → Bool };
 
     /// How many calls have failed.
     ghost faults: { Self → ℕ };
@@ -25,9 +38,11 @@ pub trait Source {
     fn faults(&self) -> u64
         ensures { result ≡ faults self.now };
 
-    /// Reads the next bytes into the front of `into`, as many as the source likes.
+    /// Reads the next bytes into the front of `into`, as many as the source likes. A source that has
+    /// told its end is asked no more.
     fn read(&mut self, into: &mut [u8]) -> Got
+        requires untold { ended self.old ≡ false }
         ensures bytes { Gives (left self.old) (left self.new) result into.new }
-        ensures never_falls { faults self.old ≤ faults self.new }
-        ensures cause { IfFailed result (Rose (faults self.old) (faults self.new)) };
+        ensures ended { ended self.new ≡ told_end result into.new }
+        ensures counted { Counted (faults self.old) (faults self.new) (is_failed result) };
 }

@@ -1,80 +1,110 @@
-//! Standard input and standard output as a source and a sink.
-ghost use Rattle.std.specs.Prelude.{◌≡◌, ◌<◌, ◌≤◌, None, length, OnOk, IfOk, IfSome};
+//! Readers and writers of std, as standard input and standard output are, as a source and a sink.
+ghost use Rattle.std.specs.Prelude.{◌≡◌, ◌≢◌, ◌<◌, ◌≤◌, false, length, take, IfErr, IfOk, OnErr};
+ghost use Rattle.std.specs.Bool.{OnFalse};
 ghost use Rattle.std.specs.Io.{ReadsAtMost, WritesAtMost};
-ghost use Rattle.ts_schema.specs.Counts.{one_more};
+ghost use Rattle.std.specs.Io.KnownBytes.{Appends, Consumes, IsAtEnd, Keeps};
+ghost use Rattle.std.specs.IoError.{error_kind};
+ghost use Rattle.ts_io.specs.Standard.{got_of, put_of};
 
 use crate::sinks::{Put, Sink};
-use crate::sources::{Got, Source};
-use std::io::{ErrorKind, Read, Write};
+use crate::sources::{Got, Source, tells_end};
+use std::io::{self, ErrorKind, Read, Write};
 use std::marker::Model;
 
 /// How often a call that a signal interrupts is made again before it counts as failed.
 const TRIES: u32 = 1_000;
 
-/// A reader of std, as standard input is, with a count of its errors. It tells no content. Contracts
-/// see it as the count.
+/// A reader of std, as standard input is, with a count of its errors. It tells the bytes that the
+/// reader tells, and no more.
 #[derive(Drop)]
 pub struct StdinSource<R> {
     reader: R,
+    ended: bool,
     faults: u64,
 }
 
 impl<R> Model for StdinSource<R> {
-    ghost use Rattle.std.specs.Prelude.{ℕ};
+    ghost use Rattle.ts_io.specs.Standard.{Input};
 
-    ghost Value = { ℕ };
+    ghost Value = { Input R };
 
-    ghost view = { λ s. s.faults };
+    ghost view = { λ s. record { reader = s.reader; ended = s.ended; faults = s.faults } };
 }
 
 impl<R: Read> StdinSource<R> {
     /// A source that reads from this reader.
     pub fn new(reader: R) -> StdinSource<R>
-        ensures no_fault { result ≡ 0 }
+        ensures made { result ≡ record { reader = reader; ended = false; faults = 0 } }
     {
-        StdinSource { reader, faults: 0 }
+        StdinSource {
+            reader,
+            ended: false,
+            faults: 0,
+        }
     }
 }
 
 impl<R: Read> Source for StdinSource<R> {
-    ghost left = { λ _. None };
+    ghost left = { λ s. R.remaining s.reader };
 
-    ghost faults = { λ s. s };
+    ghost ended = { λ s. s.ended };
+
+    ghost faults = { λ s. s.faults };
 
     fn faults(&self) -> u64 {
         self.faults
     }
 
     fn read(&mut self, into: &mut [u8]) -> Got {
-        match read_once(&mut self.reader, into) {
-            Some(n) => Got::Bytes(n),
-            None => {
-                self.faults = self.faults.saturating_add(1);
-                Got::Failed
-            }
+        let got = got(read_retrying(&mut self.reader, into));
+        self.ended = tells_end(got, into);
+        if let Got::Failed = got {
+            self.faults = self.faults.saturating_add(1);
         }
+        got
     }
 }
 
-/// One read, made again where a signal interrupts it, or nothing where it fails.
-fn read_once<R: Read>(reader: &mut R, into: &mut [u8]) -> Option<usize>
-    ensures { IfSome result (λ n. n ≤ length into.old) }
+/// What a read of std gave: as many bytes as it says, or nothing where it erred.
+fn got(read: io::Result<usize>) -> Got
+    ensures { result ≡ got_of read }
+{
+    match read {
+        Ok(n) => Got::Bytes(n),
+        Err(_) => Got::Failed,
+    }
+}
+
+/// Whether a signal interrupted the call that erred so.
+fn is_interrupted(error: &io::Error) -> bool
+    ensures { OnFalse result (error_kind error.now ≢ ErrorKind.Interrupted) }
+{
+    error.kind() == ErrorKind::Interrupted
+}
+
+/// One read, made again where a signal interrupts it.
+fn read_retrying<R: Read>(reader: &mut R, into: &mut [u8]) -> io::Result<usize>
+    ensures bound { ReadsAtMost result into.new }
+    ensures taken { IfOk result (λ n. Consumes (R.remaining reader.old) (R.remaining reader.new) (take n into.new)) }
+    ensures end { IfOk result (λ n. n ≡ 0 → 0 < length into.new → IsAtEnd (R.remaining reader.new)) }
+    ensures kept { OnErr result (Keeps (R.remaining reader.old) (R.remaining reader.new)) }
+    ensures retried { IfErr result (λ e. error_kind e ≢ ErrorKind.Interrupted) }
 {
     for _ in 0..TRIES {
         match reader.read(into) {
-            Ok(n) => return Some(n),
+            Ok(n) => return Ok(n),
             Err(e) => {
-                if e.kind() != ErrorKind::Interrupted {
-                    return None;
+                if !is_interrupted(&e) {
+                    return Err(e);
                 }
             }
         }
     }
-    None
+    Err(io::Error::from(ErrorKind::TimedOut))
 }
 
-/// A writer of std, as standard output is, with a count of its errors. It tells no content. Contracts
-/// see it as the count.
+/// A writer of std, as standard output is, with a count of its errors. It tells the bytes that the
+/// writer tells, and no more.
 #[derive(Drop)]
 pub struct StdoutSink<W> {
     writer: W,
@@ -82,26 +112,26 @@ pub struct StdoutSink<W> {
 }
 
 impl<W> Model for StdoutSink<W> {
-    ghost use Rattle.std.specs.Prelude.{ℕ};
+    ghost use Rattle.ts_io.specs.Standard.{Output};
 
-    ghost Value = { ℕ };
+    ghost Value = { Output W };
 
-    ghost view = { λ s. s.faults };
+    ghost view = { λ s. record { writer = s.writer; faults = s.faults } };
 }
 
 impl<W: Write> StdoutSink<W> {
     /// A sink that writes to this writer, which must hold no bytes back.
     pub fn new(writer: W) -> StdoutSink<W>
-        ensures no_fault { result ≡ 0 }
+        ensures made { result ≡ record { writer = writer; faults = 0 } }
     {
         StdoutSink { writer, faults: 0 }
     }
 }
 
 impl<W: Write> Sink for StdoutSink<W> {
-    ghost written = { λ _. None };
+    ghost written = { λ s. W.contents s.writer };
 
-    ghost faults = { λ s. s };
+    ghost faults = { λ s. s.faults };
 
     fn faults(&self) -> u64 {
         self.faults
@@ -109,31 +139,42 @@ impl<W: Write> Sink for StdoutSink<W> {
 
     /// A write that takes nothing of a piece that isn't empty is counted as failed.
     fn write(&mut self, piece: &[u8]) -> Put {
-        match write_once(&mut self.writer, piece) {
-            Some(n) => Put::Bytes(n),
-            None => {
-                self.faults = self.faults.saturating_add(1);
-                Put::Failed
-            }
+        let put = put(write_retrying(&mut self.writer, piece), piece);
+        if let Put::Failed = put {
+            self.faults = self.faults.saturating_add(1);
         }
+        put
     }
 }
 
-/// One write, made again where a signal interrupts it, or nothing where it fails or takes nothing.
-fn write_once<W: Write>(writer: &mut W, piece: &[u8]) -> Option<usize>
-    ensures within { IfSome result (λ n. n ≤ length piece.now) }
-    ensures moves { IfSome result (λ n. 0 < length piece.now → 0 < n) }
+/// What a write of std took of a piece: as many bytes as it says, or nothing where it erred or took
+/// none of a piece that isn't empty.
+fn put(written: io::Result<usize>, piece: &[u8]) -> Put
+    ensures { result ≡ put_of written piece.now }
+{
+    match written {
+        Ok(0) if !piece.is_empty() => Put::Failed,
+        Ok(n) => Put::Bytes(n),
+        Err(_) => Put::Failed,
+    }
+}
+
+/// One write, made again where a signal interrupts it.
+fn write_retrying<W: Write>(writer: &mut W, piece: &[u8]) -> io::Result<usize>
+    ensures bound { WritesAtMost result piece.now }
+    ensures taken { IfOk result (λ n. Appends (W.contents writer.old) (W.contents writer.new) (take n piece.now)) }
+    ensures kept { OnErr result (Keeps (W.contents writer.old) (W.contents writer.new)) }
+    ensures retried { IfErr result (λ e. error_kind e ≢ ErrorKind.Interrupted) }
 {
     for _ in 0..TRIES {
         match writer.write(piece) {
-            Ok(0) if !piece.is_empty() => return None,
-            Ok(n) => return Some(n),
+            Ok(n) => return Ok(n),
             Err(e) => {
-                if e.kind() != ErrorKind::Interrupted {
-                    return None;
+                if !is_interrupted(&e) {
+                    return Err(e);
                 }
             }
         }
     }
-    None
+    Err(io::Error::from(ErrorKind::TimedOut))
 }

@@ -1,3 +1,5 @@
+ghost use Rattle.std.specs.Prelude.{◌≡◌, []};
+
 mod lines;
 
 use super::*;
@@ -134,4 +136,20 @@ fn standard_output_counts_its_errors_and_empty_writes(rt: HostRuntime) {
     let more = write_whole(&mut sink, b"d");
     assert_eq!(rt; more, Err(WriteFault));
     assert_eq!(rt; sink.faults(), 1);
+}
+
+/// Reads these bytes through the adapter for readers of std.
+fn read_through(text: &[u8], out: &mut Vec<u8>) -> AllEnd
+    requires empty { out.old.items ≡ [] }
+    ensures all { result ≡ AllEnd.End → out.new.items ≡ text.now }
+{
+    read_all(&mut StdinSource::new(text), out)
+}
+
+#[test]
+fn a_reader_in_memory_is_read_whole(rt: HostRuntime) {
+    let mut out = Vec::new(rt.alloc());
+    let end = read_through(TEXT, &mut out);
+    assert_eq!(rt; end, AllEnd::End);
+    assert_eq!(rt; out.as_slice(), TEXT);
 }

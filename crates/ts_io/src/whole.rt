@@ -1,15 +1,13 @@
 //! A whole input read, and a whole text written.
-ghost use Rattle.std.specs.Prelude.{◌≡◌, ◌+◌, ◌<◌, ◌≤◌, [], ◌++◌, length, vec_len, vec_capacity, OnOk, OnErr};
+ghost use Rattle.std.specs.Prelude.{◌≡◌, ◌≤◌, false, [], length, OnOk, OnErr, is_err};
 ghost use Rattle.std.specs.Io.KnownBytes.{Appends};
-ghost use Rattle.ts_schema.specs.Faults.{Rose};
-ghost use Rattle.ts_io.specs.Whole.{AppendsPart, ReadsAll, IfReadFault};
+ghost use Rattle.ts_io.specs.Faults.{Counted};
+ghost use Rattle.ts_io.specs.Whole.{AppendsPart, ReadsAll, is_read_fault};
 
+use crate::limits::INPUT_LIMIT;
 use crate::pieces::{PIECE, read_into};
 use crate::sinks::{Put, Sink};
 use crate::sources::{Got, Source};
-
-/// How many bytes an input may have.
-pub const INPUT_LIMIT: usize = 67_108_864;
 
 /// A write failed, and the sink's count of faults rose.
 #[derive(Clone, Copy, Debug, PartialEq, Eq)]
@@ -19,8 +17,7 @@ pub struct WriteFault;
 pub fn write_whole<K: Sink>(sink: &mut K, bytes: &[u8]) -> Result<(), WriteFault>
     ensures all { OnOk result (Appends (K.written sink.old) (K.written sink.new) bytes.now) }
     ensures part { OnErr result (AppendsPart (K.written sink.old) (K.written sink.new) bytes.now) }
-    ensures never_falls { K.faults sink.old ≤ K.faults sink.new }
-    ensures cause { OnErr result (Rose (K.faults sink.old) (K.faults sink.new)) }
+    ensures counted { Counted (K.faults sink.old) (K.faults sink.new) (is_err result) }
 {
     let mut rest = bytes;
     while !rest.is_empty() {
@@ -46,13 +43,13 @@ pub enum AllEnd {
 }
 
 /// Reads a whole input into `out`, which is empty: all of it, or its first 67,108,864 bytes where it
-/// is longer. After a fault or for want of memory `out` holds all that was given before.
+/// is longer. A source that has told its end is asked no more. After a fault or for want of memory `out` holds all that was given before.
 pub fn read_all<S: Source>(source: &mut S, out: &mut Vec<u8>) -> AllEnd
-    requires { out.old.items ≡ [] }
+    requires untold { S.ended source.old ≡ false }
+    requires empty { out.old.items ≡ [] }
     ensures read { ReadsAll result (S.left source.old) (S.left source.new) out.new.items }
     ensures within { length out.new.items ≤ INPUT_LIMIT }
-    ensures never_falls { S.faults source.old ≤ S.faults source.new }
-    ensures cause { IfReadFault result (Rose (S.faults source.old) (S.faults source.new)) }
+    ensures counted { Counted (S.faults source.old) (S.faults source.new) (is_read_fault result) }
 {
     let mut piece = [0; PIECE];
     while out.len() <= INPUT_LIMIT {

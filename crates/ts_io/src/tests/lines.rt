@@ -1,13 +1,31 @@
-ghost use Rattle.std.specs.Prelude.{◌≡◌, true};
+ghost use Rattle.std.specs.Prelude.{◌≡◌, ◌<◌, true, Some, IfOk};
+ghost use Rattle.ts_io.specs.Reader.{Follows};
 
 use crate::{LINE_LIMIT, LineEnd, Lines, MemSource};
+use std::alloc::Global;
 use std::process::Abort;
 use std::test::Fail;
 
+/// A source of this text and a reader of its lines.
+fn start(
+    alloc: Global,
+    text: Vec<u8>,
+    most: usize,
+    fails: Vec<u64>,
+) -> Result<(MemSource, Lines), Fail>
+    requires { 0 < most }
+    ensures is_open { IfOk result (λ both. both.1.is_open ≡ true) }
+    ensures follows { IfOk result (λ both. Follows both.1 both.0.ended (Some both.0.left)) }
+{
+    Ok((MemSource::new(text, most, fails), Lines::new(alloc)?))
+}
+
 /// Takes the next line, which must be this one.
 fn takes(rt: &impl Abort, lines: &mut Lines, source: &mut MemSource, want: &[u8])
-    requires { lines.old.is_open ≡ true }
-    ensures { lines.new.is_open ≡ true }
+    requires is_open { lines.old.is_open ≡ true }
+    requires follows { Follows lines.old source.old.ended (Some source.old.left) }
+    ensures is_open { lines.new.is_open ≡ true }
+    ensures follows { Follows lines.new source.new.ended (Some source.new.left) }
 {
     let end = lines.next(source);
     assert_eq!(rt; end, LineEnd::Line);
@@ -16,8 +34,10 @@ fn takes(rt: &impl Abort, lines: &mut Lines, source: &mut MemSource, want: &[u8]
 
 /// Takes the next lines, which must be this one so many times.
 fn takes_times(rt: &impl Abort, lines: &mut Lines, source: &mut MemSource, want: &[u8], times: u32)
-    requires { lines.old.is_open ≡ true }
-    ensures { lines.new.is_open ≡ true }
+    requires is_open { lines.old.is_open ≡ true }
+    requires follows { Follows lines.old source.old.ended (Some source.old.left) }
+    ensures is_open { lines.new.is_open ≡ true }
+    ensures follows { Follows lines.new source.new.ended (Some source.new.left) }
 {
     for _ in 0..times {
         takes(rt, lines, source, want);
@@ -28,8 +48,8 @@ fn takes_times(rt: &impl Abort, lines: &mut Lines, source: &mut MemSource, want:
 fn lines_are_the_same_however_the_source_cuts_them(rt: HostRuntime) -> Result<(), Fail> {
     for most in 1..8 {
         let none = Vec::new(rt.alloc());
-        let mut source = MemSource::new(super::TEXT.to_vec(rt.alloc())?, most, none);
-        let mut lines = Lines::new(rt.alloc())?;
+        let text = super::TEXT.to_vec(rt.alloc())?;
+        let (mut source, mut lines) = start(rt.alloc(), text, most, none)?;
         takes(&rt, &mut lines, &mut source, b"a: first");
         takes(&rt, &mut lines, &mut source, b"second");
         takes(&rt, &mut lines, &mut source, b"");
@@ -55,8 +75,7 @@ fn a_line_may_have_65536_bytes(rt: HostRuntime) -> Result<(), Fail> {
         text.extend_from_slice(vec![in rt.alloc(); b'y'; len]?.as_slice())?;
         for most in [997, 65_536, usize::MAX] {
             let none = Vec::new(rt.alloc());
-            let mut source = MemSource::new(text.clone()?, most, none);
-            let mut lines = Lines::new(rt.alloc())?;
+            let (mut source, mut lines) = start(rt.alloc(), text.clone()?, most, none)?;
             let first = lines.next(&mut source);
             assert_eq!(rt; first, want, "{len} bytes, at most {most} a call");
             if first == LineEnd::Line {
@@ -86,8 +105,8 @@ fn an_input_may_have_67108864_bytes_of_lines(rt: HostRuntime) -> Result<(), Fail
             text.push(b'\n')?;
         }
         text.extend_from_slice(more)?;
-        let mut source = MemSource::new(text, usize::MAX, Vec::new(rt.alloc()));
-        let mut lines = Lines::new(rt.alloc())?;
+        let none = Vec::new(rt.alloc());
+        let (mut source, mut lines) = start(rt.alloc(), text, usize::MAX, none)?;
         takes_times(&rt, &mut lines, &mut source, line.as_slice(), 1_024);
         let end = lines.next(&mut source);
         assert_eq!(rt; end, want);
@@ -102,8 +121,8 @@ fn a_last_line_that_ends_with_the_input_lies_within_the_limit(rt: HostRuntime) -
         (67_108_865, LineEnd::InputLong),
     ] {
         let text = vec![in rt.alloc(); b'x'; len]?;
-        let mut source = MemSource::new(text, usize::MAX, Vec::new(rt.alloc()));
-        let mut lines = Lines::new(rt.alloc())?;
+        let none = Vec::new(rt.alloc());
+        let (mut source, mut lines) = start(rt.alloc(), text, usize::MAX, none)?;
         let end = lines.next(&mut source);
         assert_eq!(rt; end, want, "{len} bytes");
     }
@@ -113,8 +132,8 @@ fn a_last_line_that_ends_with_the_input_lies_within_the_limit(rt: HostRuntime) -
 #[test]
 fn lines_that_are_held_are_given_before_a_fault(rt: HostRuntime) -> Result<(), Fail> {
     let fails = [2].to_vec(rt.alloc())?;
-    let mut source = MemSource::new(super::TEXT.to_vec(rt.alloc())?, usize::MAX, fails);
-    let mut lines = Lines::new(rt.alloc())?;
+    let text = super::TEXT.to_vec(rt.alloc())?;
+    let (mut source, mut lines) = start(rt.alloc(), text, usize::MAX, fails)?;
     takes(&rt, &mut lines, &mut source, b"a: first");
     takes(&rt, &mut lines, &mut source, b"second");
     takes(&rt, &mut lines, &mut source, b"");

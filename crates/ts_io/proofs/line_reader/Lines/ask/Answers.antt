@@ -1,5 +1,5 @@
 -- What is read has room, and goes one byte beyond the limit at most.
-use Rattle.std.proofs.Common.{ℕ, length, ap, arith, rules, length-take, length-drop}
+use Rattle.std.proofs.Common.{ℕ, length, ap, sym, ◌∙◌, true≢false, arith, rules, length-take, length-drop}
 use Rattle.ts_io.specs.Reader.{Reading}
 use Rattle.ts_io.proofs.line_reader.Lines.ask.Goals as goal
 
@@ -15,4 +15,5 @@ invariant_of-self g c =
       search rules,
       omega (arith, c.read_into.ensures.within, packed, held, length-take {A = ℕ}, length-drop {A = ℕ}),
       omega (arith, c.read_into.ensures.capacity, c.drop_front.ensures.capacity, c.self.invariant),
+      (λ told. absurd (true≢false (sym told ∙ ap (λ (reading : Reading). reading.at_end) c.self.view_is ∙ c.requires.more))),
     )

@@ -11,4 +11,4 @@ returns-clause-line c start left end same =
     let empty : c.advance.new.self.held ≡ [] = c.advance.ensures.held ∙ drop_all _ was.held (omega arith) in
     let whole : c.advance.new.self.line ≡ was.held = c.advance.ensures.line ∙ take_all _ was.held (omega arith) in
     let some : 0 < length was.held = omega (arith, c.if-last-eq0.false) in
-    rw (empty, whole) (last_given start left was.held was.allowed c.advance.new.self.allowed same end c.requires.none some c.requires.allowed c.requires.short)
+    rw (c.note_end.ensures.noted, empty, whole) (last_given start left was.held was.allowed c.advance.new.self.allowed same end c.requires.none some c.requires.allowed c.requires.short)

@@ -1,13 +1,8 @@
 -- What is read follows what was held, so the text to come stays.
-use Rattle.std.proofs.Common.{[], sym, ◌∙◌, arith}
-use Rattle.ts_io.proofs.Following.{gone_same, never_failed, same_filled}
+use Rattle.std.proofs.Common.{[], sym, ◌∙◌}
+use Rattle.std.proofs.lemmas.Bool.{ne_eqb}
+use Rattle.ts_io.proofs.Following.{gone_same, same_filled}
 use Rattle.ts_io.proofs.line_reader.Lines.read_line.Goals as goal
-
-pub returns-in-Bytes-eq0-clause-cause : goal.returns-in-Bytes-eq0-clause-cause
-returns-in-Bytes-eq0-clause-cause g c = never_failed c.give_last.result _ c.give_last.ensures.not_failed
-
-pub returns-in-Some-clause-cause : goal.returns-in-Some-clause-cause
-returns-in-Some-clause-cause g c = never_failed c.give.result _ c.give.ensures.not_failed
 
 pub returns-in-Some-clause-line : goal.returns-in-Some-clause-line
 returns-in-Some-clause-line g c =
@@ -25,5 +20,7 @@ loop-self-preserved g c =
       none = c.in-None.ensures.end;
       allowed = c.ask.ensures.allowed ∙ c.loop-self.invariant.allowed;
       is_open = c.ask.ensures.is_open ∙ c.loop-self.invariant.is_open;
-      no_fall = omega (arith, c.in-Bytes.ensures.never_falls);
+      untold = c.in-Bytes.ensures.ended ∙ ne_eqb c.in-Bytes.field-0 0 c.in-Bytes.field-0-test.1;
+      more = c.ask.ensures.at_end;
+      counted = c.in-Bytes.ensures.counted ∙ c.loop-self.invariant.counted;
     }

@@ -1,5 +1,5 @@
 -- The text to come stays, and no line ends among the bytes held.
-use Rattle.std.proofs.Common.{◌≡◌, ◌-◌, ◌≤◌, true, [], length, take}
+use Rattle.std.proofs.Common.{◌≡◌, ◌-◌, true, false, [], length, take}
 use Rattle.std.specs.Io.KnownBytes.{Consumes, prepend_known}
 use Rattle.ts_io.specs.Lines.{ended_lines}
 use Rattle.ts_io.specs.declared.line_reader.TheConstants.{HELD_LIMIT}
@@ -11,7 +11,9 @@ invariant-loop-self g l = record {
   none : ended_lines (take l.self.allowed l.self.held) ≡ [];
   allowed : l.self.allowed ≡ l.initial.self.allowed;
   is_open : l.self.is_open ≡ true;
-  no_fall : g.S.Source.faults l.initial.source ≤ g.S.Source.faults l.source;
+  untold : g.S.Source.ended l.source ≡ false;
+  more : l.self.at_end ≡ false;
+  counted : g.S.Source.faults l.source ≡ g.S.Source.faults l.initial.source;
 }
 
 abbrev pub decreases-loop-self : goal.decreases-loop-self

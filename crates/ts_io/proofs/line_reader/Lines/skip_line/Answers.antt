@@ -1,6 +1,7 @@
 -- Each piece is looked at and dropped until the line ends.
 use Rattle.std.proofs.Common.{◌≡◌, ◌≤◌, [], length, ap, ◌∙◌, arith, rules}
 use Rattle.std.proofs.lemmas.List.{nil_from_length, drop_all}
+use Rattle.std.proofs.lemmas.Bool.{ne_eqb}
 use Rattle.ts_io.proofs.LineEnds.{IsFirstEnd-front}
 use Rattle.ts_io.proofs.Skipping.{Skips-step, Skips-ends, Skips-last, Skips-over}
 use Rattle.ts_io.proofs.line_reader.Lines.skip_line.Goals as goal
@@ -17,7 +18,16 @@ returns-in-Bytes-eq0-clause-line g c =
     filled.0 filled.1 in
     let dropped : length c.advance.new.self.held ≡ 0 = ap length (c.advance.ensures.held ∙ drop_all _ was.held (omega arith)) in
     let empty : c.ask.new.self.held ≡ [] = nil_from_length c.ask.new.self.held (omega (arith, filled.2)) in
-    Skips-last _ (g.S.Source.left c.ask.new.source) c.ask.new.self.held _ _ c.ask.new.self.allowed step empty (filled.3 c.in-Bytes-eq0.field-0-test)
+    rw c.note_end.ensures.noted
+    (Skips-last _ (g.S.Source.left c.ask.new.source) c.ask.new.self.held _ _ c.ask.new.self.allowed step empty (filled.3 c.in-Bytes-eq0.field-0-test))
+
+pub note_end-requires : goal.note_end-requires
+note_end-requires g c =
+    let was = c.loop-self.self in
+    let filled = c.in-Bytes-eq0.ensures.filled in
+    let size : length c.held-skipped.result.now ≡ length was.held = ap length c.held-skipped.ensures in
+    let dropped : length c.advance.new.self.held ≡ 0 = ap length (c.advance.ensures.held ∙ drop_all _ was.held (omega arith)) in
+    omega (arith, filled.2)
 
 pub returns-in-Some-clause-line : goal.returns-in-Some-clause-line
 returns-in-Some-clause-line g c =
@@ -46,7 +56,9 @@ loop-self-preserved g c =
       none = c.in-None.ensures.end;
       some = omega (arith, filled.2);
       is_open = c.ask.ensures.is_open ∙ c.advance.ensures.is_open ∙ c.loop-self.invariant.is_open;
-      no_fall = omega (arith, c.in-Bytes.ensures.never_falls);
+      untold = c.in-Bytes.ensures.ended ∙ ne_eqb c.in-Bytes.field-0 0 c.in-Bytes.field-0-test.1;
+      more = c.ask.ensures.at_end;
+      counted = c.in-Bytes.ensures.counted ∙ c.loop-self.invariant.counted;
     }
 
 pub returns-clause-line : goal.returns-clause-line

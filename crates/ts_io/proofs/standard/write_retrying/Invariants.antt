@@ -1,0 +1,6 @@
+-- Calls that were interrupted moved nothing.
+use Rattle.std.specs.Io.KnownBytes.{Keeps}
+use Rattle.ts_io.proofs.standard.write_retrying.Given as goal
+
+abbrev pub invariant-loop : goal.invariant-loop
+invariant-loop g l = Keeps (g.W.Write.contents l.initial.writer) (g.W.Write.contents l.writer)
