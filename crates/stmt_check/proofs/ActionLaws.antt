@@ -1,8 +1,9 @@
 -- What a statement asks for that isn't refused at an allowed history can be done there.
-use Rattle.std.proofs.Common.{◌≡◌, ◌∙◌, refl, sym, subst, ap, ℕ, suc, ◌+◌, ◌*◌, ◌<◌, ◌≤◌, Bool, true, false, not, ◌&&◌, List, [], ◌∷◌, map, length, get_or, Option, Some, None, is_some, is_none, arith, ℤ, pos}
+use Rattle.std.proofs.Common.{◌≡◌, ◌∙◌, refl, sym, subst, ap, ℕ, suc, ◌+◌, ◌*◌, ◌<◌, ◌≤◌, Bool, true, false, not, ◌&&◌, List, [], ◌∷◌, map, length, get_or, Option, Some, None, is_some, is_none, arith, ℤ, pos, negsuc, ◌-ℤ◌, ◌≤ℤ◌, ◌<ℤ◌, ◌-◌, ◌^◌}
 use Rattle.std.specs.Prelude.{nat_lt, nat_le, unwrap_or, slice_get, sum_by, int_lt, int_le, IsTrue, option_and_then}
+use Rattle.std.specs.Int.{int_rem_euclid}
 use Rattle.std.specs.Option.{ForSome}
-use Rattle.std.specs.List.{AllByRecursion, list_all}
+use Rattle.std.specs.List.{list_all}
 use Rattle.std.proofs.lemmas.Bool.{and_parts, and_from, lt-ltb, ltb-true, leb-true, le-leb, leb-false, eq-eqb}
 use Rattle.std.proofs.lemmas.Int.{ints}
 use Rattle.std.proofs.lemmas.List.{length-map, length-append}
@@ -10,7 +11,12 @@ use Rattle.std.proofs.lemmas.List.Sums.{sum_by-cons, sum_by-append}
 use Rattle.std.proofs.lemmas.Option.{get_or_from_slice_get}
 use Rattle.ts_num.specs.declared.values.Fun.{Fun}
 use Rattle.ts_num.specs.declared.values.Fun.TheVariants as fun
-use Rattle.ts_bucket.specs.Bucket.{is_time}
+use Rattle.ts_bucket.specs.Bucket.{IsWidth, is_time, max_step, max_time, min_time, is_width}
+use Rattle.ts_bucket.specs.Chunks.{chunk_start}
+use Rattle.ts_bucket.proofs.Remainders.{remainder_bounds}
+use Rattle.ts_model.proofs.FitLaws.{fold_columns}
+use Rattle.ts_schema.specs.Names.{is_name}
+use Rattle.stmt_reader.specs.Proper.{IsProperFold, AreProperRows}
 use Rattle.ts_schema.specs.declared.columns.Column.{Column}
 use Rattle.ts_model.specs.declared.events.Event.{Event}
 use Rattle.ts_model.specs.declared.events.Event.TheVariants as events
@@ -25,12 +31,17 @@ use Rattle.ts_model.specs.declared.tables.TableInfo.{TableInfo}
 use Rattle.ts_model.specs.declared.views.ViewDef.{ViewDef}
 use Rattle.ts_model.specs.History.{History}
 use Rattle.ts_model.specs.Roster.{roster, table_of, hyper_of, is_taken}
-use Rattle.ts_model.specs.Allowed.{all_apart, can_ask, columns_fit, event_bytes, fold_fits, hyper_fits, is_sound_in, name_bytes, of_hyper, of_table, op_bytes, op_fits, output_count, rows_fit, test_fits, timely, view_fits}
+use Rattle.ts_model.specs.Limits.{is_word}
+use Rattle.ts_model.specs.Sound.{all_apart, columns_fit, hyper_fits, sound_at, op_fits, output_count, rows_fit, test_fits, view_fits}
+use Rattle.ts_model.specs.Answers.{can_ask, columns_are_there}
+use Rattle.ts_model.specs.Bytes.{event_bytes, name_bytes, op_bytes}
+use Rattle.ts_model.specs.Roster.{of_hyper, of_table}
+use Rattle.ts_model.specs.Timely.{timely}
 use Rattle.ts_catalog.specs.Columns.{column_from}
 use Rattle.ts_catalog.specs.Relations.{found_in}
 use Rattle.ts_catalog.specs.declared.relations.Found.{Found}
 use Rattle.ts_catalog.specs.declared.relations.Found.TheVariants as found
-use Rattle.stmt_reader.specs.Written.{IsWholeFold, IsWholeTest, IsWritten, agg_size, alias_size, column_size, fold_size, name_size, row_size, size_of, test_size}
+use Rattle.stmt_reader.specs.Written.{IsWholeFold, IsWritten, agg_size, alias_size, column_size, fold_size, name_size, row_size, size_of, test_size}
 use Rattle.stmt_reader.specs.declared.statements.NamedAgg.{NamedAgg}
 use Rattle.stmt_reader.specs.declared.statements.NamedFold.{NamedFold}
 use Rattle.stmt_reader.specs.declared.statements.NamedTest.{NamedTest}
@@ -45,8 +56,8 @@ use Rattle.stmt_check.specs.Tables.{hyper_refusal, is_interval, table_refusal}
 use Rattle.stmt_check.specs.Sound.{MayCome, MayBeMade, IsOperation, IsWindow, IsSound, ActionsAreSound}
 use Rattle.stmt_check.proofs.PassedLaws.{neither, not_wrong, not_missing, has_to_be}
 use Rattle.stmt_check.proofs.FoundLaws.{Stands, IsHyper, RelationAt, relation_at, name_is_free}
-use Rattle.stmt_check.proofs.FoldLaws.{FoldIsSound, fold_is_sound, names_apart, place_is_there, tests_fit}
-use Rattle.stmt_check.proofs.RosterLaws.{HyperIsSound, RosterIsSound, TableIsSound, all_at, roster_is_sound}
+use Rattle.stmt_check.proofs.FoldLaws.{FoldIsSound, fold_is_sound, names_apart, outputs_are_names, place_is_there, tests_fit, tests_there}
+use Rattle.stmt_check.proofs.RosterLaws.{interval_is_in_range, HyperIsSound, RosterIsSound, TableIsSound, all_at, roster_is_sound}
 use Rattle.stmt_check.proofs.RowLaws.{IsHyperOf, rows_are_sound}
 use Rattle.stmt_check.proofs.TableLaws.{table_columns_fit}
 
@@ -97,12 +108,12 @@ columns_of : (cols : List Column) → columns_fit cols ≡ true → Columns cols
 columns_of cols e =
     let parts = and_parts (nat_lt 0 (length cols) && nat_le (length cols) 16) _ e in
     let counts = and_parts (nat_lt 0 (length cols)) _ parts.0 in
-    record { some = ltb-true _ _ counts.0; few = leb-true _ _ counts.1; apart = parts.1 }
+    record { some = ltb-true _ _ counts.0; few = leb-true _ _ counts.1; apart = (and_parts (list_all is_name (map (λ c. c.name) cols)) _ parts.1).1 }
 
 -- ---- events that may come
 
 -- an event that fits and is short
-may_come : (h : History) (e : Event) (n : ℕ) → is_sound_in h e ≡ true → event_bytes e ≤ n → n < 4294967296 → timely h e ≡ true → MayCome h e
+may_come : (h : History) (e : Event) (n : ℕ) → sound_at h e ≡ true → event_bytes e ≤ n → n < 4294967296 → timely h e ≡ true → MayCome h e
 may_come h e n fits short small time = record { is_sound = and_from _ _ fits (lt-ltb _ _ (omega arith)); is_timely = time }
 
 -- a name that isn't taken, where there is room for one more
@@ -136,7 +147,7 @@ table_action : (h : History) (p bytes : ℕ) (name : List ℕ) (cols : List Colu
 table_action h p bytes name cols w short e =
     let both = neither (name_refusal p (roster h) name (length (roster h).tables)) _ e in
     may_come h (events.Table (record { name = name; cols = cols })) 70000
-    (table_columns_fit p (length cols) cols w.whole both.1)
+    (and_from _ _ w.proper.0 (table_columns_fit p (length cols) cols w.whole w.proper.1 both.1))
     (omega (arith, columns_bytes cols, w.size)) (omega arith)
     (free_and_few p (roster h) name (length (roster h).tables) both.0)
 
@@ -245,15 +256,23 @@ names_counted f =
     let aggs : length (map aggregate_name f.aggs) ≡ length f.aggs = length-map f.aggs aggregate_name in
     omega arith
 
-view_is_sound : (r : Roster) (n : ℕ) (name : List ℕ) (only : Bool) (f : NamedFold) (hyper : HyperInfo) → IsWholeFold f → FoldIsSound (table_numbered r n) f → all_apart (output_names f) ≡ true → view_fits (view_of_fold r n name only f) (table_numbered r n).def hyper ≡ true
-view_is_sound r n name only f hyper w s apart =
+width_is : (step shift : ℤ) → IsWidth (record { step = step; shift = shift }) → is_width (record { step = step; shift = shift }) ≡ true
+width_is step shift w =
+    let positive : pos 0 <ℤ step = w.positive in
+    let bounded : step ≤ℤ max_step = w.bounded in
+    let from_zero : pos 0 ≤ℤ shift = w.from_zero in
+    let below : shift <ℤ step = w.below_step in
+    grind (arith, ints)
+
+view_is_sound : (r : Roster) (n : ℕ) (name : List ℕ) (only : Bool) (f : NamedFold) (hyper : HyperInfo) → is_name name ≡ true → IsWholeFold f → IsProperFold f → FoldIsSound (table_numbered r n) f → all_apart (output_names f) ≡ true → view_fits (view_of_fold r n name only f) (table_numbered r n).def hyper ≡ true
+view_is_sound r n name only f hyper named w proper s apart =
     let info = table_numbered r n in
     let aggs : length (map (aggregate_of info) f.aggs) ≡ length f.aggs = length-map f.aggs (aggregate_of info) in
     and_from _ _
     (and_from _ _
-    (and_from _ _ (and_from _ _ s.fits (lt-ltb _ _ (omega (arith, w.some)))) (le-leb _ _ (omega (arith, counted info f, s.few))))
+    (and_from _ _ (and_from _ _ (and_from _ _ (and_from _ _ named (width_is f.step f.shift s.width)) s.fits) (lt-ltb _ _ (omega (arith, w.some)))) (le-leb _ _ (omega (arith, counted info f, s.few))))
     (eq-eqb _ _ (omega (arith, counted info f, names_counted f))))
-    apart
+    (and_from _ _ (outputs_are_names f proper) apart)
 
 view_action : (h : History) (p bytes : ℕ) (name : List ℕ) (only filled : Bool) (fold : NamedFold) (f : Found) → RosterIsSound (roster h) → RelationAt (roster h) f → IsWritten bytes (stmts.View name only filled fold) → bytes ≤ 65536
     → (name_refusal p (roster h) name (length (roster h).views) ⊳ hypertable_refusal p f ⊳ fold_refusal p true (table_at (roster h) f) fold) ≡ None
@@ -266,8 +285,8 @@ view_action h p bytes name only filled fold (found.Hyper n) s t w short e =
     let both = neither (name_refusal p r name (length r.views)) _ e in
     let table = hypertable_is r n s t in
     let cols = columns_of (table_numbered r n).def.cols table.table.sound.columns in
-    let sound-fold = fold_is_sound p true (table_numbered r n) fold table.table.sound cols.some w.whole both.1 in
-    let fits = view_is_sound r n name only fold table.hyper w.whole sound-fold (names_apart p (table_numbered r n) fold both.1) in
+    let sound-fold = fold_is_sound p true (table_numbered r n) fold table.table.sound cols.some w.whole w.proper.1 both.1 in
+    let fits = view_is_sound r n name only fold table.hyper w.proper.0 w.whole w.proper.1 sound-fold (names_apart p (table_numbered r n) fold both.1) in
     record {
       event = may_come h (events.View (view_of_fold r n name only fold)) 1310720
           (on_hypertable (view_fits (view_of_fold r n name only fold)) r n table fits)
@@ -281,15 +300,15 @@ view_action h p bytes name only filled fold (found.Hyper n) s t w short e =
 hyper_of_table : (r : Roster) (n : ℕ) (t : IsHypertable r n) → (t.hyper.at < length (table_numbered r n).def.cols) × (is_interval t.hyper.interval ≡ true)
 hyper_of_table r n t = subst (λ (o : Option HyperInfo). HyperIsSound (table_numbered r n).def.cols o) t.is t.table.sound.hyper
 
-insert_fits : (r : Roster) (n p bytes : ℕ) (cols : Option (List (List ℕ))) (rows : List (List (Option ℤ))) (t : IsHypertable r n) → 0 < length rows → 16 + sum_by row_size rows ≤ bytes
+insert_fits : (r : Roster) (n p bytes : ℕ) (cols : Option (List (List ℕ))) (rows : List (List (Option ℤ))) (t : IsHypertable r n) → 0 < length rows → AreProperRows rows → 16 + sum_by row_size rows ≤ bytes
     → insert_refusal p (time_of (table_numbered r n).hyper) (table_numbered r n).def.cols cols rows ≡ None
     → (op_fits r (ops.Insert n (rows_into (table_numbered r n) cols rows)) ≡ true) × (op_bytes (ops.Insert n (rows_into (table_numbered r n) cols rows)) ≤ 8 * bytes)
-insert_fits r n p bytes cols rows t some size e =
+insert_fits r n p bytes cols rows t some proper size e =
     let info = table_numbered r n in
     let c = columns_of info.def.cols t.table.sound.columns in
     let at : time_of info.hyper ≡ t.hyper.at = ap time_of t.is in
     let shape : IsHyperOf t.hyper.at info.def.cols = record { apart = c.apart; few = c.few; time = (hyper_of_table r n t).0 } in
-    let sound-rows = rows_are_sound p info.def t.hyper cols rows shape (subst (λ (k : ℕ). insert_refusal p k info.def.cols cols rows ≡ None) at e) in
+    let sound-rows = rows_are_sound p info.def t.hyper cols rows shape proper (subst (λ (k : ℕ). insert_refusal p k info.def.cols cols rows ≡ None) at e) in
     let made = inserted_rows t.hyper.at info.def.cols cols rows in
     let many : length made ≡ length rows = length-map rows _ in
     let fits : rows_fit info.def t.hyper made ≡ true = and_from _ _ (lt-ltb _ _ (omega (arith, many))) sound-rows.fit in
@@ -304,7 +323,7 @@ insert_action h p bytes name cols rows (found.Plain n) s t w short e = absurd cc
 insert_action h p bytes name cols rows (found.View n) s t w short e = absurd cc
 insert_action h p bytes name cols rows (found.Hyper n) s t w short e =
     let r = roster h in
-    let both = insert_fits r n p bytes cols rows (hypertable_is r n s t) w.whole.some (omega (arith, w.size)) e in
+    let both = insert_fits r n p bytes cols rows (hypertable_is r n s t) w.whole.some w.proper.2 (omega (arith, w.size)) e in
     operation h bytes (ops.Insert n (rows_into (table_numbered r n) cols rows)) both.0 both.1 short
 
 delete_action : (h : History) (p bytes : ℕ) (name : List ℕ) (tests : List NamedTest) (f : Found) → RosterIsSound (roster h) → RelationAt (roster h) f → IsWritten bytes (stmts.Delete name tests) → bytes ≤ 65536
@@ -316,7 +335,7 @@ delete_action h p bytes name tests (found.View n) s t w short e = absurd cc
 delete_action h p bytes name tests (found.Hyper n) s t w short e =
     let r = roster h in
     let table = hypertable_is r n s t in
-    let fits = tests_fit p (table_numbered r n) tests table.table.sound w.whole e in
+    let fits = tests_fit p (table_numbered r n) tests table.table.sound w.whole w.proper.1 e in
     let many : length (tests_of (table_numbered r n) tests) ≡ length tests = length-map tests (test_of (table_numbered r n)) in
     operation h bytes (ops.Delete n (tests_of (table_numbered r n) tests))
     (on_hypertable (λ def hyper. list_all (test_fits (length def.cols)) (tests_of (table_numbered r n) tests)) r n table fits)
@@ -327,6 +346,24 @@ delete_action h p bytes name tests (found.Hyper n) s t w short e =
     tests_bytes (t ∷ tests) =
         let a : sum_by test_size (t ∷ tests) ≡ test_size t + sum_by test_size tests = sum_by-cons test_size t tests in
         omega (arith, tests_bytes tests)
+
+-- a chunk that holds a time begins at a number of 64 bits
+start_is_word : (interval t : ℤ) → is_interval interval ≡ true → is_time t ≡ true → is_word (chunk_start interval t) ≡ true
+start_is_word interval t i h =
+    let one : pos 1 ≤ℤ interval = grind (arith, ints) in
+    let most : interval ≤ℤ pos (2 ^ 50) = grind (arith, ints) in
+    let low : min_time ≤ℤ t = grind (arith, ints) in
+    let high : t ≤ℤ max_time = grind (arith, ints) in
+    let bounds = remainder_bounds t interval (let positive : pos 0 <ℤ interval = omega (arith, ints) in positive) in
+    let from : pos 0 ≤ℤ int_rem_euclid t interval = bounds.0 in
+    let below : int_rem_euclid t interval <ℤ interval = bounds.1 in
+    is_between (t -ℤ int_rem_euclid t interval) (omega (arith, ints)) (omega (arith, ints))
+  where
+    is_between : (z : ℤ) → negsuc (2 ^ 63 - 1) ≤ℤ z → z ≤ℤ pos (2 ^ 63 - 1) → is_word z ≡ true
+    is_between z a b = grind (arith, ints)
+
+interval_of_hyper : (info : TableInfo) → TableIsSound info → is_interval (interval_of info.hyper) ≡ true
+interval_of_hyper info s = interval_is_in_range info.def.cols info.hyper s.hyper
 
 drop_action : (h : History) (p bytes : ℕ) (name : List ℕ) (below : ℤ) (f : Found) → RosterIsSound (roster h) → RelationAt (roster h) f → IsWritten bytes (stmts.Drop name below) → bytes ≤ 65536
     → (hypertable_refusal p f ⊳ bound_refusal p (Some below)) ≡ None
@@ -339,8 +376,10 @@ drop_action h p bytes name below (found.Hyper n) s t w short e =
     let table = hypertable_is r n s t in
     let cols = columns_of (table_numbered r n).def.cols table.table.sound.columns in
     let test = drop_test (interval_of (table_numbered r n).hyper) below in
+    let interval : is_interval (interval_of (table_numbered r n).hyper) ≡ true = interval_of_hyper (table_numbered r n) table.table.sound in
+    let word = start_is_word (interval_of (table_numbered r n).hyper) below interval (has_to_be p 9 0 (is_time below) e) in
     operation h bytes (ops.Delete n (test ∷ []))
-    (on_hypertable (λ def hyper. list_all (test_fits (length def.cols)) (test ∷ [])) r n table (and_from _ _ (and_from _ _ (lt-ltb _ _ cols.some) refl) refl))
+    (on_hypertable (λ def hyper. list_all (test_fits (length def.cols)) (test ∷ [])) r n table (and_from _ _ (and_from _ _ (and_from _ _ (lt-ltb _ _ cols.some) word) refl) refl))
     (omega (arith, w.size)) short
 
 -- ---- windows and queries
@@ -363,30 +402,31 @@ mode_action h p only (found.Plain n) t e = absurd cc
 mode_action h p only (found.Hyper n) t e = absurd cc
 mode_action h p only (found.View n) t e = may_come h (events.Mode n only) 6 (ap is_some t.at) (omega arith) (omega arith) refl
 
-buckets_action : (h : History) (p : ℕ) (fold : NamedFold) (f : Found) → RosterIsSound (roster h) → RelationAt (roster h) f → IsWholeFold fold
+buckets_action : (h : History) (p : ℕ) (fold : NamedFold) (f : Found) → RosterIsSound (roster h) → RelationAt (roster h) f → IsWholeFold fold → IsProperFold fold
     → (hypertable_refusal p f ⊳ fold_refusal p false (table_at (roster h) f) fold) ≡ None
     → can_ask (roster h) (queries.Buckets (number_of f) (fold_of (table_at (roster h) f) fold)) ≡ true
-buckets_action h p fold found.None s t w e = absurd cc
-buckets_action h p fold (found.Plain n) s t w e = absurd cc
-buckets_action h p fold (found.View n) s t w e = absurd cc
-buckets_action h p fold (found.Hyper n) s t w e =
+buckets_action h p fold found.None s t w proper e = absurd cc
+buckets_action h p fold (found.Plain n) s t w proper e = absurd cc
+buckets_action h p fold (found.View n) s t w proper e = absurd cc
+buckets_action h p fold (found.Hyper n) s t w proper e =
     let r = roster h in
     let table = hypertable_is r n s t in
     let cols = columns_of (table_numbered r n).def.cols table.table.sound.columns in
-    let fits = (fold_is_sound p false (table_numbered r n) fold table.table.sound cols.some w e).fits in
-    on_hypertable (λ def hyper. fold_fits (length def.cols) (fold_of (table_numbered r n) fold)) r n table fits
+    let fits = (fold_is_sound p false (table_numbered r n) fold table.table.sound cols.some w proper e).fits in
+    on_hypertable (λ def hyper. columns_are_there (length def.cols) (fold_of (table_numbered r n) fold)) r n table
+    (fold_columns (length (table_numbered r n).def.cols) (fold_of (table_numbered r n) fold) fits)
 
-rows_action : (h : History) (p : ℕ) (tests : List NamedTest) (f : Found) → RosterIsSound (roster h) → RelationAt (roster h) f → AllByRecursion IsWholeTest tests
+rows_action : (h : History) (p : ℕ) (tests : List NamedTest) (f : Found) → RosterIsSound (roster h) → RelationAt (roster h) f
     → (query_refusal p f ⊳ rows_query_refusal p (roster h) f tests) ≡ None
     → can_ask (roster h) (rows_query (roster h) f tests) ≡ true
-rows_action h p tests found.None s t w e = absurd cc
-rows_action h p tests (found.Plain n) s t w e = absurd cc
-rows_action h p tests (found.View n) s t w e = ap is_some t.at
-rows_action h p tests (found.Hyper n) s t w e =
+rows_action h p tests found.None s t e = absurd cc
+rows_action h p tests (found.Plain n) s t e = absurd cc
+rows_action h p tests (found.View n) s t e = ap is_some t.at
+rows_action h p tests (found.Hyper n) s t e =
     let r = roster h in
     let table = hypertable_is r n s t in
-    on_hypertable (λ def hyper. list_all (test_fits (length def.cols)) (tests_of (table_numbered r n) tests)) r n table
-    (tests_fit p (table_numbered r n) tests table.table.sound w e)
+    on_hypertable (λ def hyper. list_all (λ t. nat_lt t.col (length def.cols)) (tests_of (table_numbered r n) tests)) r n table
+    (tests_there p (table_numbered r n) tests table.table.sound e)
 
 -- ---- each statement
 
@@ -406,8 +446,8 @@ action_is_sound h p bytes stmts.Begin r w short e = tt
 action_is_sound h p bytes stmts.BeginRead r w short e = tt
 action_is_sound h p bytes stmts.Commit r w short e = tt
 action_is_sound h p bytes stmts.Rollback r w short e = tt
-action_is_sound h p bytes (stmts.Buckets fold) r w short e = buckets_action h p fold (found_in (roster h) fold.table) r (relation_at (roster h) fold.table) w.whole e
-action_is_sound h p bytes (stmts.Rows table tests) r w short e = rows_action h p tests (found_in (roster h) table) r (relation_at (roster h) table) w.whole e
+action_is_sound h p bytes (stmts.Buckets fold) r w short e = buckets_action h p fold (found_in (roster h) fold.table) r (relation_at (roster h) fold.table) w.whole w.proper e
+action_is_sound h p bytes (stmts.Rows table tests) r w short e = rows_action h p tests (found_in (roster h) table) r (relation_at (roster h) table) e
 
 pub actions_are_sound : ActionsAreSound
 actions_are_sound h p bytes s a w short e = action_is_sound h p bytes s (roster_is_sound h a) w short e

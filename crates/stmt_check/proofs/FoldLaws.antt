@@ -8,7 +8,7 @@ use Rattle.std.proofs.lemmas.Bool.{and_parts, and_from, lt-ltb, leb-false, not-t
 use Rattle.std.proofs.lemmas.Bool.Decides.{Decides-int_eq, nat_tests}
 use Rattle.std.proofs.lemmas.Int.{ints}
 use Rattle.std.proofs.lemmas.List.{length-append, append_assoc, append-nil}
-use Rattle.std.proofs.lemmas.List.Folds.{list_any-append}
+use Rattle.std.proofs.lemmas.List.Folds.{list_any-append, list_all-append}
 use Rattle.ts_num.specs.declared.values.Fun.{Fun}
 use Rattle.ts_num.specs.declared.values.Fun.TheVariants as fun
 use Rattle.ts_bucket.specs.Bucket.{IsWidth}
@@ -18,15 +18,17 @@ use Rattle.ts_schema.specs.declared.conditions.Cmp.TheVariants as cmp
 use Rattle.ts_model.specs.declared.tables.Hyper.{Hyper as HyperInfo}
 use Rattle.ts_model.specs.declared.tables.TableInfo.{TableInfo}
 use Rattle.ts_model.specs.Roster.{same_name}
-use Rattle.ts_model.specs.Allowed.{agg_fits, all_apart, fold_fits, is_count_all, test_fits, output_count as columns_out}
-use Rattle.ts_model.specs.Allowed as allowed
+use Rattle.ts_model.specs.Sound.{agg_fits, all_apart, fold_fits, is_count_all, test_fits, output_count as columns_out}
+use Rattle.ts_model.specs.Sound as allowed
 use Rattle.ts_catalog.specs.Columns.{column_from, column_of, hyper_number, number_of}
+use Rattle.ts_schema.specs.Names.{is_name}
+use Rattle.stmt_reader.specs.Proper.{IsAlias, IsName, IsProperAgg, IsProperFold, IsProperTest, AreProperTests}
 use Rattle.stmt_reader.specs.Written.{IsWholeTest, IsWholeAgg, IsWholeFold, is_null_test, takes_argument}
 use Rattle.stmt_reader.specs.declared.statements.NamedAgg.{NamedAgg}
 use Rattle.stmt_reader.specs.declared.statements.NamedFold.{NamedFold}
 use Rattle.stmt_reader.specs.declared.statements.NamedTest.{NamedTest}
 use Rattle.stmt_check.specs.Refusals.{marked, refused, missing}
-use Rattle.stmt_check.specs.Folds.{aggregate_name, aggregate_of, aggregate_refusal, aggregates_refusal, argument_of, argument_refusal, bucket_column, columns_before, fold_of, fold_refusal, is_aggregate, is_key, is_shift, is_step, is_taken, is_time_column, key_refusal, keys_refusal, number_or_zero, output_count, output_names, test_of, tests_of, tests_refusal, width_refusal}
+use Rattle.stmt_check.specs.Folds.{aggregate_name, aggregate_of, aggregate_refusal, aggregates_refusal, argument_of, argument_refusal, bucket_column, columns_before, fold_of, fold_refusal, function_name, is_aggregate, is_key, is_shift, is_step, is_taken, is_time_column, key_refusal, keys_refusal, number_or_zero, output_count, output_names, test_of, tests_of, tests_refusal, width_refusal}
 use Rattle.stmt_check.proofs.PassedLaws.{neither, not_wrong, not_missing, has_to_be}
 use Rattle.stmt_check.proofs.RosterLaws.{HyperIsSound, TableIsSound}
 
@@ -76,16 +78,23 @@ number_fits : (null : Bool) (z : ℤ) → (null ≡ true → z ≡ pos 0) → (n
 number_fits true z h = (Decides-int_eq z (pos 0)).1 (h refl)
 number_fits false z h = refl
 
-one_test : (p code : ℕ) (info : TableInfo) (t : NamedTest) → TableIsSound info → IsWholeTest t → missing p code (column_of info t.col) ≡ None → test_fits (length info.def.cols) (test_of info t) ≡ true
-one_test p code info t s w e =
-    and_from _ _ (numbered_below p code info t.col s e)
+one_test : (p code : ℕ) (info : TableInfo) (t : NamedTest) → TableIsSound info → IsWholeTest t → IsProperTest t → missing p code (column_of info t.col) ≡ None → test_fits (length info.def.cols) (test_of info t) ≡ true
+one_test p code info t s w proper e =
+    and_from _ _ (and_from _ _ (numbered_below p code info t.col s e) proper.num)
     (number_fits (allowed.is_null_test t.cmp) t.num (λ null. w.number (sym (same_null_test t.cmp) ∙ null)))
 
-pub tests_fit : (p : ℕ) (info : TableInfo) (tests : List NamedTest) → TableIsSound info → AllByRecursion IsWholeTest tests → tests_refusal p info tests ≡ None → list_all (test_fits (length info.def.cols)) (tests_of info tests) ≡ true
-tests_fit p info [] s w e = refl
-tests_fit p info (t ∷ tests) s w e =
+pub tests_fit : (p : ℕ) (info : TableInfo) (tests : List NamedTest) → TableIsSound info → AllByRecursion IsWholeTest tests → AreProperTests tests → tests_refusal p info tests ≡ None → list_all (test_fits (length info.def.cols)) (tests_of info tests) ≡ true
+tests_fit p info [] s w proper e = refl
+tests_fit p info (t ∷ tests) s w proper e =
     let both = neither (missing p 8 (column_of info t.col)) (tests_refusal p info tests) e in
-    and_from _ _ (one_test p 8 info t s w.0 both.0) (tests_fit p info tests s w.1 both.1)
+    and_from _ _ (one_test p 8 info t s w.0 proper.0 both.0) (tests_fit p info tests s w.1 proper.1 both.1)
+
+-- the columns of tests that aren't refused are there
+pub tests_there : (p : ℕ) (info : TableInfo) (tests : List NamedTest) → TableIsSound info → tests_refusal p info tests ≡ None → list_all (λ t. nat_lt t.col (length info.def.cols)) (tests_of info tests) ≡ true
+tests_there p info [] s e = refl
+tests_there p info (t ∷ tests) s e =
+    let both = neither (missing p 8 (column_of info t.col)) (tests_refusal p info tests) e in
+    and_from _ _ (numbered_below p 8 info t.col s both.0) (tests_there p info tests s both.1)
 
 -- ---- the width
 
@@ -214,7 +223,7 @@ keys_apart p count info bucket before (k ∷ keys) a e =
     subst (λ (ks : List (List ℕ)). all_apart (bucket ∷ ks) ≡ true) (append_assoc before (k ∷ []) keys) more
 
 -- the name of an aggregate before is one of their names
-any_name : (aggs : List NamedAgg) (name : List ℕ) → is_aggregate aggs name ≡ list_any (λ other. same_name other name) (map aggregate_name aggs)
+pub any_name : (aggs : List NamedAgg) (name : List ℕ) → is_aggregate aggs name ≡ list_any (λ other. same_name other name) (map aggregate_name aggs)
 any_name [] name = refl
 any_name (a ∷ aggs) name = ap (λ b. same_name (aggregate_name a) name || b) (any_name aggs name)
 
@@ -250,17 +259,44 @@ pub record FoldIsSound (info : TableInfo) (f : NamedFold) : Type 0 where
   pub fits : fold_fits (length info.def.cols) (fold_of info f) ≡ true
   pub few : suc (length f.keys + length f.aggs) ≤ 16
 
-pub fold_is_sound : (p : ℕ) (distinct : Bool) (info : TableInfo) (f : NamedFold) → TableIsSound info → 0 < length info.def.cols → IsWholeFold f → fold_refusal p distinct info f ≡ None → FoldIsSound info f
-fold_is_sound p distinct info f s some w e =
+pub fold_is_sound : (p : ℕ) (distinct : Bool) (info : TableInfo) (f : NamedFold) → TableIsSound info → 0 < length info.def.cols → IsWholeFold f → IsProperFold f → fold_refusal p distinct info f ≡ None → FoldIsSound info f
+fold_is_sound p distinct info f s some w proper e =
     let one = neither (width_refusal p info f) _ e in
     let two = neither (keys_refusal p distinct (output_count f) info (bucket_column f) [] f.keys) _ one.1 in
     let three = neither (aggregates_refusal p distinct (output_count f) info (bucket_column f) f.keys [] f.aggs) _ two.1 in
     let aggs = aggregates_fit p distinct (output_count f) info (bucket_column f) f.keys [] f.aggs s some w.aggs three.0 in
     record {
       width = width_fits p info f one.0;
-      fits = and_from _ _ (and_from _ _ (keys_fit p distinct (output_count f) info (bucket_column f) [] f.keys s two.0) aggs.fit) (tests_fit p info f.tests s w.tests three.1);
+      fits = and_from _ _ (and_from _ _ (keys_fit p distinct (output_count f) info (bucket_column f) [] f.keys s two.0) aggs.fit) (tests_fit p info f.tests s w.tests proper.tests three.1);
       few = omega (arith, aggs.few w.some);
     }
+
+-- a name that is given, or a word that is a name
+given_name : (given : Option (List ℕ)) (word : List ℕ) → IsAlias given → is_name word ≡ true → is_name (unwrap_or given word) ≡ true
+given_name None word h k = k
+given_name (Some x) word h k = h
+
+function_is_name : (f : Fun) → is_name (function_name f) ≡ true
+function_is_name fun.CountAll = refl
+function_is_name fun.Count = refl
+function_is_name fun.Sum = refl
+function_is_name fun.Min = refl
+function_is_name fun.Max = refl
+function_is_name fun.Avg = refl
+
+keys_are_names : (keys : List (List ℕ)) → AllByRecursion IsName keys → list_all is_name keys ≡ true
+keys_are_names [] h = refl
+keys_are_names (k ∷ keys) h = and_from _ _ h.0 (keys_are_names keys h.1)
+
+aggregates_are_names : (aggs : List NamedAgg) → AllByRecursion IsProperAgg aggs → list_all is_name (map aggregate_name aggs) ≡ true
+aggregates_are_names [] h = refl
+aggregates_are_names (a ∷ aggs) h = and_from _ _ (given_name a.name (function_name a.fun) h.0.name (function_is_name a.fun)) (aggregates_are_names aggs h.1)
+
+-- the output names of a fold are names
+pub outputs_are_names : (f : NamedFold) → IsProperFold f → list_all is_name (output_names f) ≡ true
+outputs_are_names f h =
+    list_all-append is_name (bucket_column f ∷ f.keys) (map aggregate_name f.aggs)
+    ∙ and_from _ _ (and_from _ _ (given_name f.name _ h.name refl) (keys_are_names f.keys h.keys)) (aggregates_are_names f.aggs h.aggs)
 
 -- the output names of an aggregate to be made are apart
 pub names_apart : (p : ℕ) (info : TableInfo) (f : NamedFold) → fold_refusal p true info f ≡ None → all_apart (output_names f) ≡ true

@@ -8,7 +8,8 @@ use Rattle.ts_model.specs.declared.events.Event.TheVariants as events
 use Rattle.ts_model.specs.declared.events.Op.{Op}
 use Rattle.ts_model.specs.History.{History, Begins}
 use Rattle.ts_model.specs.Roster.{roster}
-use Rattle.ts_model.specs.Allowed.{is_sound_in, op_bytes, op_fits}
+use Rattle.ts_model.specs.Sound.{sound_at, op_fits}
+use Rattle.ts_model.specs.Bytes.{op_bytes}
 use Rattle.ts_model.proofs.AllowedLaws.{sound_stays}
 use Rattle.stmt_check.specs.Sound.{IsOperation, IsQueue, MayCome, QueuesAreSound}
 
@@ -29,7 +30,7 @@ stays_of : (g h : History) (bytes : ℕ) (op : Op) (ops : List Op) → Begins g 
 stays_of g h bytes op ops begins few q =
     let before = commits g bytes (op ∷ ops) q (omega arith) few in
     let after = sound_stays g h (events.Commit (op ∷ ops)) begins before.is_sound in
-    let fits = (and_parts (is_sound_in h (events.Commit (op ∷ ops))) _ after).0 in
+    let fits = (and_parts (sound_at h (events.Commit (op ∷ ops))) _ after).0 in
     record { fits = (and_parts (nat_lt 0 (length (op ∷ ops))) _ fits).1; size = q.size }
 
 stays : (g h : History) (bytes : ℕ) (ops : List Op) → Begins g h → bytes ≤ 67108864 → IsQueue g bytes ops → IsQueue h bytes ops

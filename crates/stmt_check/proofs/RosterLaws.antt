@@ -5,6 +5,7 @@ use Rattle.std.specs.Prelude.{slice_get, unwrap_or, int_lt, int_le, nat_lt, nat_
 use Rattle.std.specs.List.{AllByRecursion}
 use Rattle.std.proofs.lemmas.Bool.{and_parts, ltb-true, leb-true, eqb-true}
 use Rattle.std.proofs.lemmas.List.{length-append}
+use Rattle.ts_schema.specs.Names.{is_name}
 use Rattle.ts_schema.specs.declared.columns.Column.{Column}
 use Rattle.ts_model.specs.declared.events.Event.{Event}
 use Rattle.ts_model.specs.declared.events.Event.TheVariants.{Table, Hyper, View, Mode, Commit, Cut, Built}
@@ -15,7 +16,12 @@ use Rattle.ts_model.specs.declared.tables.TableInfo.{TableInfo}
 use Rattle.ts_model.specs.declared.views.ViewDef.{ViewDef}
 use Rattle.ts_model.specs.History.{History, start, ◌▸◌}
 use Rattle.ts_model.specs.Roster.{change_at, made_hyper, set_only, roster, table_of}
-use Rattle.ts_model.specs.Allowed.{all_allowed, allowed, columns_fit, fold_fits, hyper_fits, is_sound_in, most_columns, most_relations, of_hyper, of_table, output_count, sound, timely, view_fits}
+use Rattle.ts_model.specs.Allowed.{all_allowed, allowed}
+use Rattle.ts_model.specs.Sound.{columns_fit, fold_fits, hyper_fits, sound_at, output_count, sound, view_fits}
+use Rattle.ts_bucket.specs.Bucket.{is_width}
+use Rattle.ts_model.specs.Limits.{most_columns, most_relations}
+use Rattle.ts_model.specs.Roster.{of_hyper, of_table}
+use Rattle.ts_model.specs.Timely.{timely}
 use Rattle.stmt_check.specs.Check.{interval_of}
 use Rattle.stmt_check.specs.Tables.{is_interval}
 use Rattle.stmt_check.specs.Sound.{RostersAreNumbered}
@@ -87,9 +93,9 @@ view_is_sound def (Some info) e = of_hypertable info.def info.hyper e
     of_hypertable : (table : TableDef) (o : Option HyperInfo) → of_hyper (view_fits def) table o ≡ true → ViewIsSound def
     of_hypertable table None e = absurd cc
     of_hypertable table (Some hyper) e =
-        let parts = and_parts (fold_fits (length table.cols) def.fold && nat_lt 0 (length def.fold.aggs) && nat_le (output_count def.fold) most_columns && length def.names == output_count def.fold) _ e in
-        let most = and_parts (fold_fits (length table.cols) def.fold && nat_lt 0 (length def.fold.aggs) && nat_le (output_count def.fold) most_columns) _ parts.0 in
-        let few = and_parts (fold_fits (length table.cols) def.fold && nat_lt 0 (length def.fold.aggs)) _ most.0 in
+        let parts = and_parts (is_name def.name && is_width def.fold.width && fold_fits (length table.cols) def.fold && nat_lt 0 (length def.fold.aggs) && nat_le (output_count def.fold) most_columns && length def.names == output_count def.fold) _ e in
+        let most = and_parts (is_name def.name && is_width def.fold.width && fold_fits (length table.cols) def.fold && nat_lt 0 (length def.fold.aggs) && nat_le (output_count def.fold) most_columns) _ parts.0 in
+        let few = and_parts (is_name def.name && is_width def.fold.width && fold_fits (length table.cols) def.fold && nat_lt 0 (length def.fold.aggs)) _ most.0 in
         let same : length def.names ≡ output_count def.fold = eqb-true _ _ most.1 in
         let short : output_count def.fold ≤ 16 = leb-true _ _ few.1 in
         record { names = subst (λ (n : ℕ). n ≤ 16) (sym same) short }
@@ -98,7 +104,7 @@ view_is_sound def (Some info) e = of_hypertable info.def info.hyper e
 roster_stays_sound : (h : History) (e : Event) → RosterIsSound (roster h) → allowed h e ≡ true → RosterIsSound (roster (h ▸ e))
 roster_stays_sound h (Table def) r e =
     let parts = and_parts (sound h (Table def)) (timely h (Table def)) e in
-    let fits = (and_parts (is_sound_in h (Table def)) _ parts.0).0 in
+    let fits = (and_parts (is_name def.name) _ (and_parts (sound_at h (Table def)) _ parts.0).0).1 in
     let few : length (roster h).tables < 64 = ltb-true _ _ (and_parts _ (nat_lt (length (roster h).tables) most_relations) parts.1).1 in
     let made : TableInfo = record { def = def; hyper = None } in
     record {
@@ -109,7 +115,7 @@ roster_stays_sound h (Table def) r e =
     }
 roster_stays_sound h (Hyper t hyper) r e =
     let parts = and_parts (sound h (Hyper t hyper)) _ e in
-    let fits = (and_parts (is_sound_in h (Hyper t hyper)) _ parts.0).0 in
+    let fits = (and_parts (sound_at h (Hyper t hyper)) _ parts.0).0 in
     record {
       few_tables = omega (arith, r.few_tables, length_changed (roster h).tables t (made_hyper hyper));
       few_views = r.few_views;
@@ -123,7 +129,7 @@ roster_stays_sound h (Hyper t hyper) r e =
     }
 roster_stays_sound h (View def) r e =
     let parts = and_parts (sound h (View def)) (timely h (View def)) e in
-    let fits = (and_parts (is_sound_in h (View def)) _ parts.0).0 in
+    let fits = (and_parts (sound_at h (View def)) _ parts.0).0 in
     let few : length (roster h).views < 64 = ltb-true _ _ (and_parts _ (nat_lt (length (roster h).views) most_relations) parts.1).1 in
     record {
       few_tables = r.few_tables;
@@ -153,7 +159,7 @@ few_columns t s =
     let parts = and_parts (nat_lt 0 (length t.def.cols) && nat_le (length t.def.cols) most_columns) _ s.columns in
     leb-true _ _ (and_parts (nat_lt 0 (length t.def.cols)) _ parts.0).1
 
-interval_is_in_range : (cols : List Column) (o : Option HyperInfo) → HyperIsSound cols o → is_interval (interval_of o) ≡ true
+pub interval_is_in_range : (cols : List Column) (o : Option HyperInfo) → HyperIsSound cols o → is_interval (interval_of o) ≡ true
 interval_is_in_range cols None s = refl
 interval_is_in_range cols (Some h) s = s.1
 

@@ -1,7 +1,7 @@
 -- Rows that aren't refused fit their hypertable, and take at most 8 bytes for each byte that they are written with.
 use Rattle.std.proofs.Common.{◌≡◌, ◌∙◌, refl, sym, subst, ap, ℕ, zero, suc, ◌+◌, ◌*◌, ◌<◌, ◌≤◌, Bool, true, false, cond, not, ◌&&◌, ◌||◌, List, [], ◌∷◌, map, length, get_or, drop, Option, Some, None, is_some, is_none, arith, ℤ, pos}
 use Rattle.std.specs.Prelude.{nat_le, ◌==◌, unwrap_or, slice_get, sum_by, remove}
-use Rattle.std.specs.List.{list_all, list_any}
+use Rattle.std.specs.List.{list_all, list_any, AllByRecursion}
 use Rattle.std.proofs.lemmas.Bool.{and_parts, and_from, eqb-true, ne_eqb, eq-eqb, not-true}
 use Rattle.std.proofs.lemmas.List.{length-map}
 use Rattle.std.proofs.lemmas.List.Sums.{sum_by-cons}
@@ -14,28 +14,31 @@ use Rattle.ts_schema.specs.declared.rows.Row.{Row}
 use Rattle.ts_model.specs.declared.tables.Hyper.{Hyper as HyperInfo}
 use Rattle.ts_model.specs.declared.tables.TableDef.{TableDef}
 use Rattle.ts_model.specs.Roster.{same_name}
-use Rattle.ts_model.specs.Allowed.{all_apart, row_bytes, row_fits, value_bytes, values_fit}
+use Rattle.ts_model.specs.Sound.{all_apart, row_fits, value_fits, values_fit}
+use Rattle.ts_model.specs.Bytes.{row_bytes, value_bytes}
 use Rattle.ts_catalog.specs.Columns.{column_from, place_from}
+use Rattle.stmt_reader.specs.Proper.{IsValue, AreProperRows}
 use Rattle.stmt_reader.specs.Written.{row_size}
 use Rattle.stmt_check.specs.declared.inserts.Rule.{Rule}
 use Rattle.stmt_check.specs.Refusals.{marked, refused}
-use Rattle.stmt_check.specs.Rows.{insert_refusal, inserted_rows, leaves_out, list_refusal_of, no_column, other_places, picked, place_in, row_of, row_refusal, rows_of, rows_refusal, rule_at, rule_of, rules_from, shape_of, time_place, value_refusal, value_rules, values_refusal}
+use Rattle.stmt_check.specs.Rows.{insert_refusal, inserted_rows, leaves_out, list_refusal_of, blank_column, other_places, picked, place_in, row_of, row_refusal, rows_of, rows_refusal, rule_at, rule_of, rules_from, shape_of, time_place, value_refusal, value_rules, values_refusal}
+use Rattle.stmt_check.proofs.RosterLaws.{all_at}
 use Rattle.stmt_check.proofs.PassedLaws.{neither, not_wrong, has_to_be}
 
 -- neither of two tests
-neither_of : (x y : Bool) → (x || y) ≡ false → (x ≡ false) × (y ≡ false)
+pub neither_of : (x y : Bool) → (x || y) ≡ false → (x ≡ false) × (y ≡ false)
 neither_of true y e = absurd cc
 neither_of false y e = (refl, e)
 
 -- ---- the value of a column
 
 -- the values of a row that isn't refused, each by its rule
-record ByRule (p : ℕ) (r : Rule) (values : List (Option ℤ)) (i : ℕ) : Type 0 where
+pub record ByRule (p : ℕ) (r : Rule) (values : List (Option ℤ)) (i : ℕ) : Type 0 where
   pub value : Option ℤ
   pub at : slice_get values i ≡ Some value
   pub passed : value_refusal p r value ≡ None
 
-by_rule : (p : ℕ) (rules : List Rule) (values : List (Option ℤ)) (i : ℕ) (r : Rule) → length values ≡ length rules → values_refusal p rules values ≡ None → slice_get rules i ≡ Some r → ByRule p r values i
+pub by_rule : (p : ℕ) (rules : List Rule) (values : List (Option ℤ)) (i : ℕ) (r : Rule) → length values ≡ length rules → values_refusal p rules values ≡ None → slice_get rules i ≡ Some r → ByRule p r values i
 by_rule p [] values i r n e at = absurd cc
 by_rule p (q ∷ rules) [] i r n e at = absurd (omega arith)
 by_rule p (q ∷ rules) (v ∷ values) zero r n e at =
@@ -96,7 +99,7 @@ named_rule : (at : ℕ) (cols : List Column) (k : ℕ) (c : Column) → all_apar
 named_rule at cols k c a e =
     let place : column_from c.name 0 cols ≡ Some k = column_stands 0 cols k c a e ∙ ap Some (let same : 0 + k ≡ k = omega arith in same) in
     let found : unwrap_or (column_from c.name 0 cols) 0 ≡ k = ap (λ o. unwrap_or o 0) place in
-    ap (λ n. rule_at at (get_or cols n no_column) n) found ∙ ap (λ x. rule_at at x k) (get_or_from_slice_get cols k c no_column e)
+    ap (λ n. rule_at at (get_or cols n blank_column) n) found ∙ ap (λ x. rule_at at x k) (get_or_from_slice_get cols k c blank_column e)
 
 mapped_at : {X Y : Type 0} (f : X → Y) (xs : List X) (i : ℕ) (x : X) → slice_get xs i ≡ Some x → slice_get (map f xs) i ≡ Some (f x)
 mapped_at f [] i x e = absurd cc
@@ -104,7 +107,7 @@ mapped_at f (y ∷ xs) zero x e = let same : y ≡ x = cc in ap (λ z. Some (f z
 mapped_at f (y ∷ xs) (suc i) x e = mapped_at f xs i x e
 
 -- at the place of a column's value stands its rule
-rule_there : (at : ℕ) (cols : List Column) (names : Option (List (List ℕ))) (k : ℕ) (c : Column) (i : ℕ) → all_apart (map (λ d. d.name) cols) ≡ true → slice_get cols k ≡ Some c → place_in names k c ≡ Some i → slice_get (value_rules at cols names) i ≡ Some (rule_at at c k)
+pub rule_there : (at : ℕ) (cols : List Column) (names : Option (List (List ℕ))) (k : ℕ) (c : Column) (i : ℕ) → all_apart (map (λ d. d.name) cols) ≡ true → slice_get cols k ≡ Some c → place_in names k c ≡ Some i → slice_get (value_rules at cols names) i ≡ Some (rule_at at c k)
 rule_there at cols None k c i a e p =
     let same : k ≡ i = cc in
     subst (λ (j : ℕ). slice_get (rules_from at 0 cols) j ≡ Some (rule_at at c k)) same
@@ -118,10 +121,11 @@ rule_there at cols (Some names) k c i a e p =
 record ValueIsFine (must time : Bool) (v : Option ℤ) : Type 0 where
   pub some : must ≡ true → is_some v ≡ true
   pub in_range : time ≡ true → is_time (unwrap_or v (pos 0)) ≡ true
+  pub word : IsValue v
 
-value_is_fine : (p : ℕ) (r : Rule) (v : Option ℤ) → value_refusal p r v ≡ None → ValueIsFine r.must r.time v
-value_is_fine p r None e = record { some = λ m. absurd (let f : true ≡ false = sym m ∙ not_wrong p 12 0 r.must e in cc); in_range = λ t. refl }
-value_is_fine p r (Some v) e = record { some = λ m. refl; in_range = λ t. timed r.time (is_time v) t (not_wrong p 9 0 (r.time && not (is_time v)) e) }
+value_is_fine : (p : ℕ) (r : Rule) (v : Option ℤ) → IsValue v → value_refusal p r v ≡ None → ValueIsFine r.must r.time v
+value_is_fine p r None h e = record { word = tt; some = λ m. absurd (let f : true ≡ false = sym m ∙ not_wrong p 12 0 r.must e in cc); in_range = λ t. refl }
+value_is_fine p r (Some v) h e = record { word = h; some = λ m. refl; in_range = λ t. timed r.time (is_time v) t (not_wrong p 9 0 (r.time && not (is_time v)) e) }
   where
     timed : (time good : Bool) → time ≡ true → (time && not good) ≡ false → good ≡ true
     timed time true t e = refl
@@ -133,6 +137,7 @@ record RowPasses (p at : ℕ) (cols : List Column) (names : Option (List (List �
   pub apart : all_apart (map (λ d. d.name) cols) ≡ true
   pub count : length values ≡ length (value_rules at cols names)
   pub passed : values_refusal p (value_rules at cols names) values ≡ None
+  pub proper : AllByRecursion IsValue values
 
 -- a column that isn't left out where it must not be has a fine value
 column_value : (p at : ℕ) (cols : List Column) (names : Option (List (List ℕ))) (values : List (Option ℤ)) (k : ℕ) (c : Column) → RowPasses p at cols names values → slice_get cols k ≡ Some c → ((c.must || at == k) && is_none (place_in names k c)) ≡ false → ValueIsFine (c.must || at == k) (at == k) (picked values (place_in names k c))
@@ -143,10 +148,10 @@ column_value p at cols names values k c r e left = go (place_in names k c) refl 
     not_left false e m = absurd cc
 
     go : (o : Option ℕ) → place_in names k c ≡ o → ((c.must || at == k) && is_none o) ≡ false → ValueIsFine (c.must || at == k) (at == k) (picked values o)
-    go None is left = record { some = λ m. absurd (not_left (c.must || at == k) left m); in_range = λ t. refl }
+    go None is left = record { word = tt; some = λ m. absurd (not_left (c.must || at == k) left m); in_range = λ t. refl }
     go (Some i) is left =
         let v = by_rule p (value_rules at cols names) values i (rule_at at c k) r.count r.passed (rule_there at cols names k c i r.apart e is) in
-        subst (λ (w : Option ℤ). ValueIsFine (c.must || at == k) (at == k) w) (sym (get_or_from_slice_get values i v.value None v.at)) (value_is_fine p (rule_at at c k) v.value v.passed)
+        subst (λ (w : Option ℤ). ValueIsFine (c.must || at == k) (at == k) w) (sym (get_or_from_slice_get values i v.value None v.at)) (value_is_fine p (rule_at at c k) v.value (all_at IsValue values i v.value r.proper v.at) v.passed)
 
 -- the values of these columns, of which the first has the declared place k
 abbrev AllFine : ℕ → Option (List (List ℕ)) → List (Option ℤ) → ℕ → List Column → Type 0
@@ -174,16 +179,20 @@ or_left : (x y : Bool) → x ≡ true → (x || y) ≡ true
 or_left true y e = refl
 or_left false y e = absurd cc
 
-must_fit : (must : Bool) (v : Option ℤ) → (must ≡ true → is_some v ≡ true) → (not must || is_some v) ≡ true
-must_fit true v h = h refl
-must_fit false v h = refl
+must_fit : (c : Column) (v : Option ℤ) → (c.must ≡ true → is_some v ≡ true) → IsValue v → value_fits c v ≡ true
+must_fit c None h k = unless_must c.must h
+  where
+    unless_must : (must : Bool) → (must ≡ true → false ≡ true) → not must ≡ true
+    unless_must true g = g refl
+    unless_must false g = refl
+must_fit c (Some v) h k = k
 
 -- the values of the columns behind the time fit them
 fit_behind : (at : ℕ) (names : Option (List (List ℕ))) (values : List (Option ℤ)) (k : ℕ) (cs : List Column) → at < k → AllFine at names values k cs → values_fit cs (map (picked values) (other_places at names k cs)) ≡ true
 fit_behind at names values k [] lt f = refl
 fit_behind at names values k (c ∷ cs) lt f =
     let apart : (at == k) ≡ false = ne_eqb at k (λ e. omega arith) in
-    rw apart (and_from _ _ (must_fit c.must (picked values (place_in names k c)) (λ m. f.0.some (or_left c.must (at == k) m))) (fit_behind at names values (k + 1) cs (omega arith) f.1))
+    rw apart (and_from _ _ (must_fit c (picked values (place_in names k c)) (λ m. f.0.some (or_left c.must (at == k) m)) f.0.word) (fit_behind at names values (k + 1) cs (omega arith) f.1))
 
 -- the values of all columns but the time fit them
 fit_from : (at : ℕ) (names : Option (List (List ℕ))) (values : List (Option ℤ)) (k : ℕ) (cs : List Column) (j : ℕ) → at ≡ k + j → AllFine at names values k cs → values_fit (remove cs j) (map (picked values) (other_places at names k cs)) ≡ true
@@ -194,7 +203,7 @@ fit_from at names values k (c ∷ cs) zero e f =
     rw here (fit_behind at names values (k + 1) cs (omega arith) f.1)
 fit_from at names values k (c ∷ cs) (suc j) e f =
     let apart : (at == k) ≡ false = ne_eqb at k (λ s. omega arith) in
-    rw apart (and_from _ _ (must_fit c.must (picked values (place_in names k c)) (λ m. f.0.some (or_left c.must (at == k) m))) (fit_from at names values (k + 1) cs j (omega arith) f.1))
+    rw apart (and_from _ _ (must_fit c (picked values (place_in names k c)) (λ m. f.0.some (or_left c.must (at == k) m)) f.0.word) (fit_from at names values (k + 1) cs j (omega arith) f.1))
 
 -- the time of a row is one
 time_fits : (at : ℕ) (names : Option (List (List ℕ))) (values : List (Option ℤ)) (k : ℕ) (cs : List Column) → AllFine at names values k cs → is_time (unwrap_or (picked values (time_place at names k cs)) (pos 0)) ≡ true
@@ -346,15 +355,15 @@ record RowIsSound (def : TableDef) (hyper : HyperInfo) (row : Row) (written : �
 small_row : (vals m s v all : ℕ) → vals ≤ m + 8 * s → m + 1 ≤ 16 → s + 1 ≡ all → all ≤ v → 9 + vals ≤ 8 * (1 + 2 * v)
 small_row vals m s v all a b c d = omega arith
 
-one_row : (p : ℕ) (def : TableDef) (hyper : HyperInfo) (names : Option (List (List ℕ))) (count k : ℕ) (values : List (Option ℤ)) → IsHyperOf hyper.at def.cols → row_refusal p (shape_of hyper.at def.cols names count) k values ≡ None → RowIsSound def hyper (row_of (time_place hyper.at names 0 def.cols) (other_places hyper.at names 0 def.cols) values) (row_size values)
-one_row p def hyper names count k values h e =
+one_row : (p : ℕ) (def : TableDef) (hyper : HyperInfo) (names : Option (List (List ℕ))) (count k : ℕ) (values : List (Option ℤ)) → IsHyperOf hyper.at def.cols → AllByRecursion IsValue values → row_refusal p (shape_of hyper.at def.cols names count) k values ≡ None → RowIsSound def hyper (row_of (time_place hyper.at names 0 def.cols) (other_places hyper.at names 0 def.cols) values) (row_size values)
+one_row p def hyper names count k values h proper e =
     let rules = value_rules hyper.at def.cols names in
     let one = neither (marked p 21 count (nat_le 1000 k)) _ e in
     let two = neither (refused p 11 (not (length values == length rules))) _ one.1 in
     let three = neither (refused p 12 (leaves_out hyper.at names 0 def.cols)) _ two.1 in
     let same : length values ≡ length rules = eqb-true _ _ (has_to_be p 11 0 (length values == length rules) two.0) in
     let left : leaves_out hyper.at names 0 def.cols ≡ false = not_wrong p 12 0 (leaves_out hyper.at names 0 def.cols) three.0 in
-    let passes : RowPasses p hyper.at def.cols names values = record { apart = h.apart; count = same; passed = three.1 } in
+    let passes : RowPasses p hyper.at def.cols names values = record { apart = h.apart; count = same; passed = three.1; proper = proper } in
     let fine = all_fine p hyper.at def.cols names values 0 def.cols passes refl left in
     let counts = counted_from hyper.at names 0 def.cols hyper.at (omega arith) h.time left in
     let places = other_places hyper.at names 0 def.cols in
@@ -369,12 +378,12 @@ pub record RowsAreSound (def : TableDef) (hyper : HyperInfo) (rows : List Row) (
   pub fit : list_all (row_fits def hyper) rows ≡ true
   pub size : sum_by row_bytes rows ≤ 8 * written
 
-each_row : (p : ℕ) (def : TableDef) (hyper : HyperInfo) (names : Option (List (List ℕ))) (count k : ℕ) (rows : List (List (Option ℤ))) → IsHyperOf hyper.at def.cols → rows_refusal p (shape_of hyper.at def.cols names count) k rows ≡ None → RowsAreSound def hyper (rows_of (shape_of hyper.at def.cols names count) rows) (sum_by row_size rows)
-each_row p def hyper names count k [] h e = record { fit = refl; size = omega arith }
-each_row p def hyper names count k (r ∷ rows) h e =
+each_row : (p : ℕ) (def : TableDef) (hyper : HyperInfo) (names : Option (List (List ℕ))) (count k : ℕ) (rows : List (List (Option ℤ))) → IsHyperOf hyper.at def.cols → AreProperRows rows → rows_refusal p (shape_of hyper.at def.cols names count) k rows ≡ None → RowsAreSound def hyper (rows_of (shape_of hyper.at def.cols names count) rows) (sum_by row_size rows)
+each_row p def hyper names count k [] h proper e = record { fit = refl; size = omega arith }
+each_row p def hyper names count k (r ∷ rows) h proper e =
     let both = neither (row_refusal p (shape_of hyper.at def.cols names count) k r) _ e in
-    let here = one_row p def hyper names count k r h both.0 in
-    let rest = each_row p def hyper names count (k + 1) rows h both.1 in
+    let here = one_row p def hyper names count k r h proper.0 both.0 in
+    let rest = each_row p def hyper names count (k + 1) rows h proper.1 both.1 in
     let row = row_of (time_place hyper.at names 0 def.cols) (other_places hyper.at names 0 def.cols) r in
     let others = rows_of (shape_of hyper.at def.cols names count) rows in
     let bytes : sum_by row_bytes (row ∷ others) ≡ row_bytes row + sum_by row_bytes others = sum_by-cons row_bytes row others in
@@ -382,5 +391,5 @@ each_row p def hyper names count k (r ∷ rows) h e =
     record { fit = and_from _ _ here.fits rest.fit; size = omega (arith, here.size, rest.size) }
 
 -- the rows that an INSERT gives
-pub rows_are_sound : (p : ℕ) (def : TableDef) (hyper : HyperInfo) (names : Option (List (List ℕ))) (rows : List (List (Option ℤ))) → IsHyperOf hyper.at def.cols → insert_refusal p hyper.at def.cols names rows ≡ None → RowsAreSound def hyper (inserted_rows hyper.at def.cols names rows) (sum_by row_size rows)
-rows_are_sound p def hyper names rows h e = each_row p def hyper names (length rows) 0 rows h (neither (list_refusal_of p def.cols names) _ e).1
+pub rows_are_sound : (p : ℕ) (def : TableDef) (hyper : HyperInfo) (names : Option (List (List ℕ))) (rows : List (List (Option ℤ))) → IsHyperOf hyper.at def.cols → AreProperRows rows → insert_refusal p hyper.at def.cols names rows ≡ None → RowsAreSound def hyper (inserted_rows hyper.at def.cols names rows) (sum_by row_size rows)
+rows_are_sound p def hyper names rows h proper e = each_row p def hyper names (length rows) 0 rows h proper (neither (list_refusal_of p def.cols names) _ e).1

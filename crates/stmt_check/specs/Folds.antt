@@ -3,6 +3,9 @@ use Rattle.std.specs.Prelude.{ℕ, ◌==◌, Bool, false, not, ◌||◌, ◌&&�
 use Rattle.ts_num.specs.declared.values.Fun.{Fun}
 use Rattle.ts_num.specs.declared.values.Fun.TheVariants.{CountAll, Count, Sum, Min, Max, Avg}
 use Rattle.ts_bucket.specs.Bucket.{max_step}
+use Rattle.stmt_check.specs.Codes.{bad_width, no_column}
+use Rattle.ts_model.specs.Limits.{most_columns}
+use Rattle.ts_model.specs.Calls.{name_taken, too_many}
 use Rattle.ts_model.specs.declared.outcomes.Refusal.{Refusal}
 use Rattle.ts_model.specs.declared.tables.TableInfo.{TableInfo}
 use Rattle.ts_model.specs.declared.views.Agg.{Agg}
@@ -13,6 +16,7 @@ use Rattle.ts_catalog.specs.Columns.{column_of}
 use Rattle.stmt_reader.specs.declared.statements.NamedAgg.{NamedAgg}
 use Rattle.stmt_reader.specs.declared.statements.NamedFold.{NamedFold}
 use Rattle.stmt_reader.specs.declared.statements.NamedTest.{NamedTest}
+use Rattle.stmt_check.specs.declared.folds.Rest.{Rest}
 use Rattle.stmt_check.specs.Refusals.{◌⊳◌, marked, missing, refused}
 use Rattle.std.specs.List.{list_any}
 use Rattle.ts_model.specs.Roster.{same_name}
@@ -25,7 +29,7 @@ number_or_zero info name = unwrap_or (column_of info name) 0
 -- tests from left to right: each column is there
 abbrev pub tests_refusal : ℕ → TableInfo → List NamedTest → Option Refusal
 tests_refusal pos info [] = None
-tests_refusal pos info (t ∷ ts) = missing pos 8 (column_of info t.col) ⊳ tests_refusal pos info ts
+tests_refusal pos info (t ∷ ts) = missing pos no_column (column_of info t.col) ⊳ tests_refusal pos info ts
 
 -- a test with the number of its column
 abbrev pub test_of : TableInfo → NamedTest → Test
@@ -66,7 +70,7 @@ is_taken bucket keys before name = is_key bucket keys name || is_aggregate befor
 -- an aggregate's argument is there
 abbrev pub argument_refusal : ℕ → TableInfo → Option (List ℕ) → Option Refusal
 argument_refusal pos info None = None
-argument_refusal pos info (Some col) = missing pos 8 (column_of info col)
+argument_refusal pos info (Some col) = missing pos no_column (column_of info col)
 
 -- how many output columns the bucket, so many keys and so many aggregates are, as a count of 64 bits
 abbrev pub columns_before : ℕ → ℕ → ℕ
@@ -75,8 +79,8 @@ columns_before keys aggs = raised_by aggs (raised_by keys 1)
 -- one aggregate after so many columns, whose name is taken where it has to differ: its function's word, which names it without AS, its argument, the word after AS
 abbrev pub aggregate_refusal : ℕ → ℕ → TableInfo → ℕ → Bool → NamedAgg → Option Refusal
 aggregate_refusal pos count info others repeats a =
-    refused pos 7 (is_none a.name && repeats) ⊳ marked pos 21 count (nat_le 16 others) ⊳ argument_refusal pos info a.col
-    ⊳ refused pos 7 (is_some a.name && repeats)
+    refused pos name_taken (is_none a.name && repeats) ⊳ marked pos too_many count (nat_le most_columns others) ⊳ argument_refusal pos info a.col
+    ⊳ refused pos name_taken (is_some a.name && repeats)
 
 -- the aggregates from left to right, after a bucket, keys and the aggregates before; `distinct` where names have to differ
 abbrev pub aggregates_refusal : ℕ → Bool → ℕ → TableInfo → List ℕ → List (List ℕ) → List NamedAgg → List NamedAgg → Option Refusal
@@ -88,7 +92,7 @@ aggregates_refusal pos distinct count info bucket keys before (a ∷ left) =
 -- one key after so many columns, whose name is taken where it has to differ
 abbrev pub key_refusal : ℕ → ℕ → TableInfo → ℕ → Bool → List ℕ → Option Refusal
 key_refusal pos count info others repeats key =
-    refused pos 7 repeats ⊳ missing pos 8 (column_of info key) ⊳ marked pos 21 count (nat_le 16 others)
+    refused pos name_taken repeats ⊳ missing pos no_column (column_of info key) ⊳ marked pos too_many count (nat_le most_columns others)
 
 -- the keys from left to right, after a bucket and the keys before
 abbrev pub keys_refusal : ℕ → Bool → ℕ → TableInfo → List ℕ → List (List ℕ) → List (List ℕ) → Option Refusal
@@ -105,13 +109,20 @@ is_step n = int_lt (nonneg 0) n && int_le n max_step
 abbrev pub is_shift : ℤ → ℤ → Bool
 is_shift step n = int_le (nonneg 0) n && int_lt n step
 
+-- the name of the head's column: the one after AS, or the head's own word
+abbrev pub head_name : List ℕ → NamedFold → List ℕ
+head_name word f = unwrap_or f.name word
+
 -- the name of the bucket's column
 abbrev pub bucket_column : NamedFold → List ℕ
-bucket_column f = unwrap_or f.name bucket_name
+bucket_column f = head_name bucket_name f
 
--- the names of the output columns
+-- the names of the output columns, of which the head's is the first
+abbrev pub names_after : List ℕ → NamedFold → List (List ℕ)
+names_after head f = (head ∷ f.keys) ++ map aggregate_name f.aggs
+
 abbrev pub output_names : NamedFold → List (List ℕ)
-output_names f = (bucket_column f ∷ f.keys) ++ map aggregate_name f.aggs
+output_names f = names_after (bucket_column f) f
 
 -- how many output columns there are
 abbrev pub output_count : NamedFold → ℕ
@@ -125,17 +136,20 @@ is_time_column (Some n) = n == 0
 -- the width, the time column and the offset
 abbrev pub width_refusal : ℕ → TableInfo → NamedFold → Option Refusal
 width_refusal pos info f =
-    refused pos 14 (not (is_step f.step))
-    ⊳ refused pos 8 (not (is_time_column (column_of info f.at)))
-    ⊳ refused pos 14 (not (is_shift f.step f.shift))
+    refused pos bad_width (not (is_step f.step))
+    ⊳ refused pos no_column (not (is_time_column (column_of info f.at)))
+    ⊳ refused pos bad_width (not (is_shift f.step f.shift))
 
--- a fold over a hypertable, from left to right; `distinct` where its output names have to differ
-abbrev pub fold_refusal : ℕ → Bool → TableInfo → NamedFold → Option Refusal
-fold_refusal pos distinct info f =
-    width_refusal pos info f
-    ⊳ keys_refusal pos distinct (output_count f) info (bucket_column f) [] f.keys
-    ⊳ aggregates_refusal pos distinct (output_count f) info (bucket_column f) f.keys [] f.aggs
+-- the rest of a fold behind its head, whose column has this name, from left to right; `distinct` where output names have to differ
+abbrev pub rest_refusal : ℕ → Bool → List ℕ → TableInfo → NamedFold → Option Refusal
+rest_refusal pos distinct head info f =
+    keys_refusal pos distinct (output_count f) info head [] f.keys
+    ⊳ aggregates_refusal pos distinct (output_count f) info head f.keys [] f.aggs
     ⊳ tests_refusal pos info f.tests
+
+-- a fold over a hypertable: its bucket, and the rest
+abbrev pub fold_refusal : ℕ → Bool → TableInfo → NamedFold → Option Refusal
+fold_refusal pos distinct info f = width_refusal pos info f ⊳ rest_refusal pos distinct (bucket_column f) info f
 
 -- the column that an aggregate reads; `count(*)` has column 0
 abbrev pub argument_of : TableInfo → Option (List ℕ) → ℕ
@@ -144,6 +158,14 @@ argument_of info (Some col) = number_or_zero info col
 
 abbrev pub aggregate_of : TableInfo → NamedAgg → Agg
 aggregate_of info a = record { fun = a.fun; col = argument_of info a.col }
+
+-- the rest of a fold with the numbers of its columns
+abbrev pub rest_of : TableInfo → NamedFold → Rest
+rest_of info f = record {
+  keys = map (number_or_zero info) f.keys;
+  aggs = map (aggregate_of info) f.aggs;
+  tests = tests_of info f.tests;
+}
 
 -- a fold with the numbers of its columns
 abbrev pub fold_of : TableInfo → NamedFold → Fold

@@ -1,4 +1,5 @@
 pub mod Check
+pub mod Codes
 pub mod Folds
 pub mod Queried
 pub mod Queries
@@ -6,4 +7,5 @@ pub mod Refusals
 pub mod Results
 pub mod Rows
 pub mod Sound
+pub mod Subject
 pub mod Tables

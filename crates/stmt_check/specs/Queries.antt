@@ -1,8 +1,10 @@
 -- The buckets of an aggregate that tests ask for, and the chunks below a bound.
-use Rattle.std.specs.Prelude.{ℕ, ◌==◌, Bool, true, false, not, ◌&&◌, ℤ, pos as nonneg, negsuc, ◌+ℤ◌, ◌-ℤ◌, ◌^◌, ◌-◌, List, [], ◌∷◌, Option, Some, None}
-use Rattle.std.specs.Int.{int_max, int_min, int_rem_euclid}
+use Rattle.std.specs.Prelude.{ℕ, ◌==◌, Bool, true, false, not, ◌&&◌, ℤ, pos as nonneg, negsuc, ◌+ℤ◌, ◌^◌, ◌-◌, List, [], ◌∷◌, Option, Some, None}
+use Rattle.std.specs.Int.{int_max, int_min}
+use Rattle.ts_bucket.specs.Chunks.{chunk_start}
 use Rattle.ts_bucket.specs.Bucket.{is_time}
 use Rattle.ts_bucket.specs.Spans.{SpanValue}
+use Rattle.stmt_check.specs.Codes.{bad_time, no_column}
 use Rattle.ts_model.specs.declared.outcomes.Refusal.{Refusal}
 use Rattle.ts_model.specs.declared.views.ViewDef.{ViewDef}
 use Rattle.ts_schema.specs.declared.conditions.Cmp.{Cmp}
@@ -42,7 +44,7 @@ is_bucket_column (Some n) = n == 0
 -- tests on an aggregate: each is on its bucket column, and bounds it
 abbrev pub starts_refusal : ℕ → ViewDef → List NamedTest → Option Refusal
 starts_refusal pos def [] = None
-starts_refusal pos def (t ∷ ts) = refused pos 8 (not (is_bucket_column (view_column_of def t.col) && bounds_start t.cmp)) ⊳ starts_refusal pos def ts
+starts_refusal pos def (t ∷ ts) = refused pos no_column (not (is_bucket_column (view_column_of def t.col) && bounds_start t.cmp)) ⊳ starts_refusal pos def ts
 
 -- the least start that a test lets pass
 abbrev pub from_of : Cmp → ℤ → ℤ
@@ -82,11 +84,7 @@ starts_of tests = let lo = from_all least tests in record { lo = lo; hi = int_ma
 -- a bound of a window lies in the range of times
 abbrev pub bound_refusal : ℕ → Option ℤ → Option Refusal
 bound_refusal pos None = None
-bound_refusal pos (Some t) = refused pos 9 (not (is_time t))
-
--- where the chunk begins that holds n, for chunks of this interval
-abbrev pub chunk_start : ℤ → ℤ → ℤ
-chunk_start interval n = n -ℤ int_rem_euclid n interval
+bound_refusal pos (Some t) = refused pos bad_time (not (is_time t))
 
 -- the test that drop_chunks puts: the time lies before the chunk that holds n
 abbrev pub drop_test : ℤ → ℤ → Test

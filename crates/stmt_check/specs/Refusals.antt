@@ -1,5 +1,8 @@
 -- Refusals in the order of the things looked at.
-use Rattle.std.specs.Prelude.{ℕ, Bool, true, false, not, nat_le, List, Option, Some, None, if◌then◌else◌, is_none}
+use Rattle.std.specs.Prelude.{ℕ, suc, Bool, true, false, not, nat_le, List, Option, Some, None, if◌then◌else◌, is_none}
+use Rattle.stmt_check.specs.Codes.{no_relation, not_aggregate, not_hypertable}
+use Rattle.ts_model.specs.Limits.{most_relations}
+use Rattle.ts_model.specs.Calls.{name_taken, too_many}
 use Rattle.ts_model.specs.declared.outcomes.Refusal.{Refusal}
 use Rattle.ts_model.specs.declared.rosters.Roster.{Roster}
 use Rattle.ts_catalog.specs.declared.relations.Found.{Found}
@@ -30,36 +33,36 @@ finds_nothing (found.Plain n) = false
 finds_nothing (found.Hyper n) = false
 finds_nothing (found.View n) = false
 
--- a relation to be made has a new name, and of its kind there are fewer than 64
+-- a relation to be made has a new name, and of its kind there are fewer than there may be
 abbrev pub name_refusal : ℕ → Roster → List ℕ → ℕ → Option Refusal
 name_refusal pos roster name there =
-    refused pos 7 (not (finds_nothing (found_in roster name))) ⊳ marked pos 21 65 (nat_le 64 there)
+    refused pos name_taken (not (finds_nothing (found_in roster name))) ⊳ marked pos too_many (suc most_relations) (nat_le most_relations there)
 
 -- where a hypertable is needed: the name stands for nothing, or for something else
 abbrev pub hypertable_refusal : ℕ → Found → Option Refusal
-hypertable_refusal pos found.None = refused pos 6 true
-hypertable_refusal pos (found.Plain n) = refused pos 13 true
+hypertable_refusal pos found.None = refused pos no_relation true
+hypertable_refusal pos (found.Plain n) = refused pos not_hypertable true
 hypertable_refusal pos (found.Hyper n) = None
-hypertable_refusal pos (found.View n) = refused pos 13 true
+hypertable_refusal pos (found.View n) = refused pos not_hypertable true
 
 -- where a table is to become a hypertable: the name stands for nothing, for an aggregate, or for a hypertable
 abbrev pub plain_refusal : ℕ → Found → Option Refusal
-plain_refusal pos found.None = refused pos 6 true
+plain_refusal pos found.None = refused pos no_relation true
 plain_refusal pos (found.Plain n) = None
-plain_refusal pos (found.Hyper n) = refused pos 7 true
-plain_refusal pos (found.View n) = refused pos 13 true
+plain_refusal pos (found.Hyper n) = refused pos name_taken true
+plain_refusal pos (found.View n) = refused pos not_hypertable true
 
 -- where an aggregate is needed
 abbrev pub view_refusal : ℕ → Found → Option Refusal
-view_refusal pos found.None = refused pos 6 true
-view_refusal pos (found.Plain n) = refused pos 22 true
-view_refusal pos (found.Hyper n) = refused pos 22 true
+view_refusal pos found.None = refused pos no_relation true
+view_refusal pos (found.Plain n) = refused pos not_aggregate true
+view_refusal pos (found.Hyper n) = refused pos not_aggregate true
 view_refusal pos (found.View n) = None
 
 -- where something that can be queried is needed
 abbrev pub query_refusal : ℕ → Found → Option Refusal
-query_refusal pos found.None = refused pos 6 true
-query_refusal pos (found.Plain n) = refused pos 13 true
+query_refusal pos found.None = refused pos no_relation true
+query_refusal pos (found.Plain n) = refused pos not_hypertable true
 query_refusal pos (found.Hyper n) = None
 query_refusal pos (found.View n) = None
 

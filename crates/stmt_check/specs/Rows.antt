@@ -1,6 +1,8 @@
 -- Rows to be inserted.
 use Rattle.std.specs.Prelude.{ℕ, ◌+◌, ◌==◌, Bool, false, not, ◌||◌, ◌&&◌, nat_le, ℤ, pos as nonneg, List, [], ◌∷◌, ◌++◌, length, map, slice_index_or, Option, Some, None, is_none, unwrap_or, if◌then◌else◌}
 use Rattle.ts_bucket.specs.Bucket.{is_time}
+use Rattle.stmt_check.specs.Codes.{most_rows, bad_time, no_column, null_value, value_count}
+use Rattle.ts_model.specs.Calls.{name_taken, too_many}
 use Rattle.ts_model.specs.declared.outcomes.Refusal.{Refusal}
 use Rattle.ts_schema.specs.declared.columns.Column.{Column}
 use Rattle.ts_schema.specs.declared.rows.Row.{Row}
@@ -11,8 +13,8 @@ use Rattle.stmt_check.specs.Refusals.{◌⊳◌, marked, missing, refused}
 use Rattle.stmt_check.specs.Tables.{is_among}
 
 -- a column without a name that may be NULL
-abbrev pub no_column : Column
-no_column = record { name = []; must = false }
+abbrev pub blank_column : Column
+blank_column = record { name = []; must = false }
 
 -- the rule of the column with the declared place `place`, where the time column has the place `at`
 abbrev pub rule_at : ℕ → Column → ℕ → Rule
@@ -25,7 +27,7 @@ rules_from at k (c ∷ cs) = rule_at at c k ∷ rules_from at (k + 1) cs
 
 -- the rule of the column with a name
 abbrev pub rule_of : ℕ → List Column → List ℕ → Rule
-rule_of at cols name = let place = unwrap_or (column_from name 0 cols) 0 in rule_at at (slice_index_or cols place no_column) place
+rule_of at cols name = let place = unwrap_or (column_from name 0 cols) 0 in rule_at at (slice_index_or cols place blank_column) place
 
 -- the rule of each value of a row: values stand for the columns listed, or for all in declared order
 abbrev pub value_rules : ℕ → List Column → Option (List (List ℕ)) → List Rule
@@ -41,7 +43,7 @@ place_in (Some names) k c = place_from c.name 0 names
 abbrev pub list_refusal : ℕ → List Column → List (List ℕ) → List (List ℕ) → Option Refusal
 list_refusal pos cols before [] = None
 list_refusal pos cols before (n ∷ ns) =
-    refused pos 7 (is_among n before) ⊳ missing pos 8 (column_from n 0 cols) ⊳ list_refusal pos cols (before ++ n ∷ []) ns
+    refused pos name_taken (is_among n before) ⊳ missing pos no_column (column_from n 0 cols) ⊳ list_refusal pos cols (before ++ n ∷ []) ns
 
 abbrev pub list_refusal_of : ℕ → List Column → Option (List (List ℕ)) → Option Refusal
 list_refusal_of pos cols None = None
@@ -54,8 +56,8 @@ leaves_out at names k (c ∷ cs) = ((c.must || at == k) && is_none (place_in nam
 
 -- one value: a time lies in the range of times, and NULL stands only where it may
 abbrev pub value_refusal : ℕ → Rule → Option ℤ → Option Refusal
-value_refusal pos rule None = refused pos 12 rule.must
-value_refusal pos rule (Some v) = refused pos 9 (rule.time && not (is_time v))
+value_refusal pos rule None = refused pos null_value rule.must
+value_refusal pos rule (Some v) = refused pos bad_time (rule.time && not (is_time v))
 
 -- the values of a row from left to right
 abbrev pub values_refusal : ℕ → List Rule → List (Option ℤ) → Option Refusal
@@ -66,9 +68,9 @@ values_refusal pos (r ∷ rs) (v ∷ vs) = value_refusal pos r v ⊳ values_refu
 -- one row: at its parenthesis the 1,001st row, the count of values and the columns left out, then its values
 abbrev pub row_refusal : ℕ → Shape → ℕ → List (Option ℤ) → Option Refusal
 row_refusal pos shape k values =
-    marked pos 21 shape.count (nat_le 1000 k)
-    ⊳ refused pos 11 (not (length values == length shape.rules))
-    ⊳ refused pos 12 shape.left_out
+    marked pos too_many shape.count (nat_le most_rows k)
+    ⊳ refused pos value_count (not (length values == length shape.rules))
+    ⊳ refused pos null_value shape.left_out
     ⊳ values_refusal pos shape.rules values
 
 -- the rows in order

@@ -9,7 +9,12 @@ use Rattle.ts_model.specs.declared.events.Op.{Op}
 use Rattle.ts_model.specs.declared.views.ViewDef.{ViewDef}
 use Rattle.ts_model.specs.History.{History, Begins}
 use Rattle.ts_model.specs.Roster.{roster, view_of}
-use Rattle.ts_model.specs.Allowed.{all_allowed, can_ask, op_bytes, op_fits, sound, timely}
+use Rattle.ts_model.specs.Allowed.{all_allowed}
+use Rattle.ts_model.specs.Answers.{can_ask}
+use Rattle.ts_model.specs.Bytes.{op_bytes}
+use Rattle.ts_model.specs.Sound.{op_fits, sound}
+use Rattle.ts_model.specs.Timely.{timely}
+use Rattle.stmt_reader.specs.Limits.{longest_line, longest_input}
 use Rattle.stmt_reader.specs.Written.{IsWritten}
 use Rattle.stmt_reader.specs.declared.statements.Stmt.{Stmt}
 use Rattle.stmt_check.specs.declared.actions.Action.{Action}
@@ -57,7 +62,7 @@ IsSound h bytes (actions.Ask query) = IsTrue (can_ask (roster h) query)
 
 -- a statement of a text of at most 65,536 bytes that isn't refused at an allowed history asks for something sound there
 abbrev pub ActionsAreSound : Type 0
-ActionsAreSound = (h : History) (pos bytes : ℕ) (s : Stmt) → all_allowed h ≡ true → IsWritten bytes s → bytes ≤ 65536 → refusal_of pos (roster h) s ≡ None → IsSound h bytes (action_of (roster h) s)
+ActionsAreSound = (h : History) (pos bytes : ℕ) (s : Stmt) → all_allowed h ≡ true → IsWritten bytes s → bytes ≤ longest_line → refusal_of pos (roster h) s ≡ None → IsSound h bytes (action_of (roster h) s)
 
 -- the roster of an allowed history can be checked against
 abbrev pub RostersAreNumbered : Type 0
@@ -74,5 +79,5 @@ pub record IsQueue (h : History) (bytes : ℕ) (ops : List Op) : Type 0 where
 pub record QueuesAreSound : Type 0 where
   pub begins : (h : History) → IsQueue h 0 []
   pub grows : (h : History) (bytes more : ℕ) (ops : List Op) (op : Op) → IsQueue h bytes ops → IsOperation h more op → IsQueue h (bytes + more) (ops ++ op ∷ [])
-  pub stays : (g h : History) (bytes : ℕ) (ops : List Op) → Begins g h → bytes ≤ 67108864 → IsQueue g bytes ops → IsQueue h bytes ops
-  pub commits : (h : History) (bytes : ℕ) (ops : List Op) → IsQueue h bytes ops → 0 < length ops → bytes ≤ 67108864 → MayCome h (events.Commit ops)
+  pub stays : (g h : History) (bytes : ℕ) (ops : List Op) → Begins g h → bytes ≤ longest_input → IsQueue g bytes ops → IsQueue h bytes ops
+  pub commits : (h : History) (bytes : ℕ) (ops : List Op) → IsQueue h bytes ops → 0 < length ops → bytes ≤ longest_input → MayCome h (events.Commit ops)

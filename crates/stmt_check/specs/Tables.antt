@@ -1,6 +1,10 @@
 -- Tables and hypertables to be made.
-use Rattle.std.specs.Prelude.{ℕ, Bool, not, nat_le, ℤ, pos as nonneg, List, [], ◌∷◌, ◌++◌, length, Option, None, ◌^◌, int_le, ◌&&◌}
+use Rattle.std.specs.Prelude.{ℕ, Bool, not, nat_le, ℤ, pos as nonneg, List, [], ◌∷◌, ◌++◌, length, Option, None, int_le, ◌&&◌}
 use Rattle.std.specs.List.{list_any}
+use Rattle.stmt_check.specs.Codes.{bad_width, no_column}
+use Rattle.ts_bucket.specs.Chunks.{max_interval}
+use Rattle.ts_model.specs.Limits.{most_columns}
+use Rattle.ts_model.specs.Calls.{name_taken, too_many}
 use Rattle.ts_model.specs.declared.outcomes.Refusal.{Refusal}
 use Rattle.ts_model.specs.declared.rosters.Roster.{Roster}
 use Rattle.ts_schema.specs.declared.columns.Column.{Column}
@@ -16,11 +20,11 @@ is_among name names = list_any (λ other. same_name other name) names
 abbrev pub is_column : List ℕ → List Column → Bool
 is_column name cols = list_any (λ c. same_name c.name name) cols
 
--- the columns of a table, in order after those before: none is named twice, and there are at most 16
+-- the columns of a table, in order after those before: none is named twice, and there are no more than there may be
 abbrev pub columns_refusal : ℕ → ℕ → List Column → List Column → Option Refusal
 columns_refusal pos count before [] = None
 columns_refusal pos count before (c ∷ cs) =
-    refused pos 7 (is_column c.name before) ⊳ marked pos 21 count (nat_le 16 (length before)) ⊳ columns_refusal pos count (before ++ c ∷ []) cs
+    refused pos name_taken (is_column c.name before) ⊳ marked pos too_many count (nat_le most_columns (length before)) ⊳ columns_refusal pos count (before ++ c ∷ []) cs
 
 -- CREATE TABLE
 abbrev pub table_refusal : ℕ → Roster → List ℕ → List Column → Option Refusal
@@ -28,8 +32,8 @@ table_refusal pos roster name cols = name_refusal pos roster name (length roster
 
 -- an interval is from 1 to 2 ^ 50
 abbrev pub is_interval : ℤ → Bool
-is_interval n = int_le (nonneg 1) n && int_le n (nonneg (2 ^ 50))
+is_interval n = int_le (nonneg 1) n && int_le n max_interval
 
 -- the column and the interval of create_hypertable
 abbrev pub hyper_refusal : ℕ → List Column → List ℕ → ℤ → Option Refusal
-hyper_refusal pos cols col interval = missing pos 8 (column_from col 0 cols) ⊳ refused pos 14 (not (is_interval interval))
+hyper_refusal pos cols col interval = missing pos no_column (column_from col 0 cols) ⊳ refused pos bad_width (not (is_interval interval))

@@ -2,11 +2,12 @@
 ghost use Rattle.std.specs.Prelude.{◌≡◌, ◌<◌, ◌+◌, ◌^◌, ◌&&◌, ◌++◌, [], length, map, unwrap_or, IfOk, IsTrue};
 ghost use Rattle.ts_schema.specs.Names.{is_name};
 ghost use Rattle.ts_num.specs.declared.values.Fun.{Fun};
-ghost use Rattle.stmt_check.specs.Folds.{aggregate_name, aggregate_of, aggregate_refusal, aggregates_refusal, argument_of, argument_refusal, bucket_column, columns_before, is_aggregate, bucket_name, fold_of, fold_refusal, function_name, is_key, is_step, is_taken, is_time_column, key_refusal, keys_refusal, number_or_zero, output_count, output_names, test_of, tests_of, tests_refusal, width_refusal};
+ghost use Rattle.stmt_check.specs.Folds.{aggregate_name, aggregate_of, aggregate_refusal, aggregates_refusal, argument_of, argument_refusal, bucket_column, columns_before, is_aggregate, bucket_name, fold_of, fold_refusal, function_name, head_name, rest_of, rest_refusal, is_key, is_step, is_taken, is_time_column, key_refusal, keys_refusal, number_or_zero, output_count, output_names, test_of, tests_of, tests_refusal, width_refusal};
 ghost use Rattle.stmt_check.specs.Results.{Checks, Passes};
 ghost use Rattle.stmt_check.specs.Tables.{is_among};
 
 use crate::actions::Stop;
+use crate::codes::{BAD_WIDTH, MAX_COLUMNS, NAME_TAKEN, NO_COLUMN, TOO_MANY};
 use crate::refusals::{present, refuse_if, refuse_marked};
 use std::alloc::Global;
 use stmt_reader::{NamedAgg, NamedFold, NamedTest};
@@ -16,8 +17,8 @@ use ts_model::{Agg, Fold, Refusal, TableInfo};
 use ts_num::Fun;
 use ts_schema::{Name, NoMemory, Seq, Test};
 
-/// The greatest number of output columns.
-const MAX_COLUMNS: u64 = 16;
+/// The name of a bucket's column where no other is given.
+const BUCKET_NAME: &[u8] = b"time_bucket";
 
 /// The greatest step of a width.
 const MAX_STEP: i64 = 1_099_511_627_776;
@@ -34,7 +35,7 @@ pub(crate) fn check_tests(
 {
     let mut numbered = Seq::new(alloc);
     for test in tests {
-        let col = present(pos, 8, column(info, &test.col))?;
+        let col = present(pos, NO_COLUMN, column(info, &test.col))?;
         numbered.push(Test {
             col,
             cmp: test.cmp,
@@ -42,6 +43,14 @@ pub(crate) fn check_tests(
         })?;
     }
     Ok(numbered)
+}
+
+/// What stands behind the head of a fold, with the numbers of its columns.
+#[derive(Drop)]
+pub(crate) struct Rest {
+    keys: Seq<u32>,
+    aggs: Seq<Agg>,
+    tests: Seq<Test>,
 }
 
 /// The fold with the numbers of its columns; `distinct` where its output names have to differ.
@@ -56,9 +65,14 @@ pub(crate) fn check_fold(
     ensures { Checks (fold_refusal pos distinct info.now fold.now) (fold_of info.now fold.now) result }
 {
     let width = check_width(pos, info, fold)?;
-    let keys = check_keys(alloc, pos, distinct, info, fold)?;
-    let aggs = check_aggregates(alloc, pos, distinct, info, fold)?;
-    let tests = check_tests(alloc, pos, info, fold.tests.items())?;
+    let Rest { keys, aggs, tests } = check_rest(
+        alloc,
+        pos,
+        distinct,
+        name_of_head(BUCKET_NAME, fold),
+        info,
+        fold,
+    )?;
     Ok(Fold {
         width,
         keys,
@@ -67,17 +81,35 @@ pub(crate) fn check_fold(
     })
 }
 
+/// The rest of a fold behind its head, whose column has this name.
+pub(crate) fn check_rest(
+    alloc: Global,
+    pos: u64,
+    distinct: bool,
+    head: &[u8],
+    info: &TableInfo,
+    fold: &NamedFold,
+) -> Result<Rest, Stop>
+    requires { length info.now.def.cols < 2 ^ 32 }
+    ensures { Checks (rest_refusal pos distinct head.now info.now fold.now) (rest_of info.now fold.now) result }
+{
+    let keys = check_keys(alloc, pos, distinct, head, info, fold)?;
+    let aggs = check_aggregates(alloc, pos, distinct, head, info, fold)?;
+    let tests = check_tests(alloc, pos, info, fold.tests.items())?;
+    Ok(Rest { keys, aggs, tests })
+}
+
 /// The width, where it is in range and the column is the time column.
 fn check_width(pos: u64, info: &TableInfo, fold: &NamedFold) -> Result<Width, Stop>
     requires { length info.now.def.cols < 2 ^ 32 }
     ensures { Checks (width_refusal pos info.now fold.now) (record { step = fold.now.step; shift = fold.now.shift }) result }
 {
-    refuse_if(pos, 14, !is_step_in_range(fold.step))?;
-    refuse_if(pos, 8, !is_time(column(info, &fold.at)))?;
+    refuse_if(pos, BAD_WIDTH, !is_step_in_range(fold.step))?;
+    refuse_if(pos, NO_COLUMN, !is_time(column(info, &fold.at)))?;
     match width(fold.step, fold.shift) {
         Some(width) => Ok(width),
         None => Err(Stop::Refused(Refusal {
-            code: 14,
+            code: BAD_WIDTH,
             pos,
             mark: 0,
         })),
@@ -107,18 +139,18 @@ fn check_keys(
     alloc: Global,
     pos: u64,
     distinct: bool,
+    head: &[u8],
     info: &TableInfo,
     fold: &NamedFold,
 ) -> Result<Seq<u32>, Stop>
     requires { length info.now.def.cols < 2 ^ 32 }
-    ensures { Checks (keys_refusal pos distinct (output_count fold.now) info.now (bucket_column fold.now) [] fold.now.keys) (map (number_or_zero info.now) fold.now.keys) result }
+    ensures { Checks (keys_refusal pos distinct (output_count fold.now) info.now head.now [] fold.now.keys) (map (number_or_zero info.now) fold.now.keys) result }
 {
     let keys = fold.keys.items();
     let count = count_columns(fold);
-    let bucket = name_of_bucket(fold);
     let mut numbers = Seq::new(alloc);
     for (place, key) in keys.iter().enumerate() {
-        let taken = is_bucket_or_key(bucket, &keys[..place], key.bytes());
+        let taken = is_bucket_or_key(head, &keys[..place], key.bytes());
         let number = check_key(
             pos,
             distinct && taken,
@@ -144,9 +176,9 @@ fn check_key(
     requires { length info.now.def.cols < 2 ^ 32 }
     ensures { Checks (key_refusal pos count info.now others repeats key.now) (number_or_zero info.now key.now) result }
 {
-    refuse_if(pos, 7, repeats)?;
-    let number = present(pos, 8, column(info, key))?;
-    refuse_marked(pos, 21, count, others >= MAX_COLUMNS)?;
+    refuse_if(pos, NAME_TAKEN, repeats)?;
+    let number = present(pos, NO_COLUMN, column(info, key))?;
+    refuse_marked(pos, TOO_MANY, count, others >= MAX_COLUMNS as u64)?;
     Ok(number)
 }
 
@@ -156,19 +188,19 @@ fn check_aggregates(
     alloc: Global,
     pos: u64,
     distinct: bool,
+    head: &[u8],
     info: &TableInfo,
     fold: &NamedFold,
 ) -> Result<Seq<Agg>, Stop>
     requires { length info.now.def.cols < 2 ^ 32 }
-    ensures { Checks (aggregates_refusal pos distinct (output_count fold.now) info.now (bucket_column fold.now) fold.now.keys [] fold.now.aggs) (map (aggregate_of info.now) fold.now.aggs) result }
+    ensures { Checks (aggregates_refusal pos distinct (output_count fold.now) info.now head.now fold.now.keys [] fold.now.aggs) (map (aggregate_of info.now) fold.now.aggs) result }
 {
     let aggs = fold.aggs.items();
     let keys = fold.keys.items();
     let count = count_columns(fold);
-    let bucket = name_of_bucket(fold);
     let mut numbered = Seq::new(alloc);
     for (place, agg) in aggs.iter().enumerate() {
-        let taken = is_output(bucket, keys, &aggs[..place], name_of_aggregate(agg));
+        let taken = is_output(head, keys, &aggs[..place], name_of_aggregate(agg));
         let others = columns_up_to(keys.len(), place);
         numbered.push(check_aggregate(pos, distinct && taken, count, info, others, agg)?)?;
     }
@@ -188,10 +220,10 @@ fn check_aggregate(
     requires { length info.now.def.cols < 2 ^ 32 }
     ensures { Checks (aggregate_refusal pos count info.now others repeats agg.now) (aggregate_of info.now agg.now) result }
 {
-    refuse_if(pos, 7, agg.name.is_none() && repeats)?;
-    refuse_marked(pos, 21, count, others >= MAX_COLUMNS)?;
+    refuse_if(pos, NAME_TAKEN, agg.name.is_none() && repeats)?;
+    refuse_marked(pos, TOO_MANY, count, others >= MAX_COLUMNS as u64)?;
     let col = check_argument(pos, info, &agg.col)?;
-    refuse_if(pos, 7, agg.name.is_some() && repeats)?;
+    refuse_if(pos, NAME_TAKEN, agg.name.is_some() && repeats)?;
     Ok(Agg { fun: agg.fun, col })
 }
 
@@ -202,7 +234,7 @@ fn check_argument(pos: u64, info: &TableInfo, col: &Option<Name>) -> Result<u32,
 {
     match col {
         None => Ok(0),
-        Some(col) => present(pos, 8, column(info, col)),
+        Some(col) => present(pos, NO_COLUMN, column(info, col)),
     }
 }
 
@@ -220,13 +252,13 @@ fn count_columns(fold: &NamedFold) -> u64
     columns_up_to(fold.keys.len(), fold.aggs.len())
 }
 
-/// The name of the bucket's column.
-fn name_of_bucket(fold: &NamedFold) -> &[u8]
-    ensures { result.now ≡ bucket_column fold.now }
+/// The name of the head's column: the one after AS, or the head's own word.
+fn name_of_head<'a>(word: &'a [u8], fold: &'a NamedFold) -> &'a [u8]
+    ensures { result.now ≡ head_name word.now fold.now }
 {
     match &fold.name {
         Some(name) => name.bytes(),
-        None => b"time_bucket",
+        None => word,
     }
 }
 
@@ -287,7 +319,7 @@ pub(crate) fn names_of_outputs(alloc: Global, fold: &NamedFold) -> Result<Seq<Na
     ensures { IfOk result (λ names. names ≡ output_names fold.now) }
 {
     let mut names = Seq::new(alloc);
-    names.push(output_name(alloc, &fold.name, b"time_bucket")?)?;
+    names.push(output_name(alloc, &fold.name, BUCKET_NAME)?)?;
     push_keys(&mut names, fold.keys.items())?;
     push_aggregates(alloc, &mut names, fold.aggs.items())?;
     Ok(names)

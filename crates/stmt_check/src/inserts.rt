@@ -2,18 +2,16 @@
 ghost use Rattle.std.specs.Prelude.{◌≡◌, ◌<◌, ◌^◌, ◌==◌, ◌||◌, [], length, map, take, slice_index_or, None, IfOk};
 ghost use Rattle.ts_catalog.specs.Columns.{place_from};
 ghost use Rattle.stmt_check.specs.Results.{Checks, Passes};
-ghost use Rattle.stmt_check.specs.Rows.{no_column, leaves_out, list_refusal, list_refusal_of, other_places, picked, place_in, row_of, row_refusal, rows_of, rows_refusal, rule_at, rule_of, rules_from, shape_of, time_place, value_refusal, value_rules, values_refusal, insert_refusal, inserted_rows};
+ghost use Rattle.stmt_check.specs.Rows.{blank_column, leaves_out, list_refusal, list_refusal_of, other_places, picked, place_in, row_of, row_refusal, rows_of, rows_refusal, rule_at, rule_of, rules_from, shape_of, time_place, value_refusal, value_rules, values_refusal, insert_refusal, inserted_rows};
 ghost use Rattle.stmt_check.specs.Tables.{is_among};
 
 use crate::actions::Stop;
+use crate::codes::{MAX_ROWS, NAME_TAKEN, NO_COLUMN, NULL_VALUE, TOO_MANY, VALUE_COUNT};
 use crate::refusals::{present, refuse_if, refuse_marked};
 use std::alloc::Global;
 use ts_bucket::{MAX_TIME, MIN_TIME};
 use ts_catalog::column_place;
 use ts_schema::{Column, Name, NoMemory, Row, Seq};
-
-/// The greatest number of rows of one INSERT.
-const MAX_ROWS: usize = 1000;
 
 /// What a value has to meet.
 #[derive(Clone, Copy, Debug, PartialEq, Eq)]
@@ -74,8 +72,8 @@ fn check_names(pos: u64, columns: &[Column], names: &[Name]) -> Result<(), Stop>
     ensures { Passes (list_refusal pos columns.now [] names.now) result }
 {
     for (place, name) in names.iter().enumerate() {
-        refuse_if(pos, 7, has_name(&names[..place], name))?;
-        present(pos, 8, column_place(columns, name))?;
+        refuse_if(pos, NAME_TAKEN, has_name(&names[..place], name))?;
+        present(pos, NO_COLUMN, column_place(columns, name))?;
     }
     Ok(())
 }
@@ -172,7 +170,7 @@ fn rule_named(at: u32, columns: &[Column], name: &Name) -> Rule
 
 /// Whether the column at a place must not be NULL.
 fn must_at(columns: &[Column], place: usize) -> bool
-    ensures { result ≡ (slice_index_or columns.now place no_column).must }
+    ensures { result ≡ (slice_index_or columns.now place blank_column).must }
 {
     if place < columns.len() {
         columns[place].must
@@ -266,9 +264,9 @@ fn check_each(
 fn check_row(pos: u64, shape: &Shape, place: usize, values: &[Option<i64>]) -> Result<(), Stop>
     ensures { Passes (row_refusal pos shape.now place values.now) result }
 {
-    refuse_marked(pos, 21, shape.count, place >= MAX_ROWS)?;
-    refuse_if(pos, 11, values.len() != shape.rules.len())?;
-    refuse_if(pos, 12, shape.left_out)?;
+    refuse_marked(pos, TOO_MANY, shape.count, place >= MAX_ROWS)?;
+    refuse_if(pos, VALUE_COUNT, values.len() != shape.rules.len())?;
+    refuse_if(pos, NULL_VALUE, shape.left_out)?;
     check_values(pos, shape.rules.items(), values)
 }
 
@@ -293,7 +291,7 @@ fn check_value(pos: u64, rule: Rule, value: Option<i64>) -> Result<(), Stop>
     ensures { Passes (value_refusal pos rule value) result }
 {
     match value {
-        None => refuse_if(pos, 12, rule.must),
+        None => refuse_if(pos, NULL_VALUE, rule.must),
         Some(number) => refuse_if(
             pos,
             9,

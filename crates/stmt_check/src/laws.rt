@@ -1,4 +1,5 @@
 //! Laws of checks. Each is the clause of a function that does nothing.
+ghost use Rattle.stmt_check.specs.Subject.{AllowedIsReady, DropsWholeChunks, StartsPassEach, ValuesArrive};
 ghost use Rattle.stmt_check.specs.Sound.{ActionsAreSound, QueuesAreSound, RostersAreNumbered};
 
 /// The roster of an allowed history may be checked against.
@@ -14,4 +15,24 @@ pub fn actions_are_sound_law()
 /// Operations that statements ask for can be queued and committed together.
 pub fn queues_are_sound_law()
     ensures { QueuesAreSound }
+{}
+
+/// The starts that a query of an aggregate asks for are exactly those that pass every test.
+pub fn starts_pass_each_law()
+    ensures { StartsPassEach }
+{}
+
+/// `drop_chunks` takes away the rows of the chunks that end at or before its bound.
+pub fn drops_whole_chunks_law()
+    ensures { DropsWholeChunks }
+{}
+
+/// The value written for a column arrives in that column, and a column that is left out is NULL.
+pub fn values_arrive_law()
+    ensures { ValuesArrive }
+{}
+
+/// A CREATE TABLE, a hypertable and an aggregate whose event would be allowed aren't refused.
+pub fn allowed_is_ready_law()
+    ensures { AllowedIsReady }
 {}

@@ -2,6 +2,7 @@
 #![tactic(auto)]
 
 mod actions;
+mod codes;
 mod folds;
 mod inserts;
 mod laws;
@@ -14,5 +15,9 @@ mod tables;
 mod tests;
 
 pub use actions::{Action, Checked};
-pub use laws::{actions_are_sound_law, queues_are_sound_law, rosters_are_numbered_law};
+pub use codes::numbers_law;
+pub use laws::{
+    actions_are_sound_law, allowed_is_ready_law, drops_whole_chunks_law, queues_are_sound_law,
+    rosters_are_numbered_law, starts_pass_each_law, values_arrive_law,
+};
 pub use statements::check;

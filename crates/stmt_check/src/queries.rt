@@ -6,9 +6,10 @@ ghost use Rattle.stmt_check.specs.Results.{Checks, Passes};
 ghost use Rattle.stmt_check.specs.Tables.{is_interval};
 
 use crate::actions::Stop;
+use crate::codes::{BAD_TIME, NO_COLUMN};
 use crate::refusals::refuse_if;
 use stmt_reader::NamedTest;
-use ts_bucket::{MAX_TIME, MIN_TIME, Span};
+use ts_bucket::{MAX_TIME, MIN_TIME, Span, chunk_start};
 use ts_catalog::view_column;
 use ts_model::ViewDef;
 use ts_schema::{Cmp, Test};
@@ -20,7 +21,7 @@ pub(crate) fn check_starts(pos: u64, def: &ViewDef, tests: &[NamedTest]) -> Resu
 {
     for test in tests {
         let bounds = is_first(view_column(def, &test.col)) && is_bound(test.cmp);
-        refuse_if(pos, 8, !bounds)?;
+        refuse_if(pos, NO_COLUMN, !bounds)?;
     }
     Ok(span_of(tests))
 }
@@ -107,7 +108,7 @@ pub(crate) fn check_bound(pos: u64, bound: Option<i64>) -> Result<(), Stop>
 {
     match bound {
         None => Ok(()),
-        Some(time) => refuse_if(pos, 9, !(MIN_TIME <= time && time <= MAX_TIME)),
+        Some(time) => refuse_if(pos, BAD_TIME, !(MIN_TIME <= time && time <= MAX_TIME)),
     }
 }
 
@@ -120,6 +121,6 @@ pub(crate) fn before_chunk(interval: i64, below: i64) -> Test
     Test {
         col: 0,
         cmp: Cmp::Lt,
-        num: below - below.rem_euclid(interval),
+        num: chunk_start(interval, below),
     }
 }

@@ -8,6 +8,9 @@ ghost use Rattle.stmt_check.specs.Tables.{is_interval};
 ghost use Rattle.stmt_check.specs.Results.{Checks, Passes};
 
 use crate::actions::Stop;
+use crate::codes::{
+    MAX_RELATIONS, NAME_TAKEN, NO_RELATION, NOT_AGGREGATE, NOT_HYPERTABLE, TOO_MANY,
+};
 use crate::refusals::{refuse_if, refuse_marked};
 use ts_catalog::{Found, find};
 use ts_model::{Refusal, Roster, TableInfo, ViewDef};
@@ -25,8 +28,13 @@ pub(crate) fn new_name(pos: u64, roster: &Roster, name: &Name, there: usize) -> 
     requires { IsNumbered roster.now }
     ensures { Passes (name_refusal pos roster.now name.now there) result }
 {
-    refuse_if(pos, 7, !is_nothing(find(roster, name)))?;
-    refuse_marked(pos, 21, 65, there >= 64)
+    refuse_if(pos, NAME_TAKEN, !is_nothing(find(roster, name)))?;
+    refuse_marked(
+        pos,
+        TOO_MANY,
+        MAX_RELATIONS as u64 + 1,
+        there >= MAX_RELATIONS,
+    )
 }
 
 /// Whether nothing was found.
@@ -46,8 +54,8 @@ pub(crate) fn hypertable(pos: u64, roster: &Roster, name: &Name) -> Result<u32, 
     ensures there { IfOk result (λ n. n < length roster.now.tables) }
 {
     match find(roster, name) {
-        Found::None => Err(stop(pos, 6)),
-        Found::Plain(_) | Found::View(_) => Err(stop(pos, 13)),
+        Found::None => Err(stop(pos, NO_RELATION)),
+        Found::Plain(_) | Found::View(_) => Err(stop(pos, NOT_HYPERTABLE)),
         Found::Hyper(number) => Ok(number),
     }
 }
@@ -59,10 +67,10 @@ pub(crate) fn plain_table(pos: u64, roster: &Roster, name: &Name) -> Result<u32,
     ensures there { IfOk result (λ n. n < length roster.now.tables) }
 {
     match find(roster, name) {
-        Found::None => Err(stop(pos, 6)),
+        Found::None => Err(stop(pos, NO_RELATION)),
         Found::Plain(number) => Ok(number),
-        Found::Hyper(_) => Err(stop(pos, 7)),
-        Found::View(_) => Err(stop(pos, 13)),
+        Found::Hyper(_) => Err(stop(pos, NAME_TAKEN)),
+        Found::View(_) => Err(stop(pos, NOT_HYPERTABLE)),
     }
 }
 
@@ -73,8 +81,8 @@ pub(crate) fn aggregate(pos: u64, roster: &Roster, name: &Name) -> Result<u32, S
     ensures there { IfOk result (λ n. n < length roster.now.views) }
 {
     match find(roster, name) {
-        Found::None => Err(stop(pos, 6)),
-        Found::Plain(_) | Found::Hyper(_) => Err(stop(pos, 22)),
+        Found::None => Err(stop(pos, NO_RELATION)),
+        Found::Plain(_) | Found::Hyper(_) => Err(stop(pos, NOT_AGGREGATE)),
         Found::View(number) => Ok(number),
     }
 }
@@ -95,8 +103,8 @@ pub(crate) fn queryable(pos: u64, roster: &Roster, name: &Name) -> Result<Querie
     ensures there { IfOk result (IsInRoster roster.now) }
 {
     match find(roster, name) {
-        Found::None => Err(stop(pos, 6)),
-        Found::Plain(_) => Err(stop(pos, 13)),
+        Found::None => Err(stop(pos, NO_RELATION)),
+        Found::Plain(_) => Err(stop(pos, NOT_HYPERTABLE)),
         Found::Hyper(number) => Ok(Queried::Table(number)),
         Found::View(number) => Ok(Queried::View(number)),
     }

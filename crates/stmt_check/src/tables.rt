@@ -5,6 +5,7 @@ ghost use Rattle.stmt_check.specs.Results.{Checks, Passes};
 ghost use Rattle.stmt_check.specs.Tables.{columns_refusal, hyper_refusal, is_column, is_interval};
 
 use crate::actions::Stop;
+use crate::codes::{BAD_WIDTH, MAX_COLUMNS, NAME_TAKEN, NO_COLUMN, TOO_MANY};
 use crate::refusals::{present, refuse_if, refuse_marked};
 use ts_catalog::column_place;
 use ts_schema::{Column, Name};
@@ -25,8 +26,8 @@ pub(crate) fn check_columns(pos: u64, columns: &[Column]) -> Result<(), Stop>
     ensures { Passes (columns_refusal pos (length columns.now) [] columns.now) result }
 {
     for (place, column) in columns.iter().enumerate() {
-        refuse_if(pos, 7, has_column(&columns[..place], &column.name))?;
-        refuse_marked(pos, 21, columns.len() as u64, place >= 16)?;
+        refuse_if(pos, NAME_TAKEN, has_column(&columns[..place], &column.name))?;
+        refuse_marked(pos, TOO_MANY, columns.len() as u64, place >= MAX_COLUMNS)?;
     }
     Ok(())
 }
@@ -41,8 +42,8 @@ pub(crate) fn check_hyper(
     requires { length columns.now < 2 ^ 32 }
     ensures { Checks (hyper_refusal pos columns.now name.now interval) (unwrap_or (column_from name.now 0 columns.now) 0) result }
 {
-    let place = present(pos, 8, column_place(columns, name))?;
-    refuse_if(pos, 14, !is_in_range(interval))?;
+    let place = present(pos, NO_COLUMN, column_place(columns, name))?;
+    refuse_if(pos, BAD_WIDTH, !is_in_range(interval))?;
     Ok(place)
 }
 

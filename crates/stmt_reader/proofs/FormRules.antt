@@ -4,12 +4,13 @@ use Rattle.std.specs.Prelude.{codes}
 use Rattle.stmt_reader.specs.Tokens.{Token, number, mark}
 use Rattle.stmt_reader.specs.Scan as scan
 use Rattle.stmt_reader.specs.Scan.{Seen, seen}
-use Rattle.stmt_reader.specs.Words.{is_keyword, is_mark, is_number}
+use Rattle.stmt_reader.specs.Words.{is_keyword, is_mark, is_number, head_name, bucket_word}
 use Rattle.stmt_reader.specs.Streams.{Placed, Stream, onto, plain, heads}
 use Rattle.stmt_reader.specs.Reading as read
 use Rattle.stmt_reader.specs.Reading.{parts}
 use Rattle.stmt_reader.specs.Grammar as rule
 use Rattle.stmt_reader.specs.Grammar.{Rule, says, sequence, either}
+use Rattle.stmt_reader.specs.declared.folds.Head.{Head}
 use Rattle.stmt_reader.specs.declared.keywords.Keyword.TheVariants as kw
 use Rattle.stmt_reader.specs.declared.tokens.Mark.TheVariants as marks
 use Rattle.stmt_reader.specs.declared.phrases.Separator.TheVariants as separators
@@ -33,15 +34,21 @@ avoids_through test mid L M on first second ts b left (us, vs, a, e, l, m) free 
 
 -- ---- folds
 
+-- the rest of a fold behind its head
+pub reads_fold_behind : (n : ℕ) (own : List ℕ) (b : Head) → Reads n (read.fold_behind own b) (rule.fold_behind own b) none
+unfolding read.fold_behind
+reads_fold_behind n own b =
+    reads_bind n (reads_select_list n)
+    (λ list. reads_bind n (reads_source n)
+    (λ from. reads_then n (reads_grouping n (head_name own b.name) list.0) (λ _. reads_gives n _))
+    (λ from. avoids_sequence _ _ _ _ (avoids_sequence _ _ _ _ (avoids_keyword on_filters kw.Group _ refl))))
+    (λ list. avoids_sequence _ _ _ _ (avoids_sequence _ _ _ _ (avoids_keyword on_aggregates kw.From _ refl)))
+
 reads_fold : (n : ℕ) → Reads n read.fold_rest rule.fold none
 unfolding read.fold_rest
 reads_fold n =
     reads_bind n (reads_bucket n)
-    (λ b. reads_bind n (reads_select_list n)
-    (λ list. reads_bind n (reads_source n)
-    (λ from. reads_then n (reads_grouping n b list.0) (λ _. reads_gives n _))
-    (λ from. avoids_sequence _ _ _ _ (avoids_sequence _ _ _ _ (avoids_keyword on_filters kw.Group _ refl))))
-    (λ list. avoids_sequence _ _ _ _ (avoids_sequence _ _ _ _ (avoids_keyword on_aggregates kw.From _ refl))))
+    (λ b. reads_fold_behind n bucket_word b)
     (λ b. avoids_sequence _ _ _ _ (avoids_select_list on_as _ refl))
 
 -- ---- CREATE

@@ -1,11 +1,14 @@
 pub mod Flow
 pub mod FormRules
+pub mod Holds
 pub mod Lexemes
 pub mod Loops
 pub mod Named
 pub mod Numerals
 pub mod PartRules
 pub mod Placed
+pub mod ProperForms
+pub mod ProperLaws
 pub mod RuleLists
 pub mod RuleTokens
 pub mod Rules

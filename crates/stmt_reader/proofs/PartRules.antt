@@ -9,7 +9,7 @@ use Rattle.ts_schema.specs.declared.conditions.Cmp.{Cmp}
 use Rattle.stmt_reader.specs.Tokens.{Token, word, quoted, mark}
 use Rattle.stmt_reader.specs.Scan as scan
 use Rattle.stmt_reader.specs.Scan.{Seen, seen}
-use Rattle.stmt_reader.specs.Words.{is_keyword, is_mark, word_of, quoted_of, flag_of, comparison_of, function_of, is_star_of, is_item, bucket_name}
+use Rattle.stmt_reader.specs.Words.{is_keyword, is_mark, word_of, quoted_of, flag_of, comparison_of, function_of, is_star_of, is_item}
 use Rattle.stmt_reader.specs.Reading as read
 use Rattle.stmt_reader.specs.Reading.{takes, parts}
 use Rattle.stmt_reader.specs.Streams.{Stream, ends, stops, ◌then◌, onto, heads}
@@ -20,7 +20,7 @@ use Rattle.stmt_reader.specs.declared.keywords.Keyword.{Keyword}
 use Rattle.stmt_reader.specs.declared.keywords.Keyword.TheVariants as kw
 use Rattle.stmt_reader.specs.declared.tokens.Mark.TheVariants as marks
 use Rattle.stmt_reader.specs.declared.phrases.Separator.TheVariants as separators
-use Rattle.stmt_reader.specs.declared.folds.Bucket.{Bucket}
+use Rattle.stmt_reader.specs.declared.folds.Head.{Head}
 use Rattle.stmt_reader.specs.declared.statements.NamedAgg.{NamedAgg}
 use Rattle.stmt_reader.proofs.Placed.{nothing_placed}
 use Rattle.stmt_reader.proofs.Rules.{Reads, none, heads-none, any, Avoids, alike-refl, reads_alike, reads_gives, reads_bind, reads_then}
@@ -251,8 +251,8 @@ reads_bucket n =
     (λ shift. reads_then n (reads_mark n marks.Close) (λ _. reads_last n (λ x. record { step = step; shift = shift; at = at; name = x }) (reads_alias n)))
     (λ shift. avoids_sequence _ _ _ _ (avoids_mark _ marks.Close _ refl)))))))
 
-pub reads_grouping : (n : ℕ) (b : Bucket) (keys : List (List ℕ)) → Reads n (read.grouping b keys) (rule.grouping b keys) none
+pub reads_grouping : (n : ℕ) (first : List ℕ) (keys : List (List ℕ)) → Reads n (read.grouping first keys) (rule.grouping first keys) none
 unfolding read.grouping read.items
-reads_grouping n b keys =
+reads_grouping n first keys =
     reads_then n (reads_keyword n kw.Group) (λ _. reads_then n (reads_keyword n kw.By) (λ _.
-    reads_then n (reads_wanted n (is_item 0 (bucket_name b.name)) (word (bucket_name b.name)) refl (same_text (bucket_name b.name))) (λ _. reads_items_from n 1 keys)))
+    reads_then n (reads_wanted n (is_item 0 first) (word first) refl (same_text first)) (λ _. reads_items_from n 1 keys)))

@@ -2,7 +2,7 @@
 use Rattle.std.proofs.Common.{ℕ, ◌+◌, ◌≤◌, length, Some, None, arith}
 use Rattle.stmt_reader.specs.Grammar as rule
 use Rattle.stmt_reader.specs.Grammar.{Rule}
-use Rattle.stmt_reader.specs.Written.{IsWritten, IsWholeRow, name_size, column_size, row_size, list_size}
+use Rattle.stmt_reader.specs.Written.{IsShaped, IsWholeRow, name_size, column_size, row_size, list_size}
 use Rattle.stmt_reader.specs.declared.keywords.Keyword.TheVariants as kw
 use Rattle.stmt_reader.specs.declared.tokens.Mark.TheVariants as marks
 use Rattle.stmt_reader.specs.declared.statements.Stmt.{Stmt}
@@ -12,7 +12,7 @@ use Rattle.stmt_reader.proofs.WrittenParts.{Any, yields_value, yields_row, yield
 
 -- a statement by tokens of so many bytes
 abbrev Holds : Stmt → ℕ → Type 0
-Holds s n = IsWritten n s
+Holds s n = IsShaped n s
 
 create_table : Yields rule.create_table Holds
 create_table =

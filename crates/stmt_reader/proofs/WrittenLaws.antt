@@ -1,5 +1,5 @@
 -- The statement of a text is whole, and no longer than the text.
-use Rattle.std.proofs.Common.{◌≡◌, ℕ, zero, suc, ◌+◌, ◌<◌, ◌≤◌, Bool, true, false, cond, eqb, leb, ◌&&◌, List, [], ◌∷◌, length, take, drop, Option, Some, None, sym, ap, ◌∙◌, arith}
+use Rattle.std.proofs.Common.{◌≡◌, ℕ, zero, suc, ◌+◌, ◌<◌, ◌≤◌, Bool, true, false, cond, eqb, leb, ◌&&◌, List, [], ◌∷◌, length, take, drop, Option, Some, None, Result, Ok, Err, sym, ap, subst, ◌∙◌, arith}
 use Rattle.std.proofs.lemmas.Bool.{eqb-false, cond_both}
 use Rattle.std.proofs.lemmas.List.{length-map}
 use Rattle.std.proofs.lemmas.List.Folds.{length-prefix_len}
@@ -8,13 +8,20 @@ use Rattle.std.specs.List.{prefix_len}
 use Rattle.stmt_reader.specs.Bytes.{begins_word, continues_word, lower}
 use Rattle.stmt_reader.specs.Tokens.{Lexeme, Next, token, ended, nothing, word_at, sign_len, number_at, begins_with, quoted_at, long_mark, short_mark, mark_of_len, or_else, mark_at, lexeme_at, of_lexeme, next_here, next, blank_len}
 use Rattle.stmt_reader.specs.Streams.{Placed, Stream, ends, onto, plain, scan, stream}
-use Rattle.stmt_reader.specs.Refusals.{Judges}
-use Rattle.stmt_reader.specs.Written.{IsWritten, OfStatement, StatementsAreWritten}
+use Rattle.stmt_reader.specs.Grammar.{statement}
+use Rattle.stmt_reader.specs.Reading.{statement as reading}
+use Rattle.stmt_reader.specs.Refusals.{IsSaid, Refuses, Verdict, Judges}
+use Rattle.stmt_reader.specs.declared.faults.Fault.{Fault}
+use Rattle.stmt_reader.specs.declared.statements.Stmt.{Stmt}
+use Rattle.stmt_reader.specs.Written.{IsShaped, IsWritten, OfStatement, StatementsAreWritten}
 use Rattle.stmt_reader.specs.declared.reading.ReadStmt.{ReadStmt}
 use Rattle.stmt_reader.specs.declared.reading.ReadStmt.TheVariants as reads
 use Rattle.stmt_reader.proofs.Flow.{flow, scan_is_flow}
 use Rattle.stmt_reader.proofs.Lexemes.{NextFits, next_fits}
 use Rattle.stmt_reader.proofs.Yields.{token_size, weight}
+use Rattle.stmt_reader.proofs.ProperForms.{holds_statement}
+use Rattle.stmt_reader.proofs.ProperLaws.{stream_proper}
+use Rattle.stmt_reader.proofs.Verdict.{fit_statement, reads_by_the_grammar}
 use Rattle.stmt_reader.proofs.WrittenForms.{yields_statement}
 
 -- ---- a token is as long as it is written
@@ -110,14 +117,32 @@ stream_weighs text skip le = scan_weighs (length text) text skip le
 
 -- ---- statements
 
-pub statements_are_written : StatementsAreWritten
-statements_are_written text skip s le (ts, p, e, l) =
+shaped : (text : List ℕ) (skip : ℕ) (s : Stmt) → skip ≤ length text → IsSaid statement (stream text skip) s → IsShaped (length text) s
+shaped text skip s le (ts, p, e, l) =
     let w = yields_statement.holds (plain ts) s l in
     record { whole = w.whole; size = omega (arith, stream_weighs text skip le ts p e, w.size) }
 
+-- where nothing is wrong, a statement is proper too
+said : (text : List ℕ) (skip : ℕ) (s : Stmt) → skip ≤ length text → IsSaid statement (stream text skip) s → ((g : Fault) → Refuses statement (stream text skip) g → ⊥) → IsWritten (length text) s
+said text skip s le (ts, p, e, l) none =
+    let w = shaped text skip s le (ts, p, e, l) in
+    record { whole = w.whole; size = w.size; proper = holds_statement.holds (plain ts) s (stream_proper text skip ts p e (fit_statement statement (stream text skip) ts p e none)) l }
+
+read_is_written : (text : List ℕ) (skip : ℕ) (s : Stmt) (left : Stream) (r : Result (Stmt × Stream) Fault) → skip ≤ length text → Verdict statement (stream text skip) r → r ≡ Ok (s, left) → IsWritten (length text) s
+read_is_written text skip s left (Ok x) le v e =
+    let same : x.0 ≡ s = cc in
+    subst (IsWritten (length text)) same (said text skip x.0 le v.0 v.1)
+read_is_written text skip s left (Err f) le v e = absurd cc
+
+pub statements_are_written : StatementsAreWritten
+statements_are_written = record {
+  shaped = shaped;
+  read = λ text skip s left le e. read_is_written text skip s left (reading (stream text skip)) le (reads_by_the_grammar.gives text skip le) e;
+}
+
 -- the same of an answer that the grammar judges
 pub written : (text : List ℕ) (skip : ℕ) (a : ReadStmt) → skip ≤ length text → Judges (stream text skip) a → OfStatement (IsWritten (length text)) a
-written text skip (reads.Stmt s) le j = statements_are_written text skip s le j.0
+written text skip (reads.Stmt s) le j = said text skip s le j.0 j.1
 written text skip (reads.NoToken p) le j = tt
 written text skip (reads.Syntax p) le j = tt
 written text skip (reads.BadNumber p) le j = tt

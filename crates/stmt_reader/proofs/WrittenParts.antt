@@ -11,14 +11,14 @@ use Rattle.ts_schema.specs.declared.conditions.Cmp.{Cmp}
 use Rattle.ts_schema.specs.declared.conditions.Cmp.TheVariants as cmp
 use Rattle.stmt_reader.specs.Tokens.{Token, word, number, quoted, mark}
 use Rattle.stmt_reader.specs.Scan.{seen}
-use Rattle.stmt_reader.specs.Words.{comparison_of, comparison_of_mark, function_of, function_of_word, is_star_of}
+use Rattle.stmt_reader.specs.Words.{head_name, bucket_word, comparison_of, comparison_of_mark, function_of, function_of_word, is_star_of}
 use Rattle.stmt_reader.specs.Grammar as rule
 use Rattle.stmt_reader.specs.Grammar.{Rule}
 use Rattle.stmt_reader.specs.Written.{is_null_test, IsWholeTest, takes_argument, IsWholeAgg, IsWholeFold, IsWholeRow, name_size, column_size, row_size, test_size, argument_size, alias_size, agg_size, fold_size}
 use Rattle.stmt_reader.specs.declared.keywords.Keyword.TheVariants as kw
 use Rattle.stmt_reader.specs.declared.tokens.Mark.{Mark}
 use Rattle.stmt_reader.specs.declared.tokens.Mark.TheVariants as marks
-use Rattle.stmt_reader.specs.declared.folds.Bucket.{Bucket}
+use Rattle.stmt_reader.specs.declared.folds.Head.{Head}
 use Rattle.stmt_reader.specs.declared.statements.NamedAgg.{NamedAgg}
 use Rattle.stmt_reader.specs.declared.statements.NamedTest.{NamedTest}
 use Rattle.stmt_reader.proofs.Yields.{Yields, Item, Items, Listed, token_size, yields_says, yields_then, yields_either, yields_many, yields_listed, yields_one, yields_wanted, yields_keyword, yields_mark, yields_name, yields_number}
@@ -277,8 +277,8 @@ yields_select_list =
 yields_items : (i : ℕ) (names : List (List ℕ)) → Yields (rule.items_from i names) (λ _ n. 0 ≤ n)
 yields_items i names = record { holds = λ ts u l. omega arith }
 
-yields_grouping : (b : Bucket) (keys : List (List ℕ)) → Yields (rule.grouping b keys) (λ _ n. 7 ≤ n)
-yields_grouping b keys =
+yields_grouping : (first : List ℕ) (keys : List (List ℕ)) → Yields (rule.grouping first keys) (λ _ n. 7 ≤ n)
+yields_grouping first keys =
     yields_then (yields_keyword kw.Group) (λ _ m hm.
     yields_then (yields_keyword kw.By) (λ _ n hn.
     record { holds = λ ts u l. omega arith }))
@@ -288,6 +288,6 @@ yields_fold =
     yields_then yields_bucket (λ b m hm.
     yields_then yields_select_list (λ list n hn.
     yields_then yields_source (λ from k hk.
-    yields_then (yields_grouping b list.0) (λ _ i hi.
+    yields_then (yields_grouping (head_name bucket_word b.name) list.0) (λ _ i hi.
     yields_says (record { step = b.step; shift = b.shift; at = b.at; name = b.name; keys = list.0; aggs = list.1; table = from.0; tests = from.1 }) _
     (record { is = record { some = hn.some; aggs = hn.aggs; tests = hk.tests }; size = omega (arith, hn.size, hk.size) })))))

@@ -2,12 +2,12 @@
 use Rattle.std.specs.Prelude.{◌≡◌, ℕ, suc, ℤ, pos, Bool, true, false, ◌⊎◌, List, [], ◌∷◌, ◌++◌, Option, Some, None}
 use Rattle.stmt_reader.specs.Tokens.{Token, number as number_token}
 use Rattle.stmt_reader.specs.Scan.{Seen, seen}
-use Rattle.stmt_reader.specs.Words.{is_keyword, is_mark, word_of, quoted_of, flag_of, comparison_of, function_of, is_star_of, is_item, bucket_name}
+use Rattle.stmt_reader.specs.Words.{is_keyword, is_mark, word_of, quoted_of, flag_of, comparison_of, function_of, is_star_of, is_item, head_name, bucket_word}
 use Rattle.stmt_reader.specs.declared.keywords.Keyword.{Keyword}
 use Rattle.stmt_reader.specs.declared.keywords.Keyword.TheVariants as kw
 use Rattle.stmt_reader.specs.declared.tokens.Mark.{Mark}
 use Rattle.stmt_reader.specs.declared.tokens.Mark.TheVariants as marks
-use Rattle.stmt_reader.specs.declared.folds.Bucket.{Bucket}
+use Rattle.stmt_reader.specs.declared.folds.Head.{Head}
 use Rattle.stmt_reader.specs.declared.forms.Window.{Window}
 use Rattle.stmt_reader.specs.declared.statements.Stmt.{Stmt}
 use Rattle.stmt_reader.specs.declared.statements.Stmt.TheVariants as stmt
@@ -165,7 +165,7 @@ abbrev pub offset : Rule ℤ
 offset = optional (mark marks.Comma >> number) (pos 0)
 
 -- time_bucket ( num , c [, num] ) [AS x]
-abbrev pub bucket : Rule Bucket
+abbrev pub bucket : Rule Head
 bucket = do
   keyword kw.TimeBucket
   mark marks.Open
@@ -190,22 +190,25 @@ abbrev pub items_from : ℕ → List (List ℕ) → Rule (Unit {0})
 items_from i [] = says tt
 items_from i (n ∷ names) = mark marks.Comma >> wanted (is_item i n) >> items_from (suc i) names
 
--- GROUP BY item { , item }, where the items are as many as the bucket and the keys together
-abbrev pub grouping : Bucket → List (List ℕ) → Rule (Unit {0})
-grouping b keys = do
+-- GROUP BY item { , item }, where the items are as many as the head, which has this name, and the keys together
+abbrev pub grouping : List ℕ → List (List ℕ) → Rule (Unit {0})
+grouping first keys = do
   keyword kw.Group
   keyword kw.By
-  wanted (is_item 0 (bucket_name b.name))
+  wanted (is_item 0 first)
   items_from 1 keys
+
+-- the rest of a fold behind its head, whose own word this is: { , c } , agg { , agg } FROM n [WHERE tests] GROUP BY item { , item }
+abbrev pub fold_behind : List ℕ → Head → Rule NamedFold
+fold_behind own h = do
+  list ← select_list
+  from ← source
+  grouping (head_name own h.name) list.0
+  says (record { step = h.step; shift = h.shift; at = h.at; name = h.name; keys = list.0; aggs = list.1; table = from.0; tests = from.1 })
 
 -- fold, behind its SELECT: bucket { , c } , agg { , agg } FROM n [WHERE tests] GROUP BY item { , item }
 abbrev pub fold : Rule NamedFold
-fold = do
-  b ← bucket
-  list ← select_list
-  from ← source
-  grouping b list.0
-  says (record { step = b.step; shift = b.shift; at = b.at; name = b.name; keys = list.0; aggs = list.1; table = from.0; tests = from.1 })
+fold = bucket >>= fold_behind bucket_word
 
 -- ---- statements
 

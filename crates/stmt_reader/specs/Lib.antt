@@ -1,3 +1,4 @@
+pub mod Limits
 pub mod Answers
 pub mod Bytes
 pub mod Cursor
@@ -6,6 +7,7 @@ pub mod Grammar
 pub mod Lines
 pub mod Reading
 pub mod Refusals
+pub mod Proper
 pub mod Scan
 pub mod Streams
 pub mod Tokens

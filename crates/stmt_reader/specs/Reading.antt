@@ -1,6 +1,6 @@
 use Rattle.std.specs.Prelude.{◌≡◌, ℕ, zero, suc, ℤ, Bool, true, false, if◌then◌else◌, List, [], ◌∷◌, ◌++◌, Option, Some, None, option_and_then, Result, Ok, Err, pos}
 use Rattle.stmt_reader.specs.Scan.{Seen}
-use Rattle.stmt_reader.specs.Words.{is_keyword, is_mark, is_number, word_of, quoted_of, number_of, flag_of, comparison_of, function_of, function_of_word, is_star_of, is_item, bucket_name}
+use Rattle.stmt_reader.specs.Words.{is_keyword, is_mark, is_number, word_of, quoted_of, number_of, flag_of, comparison_of, function_of, function_of_word, is_star_of, is_item, head_name, bucket_word}
 use Rattle.stmt_reader.specs.Streams.{Stream, size, seen_ahead, heads, tail, place, is_end, refused}
 use Rattle.stmt_reader.specs.declared.faults.Fault.{Fault}
 use Rattle.stmt_reader.specs.declared.faults.Fault.TheVariants.{BadNumber}
@@ -11,7 +11,7 @@ use Rattle.stmt_reader.specs.declared.keywords.Keyword.TheVariants as kw
 use Rattle.stmt_reader.specs.declared.tokens.Mark.TheVariants as marks
 use Rattle.stmt_reader.specs.declared.phrases.Separator.{Separator}
 use Rattle.stmt_reader.specs.declared.phrases.Separator.TheVariants as separators
-use Rattle.stmt_reader.specs.declared.folds.Bucket.{Bucket}
+use Rattle.stmt_reader.specs.declared.folds.Head.{Head}
 use Rattle.stmt_reader.specs.declared.forms.Window.{Window}
 use Rattle.stmt_reader.specs.declared.statements.Stmt.{Stmt}
 use Rattle.stmt_reader.specs.declared.statements.Stmt.TheVariants as stmt
@@ -212,7 +212,7 @@ keys_and_function front s = keys_within (size s) front s
 unfoldable pub offset : Parser ℤ
 offset = takes (is_mark marks.Comma) number (gives (pos 0))
 
-unfoldable pub bucket : Parser Bucket
+unfoldable pub bucket : Parser Head
 bucket = do
   keyword kw.TimeBucket
   mark marks.Open
@@ -253,20 +253,23 @@ select_list = do
   aggs ← aggregates k.1
   gives (k.0, aggs)
 
-unfoldable pub grouping : Bucket → List (List ℕ) → Parser (Unit {0})
-grouping b keys = do
+unfoldable pub grouping : List ℕ → List (List ℕ) → Parser (Unit {0})
+grouping first keys = do
   keyword kw.Group
   keyword kw.By
-  items (bucket_name b.name) keys
+  items first keys
+
+-- the rest of a fold behind its head, whose own word this is
+unfoldable pub fold_behind : List ℕ → Head → Parser NamedFold
+fold_behind own h = do
+  list ← select_list
+  from ← source
+  _ ← grouping (head_name own h.name) list.0
+  gives (record { step = h.step; shift = h.shift; at = h.at; name = h.name; keys = list.0; aggs = list.1; table = from.0; tests = from.1 })
 
 -- a fold after its SELECT
 unfoldable pub fold_rest : Parser NamedFold
-fold_rest = do
-  b ← bucket
-  list ← select_list
-  from ← source
-  _ ← grouping b list.0
-  gives (record { step = b.step; shift = b.shift; at = b.at; name = b.name; keys = list.0; aggs = list.1; table = from.0; tests = from.1 })
+fold_rest = bucket >>= fold_behind bucket_word
 
 -- ---- statements, after the words that tell them apart
 

@@ -1,9 +1,10 @@
 -- What a text is refused for, and which refusal comes first.
-use Rattle.std.specs.Prelude.{◌≡◌, ℕ, ◌≤◌, Bool, true, false, ◌⊎◌, List, [], ◌∷◌, ◌++◌}
+use Rattle.std.specs.Prelude.{◌≡◌, ℕ, ◌≤◌, Bool, true, false, ◌⊎◌, List, [], ◌∷◌, ◌++◌, length, Result, Ok, Err}
 use Rattle.std.specs.List.{AllByRecursion}
 use Rattle.stmt_reader.specs.Tokens.{Token, word, number, quoted, mark, is_i64}
-use Rattle.stmt_reader.specs.Streams.{Placed, Stream, ends, stops, ◌then◌, onto, plain}
+use Rattle.stmt_reader.specs.Streams.{Placed, Stream, ends, stops, ◌then◌, onto, plain, stream}
 use Rattle.stmt_reader.specs.Grammar.{Rule, statement}
+use Rattle.stmt_reader.specs.Reading.{statement as reading}
 use Rattle.stmt_reader.specs.declared.faults.Fault.{Fault}
 use Rattle.stmt_reader.specs.declared.faults.Fault.TheVariants.{NoToken, Syntax, BadNumber}
 use Rattle.stmt_reader.specs.declared.statements.Stmt.{Stmt as Statement}
@@ -21,26 +22,26 @@ is_fit (mark m) = true
 abbrev pub Begins : {A : Type 0} → Rule A → List Token → Type 0
 Begins {A} L ts = (more : List Token) × (a : A) × L (ts ++ more) a
 
--- the tokens of the stream, all of them, are this statement
-abbrev pub IsStatement : Stream → Statement → Type 0
-IsStatement s a = (ts : List Placed) × (p : ℕ) × (s ≡ onto ts (ends p)) × statement (plain ts) a
+-- the tokens of the stream, all of them, say this
+abbrev pub IsSaid : {A : Type 0} → Rule A → Stream → A → Type 0
+IsSaid L s a = (ts : List Placed) × (p : ℕ) × (s ≡ onto ts (ends p)) × L (plain ts) a
 
 -- ---- what may be wrong, at its place
 
--- a token stands there, and the tokens up to it begin no statement
-abbrev pub NoStatementAt : Stream → ℕ → Type 0
-NoStatementAt s p = (ts : List Placed) × (t : Placed) × (left : Stream) × (s ≡ onto ts (t then left)) × (t.at ≡ p) × (Begins statement (plain ts ++ t.token ∷ []) → ⊥)
+-- a token stands there, and the tokens up to it begin nothing that the rule has
+abbrev pub NothingAt : {A : Type 0} → Rule A → Stream → ℕ → Type 0
+NothingAt L s p = (ts : List Placed) × (t : Placed) × (left : Stream) × (s ≡ onto ts (t then left)) × (t.at ≡ p) × (Begins L (plain ts ++ t.token ∷ []) → ⊥)
 
--- the end comes there, and the tokens are no statement
-abbrev pub IncompleteAt : Stream → ℕ → Type 0
-IncompleteAt s p = (ts : List Placed) × (s ≡ onto ts (ends p)) × ((a : Statement) → statement (plain ts) a → ⊥)
+-- the end comes there, and the tokens aren't whole
+abbrev pub IncompleteAt : {A : Type 0} → Rule A → Stream → ℕ → Type 0
+IncompleteAt {A} L s p = (ts : List Placed) × (s ≡ onto ts (ends p)) × ((a : A) → L (plain ts) a → ⊥)
 
-abbrev pub Refuses : Stream → Fault → Type 0
+abbrev pub Refuses : {A : Type 0} → Rule A → Stream → Fault → Type 0
 -- no token begins there
-Refuses s (NoToken p) = (ts : List Placed) × (s ≡ onto ts (stops p))
-Refuses s (Syntax p) = NoStatementAt s p ⊎ IncompleteAt s p
+Refuses L s (NoToken p) = (ts : List Placed) × (s ≡ onto ts (stops p))
+Refuses L s (Syntax p) = NothingAt L s p ⊎ IncompleteAt L s p
 -- a number stands there that isn't an i64
-Refuses s (BadNumber p) = (ts : List Placed) × (t : Placed) × (left : Stream) × (s ≡ onto ts (t then left)) × (t.at ≡ p) × (is_fit t.token ≡ false)
+Refuses L s (BadNumber p) = (ts : List Placed) × (t : Placed) × (left : Stream) × (s ≡ onto ts (t then left)) × (t.at ≡ p) × (is_fit t.token ≡ false)
 
 -- ---- which comes first
 
@@ -58,16 +59,33 @@ Comes (NoToken p) g = Unit {0}
 Comes (Syntax p) g = Unit {0}
 
 -- the first thing that is wrong: the one at the least place
-abbrev pub First : Stream → Fault → Type 0
-First s f = Refuses s f × ((g : Fault) → Refuses s g → (fault_place f ≤ fault_place g) × Comes f g)
+abbrev pub First : {A : Type 0} → Rule A → Stream → Fault → Type 0
+First L s f = Refuses L s f × ((g : Fault) → Refuses L s g → (fault_place f ≤ fault_place g) × Comes f g)
 
--- what the grammar says of an answer: the statement, where nothing is wrong, or the first thing that is wrong
+-- what the grammar says of what reading gives: what the tokens say, where nothing is wrong, or the first thing that is wrong
+abbrev pub Verdict : {A : Type 0} → Rule A → Stream → Result (A × Stream) Fault → Type 0
+Verdict L s (Ok x) = IsSaid L s x.0 × ((g : Fault) → Refuses L s g → ⊥)
+Verdict L s (Err f) = First L s f
+
+-- what it says of an answer
 abbrev pub Judges : Stream → ReadStmt → Type 0
-Judges s (reads.Stmt a) = IsStatement s a × ((g : Fault) → Refuses s g → ⊥)
-Judges s (reads.NoToken p) = First s (NoToken p)
-Judges s (reads.Syntax p) = First s (Syntax p)
-Judges s (reads.BadNumber p) = First s (BadNumber p)
+Judges s (reads.Stmt a) = IsSaid statement s a × ((g : Fault) → Refuses statement s g → ⊥)
+Judges s (reads.NoToken p) = First statement s (NoToken p)
+Judges s (reads.Syntax p) = First statement s (Syntax p)
+Judges s (reads.BadNumber p) = First statement s (BadNumber p)
 Judges s reads.NoMemory = Unit {0}
+
+-- the same statement, or the same fault
+abbrev pub IsSame : Result (Statement × Stream) Fault → Result (Statement × Stream) Fault → Type 0
+IsSame (Ok x) (Ok y) = x.0 ≡ y.0
+IsSame (Ok x) (Err g) = ⊥
+IsSame (Err f) (Ok y) = ⊥
+IsSame (Err f) (Err g) = f ≡ g
+
+-- what reading gives of each text is what the grammar says of it, and nothing else is
+pub record ReadsByTheGrammar : Type 0 where
+  pub gives : (text : List ℕ) (skip : ℕ) → skip ≤ length text → Verdict statement (stream text skip) (reading (stream text skip))
+  pub only : (text : List ℕ) (skip : ℕ) (r : Result (Statement × Stream) Fault) → skip ≤ length text → Verdict statement (stream text skip) r → IsSame r (reading (stream text skip))
 
 -- tokens whose numbers are i64 are one statement at most
 abbrev pub OneReading : Type 0

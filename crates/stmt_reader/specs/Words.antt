@@ -68,6 +68,13 @@ is_keyword k (number z) = false
 is_keyword k (quoted w) = false
 is_keyword k (mark m) = false
 
+-- the word with this text in lower case
+abbrev pub is_spelled : List ℕ → Seen → Bool
+is_spelled text (word w) = bytes_eq w text
+is_spelled text (number z) = false
+is_spelled text (quoted w) = false
+is_spelled text (mark m) = false
+
 -- the marks in the order of their declaration
 abbrev pub mark_number : Mark → ℕ
 mark_number marks.Open = 0
@@ -177,7 +184,11 @@ is_star_of fun.Min t = false
 is_star_of fun.Max t = false
 is_star_of fun.Avg t = false
 
--- the output name of a bucket, by its name after AS
-abbrev pub bucket_name : Option (List ℕ) → List ℕ
-bucket_name None = codes "time_bucket"
-bucket_name (Some x) = x
+-- the output name of the head of a fold: the one after AS, or the head's own word
+abbrev pub head_name : List ℕ → Option (List ℕ) → List ℕ
+head_name own None = own
+head_name own (Some x) = x
+
+-- the own word of a bucket
+abbrev pub bucket_word : List ℕ
+bucket_word = codes "time_bucket"

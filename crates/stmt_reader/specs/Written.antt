@@ -1,13 +1,16 @@
 -- What a text holds of a statement: the statement is whole, and the text has at least so many bytes.
-use Rattle.std.specs.Prelude.{◌≡◌, ℕ, ◌+◌, ◌*◌, ◌<◌, ◌≤◌, ℤ, pos, Bool, true, false, List, length, sum_by, Option, Some, None, is_some}
+use Rattle.std.specs.Prelude.{◌≡◌, ℕ, ◌+◌, ◌*◌, ◌<◌, ◌≤◌, ℤ, pos, Ok, Bool, true, false, List, length, sum_by, Option, Some, None, is_some}
 use Rattle.std.specs.List.{AllByRecursion}
 use Rattle.ts_num.specs.declared.values.Fun.{Fun}
 use Rattle.ts_num.specs.declared.values.Fun.TheVariants as fun
 use Rattle.ts_schema.specs.declared.columns.Column.{Column}
 use Rattle.ts_schema.specs.declared.conditions.Cmp.{Cmp}
 use Rattle.ts_schema.specs.declared.conditions.Cmp.TheVariants as cmp
-use Rattle.stmt_reader.specs.Streams.{stream}
-use Rattle.stmt_reader.specs.Refusals.{IsStatement}
+use Rattle.stmt_reader.specs.Streams.{Stream, stream}
+use Rattle.stmt_reader.specs.Grammar.{statement}
+use Rattle.stmt_reader.specs.Proper.{IsProper}
+use Rattle.stmt_reader.specs.Reading.{statement as reading}
+use Rattle.stmt_reader.specs.Refusals.{IsSaid}
 use Rattle.stmt_reader.specs.declared.reading.ReadStmt.{ReadStmt}
 use Rattle.stmt_reader.specs.declared.reading.ReadStmt.TheVariants as reads
 use Rattle.stmt_reader.specs.declared.statements.Stmt.{Stmt}
@@ -139,10 +142,16 @@ size_of stmt.Rollback = 0
 size_of (stmt.Buckets fold) = 6 + fold_size fold
 size_of (stmt.Rows table tests) = 11 + length table + sum_by test_size tests
 
--- a statement as a text of so many bytes has it
+-- a statement of a text of so many bytes
+pub record IsShaped (bytes : ℕ) (s : Stmt) : Type 0 where
+  pub whole : IsWhole s
+  pub size : size_of s ≤ bytes
+
+-- a statement as a text of so many bytes has it, in which nothing is wrong
 pub record IsWritten (bytes : ℕ) (s : Stmt) : Type 0 where
   pub whole : IsWhole s
   pub size : size_of s ≤ bytes
+  pub proper : IsProper s
 
 -- what holds of the statement of an answer
 abbrev pub OfStatement : (Stmt → Type 0) → ReadStmt → Type 0
@@ -152,6 +161,7 @@ OfStatement P (reads.Syntax p) = Unit {0}
 OfStatement P (reads.BadNumber p) = Unit {0}
 OfStatement P reads.NoMemory = Unit {0}
 
--- each statement that the grammar has of a text is whole, and no longer than the text
-abbrev pub StatementsAreWritten : Type 0
-StatementsAreWritten = (text : List ℕ) (skip : ℕ) (s : Stmt) → skip ≤ length text → IsStatement (stream text skip) s → IsWritten (length text) s
+-- each statement that the grammar has of a text is whole, and no longer than the text; and it is proper where reading gives it
+pub record StatementsAreWritten : Type 0 where
+  pub shaped : (text : List ℕ) (skip : ℕ) (s : Stmt) → skip ≤ length text → IsSaid statement (stream text skip) s → IsShaped (length text) s
+  pub read : (text : List ℕ) (skip : ℕ) (s : Stmt) (left : Stream) → skip ≤ length text → reading (stream text skip) ≡ Ok (s, left) → IsWritten (length text) s

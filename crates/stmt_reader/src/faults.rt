@@ -18,7 +18,9 @@ pub enum Fault {
 /// Why reading ended.
 #[derive(Clone, Copy, Debug, PartialEq, Eq)]
 pub enum ReadError {
+    /// A growth was refused.
     Memory,
+    /// The text is no statement.
     Fault(Fault),
 }
 

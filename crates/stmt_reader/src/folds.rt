@@ -1,8 +1,9 @@
 //! Folds: the bucket, the keys, the aggregates, and what they are grouped by.
 ghost use Rattle.std.specs.Prelude.{◌≡◌, [], if◌then◌else◌};
+ghost use Rattle.stmt_reader.specs.Bytes.{lower};
 ghost use Rattle.stmt_reader.specs.Cursor.{ahead};
 ghost use Rattle.stmt_reader.specs.Streams.{heads, tail};
-ghost use Rattle.stmt_reader.specs.Words.{function_of_word, is_item, is_star_of, bucket_name};
+ghost use Rattle.stmt_reader.specs.Words.{function_of_word, is_item, is_star_of, head_name};
 ghost use Rattle.stmt_reader.specs.Reading as spec;
 ghost use Rattle.stmt_reader.specs.Reading.{Gives, wanted};
 ghost use Rattle.stmt_reader.specs.Forward.{forward-aggregate};
@@ -19,13 +20,18 @@ use ts_schema::{Name, Seq};
 /// The name of a bucket that has none after AS.
 const BUCKET_NAME: &[u8] = b"time_bucket";
 
-/// `time_bucket ( num , c [ , num ] ) [AS x]`
+/// What a fold begins with: a width, the column that it is over, and the name after AS. The rest of
+/// the fold stands behind it.
 #[derive(Drop)]
-struct Bucket {
-    step: i64,
-    shift: i64,
-    at: Name,
-    name: Option<Name>,
+pub struct Head {
+    /// How long a bucket is.
+    pub step: i64,
+    /// The offset of the buckets.
+    pub shift: i64,
+    /// The column whose values fall into buckets.
+    pub at: Name,
+    /// The name of the output column after AS.
+    pub name: Option<Name>,
 }
 
 /// An aggregate.
@@ -46,15 +52,24 @@ impl Reader<'_> {
         ensures { Gives result (spec.fold_rest (ahead self.old)) (ahead self.new) }
     {
         let bucket = self.bucket()?;
+        self.fold_behind(BUCKET_NAME, bucket)
+    }
+
+    /// The rest of a fold behind its head, which is named by its own word where no name follows AS.
+    #[tactic(auto, unfolding(crate::specs::Reading::fold_behind, crate::specs::Reading::bind))]
+    pub fn fold_behind(&mut self, own: &[u8], head: Head) -> Result<NamedFold, ReadError>
+        requires { lower own.now ≡ own.now }
+        ensures { Gives result (spec.fold_behind own.now head (ahead self.old)) (ahead self.new) }
+    {
         let (keys, aggs) = self.select_list()?;
         let (table, tests) = self.source()?;
-        self.grouping(&bucket, &keys)?;
-        let Bucket {
+        self.grouping(own, &head.name, &keys)?;
+        let Head {
             step,
             shift,
             at,
             name,
-        } = bucket;
+        } = head;
         Ok(NamedFold {
             step,
             shift,
@@ -67,8 +82,9 @@ impl Reader<'_> {
         })
     }
 
+    /// `time_bucket ( num , c [ , num ] ) [AS x]`
     #[tactic(auto, unfolding(crate::specs::Reading::bucket, crate::specs::Reading::bind))]
-    fn bucket(&mut self) -> Result<Bucket, ReadError>
+    fn bucket(&mut self) -> Result<Head, ReadError>
         ensures { Gives result (spec.bucket (ahead self.old)) (ahead self.new) }
     {
         self.keyword(Keyword::TimeBucket)?;
@@ -79,7 +95,7 @@ impl Reader<'_> {
         let shift = self.offset()?;
         self.mark(Mark::Close)?;
         let name = self.alias()?;
-        Ok(Bucket {
+        Ok(Head {
             step,
             shift,
             at,
@@ -202,24 +218,31 @@ impl Reader<'_> {
         Ok((table, tests))
     }
 
-    /// `GROUP BY` and as many items as the bucket and the keys together.
+    /// `GROUP BY` and as many items as the head and the keys together.
     #[tactic(auto, unfolding(crate::specs::Reading::grouping, crate::specs::Reading::items, crate::specs::Reading::bind))]
-    fn grouping(&mut self, bucket: &Bucket, keys: &Seq<Name>) -> Result<(), ReadError>
-        ensures { Gives result (spec.grouping bucket.now keys.now (ahead self.old)) (ahead self.new) }
+    fn grouping(
+        &mut self,
+        own: &[u8],
+        name: &Option<Name>,
+        keys: &Seq<Name>,
+    ) -> Result<(), ReadError>
+        requires { lower own.now ≡ own.now }
+        ensures { Gives result (spec.grouping (head_name own.now name.now) keys.now (ahead self.old)) (ahead self.new) }
     {
         self.keyword(Keyword::Group)?;
         self.keyword(Keyword::By)?;
-        self.first_item(&bucket.name)?;
+        self.first_item(own, name)?;
         self.more_items(keys.items())
     }
 
-    /// The item of the bucket.
-    fn first_item(&mut self, name: &Option<Name>) -> Result<(), ReadError>
-        ensures { Gives result (wanted (is_item 0 (bucket_name name.now)) (ahead self.old)) (ahead self.new) }
+    /// The item of the head, by the name after AS or by its own word.
+    fn first_item(&mut self, own: &[u8], name: &Option<Name>) -> Result<(), ReadError>
+        requires { lower own.now ≡ own.now }
+        ensures { Gives result (wanted (is_item 0 (head_name own.now name.now)) (ahead self.old)) (ahead self.new) }
     {
         match name {
             Some(name) => self.named_item(0, name),
-            None => self.item(0, BUCKET_NAME),
+            None => self.item(0, own),
         }
     }
 

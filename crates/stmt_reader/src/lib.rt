@@ -6,6 +6,7 @@
 //! - `reading`: the statement of a line, by a reader of its tokens.
 //! - `reader`, `phrases`, `clauses`, `folds`, `forms`: the reader, with a method for each rule of the
 //!   grammar, from one token to a whole statement.
+//!   They are public for crates with forms of their own.
 //! - `keywords`, `names`, `faults`: the words of the grammar, names as they are written, and why a
 //!   text is no statement.
 #![tactic(auto)]
@@ -25,7 +26,14 @@ mod statements;
 mod tests;
 mod tokens;
 
+pub use faults::{Fault, ReadError};
+pub use folds::Head;
+pub use keywords::Keyword;
 pub use lines::{LineKind, split_line};
-pub use reading::{ReadStmt, one_reading_law, read_stmt, statements_are_written_law};
+pub use phrases::{Phrase, Separator};
+pub use reader::Reader;
+pub use reading::{
+    ReadStmt, lengths_law, one_reading_law, read_stmt, reading_law, statements_are_written_law,
+};
 pub use statements::{NamedAgg, NamedFold, NamedTest, Stmt};
-pub use tokens::{TokenAt, TokenKind, next_token};
+pub use tokens::{Mark, TokenAt, TokenKind, next_token};

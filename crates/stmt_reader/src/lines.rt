@@ -2,6 +2,7 @@
 ghost use Rattle.std.specs.Prelude.{◌≡◌, ◌≤◌, length};
 ghost use Rattle.std.specs.List.{list_all};
 ghost use Rattle.std.specs.Char.{is_ascii as is_ascii_byte};
+ghost use Rattle.stmt_reader.specs.Limits.{longest_line};
 ghost use Rattle.stmt_reader.specs.Lines.{line_kind, of_text, comment_at, begins_session, continues_session, session_len, has_session};
 
 use crate::tokens::blank_len;
@@ -28,7 +29,7 @@ pub enum LineKind {
 
 /// What a line is. The line comes without its LF.
 pub fn split_line(line: &[u8]) -> LineKind
-    requires short { length line.now ≤ 65536 }
+    requires short { length line.now ≤ longest_line }
     ensures kind { result ≡ line_kind line.now }
 {
     let text = &line[..comment_start(line)];
@@ -52,7 +53,7 @@ fn comment_start(line: &[u8]) -> usize
 
 /// What a line is whose text before the comment is this one, with so many blanks in front.
 fn kind_of(text: &[u8], blanks: usize) -> LineKind
-    requires short { length text.now ≤ 65536 }
+    requires short { length text.now ≤ longest_line }
     requires within { blanks ≤ length text.now }
     ensures kind { result ≡ of_text text.now blanks }
 {

@@ -13,7 +13,9 @@ use ts_schema::Seq;
 /// What parts the items of a list.
 #[derive(Clone, Copy, Debug, PartialEq, Eq)]
 pub enum Separator {
+    /// `,`
     Comma,
+    /// `AND`
     And,
 }
 

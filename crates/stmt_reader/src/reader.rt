@@ -1,8 +1,9 @@
 //! A reader of the tokens of a line, one after the other.
 ghost use Rattle.std.specs.Prelude.{◌≡◌, ◌≤◌, length, if◌then◌else◌, option_map};
+ghost use Rattle.stmt_reader.specs.Limits.{longest_line};
 ghost use Rattle.stmt_reader.specs.Bytes.{lower};
 ghost use Rattle.stmt_reader.specs.Streams.{heads, tail, refused, seen_ahead, place, is_end};
-ghost use Rattle.stmt_reader.specs.Words.{is_keyword, is_mark, is_number, is_item, flag_of, comparison_of, function_of};
+ghost use Rattle.stmt_reader.specs.Words.{is_keyword, is_spelled, is_mark, is_number, is_item, flag_of, comparison_of, function_of};
 ghost use Rattle.stmt_reader.specs.Reading.{Gives, wanted, one, name, quoted, number, end};
 ghost use Rattle.stmt_reader.specs.Cursor.{ahead};
 ghost use Rattle.stmt_reader.specs.Scan.{view, IsNamed};
@@ -29,6 +30,7 @@ pub struct Reader<'a> {
 impl<'a> Model for Reader<'a> {
     ghost use Rattle.std.specs.Prelude.{◌≡◌, ◌≤◌, length};
     ghost use Rattle.stmt_reader.specs.Cursor.{Cursor};
+    ghost use Rattle.stmt_reader.specs.Limits.{longest_line};
     ghost use Rattle.stmt_reader.specs.Tokens.{next};
     ghost use Rattle.stmt_reader.specs.Scan.{view_ahead, seen_next};
 
@@ -36,13 +38,13 @@ impl<'a> Model for Reader<'a> {
 
     ghost view = { λ r. record { text = r.text.now; at = r.at } };
 
-    ghost invariant = { λ r. (length r.text.now ≤ 65536) × (r.at ≤ length r.text.now) × (view_ahead r.ahead ≡ seen_next (next r.text.now r.at)) };
+    ghost invariant = { λ r. (length r.text.now ≤ longest_line) × (r.at ≤ length r.text.now) × (view_ahead r.ahead ≡ seen_next (next r.text.now r.at)) };
 }
 
 impl<'a> Reader<'a> {
     /// A reader of a text after its first `skip` bytes.
     pub fn new(alloc: Global, text: &'a [u8], skip: usize) -> Reader<'a>
-        requires short { length text.now ≤ 65536 }
+        requires short { length text.now ≤ longest_line }
         requires within { skip ≤ length text.now }
         ensures begins { result ≡ record { text = text.now; at = skip } }
     {
@@ -118,6 +120,17 @@ impl<'a> Reader<'a> {
         }
     }
 
+    /// Whether the word with this text comes next. The text is in lower case, and the word in any.
+    pub fn is_at_word(&self, text: &[u8]) -> bool
+        requires { lower text.now ≡ text.now }
+        ensures { result ≡ heads (is_spelled text.now) (ahead self.now) }
+    {
+        match self.token() {
+            Some(token) => token.is_spelled(text),
+            None => false,
+        }
+    }
+
     /// Whether this mark comes next.
     pub fn is_at_mark(&self, mark: Mark) -> bool
         ensures { result ≡ heads (is_mark mark) (ahead self.now) }
@@ -172,6 +185,19 @@ impl<'a> Reader<'a> {
         here
     }
 
+    /// Goes past the word with this text where it comes next. The text is in lower case.
+    pub fn takes_word(&mut self, text: &[u8]) -> bool
+        requires { lower text.now ≡ text.now }
+        ensures taken { result ≡ heads (is_spelled text.now) (ahead self.old) }
+        ensures left { ahead self.new ≡ (if result then tail (ahead self.old) else ahead self.old) }
+    {
+        let here = self.is_at_word(text);
+        if here {
+            self.advance();
+        }
+        here
+    }
+
     /// Goes past this mark where it comes next.
     pub fn takes_mark(&mut self, mark: Mark) -> bool
         ensures taken { result ≡ heads (is_mark mark) (ahead self.old) }
@@ -190,6 +216,18 @@ impl<'a> Reader<'a> {
         ensures { Gives result (wanted (is_keyword keyword) (ahead self.old)) (ahead self.new) }
     {
         if !self.takes_keyword(keyword) {
+            return Err(self.refusal());
+        }
+        Ok(())
+    }
+
+    /// The word with this text, which is in lower case.
+    #[tactic(auto, unfolding(crate::specs::Reading::wanted))]
+    pub fn word(&mut self, text: &[u8]) -> Result<(), ReadError>
+        requires { lower text.now ≡ text.now }
+        ensures { Gives result (wanted (is_spelled text.now) (ahead self.old)) (ahead self.new) }
+    {
+        if !self.takes_word(text) {
             return Err(self.refusal());
         }
         Ok(())

@@ -1,9 +1,10 @@
 //! Reading the statement of a line.
 ghost use Rattle.std.specs.Prelude.{◌≡◌, ◌≤◌, length};
+ghost use Rattle.stmt_reader.specs.Limits.{longest_input, longest_line};
 ghost use Rattle.stmt_reader.specs.Streams.{stream};
 ghost use Rattle.stmt_reader.specs.Answers.{Answers};
 ghost use Rattle.stmt_reader.specs.Reading.{statement};
-ghost use Rattle.stmt_reader.specs.Refusals.{Judges, OneReading};
+ghost use Rattle.stmt_reader.specs.Refusals.{Judges, OneReading, ReadsByTheGrammar};
 ghost use Rattle.stmt_reader.specs.Written.{IsWritten, OfStatement, StatementsAreWritten};
 
 use crate::faults::{Fault, ReadError};
@@ -31,7 +32,7 @@ pub enum ReadStmt {
 /// The statement that stands in a text after its first `skip` bytes. The text is a line before its
 /// comment.
 pub fn read_stmt(alloc: Global, text: &[u8], skip: u32) -> ReadStmt
-    requires short { length text.now ≤ 65536 }
+    requires short { length text.now ≤ longest_line }
     requires within { skip ≤ length text.now }
 
     // What reading from left to right gives.
@@ -47,7 +48,7 @@ pub fn read_stmt(alloc: Global, text: &[u8], skip: u32) -> ReadStmt
 }
 
 fn answer(alloc: Global, text: &[u8], skip: u32) -> ReadStmt
-    requires short { length text.now ≤ 65536 }
+    requires short { length text.now ≤ longest_line }
     requires within { skip ≤ length text.now }
     ensures exact { Answers result (statement (stream text.now skip)) }
 {
@@ -59,6 +60,18 @@ fn answer(alloc: Global, text: &[u8], skip: u32) -> ReadStmt
         Err(ReadError::Fault(Fault::BadNumber(place))) => ReadStmt::BadNumber(place),
     }
 }
+
+/// States the limits as numbers. It does nothing.
+pub fn lengths_law()
+    ensures line { longest_line ≡ 65536 }
+    ensures input { longest_input ≡ 67108864 }
+{}
+
+/// States that what reading gives of each text is what the grammar says of it: its statement where
+/// nothing is wrong, and else the first thing that is. It does nothing.
+pub fn reading_law()
+    ensures { ReadsByTheGrammar }
+{}
 
 /// States that the tokens of a statement say one thing. It does nothing.
 pub fn one_reading_law()

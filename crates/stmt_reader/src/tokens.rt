@@ -5,9 +5,10 @@ ghost use Rattle.std.specs.Char.{is_ascii_digit};
 ghost use Rattle.std.specs.Ordering.{int_eq};
 ghost use Rattle.std.specs.Str.{IsUtf8, bytes_eq};
 ghost use Rattle.std.specs.Str.Parse.{IsNumeral, without_leading_sign, signed_digits_value};
+ghost use Rattle.stmt_reader.specs.Limits.{longest_line};
 ghost use Rattle.stmt_reader.specs.Bytes.{is_space, begins_word, continues_word, lower};
 ghost use Rattle.stmt_reader.specs.Tokens as spec;
-ghost use Rattle.stmt_reader.specs.Words.{mark_number, comparison_of_mark, is_keyword, is_mark, is_number, is_item, function_of, function_of_word, comparison_of, flag_of};
+ghost use Rattle.stmt_reader.specs.Words.{mark_number, comparison_of_mark, is_keyword, is_mark, is_number, is_item, function_of, function_of_word, comparison_of, flag_of, is_spelled};
 ghost use Rattle.stmt_reader.specs.Scan.{view, view_lexeme, view_ahead, seen_lexeme, seen_next, SeenFits, i64_of, shown_token};
 
 use crate::keywords::Keyword;
@@ -121,6 +122,17 @@ impl<'a> Token<'a> {
     {
         match self {
             Token::Word(word) => is_text(word, keyword.text()),
+            Token::Number(_) | Token::Quoted(_) | Token::Mark(_) => false,
+        }
+    }
+
+    /// Whether it is the word with this text, which is in lower case.
+    pub fn is_spelled(self, text: &[u8]) -> bool
+        requires { lower text.now ≡ text.now }
+        ensures { result ≡ is_spelled text.now (view self.entry) }
+    {
+        match self {
+            Token::Word(word) => is_text(word, text),
             Token::Number(_) | Token::Quoted(_) | Token::Mark(_) => false,
         }
     }
@@ -249,7 +261,7 @@ pub enum Ahead<'a> {
 
 /// The next token after the first `skip` bytes of a text. The text is a line before its comment.
 pub fn next_token(text: &[u8], skip: u32) -> TokenAt
-    requires short { length text.now ≤ 65536 }
+    requires short { length text.now ≤ longest_line }
     requires within { skip ≤ length text.now }
     ensures token { result ≡ spec.token_at text.now skip }
 {
