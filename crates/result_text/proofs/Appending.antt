@@ -1,5 +1,5 @@
 -- Pieces appended one after another are appended together.
-use Rattle.std.proofs.Common.{◌≡◌, ◌∙◌, ap, sym, ℕ, List, ◌++◌}
+use Rattle.std.proofs.Common.{◌≡◌, ◌∙◌, ap, ℕ, List, ◌++◌}
 use Rattle.std.proofs.lemmas.List.{append_assoc}
 
 pub two_pieces : (text a b : List ℕ) → text ++ a ++ b ≡ text ++ (a ++ b)

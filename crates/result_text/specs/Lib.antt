@@ -4,3 +4,4 @@ pub mod Refusals
 pub mod Replies
 pub mod Spans
 pub mod Summaries
+pub mod Writing

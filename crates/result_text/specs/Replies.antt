@@ -1,5 +1,5 @@
 -- The texts of replies.
-use Rattle.std.specs.Prelude.{ℕ, ℤ, List, ◌++◌, codes, decimal}
+use Rattle.std.specs.Prelude.{ℕ, List, ◌++◌, codes, decimal}
 use Rattle.ts_model.specs.declared.outcomes.Refusal.{Refusal}
 use Rattle.result_text.specs.declared.replies.Said.{Said}
 use Rattle.result_text.specs.declared.replies.Said.TheVariants.{Table, Hypertable, View, Mode, Commit, Queued, Refresh, Nothing, Cut, Snap, Finish, Begin, BeginRead, CommitEmpty, Rollback, End, Answered, Fault}

@@ -1,12 +1,12 @@
 //! The texts of answers.
-ghost use Rattle.std.specs.Prelude.{◌≡◌, ◌++◌, codes, IfOk, OnErr, OnOk};
+ghost use Rattle.std.specs.Prelude.{◌≡◌, ◌++◌, codes, OnErr, OnOk};
 ghost use Rattle.result_text.specs.Answers.{answer_head, answer_text, cells_text, more_cells, rows_text, stale_text};
 
-use crate::pieces::{append, beside, bytes, number};
+use crate::pieces::Text;
 use crate::spans::put_span;
 use ts_bucket::Span;
 use ts_model::Answer;
-use ts_num::{Datum, put_datum};
+use ts_num::Datum;
 use ts_schema::{NoMemory, Seq};
 
 /// Appends an answer at a position: a line with its counts, a line for each row and one for each stale
@@ -15,46 +15,50 @@ pub fn put_answer(answer: &Answer, pos: u64, min: i64, out: &mut Vec<u8>) -> Res
     ensures appended { OnOk result (out.new.items ≡ out.old.items ++ answer_text answer.now pos min) }
     ensures kept { OnErr result (out.new.items ≡ out.old.items) }
 {
-    append(answer_lines(beside(out), answer, pos, min), out)
+    let mut text = Text::behind(out);
+    let written = put_answer_lines(&mut text, answer, pos, min);
+    text.finish(written, out)
 }
 
-/// An answer as lines, behind a text.
+/// Appends an answer as lines.
 #[tactic(auto, using(crate::proofs::Appending::three_pieces))]
-pub(crate) fn answer_lines(
-    mut text: Vec<u8>,
+pub(crate) fn put_answer_lines(
+    text: &mut Text,
     answer: &Answer,
     pos: u64,
     min: i64,
-) -> Result<Vec<u8>, NoMemory>
-    ensures { IfOk result (λ t. t.items ≡ text.items ++ answer_text answer.now pos min) }
+) -> Result<(), NoMemory>
+    ensures written { OnOk result (text.new.after ≡ text.old.after ++ answer_text answer.now pos min) }
+    ensures kept { text.new.before ≡ text.old.before }
 {
     put_head(
-        &mut text,
+        text,
         pos,
         answer.rows.len() as u64,
         answer.stale.len() as u64,
     )?;
-    put_rows(&mut text, answer.rows.items())?;
-    put_stale(&mut text, min, answer.stale.items())?;
-    Ok(text)
+    put_rows(text, answer.rows.items())?;
+    put_stale(text, min, answer.stale.items())
 }
 
 /// Appends the head of an answer.
-fn put_head(text: &mut Vec<u8>, pos: u64, rows: u64, stale: u64) -> Result<(), NoMemory>
-    ensures { IfOk result (λ _. text.new.items ≡ text.old.items ++ answer_head pos rows stale) }
+fn put_head(text: &mut Text, pos: u64, rows: u64, stale: u64) -> Result<(), NoMemory>
+    ensures written { OnOk result (text.new.after ≡ text.old.after ++ answer_head pos rows stale) }
+    ensures kept { text.new.before ≡ text.old.before }
 {
-    bytes(text, b"ANSWER @")?;
-    number(text, pos)?;
-    bytes(text, b" rows ")?;
-    number(text, rows)?;
-    bytes(text, b" stale ")?;
-    number(text, stale)?;
-    bytes(text, b"\n")
+    text.bytes(b"ANSWER @")?;
+    text.number(pos)?;
+    text.bytes(b" rows ")?;
+    text.number(rows)?;
+    text.bytes(b" stale ")?;
+    text.number(stale)?;
+    text.bytes(b"\n")
 }
 
 /// Appends a line for each row.
-fn put_rows(text: &mut Vec<u8>, rows: &[Seq<Datum>]) -> Result<(), NoMemory>
-    ensures { IfOk result (λ _. text.new.items ≡ text.old.items ++ rows_text rows.now) }
+fn put_rows(text: &mut Text, rows: &[Seq<Datum>]) -> Result<(), NoMemory>
+    ensures written { OnOk result (text.new.after ≡ text.old.after ++ rows_text rows.now) }
+    ensures kept { text.new.before ≡ text.old.before }
 {
     for row in rows {
         put_row(text, row.items())?;
@@ -63,45 +67,49 @@ fn put_rows(text: &mut Vec<u8>, rows: &[Seq<Datum>]) -> Result<(), NoMemory>
 }
 
 /// Appends a row as a line.
-fn put_row(text: &mut Vec<u8>, row: &[Datum]) -> Result<(), NoMemory>
-    ensures { IfOk result (λ _. text.new.items ≡ text.old.items ++ (cells_text row.now ++ codes "\n")) }
+fn put_row(text: &mut Text, row: &[Datum]) -> Result<(), NoMemory>
+    ensures written { OnOk result (text.new.after ≡ text.old.after ++ (cells_text row.now ++ codes "\n")) }
+    ensures kept { text.new.before ≡ text.old.before }
 {
     put_cells(text, row)?;
-    bytes(text, b"\n")
+    text.bytes(b"\n")
 }
 
 /// Appends the cells of a row.
-fn put_cells(text: &mut Vec<u8>, row: &[Datum]) -> Result<(), NoMemory>
-    ensures { IfOk result (λ _. text.new.items ≡ text.old.items ++ cells_text row.now) }
+fn put_cells(text: &mut Text, row: &[Datum]) -> Result<(), NoMemory>
+    ensures written { OnOk result (text.new.after ≡ text.old.after ++ cells_text row.now) }
+    ensures kept { text.new.before ≡ text.old.before }
 {
     match row {
         [] => Ok(()),
         [first, more @ ..] => {
-            put_datum(first, text)?;
+            text.datum(first)?;
             put_more(text, more)
         }
     }
 }
 
 /// Appends the cells of a row after its first.
-fn put_more(text: &mut Vec<u8>, more: &[Datum]) -> Result<(), NoMemory>
-    ensures { IfOk result (λ _. text.new.items ≡ text.old.items ++ more_cells more.now) }
+fn put_more(text: &mut Text, more: &[Datum]) -> Result<(), NoMemory>
+    ensures written { OnOk result (text.new.after ≡ text.old.after ++ more_cells more.now) }
+    ensures kept { text.new.before ≡ text.old.before }
 {
     for datum in more {
-        bytes(text, b"|")?;
-        put_datum(datum, text)?;
+        text.bytes(b"|")?;
+        text.datum(datum)?;
     }
     Ok(())
 }
 
 /// Appends a line for each stale range.
-pub(crate) fn put_stale(text: &mut Vec<u8>, min: i64, stale: &[Span]) -> Result<(), NoMemory>
-    ensures { IfOk result (λ _. text.new.items ≡ text.old.items ++ stale_text min stale.now) }
+pub(crate) fn put_stale(text: &mut Text, min: i64, stale: &[Span]) -> Result<(), NoMemory>
+    ensures written { OnOk result (text.new.after ≡ text.old.after ++ stale_text min stale.now) }
+    ensures kept { text.new.before ≡ text.old.before }
 {
     for span in stale {
-        bytes(text, b"stale ")?;
+        text.bytes(b"stale ")?;
         put_span(text, min, *span)?;
-        bytes(text, b"\n")?;
+        text.bytes(b"\n")?;
     }
     Ok(())
 }

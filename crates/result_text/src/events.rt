@@ -1,11 +1,11 @@
 //! The texts of a log and of what is pending.
-ghost use Rattle.std.specs.Prelude.{◌≡◌, ◌++◌, codes, decimal, slice_get, IfOk, OnErr, OnOk};
+ghost use Rattle.std.specs.Prelude.{◌≡◌, ◌++◌, codes, decimal, Some, OnErr, OnOk};
 ghost use Rattle.std.specs.Fmt.{signed_decimal};
-ghost use Rattle.result_text.specs.Spans.{span_end, span_text};
+ghost use Rattle.result_text.specs.Spans.{span_text};
 ghost use Rattle.ts_model.specs.Roster.{table_of, view_of};
-ghost use Rattle.result_text.specs.Events.{column_name, column_text, columns_text, cut_text, event_text, history_text, hyper_text, log_text, mode_text, mode_word, pending_text, view_text};
+ghost use Rattle.result_text.specs.Events.{built_text, column_text, columns_text, cut_text, event_text, history_text, hyper_text, log_text, mode_text, mode_word, pending_head, pending_text, place_text, table_text, view_text};
 
-use crate::pieces::{append, beside, bytes, number, signed};
+use crate::pieces::Text;
 use crate::spans::{put_span, put_span_end};
 use ts_bucket::{Span, first};
 use ts_model::{Event, Hyper, Roster, TableDef, TableInfo, ViewDef};
@@ -22,7 +22,9 @@ pub fn put_event(
     ensures appended { OnOk result (out.new.items ≡ out.old.items ++ log_text number roster.now event.now) }
     ensures kept { OnErr result (out.new.items ≡ out.old.items) }
 {
-    append(event_line(beside(out), number, event, roster), out)
+    let mut text = Text::behind(out);
+    let written = put_event_line(&mut text, number, event, roster);
+    text.finish(written, out)
 }
 
 /// Appends the line with the position of a history.
@@ -30,7 +32,9 @@ pub fn put_history(pos: u64, out: &mut Vec<u8>) -> Result<(), NoMemory>
     ensures appended { OnOk result (out.new.items ≡ out.old.items ++ history_text pos) }
     ensures kept { OnErr result (out.new.items ≡ out.old.items) }
 {
-    append(history_line(beside(out), pos), out)
+    let mut text = Text::behind(out);
+    let written = put_history_line(&mut text, pos);
+    text.finish(written, out)
 }
 
 /// Appends the line of a refresh that waits, of the aggregate with this name; `min` is the start of its
@@ -45,65 +49,69 @@ pub fn put_pending(
     ensures appended { OnOk result (out.new.items ≡ out.old.items ++ pending_text cut name.now span min) }
     ensures kept { OnErr result (out.new.items ≡ out.old.items) }
 {
-    append(pending_line(beside(out), cut, name, span, min), out)
+    let mut text = Text::behind(out);
+    let written = put_pending_line(&mut text, cut, name, span, min);
+    text.finish(written, out)
 }
 
-/// The line with the position of a history, behind a text.
-fn history_line(mut text: Vec<u8>, pos: u64) -> Result<Vec<u8>, NoMemory>
-    ensures { IfOk result (λ t. t.items ≡ text.items ++ history_text pos) }
+/// Appends the position of a history as a line.
+fn put_history_line(text: &mut Text, pos: u64) -> Result<(), NoMemory>
+    ensures written { OnOk result (text.new.after ≡ text.old.after ++ history_text pos) }
+    ensures kept { text.new.before ≡ text.old.before }
 {
-    bytes(&mut text, b"HISTORY @")?;
-    number(&mut text, pos)?;
-    bytes(&mut text, b"\n")?;
-    Ok(text)
+    text.bytes(b"HISTORY @")?;
+    text.number(pos)?;
+    text.bytes(b"\n")
 }
 
-/// The line of a refresh that waits, behind a text.
+/// Appends a refresh that waits as a line.
 #[tactic(auto, using(crate::proofs::Appending::two_pieces))]
-fn pending_line(
-    mut text: Vec<u8>,
+fn put_pending_line(
+    text: &mut Text,
     cut: u64,
     name: &Name,
     span: Span,
     min: i64,
-) -> Result<Vec<u8>, NoMemory>
-    ensures { IfOk result (λ t. t.items ≡ text.items ++ ((codes "PENDING " ++ decimal cut ++ codes " " ++ name.now) ++ span_end min span)) }
+) -> Result<(), NoMemory>
+    ensures written { OnOk result (text.new.after ≡ text.old.after ++ pending_text cut name.now span min) }
+    ensures kept { text.new.before ≡ text.old.before }
 {
-    put_waiting(&mut text, cut, name)?;
-    put_span_end(&mut text, min, span)?;
-    Ok(text)
+    put_waiting(text, cut, name)?;
+    put_span_end(text, min, span)
 }
 
 /// Appends a refresh that waits, by its cut and the name of its aggregate.
-fn put_waiting(text: &mut Vec<u8>, cut: u64, name: &Name) -> Result<(), NoMemory>
-    ensures { IfOk result (λ _. text.new.items ≡ text.old.items ++ (codes "PENDING " ++ decimal cut ++ codes " " ++ name.now)) }
+fn put_waiting(text: &mut Text, cut: u64, name: &Name) -> Result<(), NoMemory>
+    ensures written { OnOk result (text.new.after ≡ text.old.after ++ pending_head cut name.now) }
+    ensures kept { text.new.before ≡ text.old.before }
 {
-    bytes(text, b"PENDING ")?;
-    number(text, cut)?;
-    bytes(text, b" ")?;
-    bytes(text, name.bytes())
+    text.bytes(b"PENDING ")?;
+    text.number(cut)?;
+    text.bytes(b" ")?;
+    text.bytes(name.bytes())
 }
 
-/// The line of an event, behind a text.
-fn event_line(
-    mut text: Vec<u8>,
+/// Appends an event as a line.
+fn put_event_line(
+    text: &mut Text,
     position: u64,
     event: &Event,
     roster: &Roster,
-) -> Result<Vec<u8>, NoMemory>
-    ensures { IfOk result (λ t. t.items ≡ text.items ++ log_text position roster.now event.now) }
+) -> Result<(), NoMemory>
+    ensures written { OnOk result (text.new.after ≡ text.old.after ++ log_text position roster.now event.now) }
+    ensures kept { text.new.before ≡ text.old.before }
 {
-    bytes(&mut text, b"@")?;
-    number(&mut text, position)?;
-    bytes(&mut text, b" ")?;
-    put_kind(&mut text, event, roster)?;
-    bytes(&mut text, b"\n")?;
-    Ok(text)
+    text.bytes(b"@")?;
+    text.number(position)?;
+    text.bytes(b" ")?;
+    put_kind(text, event, roster)?;
+    text.bytes(b"\n")
 }
 
 /// Appends what an event is.
-fn put_kind(text: &mut Vec<u8>, event: &Event, roster: &Roster) -> Result<(), NoMemory>
-    ensures { IfOk result (λ _. text.new.items ≡ text.old.items ++ event_text roster.now event.now) }
+fn put_kind(text: &mut Text, event: &Event, roster: &Roster) -> Result<(), NoMemory>
+    ensures written { OnOk result (text.new.after ≡ text.old.after ++ event_text roster.now event.now) }
+    ensures kept { text.new.before ≡ text.old.before }
 {
     match event {
         Event::Table(def) => put_table(text, def),
@@ -117,17 +125,19 @@ fn put_kind(text: &mut Vec<u8>, event: &Event, roster: &Roster) -> Result<(), No
 }
 
 /// Appends that a table was made.
-fn put_table(text: &mut Vec<u8>, def: &TableDef) -> Result<(), NoMemory>
-    ensures { IfOk result (λ _. text.new.items ≡ text.old.items ++ (codes "TABLE " ++ def.now.name ++ columns_text def.now.cols)) }
+fn put_table(text: &mut Text, def: &TableDef) -> Result<(), NoMemory>
+    ensures written { OnOk result (text.new.after ≡ text.old.after ++ table_text def.now) }
+    ensures kept { text.new.before ≡ text.old.before }
 {
-    bytes(text, b"TABLE ")?;
-    bytes(text, def.name.bytes())?;
+    text.bytes(b"TABLE ")?;
+    text.bytes(def.name.bytes())?;
     put_columns(text, def.cols.items())
 }
 
 /// Appends columns.
-fn put_columns(text: &mut Vec<u8>, columns: &[Column]) -> Result<(), NoMemory>
-    ensures { IfOk result (λ _. text.new.items ≡ text.old.items ++ columns_text columns.now) }
+fn put_columns(text: &mut Text, columns: &[Column]) -> Result<(), NoMemory>
+    ensures written { OnOk result (text.new.after ≡ text.old.after ++ columns_text columns.now) }
+    ensures kept { text.new.before ≡ text.old.before }
 {
     for column in columns {
         put_column(text, column)?;
@@ -136,17 +146,19 @@ fn put_columns(text: &mut Vec<u8>, columns: &[Column]) -> Result<(), NoMemory>
 }
 
 /// Appends a column, with ! where it is NOT NULL.
-fn put_column(text: &mut Vec<u8>, column: &Column) -> Result<(), NoMemory>
-    ensures { IfOk result (λ _. text.new.items ≡ text.old.items ++ column_text column.now) }
+fn put_column(text: &mut Text, column: &Column) -> Result<(), NoMemory>
+    ensures written { OnOk result (text.new.after ≡ text.old.after ++ column_text column.now) }
+    ensures kept { text.new.before ≡ text.old.before }
 {
-    bytes(text, b" ")?;
-    bytes(text, column.name.bytes())?;
-    bytes(text, if column.must { b"!".as_slice() } else { b"" })
+    text.bytes(b" ")?;
+    text.bytes(column.name.bytes())?;
+    text.bytes(if column.must { b"!".as_slice() } else { b"" })
 }
 
 /// Appends that a table was made a hypertable.
-fn put_hyper(text: &mut Vec<u8>, roster: &Roster, table: u32, hyper: Hyper) -> Result<(), NoMemory>
-    ensures { IfOk result (λ _. text.new.items ≡ text.old.items ++ hyper_text hyper (table_of roster.now table)) }
+fn put_hyper(text: &mut Text, roster: &Roster, table: u32, hyper: Hyper) -> Result<(), NoMemory>
+    ensures written { OnOk result (text.new.after ≡ text.old.after ++ hyper_text hyper (table_of roster.now table)) }
+    ensures kept { text.new.before ≡ text.old.before }
 {
     match roster.tables.items().get(table as usize) {
         None => Ok(()),
@@ -156,8 +168,9 @@ fn put_hyper(text: &mut Vec<u8>, roster: &Roster, table: u32, hyper: Hyper) -> R
 
 /// Appends that this table was made a hypertable.
 #[tactic(auto, using(crate::proofs::Appending::three_pieces))]
-fn put_hyper_of(text: &mut Vec<u8>, info: &TableInfo, hyper: Hyper) -> Result<(), NoMemory>
-    ensures { IfOk result (λ _. text.new.items ≡ text.old.items ++ hyper_text hyper (Some info.now)) }
+fn put_hyper_of(text: &mut Text, info: &TableInfo, hyper: Hyper) -> Result<(), NoMemory>
+    ensures written { OnOk result (text.new.after ≡ text.old.after ++ hyper_text hyper (Some info.now)) }
+    ensures kept { text.new.before ≡ text.old.before }
 {
     put_named(text, b"HYPER ", &info.def.name)?;
     put_column_name(text, info.def.cols.items(), hyper.at)?;
@@ -165,69 +178,76 @@ fn put_hyper_of(text: &mut Vec<u8>, info: &TableInfo, hyper: Hyper) -> Result<()
 }
 
 /// Appends a word and a name.
-fn put_named(text: &mut Vec<u8>, word: &[u8], name: &Name) -> Result<(), NoMemory>
-    ensures { IfOk result (λ _. text.new.items ≡ text.old.items ++ (word.now ++ name.now)) }
+fn put_named(text: &mut Text, word: &[u8], name: &Name) -> Result<(), NoMemory>
+    ensures written { OnOk result (text.new.after ≡ text.old.after ++ (word.now ++ name.now)) }
+    ensures kept { text.new.before ≡ text.old.before }
 {
-    bytes(text, word)?;
-    bytes(text, name.bytes())
+    text.bytes(word)?;
+    text.bytes(name.bytes())
 }
 
 /// Appends a space and a whole number.
-fn put_spaced(text: &mut Vec<u8>, n: i64) -> Result<(), NoMemory>
-    ensures { IfOk result (λ _. text.new.items ≡ text.old.items ++ (codes " " ++ signed_decimal n)) }
+fn put_spaced(text: &mut Text, n: i64) -> Result<(), NoMemory>
+    ensures written { OnOk result (text.new.after ≡ text.old.after ++ (codes " " ++ signed_decimal n)) }
+    ensures kept { text.new.before ≡ text.old.before }
 {
-    bytes(text, b" ")?;
-    signed(text, i128::from(n))
+    text.bytes(b" ")?;
+    text.signed(i128::from(n))
 }
 
 /// Appends a space and the name of the column at a place, where it is there.
-fn put_column_name(text: &mut Vec<u8>, columns: &[Column], place: u32) -> Result<(), NoMemory>
-    ensures { IfOk result (λ _. text.new.items ≡ text.old.items ++ (codes " " ++ column_name (slice_get columns.now place))) }
+fn put_column_name(text: &mut Text, columns: &[Column], place: u32) -> Result<(), NoMemory>
+    ensures written { OnOk result (text.new.after ≡ text.old.after ++ place_text columns.now place) }
+    ensures kept { text.new.before ≡ text.old.before }
 {
     match columns.get(place as usize) {
-        None => bytes(text, b" "),
+        None => text.bytes(b" "),
         Some(column) => put_named(text, b" ", &column.name),
     }
 }
 
 /// Appends that an aggregate was made.
-fn put_view(text: &mut Vec<u8>, roster: &Roster, def: &ViewDef) -> Result<(), NoMemory>
-    ensures { IfOk result (λ _. text.new.items ≡ text.old.items ++ view_text def.now (table_of roster.now def.now.table)) }
+fn put_view(text: &mut Text, roster: &Roster, def: &ViewDef) -> Result<(), NoMemory>
+    ensures written { OnOk result (text.new.after ≡ text.old.after ++ event_text roster.now (Event.View def.now)) }
+    ensures kept { text.new.before ≡ text.old.before }
 {
     match roster.tables.items().get(def.table as usize) {
         None => Ok(()),
-        Some(info) => put_view_of(text, def, &info.def.name),
+        Some(info) => put_view_of(text, def, info),
     }
 }
 
-/// Appends that an aggregate over the table with this name was made.
+/// Appends that an aggregate over this table was made.
 #[tactic(auto, using(crate::proofs::Appending::four_pieces))]
-fn put_view_of(text: &mut Vec<u8>, def: &ViewDef, table: &Name) -> Result<(), NoMemory>
-    ensures { IfOk result (λ _. text.new.items ≡ text.old.items ++ ((codes "VIEW " ++ def.now.name) ++ (codes " " ++ table.now) ++ (codes " " ++ signed_decimal def.now.fold.width.step) ++ (codes " " ++ signed_decimal def.now.fold.width.shift))) }
+fn put_view_of(text: &mut Text, def: &ViewDef, info: &TableInfo) -> Result<(), NoMemory>
+    ensures written { OnOk result (text.new.after ≡ text.old.after ++ view_text def.now (Some info.now)) }
+    ensures kept { text.new.before ≡ text.old.before }
 {
     put_named(text, b"VIEW ", &def.name)?;
-    put_named(text, b" ", table)?;
+    put_named(text, b" ", &info.def.name)?;
     put_spaced(text, def.fold.width.step)?;
     put_spaced(text, def.fold.width.shift)
 }
 
 /// Appends that an aggregate was set to a mode.
-fn put_mode(text: &mut Vec<u8>, roster: &Roster, view: u32, only: bool) -> Result<(), NoMemory>
-    ensures { IfOk result (λ _. text.new.items ≡ text.old.items ++ mode_text only (view_of roster.now view)) }
+fn put_mode(text: &mut Text, roster: &Roster, view: u32, only: bool) -> Result<(), NoMemory>
+    ensures written { OnOk result (text.new.after ≡ text.old.after ++ mode_text only (view_of roster.now view)) }
+    ensures kept { text.new.before ≡ text.old.before }
 {
     match roster.views.items().get(view as usize) {
         None => Ok(()),
-        Some(def) => put_mode_of(text, &def.name, only),
+        Some(def) => put_mode_of(text, def, only),
     }
 }
 
-/// Appends that the aggregate with this name was set to a mode.
+/// Appends that this aggregate was set to a mode.
 #[tactic(auto, using(crate::proofs::Appending::two_pieces))]
-fn put_mode_of(text: &mut Vec<u8>, name: &Name, only: bool) -> Result<(), NoMemory>
-    ensures { IfOk result (λ _. text.new.items ≡ text.old.items ++ ((codes "MODE " ++ name.now) ++ mode_word only)) }
+fn put_mode_of(text: &mut Text, def: &ViewDef, only: bool) -> Result<(), NoMemory>
+    ensures written { OnOk result (text.new.after ≡ text.old.after ++ mode_text only (Some def.now)) }
+    ensures kept { text.new.before ≡ text.old.before }
 {
-    put_named(text, b"MODE ", name)?;
-    bytes(text, word_of_mode(only))
+    put_named(text, b"MODE ", &def.name)?;
+    text.bytes(word_of_mode(only))
 }
 
 /// A mode, where 1 is materialised only.
@@ -241,16 +261,18 @@ fn word_of_mode(only: bool) -> &'static [u8]
 }
 
 /// Appends how many operations took effect.
-fn put_commit(text: &mut Vec<u8>, ops: u64) -> Result<(), NoMemory>
-    ensures { IfOk result (λ _. text.new.items ≡ text.old.items ++ (codes "COMMIT ops " ++ decimal ops)) }
+fn put_commit(text: &mut Text, ops: u64) -> Result<(), NoMemory>
+    ensures written { OnOk result (text.new.after ≡ text.old.after ++ (codes "COMMIT ops " ++ decimal ops)) }
+    ensures kept { text.new.before ≡ text.old.before }
 {
-    bytes(text, b"COMMIT ops ")?;
-    number(text, ops)
+    text.bytes(b"COMMIT ops ")?;
+    text.number(ops)
 }
 
 /// Appends that a refresh was begun.
-fn put_cut(text: &mut Vec<u8>, roster: &Roster, view: u32, span: Span) -> Result<(), NoMemory>
-    ensures { IfOk result (λ _. text.new.items ≡ text.old.items ++ cut_text span (view_of roster.now view)) }
+fn put_cut(text: &mut Text, roster: &Roster, view: u32, span: Span) -> Result<(), NoMemory>
+    ensures written { OnOk result (text.new.after ≡ text.old.after ++ cut_text span (view_of roster.now view)) }
+    ensures kept { text.new.before ≡ text.old.before }
 {
     match roster.views.items().get(view as usize) {
         None => Ok(()),
@@ -260,27 +282,30 @@ fn put_cut(text: &mut Vec<u8>, roster: &Roster, view: u32, span: Span) -> Result
 
 /// Appends that a refresh of this aggregate was begun.
 #[tactic(auto, using(crate::proofs::Appending::two_pieces))]
-fn put_cut_of(text: &mut Vec<u8>, def: &ViewDef, span: Span) -> Result<(), NoMemory>
-    ensures { IfOk result (λ _. text.new.items ≡ text.old.items ++ cut_text span (Some def.now)) }
+fn put_cut_of(text: &mut Text, def: &ViewDef, span: Span) -> Result<(), NoMemory>
+    ensures written { OnOk result (text.new.after ≡ text.old.after ++ cut_text span (Some def.now)) }
+    ensures kept { text.new.before ≡ text.old.before }
 {
     put_named(text, b"CUT ", &def.name)?;
     put_spaced_span(text, first(def.fold.width), span)
 }
 
 /// Appends a space and a range.
-fn put_spaced_span(text: &mut Vec<u8>, min: i64, span: Span) -> Result<(), NoMemory>
-    ensures { IfOk result (λ _. text.new.items ≡ text.old.items ++ (codes " " ++ span_text min span)) }
+fn put_spaced_span(text: &mut Text, min: i64, span: Span) -> Result<(), NoMemory>
+    ensures written { OnOk result (text.new.after ≡ text.old.after ++ (codes " " ++ span_text min span)) }
+    ensures kept { text.new.before ≡ text.old.before }
 {
-    bytes(text, b" ")?;
+    text.bytes(b" ")?;
     put_span(text, min, span)
 }
 
 /// Appends that a refresh was finished.
-fn put_built(text: &mut Vec<u8>, cut: u64, snap: u64) -> Result<(), NoMemory>
-    ensures { IfOk result (λ _. text.new.items ≡ text.old.items ++ (codes "BUILT " ++ decimal cut ++ codes " snap " ++ decimal snap)) }
+fn put_built(text: &mut Text, cut: u64, snap: u64) -> Result<(), NoMemory>
+    ensures written { OnOk result (text.new.after ≡ text.old.after ++ built_text cut snap) }
+    ensures kept { text.new.before ≡ text.old.before }
 {
-    bytes(text, b"BUILT ")?;
-    number(text, cut)?;
-    bytes(text, b" snap ")?;
-    number(text, snap)
+    text.bytes(b"BUILT ")?;
+    text.number(cut)?;
+    text.bytes(b" snap ")?;
+    text.number(snap)
 }

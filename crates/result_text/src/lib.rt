@@ -4,7 +4,10 @@
 #![tactic(auto)]
 
 mod answers;
+pub mod codes;
 mod events;
+#[cfg(test)]
+mod log_tests;
 mod pieces;
 mod refusals;
 mod replies;

@@ -1,49 +1,100 @@
-//! The pieces of a text. After an error the text may have a part of a piece: callers give it up.
-ghost use Rattle.std.specs.Prelude.{◌≡◌, ◌++◌, [], decimal, IfOk, IsOk, OnErr, OnOk};
+//! The pieces of a text that is written behind what stands in a buffer. After an error the text is in
+//! part there: then the buffer is cut back to what stood in it before.
+ghost use Rattle.std.specs.Prelude.{◌≡◌, ◌++◌, [], decimal, OnErr, OnOk};
 ghost use Rattle.std.specs.Fmt.{signed_decimal};
+ghost use Rattle.ts_num.specs.Texts.{datum_text};
 
 use itoa::Buffer;
-use std::alloc::Global;
-use ts_num::put_int;
+use std::marker::Model;
+use std::mem;
+use ts_num::{Datum, put_datum, put_int};
 use ts_schema::NoMemory;
 
-/// An empty text by the side of another.
-pub(crate) fn beside(out: &Vec<u8>) -> Vec<u8>
-    ensures { result.items ≡ [] }
-{
-    Vec::new(*out.allocator())
+/// A text that is written behind what stands in a buffer.
+#[derive(Drop)]
+pub(crate) struct Text {
+    /// What stood in the buffer, and behind it the text.
+    buffer: Vec<u8>,
+    /// How many bytes stood there.
+    start: usize,
 }
 
-/// Appends a whole text, or leaves the buffer as it is.
-pub(crate) fn append(text: Result<Vec<u8>, NoMemory>, out: &mut Vec<u8>) -> Result<(), NoMemory>
-    ensures appended { IfOk result (λ _. IfOk text (λ t. out.new.items ≡ out.old.items ++ t.items)) }
-    ensures made { OnOk result (IsOk text) }
-    ensures kept { OnErr result (out.new.items ≡ out.old.items) }
-{
-    let text = text?;
-    out.extend_from_slice(text.as_slice())?;
-    Ok(())
+impl Model for Text {
+    ghost use Rattle.std.specs.Prelude.{◌≤◌, length, take, drop};
+    ghost use Rattle.result_text.specs.Writing.{Written};
+
+    ghost Value = { Written };
+
+    ghost view = { λ t. record { before = take t.start t.buffer.items; after = drop t.start t.buffer.items } };
+
+    ghost invariant = { λ t. t.start ≤ length t.buffer.items };
 }
 
-/// Appends bytes.
-pub(crate) fn bytes(text: &mut Vec<u8>, piece: &[u8]) -> Result<(), NoMemory>
-    ensures { IfOk result (λ _. text.new.items ≡ text.old.items ++ piece.now) }
-{
-    text.extend_from_slice(piece)?;
-    Ok(())
-}
+impl Text {
+    /// An empty text behind what stands in a buffer, which it takes.
+    #[tactic(auto, using(crate::proofs::Writing::cut_at_end))]
+    pub(crate) fn behind(out: &mut Vec<u8>) -> Text
+        ensures before { result.before ≡ out.old.items }
+        ensures after { result.after ≡ [] }
+    {
+        let empty = Vec::new(*out.allocator());
+        let buffer = mem::replace(out, empty);
+        let start = buffer.len();
+        Text { buffer, start }
+    }
 
-/// Appends a count or a position.
-pub(crate) fn number(text: &mut Vec<u8>, n: u64) -> Result<(), NoMemory>
-    ensures { IfOk result (λ _. text.new.items ≡ text.old.items ++ decimal n) }
-{
-    text.extend_from_slice(Buffer::new().format(n).as_bytes())?;
-    Ok(())
-}
+    /// Gives the buffer back: with the whole text, or, after an error, as it was.
+    #[tactic(auto, using(crate::proofs::Writing::cut_joined))]
+    pub(crate) fn finish(
+        self,
+        written: Result<(), NoMemory>,
+        out: &mut Vec<u8>,
+    ) -> Result<(), NoMemory>
+        ensures whole { OnOk result (out.new.items ≡ self.before ++ self.after) }
+        ensures kept { OnErr result (out.new.items ≡ self.before) }
+        ensures same { result ≡ written }
+    {
+        let Text { mut buffer, start } = self;
+        if written.is_err() {
+            buffer.truncate(start);
+        }
+        *out = buffer;
+        written
+    }
 
-/// Appends a whole number with its sign.
-pub(crate) fn signed(text: &mut Vec<u8>, n: i128) -> Result<(), NoMemory>
-    ensures { IfOk result (λ _. text.new.items ≡ text.old.items ++ signed_decimal n) }
-{
-    put_int(n, text)
+    /// Appends bytes.
+    #[tactic(auto, using(crate::proofs::Writing::appended_behind))]
+    pub(crate) fn bytes(&mut self, piece: &[u8]) -> Result<(), NoMemory>
+        ensures written { OnOk result (self.new.after ≡ self.old.after ++ piece.now) }
+        ensures kept { self.new.before ≡ self.old.before }
+    {
+        self.buffer.extend_from_slice(piece)?;
+        Ok(())
+    }
+
+    /// Appends a count or a position.
+    pub(crate) fn number(&mut self, n: u64) -> Result<(), NoMemory>
+        ensures written { OnOk result (self.new.after ≡ self.old.after ++ decimal n) }
+        ensures kept { self.new.before ≡ self.old.before }
+    {
+        self.bytes(Buffer::new().format(n).as_bytes())
+    }
+
+    /// Appends a whole number with its sign.
+    #[tactic(auto, using(crate::proofs::Writing::appended_behind))]
+    pub(crate) fn signed(&mut self, n: i128) -> Result<(), NoMemory>
+        ensures written { OnOk result (self.new.after ≡ self.old.after ++ signed_decimal n) }
+        ensures kept { self.new.before ≡ self.old.before }
+    {
+        put_int(n, &mut self.buffer)
+    }
+
+    /// Appends a value.
+    #[tactic(auto, using(crate::proofs::Writing::appended_behind))]
+    pub(crate) fn datum(&mut self, datum: &Datum) -> Result<(), NoMemory>
+        ensures written { OnOk result (self.new.after ≡ self.old.after ++ datum_text datum.now) }
+        ensures kept { self.new.before ≡ self.old.before }
+    {
+        put_datum(datum, &mut self.buffer)
+    }
 }

@@ -1,8 +1,9 @@
 //! The texts of refusals.
-ghost use Rattle.std.specs.Prelude.{◌≡◌, ◌++◌, decimal, IfOk, OnErr, OnOk};
-ghost use Rattle.result_text.specs.Refusals.{finish_text, number_text, position_text, refusal_text, tail_of, tail_text, word_of};
+ghost use Rattle.std.specs.Prelude.{◌≡◌, ◌++◌, decimal, OnErr, OnOk};
+ghost use Rattle.result_text.specs.Refusals.{entry_of, finish_text, number_text, position_text, refusal_text, tail_text};
 
-use crate::pieces::{append, beside, bytes, number};
+use crate::codes;
+use crate::pieces::Text;
 use ts_model::Refusal;
 use ts_schema::NoMemory;
 
@@ -19,42 +20,57 @@ pub(crate) enum Tail {
     Finish,
     /// The position looked at, and a count.
     Count,
+    /// The position looked at, and a number of bytes.
+    Bytes,
 }
 
-/// Appends a refusal as a line: `FAULT`, its number, its word and its tail. A number above
-/// 24 has the word of the last one.
+/// What the text of a refusal has by its number.
+#[derive(Clone, Copy)]
+struct Entry {
+    /// Its word.
+    word: &'static [u8],
+    /// What it ends with.
+    tail: Tail,
+}
+
+/// Appends a refusal as a line: `FAULT`, its number, its word and its tail.
 pub fn put_refusal(refusal: &Refusal, out: &mut Vec<u8>) -> Result<(), NoMemory>
     ensures appended { OnOk result (out.new.items ≡ out.old.items ++ refusal_text refusal.now) }
     ensures kept { OnErr result (out.new.items ≡ out.old.items) }
 {
-    append(refusal_line(beside(out), refusal), out)
+    let mut text = Text::behind(out);
+    let written = put_refusal_line(&mut text, refusal);
+    text.finish(written, out)
 }
 
-/// A refusal as a line, behind a text.
-pub(crate) fn refusal_line(mut text: Vec<u8>, refusal: &Refusal) -> Result<Vec<u8>, NoMemory>
-    ensures { IfOk result (λ t. t.items ≡ text.items ++ refusal_text refusal.now) }
+/// Appends a refusal as a line.
+pub(crate) fn put_refusal_line(text: &mut Text, refusal: &Refusal) -> Result<(), NoMemory>
+    ensures written { OnOk result (text.new.after ≡ text.old.after ++ refusal_text refusal.now) }
+    ensures kept { text.new.before ≡ text.old.before }
 {
-    bytes(&mut text, b"FAULT ")?;
-    put_number(&mut text, refusal.code)?;
-    bytes(&mut text, b" ")?;
-    bytes(&mut text, word(refusal.code))?;
-    put_tail(&mut text, tail_kind(refusal.code), refusal)?;
-    bytes(&mut text, b"\n")?;
-    Ok(text)
+    text.bytes(b"FAULT ")?;
+    put_number(text, refusal.code)?;
+    text.bytes(b" ")?;
+    let entry = entry_for(refusal.code);
+    text.bytes(entry.word)?;
+    put_tail(text, entry.tail, refusal)?;
+    text.bytes(b"\n")
 }
 
 /// Appends the number of a refusal, with two digits.
-fn put_number(text: &mut Vec<u8>, code: u8) -> Result<(), NoMemory>
-    ensures { IfOk result (λ _. text.new.items ≡ text.old.items ++ number_text code) }
+fn put_number(text: &mut Text, code: u8) -> Result<(), NoMemory>
+    ensures written { OnOk result (text.new.after ≡ text.old.after ++ number_text code) }
+    ensures kept { text.new.before ≡ text.old.before }
 {
-    bytes(text, b"E")?;
-    number(text, u64::from(code / 10))?;
-    number(text, u64::from(code % 10))
+    text.bytes(b"E")?;
+    text.number(u64::from(code / 10))?;
+    text.number(u64::from(code % 10))
 }
 
 /// Appends the tail of a refusal.
-fn put_tail(text: &mut Vec<u8>, tail: Tail, refusal: &Refusal) -> Result<(), NoMemory>
-    ensures { IfOk result (λ _. text.new.items ≡ text.old.items ++ tail_text tail refusal.now) }
+fn put_tail(text: &mut Text, tail: Tail, refusal: &Refusal) -> Result<(), NoMemory>
+    ensures written { OnOk result (text.new.after ≡ text.old.after ++ tail_text tail refusal.now) }
+    ensures kept { text.new.before ≡ text.old.before }
 {
     match tail {
         Tail::Bare => Ok(()),
@@ -68,27 +84,34 @@ fn put_tail(text: &mut Vec<u8>, tail: Tail, refusal: &Refusal) -> Result<(), NoM
             put_position(text, refusal.pos)?;
             put_marked(text, b" count ", refusal.mark)
         }
+        Tail::Bytes => {
+            put_position(text, refusal.pos)?;
+            put_marked(text, b" bytes ", refusal.mark)
+        }
     }
 }
 
 /// Appends a word and a number.
-pub(crate) fn put_marked(text: &mut Vec<u8>, word: &[u8], mark: u64) -> Result<(), NoMemory>
-    ensures { IfOk result (λ _. text.new.items ≡ text.old.items ++ (word.now ++ decimal mark)) }
+pub(crate) fn put_marked(text: &mut Text, word: &[u8], mark: u64) -> Result<(), NoMemory>
+    ensures written { OnOk result (text.new.after ≡ text.old.after ++ (word.now ++ decimal mark)) }
+    ensures kept { text.new.before ≡ text.old.before }
 {
-    bytes(text, word)?;
-    number(text, mark)
+    text.bytes(word)?;
+    text.number(mark)
 }
 
 /// Appends the position looked at.
-fn put_position(text: &mut Vec<u8>, pos: u64) -> Result<(), NoMemory>
-    ensures { IfOk result (λ _. text.new.items ≡ text.old.items ++ position_text pos) }
+fn put_position(text: &mut Text, pos: u64) -> Result<(), NoMemory>
+    ensures written { OnOk result (text.new.after ≡ text.old.after ++ position_text pos) }
+    ensures kept { text.new.before ≡ text.old.before }
 {
     put_marked(text, b" @", pos)
 }
 
 /// Appends the event that finished a refresh, where it was finished.
-fn put_finish(text: &mut Vec<u8>, finish: u64) -> Result<(), NoMemory>
-    ensures { IfOk result (λ _. text.new.items ≡ text.old.items ++ finish_text finish) }
+fn put_finish(text: &mut Text, finish: u64) -> Result<(), NoMemory>
+    ensures written { OnOk result (text.new.after ≡ text.old.after ++ finish_text finish) }
+    ensures kept { text.new.before ≡ text.old.before }
 {
     match finish {
         0 => Ok(()),
@@ -96,48 +119,50 @@ fn put_finish(text: &mut Vec<u8>, finish: u64) -> Result<(), NoMemory>
     }
 }
 
-/// What a refusal's reply ends with.
-fn tail_kind(code: u8) -> Tail
-    ensures { result ≡ tail_of code }
+/// A word and a tail.
+fn named(word: &'static [u8], tail: Tail) -> Entry
+    ensures word { result.word.now ≡ word.now }
+    ensures tail { result.tail ≡ tail }
 {
-    match code {
-        4 | 5 | 10 => Tail::Place,
-        19 => Tail::Finish,
-        21 => Tail::Count,
-        0..=3 | 16..=18 | 23 => Tail::Bare,
-        _ => Tail::Position,
-    }
+    Entry { word, tail }
 }
 
-/// The word of a refusal.
-fn word(code: u8) -> &'static [u8]
-    ensures { result.now ≡ word_of code }
+/// The table of refusals.
+fn entry_for(code: u8) -> Entry
+    ensures word { result.word.now ≡ (entry_of code).word }
+    ensures tail { result.tail ≡ (entry_of code).tail }
 {
     match code {
-        0 => b"not_built",
-        1 => b"line_long",
-        2 => b"not_ascii",
-        3 => b"no_session",
-        4 => b"no_token",
-        5 => b"syntax",
-        6 => b"no_relation",
-        7 => b"name_taken",
-        8 => b"no_column",
-        9 => b"bad_time",
-        10 => b"bad_number",
-        11 => b"value_count",
-        12 => b"null_value",
-        13 => b"not_hypertable",
-        14 => b"bad_width",
-        15 => b"no_bucket",
-        16 => b"in_write_block",
-        17 => b"in_read_block",
-        18 => b"no_block",
-        19 => b"no_refresh",
-        20 => b"no_snapshot",
-        21 => b"too_many",
-        22 => b"not_aggregate",
-        23 => b"too_many_sessions",
-        _ => b"stopped",
+        codes::LINE_LONG => named(b"line_long", Tail::Bare),
+        codes::NOT_ASCII => named(b"not_ascii", Tail::Bare),
+        codes::NO_SESSION => named(b"no_session", Tail::Bare),
+        codes::NO_TOKEN => named(b"no_token", Tail::Place),
+        codes::SYNTAX => named(b"syntax", Tail::Place),
+        codes::NO_RELATION => named(b"no_relation", Tail::Position),
+        codes::NAME_TAKEN => named(b"name_taken", Tail::Position),
+        codes::NO_COLUMN => named(b"no_column", Tail::Position),
+        codes::BAD_TIME => named(b"bad_time", Tail::Position),
+        codes::BAD_NUMBER => named(b"bad_number", Tail::Place),
+        codes::VALUE_COUNT => named(b"value_count", Tail::Position),
+        codes::NULL_VALUE => named(b"null_value", Tail::Position),
+        codes::NOT_HYPERTABLE => named(b"not_hypertable", Tail::Position),
+        codes::BAD_WIDTH => named(b"bad_width", Tail::Position),
+        codes::NO_BUCKET => named(b"no_bucket", Tail::Position),
+        codes::IN_WRITE_BLOCK => named(b"in_write_block", Tail::Bare),
+        codes::IN_READ_BLOCK => named(b"in_read_block", Tail::Bare),
+        codes::NO_BLOCK => named(b"no_block", Tail::Bare),
+        codes::NO_REFRESH => named(b"no_refresh", Tail::Finish),
+        codes::NO_SNAPSHOT => named(b"no_snapshot", Tail::Position),
+        codes::TOO_MANY => named(b"too_many", Tail::Count),
+        codes::NOT_AGGREGATE => named(b"not_aggregate", Tail::Position),
+        codes::TOO_MANY_SESSIONS => named(b"too_many_sessions", Tail::Bare),
+        codes::STOPPED => named(b"stopped", Tail::Position),
+        codes::IMAGE_LONG => named(b"image_long", Tail::Bytes),
+        codes::BAD_POLICY => named(b"bad_policy", Tail::Position),
+        codes::TOO_MANY_POLICIES => named(b"too_many_policies", Tail::Count),
+        codes::BAD_ROLLUP => named(b"bad_rollup", Tail::Position),
+        codes::BAD_UNIT => named(b"bad_unit", Tail::Position),
+        codes::HISTORY_FULL => named(b"history_full", Tail::Position),
+        _ => named(b"unnamed", Tail::Bare),
     }
 }

@@ -1,11 +1,11 @@
 //! The texts of replies.
-ghost use Rattle.std.specs.Prelude.{◌≡◌, ◌++◌, codes, decimal, IfOk, OnErr, OnOk};
+ghost use Rattle.std.specs.Prelude.{◌≡◌, ◌++◌, codes, decimal, OnErr, OnOk};
 ghost use Rattle.result_text.specs.Replies.{line_fault_text, refresh_head, reply_text, said_text};
 ghost use Rattle.result_text.specs.Spans.{span_end};
 
-use crate::answers::answer_lines;
-use crate::pieces::{append, beside, bytes, number};
-use crate::refusals::{put_marked, refusal_line};
+use crate::answers::put_answer_lines;
+use crate::pieces::Text;
+use crate::refusals::{put_marked, put_refusal_line};
 use crate::spans::put_span_end;
 use ts_bucket::Span;
 use ts_model::{Answer, Committed, Refusal};
@@ -79,16 +79,19 @@ pub fn put_reply(session: &Name, said: &Said, out: &mut Vec<u8>) -> Result<(), N
     ensures appended { OnOk result (out.new.items ≡ out.old.items ++ reply_text session.now said.now) }
     ensures kept { OnErr result (out.new.items ≡ out.old.items) }
 {
-    append(reply_line(beside(out), session, said), out)
+    let mut text = Text::behind(out);
+    let written = put_reply_line(&mut text, session, said);
+    text.finish(written, out)
 }
 
-/// A reply of a session, behind a text.
-fn reply_line(mut text: Vec<u8>, session: &Name, said: &Said) -> Result<Vec<u8>, NoMemory>
-    ensures { IfOk result (λ t. t.items ≡ text.items ++ reply_text session.now said.now) }
+/// Appends a reply of a session as lines.
+fn put_reply_line(text: &mut Text, session: &Name, said: &Said) -> Result<(), NoMemory>
+    ensures written { OnOk result (text.new.after ≡ text.old.after ++ reply_text session.now said.now) }
+    ensures kept { text.new.before ≡ text.old.before }
 {
-    bytes(&mut text, session.bytes())?;
-    bytes(&mut text, b": ")?;
-    said_line(text, said)
+    text.bytes(session.bytes())?;
+    text.bytes(b": ")?;
+    put_said(text, said)
 }
 
 /// Appends the refusal of a line that has no session, by the line's number.
@@ -96,138 +99,137 @@ pub fn put_line_fault(line: u64, refusal: &Refusal, out: &mut Vec<u8>) -> Result
     ensures appended { OnOk result (out.new.items ≡ out.old.items ++ line_fault_text line refusal.now) }
     ensures kept { OnErr result (out.new.items ≡ out.old.items) }
 {
-    append(line_fault(beside(out), line, refusal), out)
+    let mut text = Text::behind(out);
+    let written = put_fault_line(&mut text, line, refusal);
+    text.finish(written, out)
 }
 
-/// The refusal of a line, behind a text.
-fn line_fault(mut text: Vec<u8>, line: u64, refusal: &Refusal) -> Result<Vec<u8>, NoMemory>
-    ensures { IfOk result (λ t. t.items ≡ text.items ++ line_fault_text line refusal.now) }
+/// Appends the refusal of a line, by its number.
+fn put_fault_line(text: &mut Text, line: u64, refusal: &Refusal) -> Result<(), NoMemory>
+    ensures written { OnOk result (text.new.after ≡ text.old.after ++ line_fault_text line refusal.now) }
+    ensures kept { text.new.before ≡ text.old.before }
 {
-    bytes(&mut text, b"line ")?;
-    number(&mut text, line)?;
-    bytes(&mut text, b": ")?;
-    refusal_line(text, refusal)
+    text.bytes(b"line ")?;
+    text.number(line)?;
+    text.bytes(b": ")?;
+    put_refusal_line(text, refusal)
 }
 
-/// What a reply says, behind a text.
-fn said_line(text: Vec<u8>, said: &Said) -> Result<Vec<u8>, NoMemory>
-    ensures { IfOk result (λ t. t.items ≡ text.items ++ said_text said.now) }
+/// Appends what a reply says.
+fn put_said(text: &mut Text, said: &Said) -> Result<(), NoMemory>
+    ensures written { OnOk result (text.new.after ≡ text.old.after ++ said_text said.now) }
+    ensures kept { text.new.before ≡ text.old.before }
 {
     match said {
-        Said::Table(pos) => at_line(text, b"TABLE @", *pos),
-        Said::Hypertable(pos) => at_line(text, b"HYPERTABLE @", *pos),
-        Said::View(pos) => at_line(text, b"VIEW @", *pos),
-        Said::Mode(pos) => at_line(text, b"MODE @", *pos),
-        Said::Commit(done) => commit_line(text, *done),
-        Said::Queued => word_line(text, b"QUEUED\n"),
+        Said::Table(pos) => put_at(text, b"TABLE @", *pos),
+        Said::Hypertable(pos) => put_at(text, b"HYPERTABLE @", *pos),
+        Said::View(pos) => put_at(text, b"VIEW @", *pos),
+        Said::Mode(pos) => put_at(text, b"MODE @", *pos),
+        Said::Commit(done) => put_commit(text, *done),
+        Said::Queued => text.bytes(b"QUEUED\n"),
         Said::Refresh {
             cut,
             pos,
             snap,
             span,
             min,
-        } => { refresh_line(text, *cut, *pos, *snap, *min, *span) }
-        Said::Nothing(pos) => at_line(text, b"NOTHING @", *pos),
-        Said::Cut { cut, span, min } => cut_line(text, *cut, *min, *span),
-        Said::Snap { cut, snap } => snap_line(text, *cut, *snap),
-        Said::Finish { cut, pos, snap } => finish_line(text, *cut, *pos, *snap),
-        Said::Begin => word_line(text, b"BEGIN\n"),
-        Said::BeginRead(pos) => at_line(text, b"BEGIN @", *pos),
-        Said::CommitEmpty => word_line(text, b"COMMIT EMPTY\n"),
-        Said::Rollback => word_line(text, b"ROLLBACK\n"),
-        Said::End => word_line(text, b"END\n"),
-        Said::Answered { answer, pos, min } => answer_lines(text, answer, *pos, *min),
-        Said::Fault(refusal) => refusal_line(text, refusal),
+        } => { put_refresh(text, *cut, *pos, *snap, *min, *span) }
+        Said::Nothing(pos) => put_at(text, b"NOTHING @", *pos),
+        Said::Cut { cut, span, min } => put_cut(text, *cut, *min, *span),
+        Said::Snap { cut, snap } => put_snap(text, *cut, *snap),
+        Said::Finish { cut, pos, snap } => put_finish(text, *cut, *pos, *snap),
+        Said::Begin => text.bytes(b"BEGIN\n"),
+        Said::BeginRead(pos) => put_at(text, b"BEGIN @", *pos),
+        Said::CommitEmpty => text.bytes(b"COMMIT EMPTY\n"),
+        Said::Rollback => text.bytes(b"ROLLBACK\n"),
+        Said::End => text.bytes(b"END\n"),
+        Said::Answered { answer, pos, min } => put_answer_lines(text, answer, *pos, *min),
+        Said::Fault(refusal) => put_refusal_line(text, refusal),
     }
 }
 
-/// A line of words alone.
-fn word_line(mut text: Vec<u8>, words: &[u8]) -> Result<Vec<u8>, NoMemory>
-    ensures { IfOk result (λ t. t.items ≡ text.items ++ words.now) }
+/// Appends words and a position that end a line.
+fn put_at(text: &mut Text, words: &[u8], pos: u64) -> Result<(), NoMemory>
+    ensures written { OnOk result (text.new.after ≡ text.old.after ++ (words.now ++ decimal pos ++ codes "\n")) }
+    ensures kept { text.new.before ≡ text.old.before }
 {
-    bytes(&mut text, words)?;
-    Ok(text)
+    text.bytes(words)?;
+    text.number(pos)?;
+    text.bytes(b"\n")
 }
 
-/// A line of words and a position.
-fn at_line(mut text: Vec<u8>, words: &[u8], pos: u64) -> Result<Vec<u8>, NoMemory>
-    ensures { IfOk result (λ t. t.items ≡ text.items ++ (words.now ++ decimal pos ++ codes "\n")) }
+/// Appends what a commit did.
+fn put_commit(text: &mut Text, done: Committed) -> Result<(), NoMemory>
+    ensures written { OnOk result (text.new.after ≡ text.old.after ++ said_text (Said.Commit done)) }
+    ensures kept { text.new.before ≡ text.old.before }
 {
-    bytes(&mut text, words)?;
-    number(&mut text, pos)?;
-    bytes(&mut text, b"\n")?;
-    Ok(text)
+    text.bytes(b"COMMIT @")?;
+    text.number(done.pos)?;
+    text.bytes(b" +")?;
+    text.number(done.inserted)?;
+    text.bytes(b" -")?;
+    text.number(done.removed)?;
+    text.bytes(b"\n")
 }
 
-/// What a commit did.
-fn commit_line(mut text: Vec<u8>, done: Committed) -> Result<Vec<u8>, NoMemory>
-    ensures { IfOk result (λ t. t.items ≡ text.items ++ said_text (Said.Commit done)) }
-{
-    bytes(&mut text, b"COMMIT @")?;
-    number(&mut text, done.pos)?;
-    bytes(&mut text, b" +")?;
-    number(&mut text, done.inserted)?;
-    bytes(&mut text, b" -")?;
-    number(&mut text, done.removed)?;
-    bytes(&mut text, b"\n")?;
-    Ok(text)
-}
-
-/// What a refresh did: its cut, the event that finished it, and its snapshot.
+/// Appends what a refresh did: its cut, the event that finished it, its snapshot, and its range.
 #[tactic(auto, using(crate::proofs::Appending::two_pieces))]
-fn refresh_line(
-    mut text: Vec<u8>,
+fn put_refresh(
+    text: &mut Text,
     cut: u64,
     pos: u64,
     snap: u64,
     min: i64,
     span: Span,
-) -> Result<Vec<u8>, NoMemory>
-    ensures { IfOk result (λ t. t.items ≡ text.items ++ (refresh_head cut pos snap ++ span_end min span)) }
+) -> Result<(), NoMemory>
+    ensures written { OnOk result (text.new.after ≡ text.old.after ++ said_text (Said.Refresh cut pos snap span min)) }
+    ensures kept { text.new.before ≡ text.old.before }
 {
-    put_refresh(&mut text, cut, pos, snap)?;
-    put_span_end(&mut text, min, span)?;
-    Ok(text)
+    put_refresh_head(text, cut, pos, snap)?;
+    put_span_end(text, min, span)
 }
 
 /// Appends a refresh by its cut, the event that finished it and its snapshot.
-fn put_refresh(text: &mut Vec<u8>, cut: u64, pos: u64, snap: u64) -> Result<(), NoMemory>
-    ensures { IfOk result (λ _. text.new.items ≡ text.old.items ++ refresh_head cut pos snap) }
+fn put_refresh_head(text: &mut Text, cut: u64, pos: u64, snap: u64) -> Result<(), NoMemory>
+    ensures written { OnOk result (text.new.after ≡ text.old.after ++ refresh_head cut pos snap) }
+    ensures kept { text.new.before ≡ text.old.before }
 {
-    bytes(text, b"REFRESH ")?;
-    number(text, cut)?;
-    bytes(text, b" @")?;
-    number(text, pos)?;
-    bytes(text, b" snap ")?;
-    number(text, snap)
+    text.bytes(b"REFRESH ")?;
+    text.number(cut)?;
+    text.bytes(b" @")?;
+    text.number(pos)?;
+    text.bytes(b" snap ")?;
+    text.number(snap)
 }
 
-/// What a cut did.
+/// Appends what a cut did.
 #[tactic(auto, using(crate::proofs::Appending::two_pieces))]
-fn cut_line(mut text: Vec<u8>, cut: u64, min: i64, span: Span) -> Result<Vec<u8>, NoMemory>
-    ensures { IfOk result (λ t. t.items ≡ text.items ++ ((codes "CUT " ++ decimal cut) ++ span_end min span)) }
+fn put_cut(text: &mut Text, cut: u64, min: i64, span: Span) -> Result<(), NoMemory>
+    ensures written { OnOk result (text.new.after ≡ text.old.after ++ said_text (Said.Cut cut span min)) }
+    ensures kept { text.new.before ≡ text.old.before }
 {
-    put_marked(&mut text, b"CUT ", cut)?;
-    put_span_end(&mut text, min, span)?;
-    Ok(text)
+    put_marked(text, b"CUT ", cut)?;
+    put_span_end(text, min, span)
 }
 
-/// That a snapshot was taken.
-fn snap_line(mut text: Vec<u8>, cut: u64, snap: u64) -> Result<Vec<u8>, NoMemory>
-    ensures { IfOk result (λ t. t.items ≡ text.items ++ said_text (Said.Snap cut snap)) }
+/// Appends that a snapshot was taken.
+fn put_snap(text: &mut Text, cut: u64, snap: u64) -> Result<(), NoMemory>
+    ensures written { OnOk result (text.new.after ≡ text.old.after ++ said_text (Said.Snap cut snap)) }
+    ensures kept { text.new.before ≡ text.old.before }
 {
-    bytes(&mut text, b"SNAP ")?;
-    number(&mut text, cut)?;
-    at_line(text, b" @", snap)
+    text.bytes(b"SNAP ")?;
+    text.number(cut)?;
+    put_at(text, b" @", snap)
 }
 
-/// That a refresh was finished.
-fn finish_line(mut text: Vec<u8>, cut: u64, pos: u64, snap: u64) -> Result<Vec<u8>, NoMemory>
-    ensures { IfOk result (λ t. t.items ≡ text.items ++ said_text (Said.Finish cut pos snap)) }
+/// Appends that a refresh was finished.
+fn put_finish(text: &mut Text, cut: u64, pos: u64, snap: u64) -> Result<(), NoMemory>
+    ensures written { OnOk result (text.new.after ≡ text.old.after ++ said_text (Said.Finish cut pos snap)) }
+    ensures kept { text.new.before ≡ text.old.before }
 {
-    bytes(&mut text, b"FINISH ")?;
-    number(&mut text, cut)?;
-    bytes(&mut text, b" @")?;
-    number(&mut text, pos)?;
-    at_line(text, b" snap ", snap)
+    text.bytes(b"FINISH ")?;
+    text.number(cut)?;
+    text.bytes(b" @")?;
+    text.number(pos)?;
+    put_at(text, b" snap ", snap)
 }

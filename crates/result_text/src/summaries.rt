@@ -1,10 +1,10 @@
 //! The summary of a demonstration.
-ghost use Rattle.std.specs.Prelude.{◌≡◌, ◌++◌, codes, decimal, IfOk, OnErr, OnOk};
+ghost use Rattle.std.specs.Prelude.{◌≡◌, ◌++◌, codes, decimal, OnErr, OnOk};
 ghost use Rattle.std.specs.Fmt.{signed_decimal};
 ghost use Rattle.result_text.specs.Summaries.{count_line, counts_text, results_text, summary_text, total_line};
 
 use crate::answers::put_stale;
-use crate::pieces::{append, beside, bytes, number, signed};
+use crate::pieces::Text;
 use ts_bucket::Span;
 use ts_schema::{NoMemory, Seq};
 
@@ -34,23 +34,26 @@ pub fn put_summary(summary: &Summary, out: &mut Vec<u8>) -> Result<(), NoMemory>
     ensures appended { OnOk result (out.new.items ≡ out.old.items ++ summary_text summary.now) }
     ensures kept { OnErr result (out.new.items ≡ out.old.items) }
 {
-    append(summary_lines(beside(out), summary), out)
+    let mut text = Text::behind(out);
+    let written = put_summary_lines(&mut text, summary);
+    text.finish(written, out)
 }
 
-/// A summary, behind a text.
+/// Appends a summary as lines.
 #[tactic(auto, using(crate::proofs::Appending::two_pieces))]
-fn summary_lines(mut text: Vec<u8>, summary: &Summary) -> Result<Vec<u8>, NoMemory>
-    ensures { IfOk result (λ t. t.items ≡ text.items ++ (counts_text summary.now ++ results_text summary.now)) }
+fn put_summary_lines(text: &mut Text, summary: &Summary) -> Result<(), NoMemory>
+    ensures written { OnOk result (text.new.after ≡ text.old.after ++ summary_text summary.now) }
+    ensures kept { text.new.before ≡ text.old.before }
 {
-    put_counts(&mut text, summary)?;
-    put_results(&mut text, summary)?;
-    Ok(text)
+    put_counts(text, summary)?;
+    put_results(text, summary)
 }
 
 /// Appends the number, the events, the rows and the groups.
 #[tactic(auto, using(crate::proofs::Appending::four_pieces))]
-fn put_counts(text: &mut Vec<u8>, summary: &Summary) -> Result<(), NoMemory>
-    ensures { IfOk result (λ _. text.new.items ≡ text.old.items ++ counts_text summary.now) }
+fn put_counts(text: &mut Text, summary: &Summary) -> Result<(), NoMemory>
+    ensures written { OnOk result (text.new.after ≡ text.old.after ++ counts_text summary.now) }
+    ensures kept { text.new.before ≡ text.old.before }
 {
     put_count(text, b"DEMO ", summary.number)?;
     put_count(text, b"events ", summary.events)?;
@@ -60,8 +63,9 @@ fn put_counts(text: &mut Vec<u8>, summary: &Summary) -> Result<(), NoMemory>
 
 /// Appends the total, the stale ranges and the reads.
 #[tactic(auto, using(crate::proofs::Appending::three_pieces))]
-fn put_results(text: &mut Vec<u8>, summary: &Summary) -> Result<(), NoMemory>
-    ensures { IfOk result (λ _. text.new.items ≡ text.old.items ++ results_text summary.now) }
+fn put_results(text: &mut Text, summary: &Summary) -> Result<(), NoMemory>
+    ensures written { OnOk result (text.new.after ≡ text.old.after ++ results_text summary.now) }
+    ensures kept { text.new.before ≡ text.old.before }
 {
     put_total(text, summary.total)?;
     put_stale(text, summary.min, summary.stale.items())?;
@@ -70,20 +74,22 @@ fn put_results(text: &mut Vec<u8>, summary: &Summary) -> Result<(), NoMemory>
 
 /// Appends a line of a word and a number.
 #[tactic(auto, unfolding(crate::specs::Summaries::count_line))]
-fn put_count(text: &mut Vec<u8>, word: &[u8], count: u64) -> Result<(), NoMemory>
-    ensures { IfOk result (λ _. text.new.items ≡ text.old.items ++ count_line word.now count) }
+fn put_count(text: &mut Text, word: &[u8], count: u64) -> Result<(), NoMemory>
+    ensures written { OnOk result (text.new.after ≡ text.old.after ++ count_line word.now count) }
+    ensures kept { text.new.before ≡ text.old.before }
 {
-    bytes(text, word)?;
-    number(text, count)?;
-    bytes(text, b"\n")
+    text.bytes(word)?;
+    text.number(count)?;
+    text.bytes(b"\n")
 }
 
 /// Appends the line of the total.
 #[tactic(auto, unfolding(crate::specs::Summaries::total_line))]
-fn put_total(text: &mut Vec<u8>, total: i128) -> Result<(), NoMemory>
-    ensures { IfOk result (λ _. text.new.items ≡ text.old.items ++ total_line total) }
+fn put_total(text: &mut Text, total: i128) -> Result<(), NoMemory>
+    ensures written { OnOk result (text.new.after ≡ text.old.after ++ total_line total) }
+    ensures kept { text.new.before ≡ text.old.before }
 {
-    bytes(text, b"total ")?;
-    signed(text, total)?;
-    bytes(text, b"\n")
+    text.bytes(b"total ")?;
+    text.signed(total)?;
+    text.bytes(b"\n")
 }

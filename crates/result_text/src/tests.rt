@@ -1,16 +1,13 @@
-//! Each form of a text once, as the format describes it.
-use crate::{
-    Said, Summary, put_event, put_history, put_line_fault, put_pending, put_refusal, put_reply,
-    put_summary,
-};
+//! Each form of a reply, of a refusal and of a summary once, as the format describes it.
+use crate::{Said, Summary, put_line_fault, put_refusal, put_reply, put_summary};
 use std::alloc::Global;
 use std::test::Fail;
 use ts_bucket::Span;
-use ts_model::{Answer, Committed, Event, Hyper, Refusal, Roster, TableDef, TableInfo};
+use ts_model::{Answer, Committed, Refusal};
 use ts_num::{Datum, Frac};
-use ts_schema::{Column, Name, Seq};
+use ts_schema::{Name, Seq};
 
-fn name(alloc: Global, text: &[u8]) -> Result<Name, Fail> {
+pub(crate) fn name(alloc: Global, text: &[u8]) -> Result<Name, Fail> {
     Ok(Name::read(alloc, text)?.ok_or("no name")?)
 }
 
@@ -109,8 +106,7 @@ fn an_answer_shows_its_counts_its_cells_and_its_stale_ranges(rt: HostRuntime) ->
 #[test]
 fn refusals_have_their_words_and_tails(rt: HostRuntime) -> Result<(), Fail> {
     let words = [
-        (0, b"FAULT E00 not_built\n".as_slice()),
-        (1, b"FAULT E01 line_long\n"),
+        (1, b"FAULT E01 line_long\n".as_slice()),
         (2, b"FAULT E02 not_ascii\n"),
         (3, b"FAULT E03 no_session\n"),
         (4, b"FAULT E04 no_token at 11\n"),
@@ -134,11 +130,17 @@ fn refusals_have_their_words_and_tails(rt: HostRuntime) -> Result<(), Fail> {
         (22, b"FAULT E22 not_aggregate @3\n"),
         (23, b"FAULT E23 too_many_sessions\n"),
         (24, b"FAULT E24 stopped @3\n"),
+        (25, b"FAULT E25 image_long @3 bytes 11\n"),
+        (26, b"FAULT E26 bad_policy @3\n"),
+        (27, b"FAULT E27 too_many_policies @3 count 11\n"),
+        (28, b"FAULT E28 bad_rollup @3\n"),
+        (29, b"FAULT E29 bad_unit @3\n"),
+        (30, b"FAULT E30 history_full @3\n"),
+        (0, b"FAULT E00 unnamed\n"),
+        (31, b"FAULT E31 unnamed\n"),
+        (255, b"FAULT E255 unnamed\n"),
     ];
     for (code, text) in words {
-        if code > 24 {
-            continue;
-        }
         let mut out = Vec::new(rt.alloc());
         put_refusal(
             &Refusal {
@@ -176,63 +178,6 @@ fn a_refresh_that_nobody_finished_has_no_tail_for_it(rt: HostRuntime) -> Result<
     assert!(rt;
         out.as_slice() == b"FAULT E19 no_refresh @3\nline 4: FAULT E03 no_session\n".as_slice()
     );
-    Ok(())
-}
-
-/// The table `m (time NOT NULL, v)`.
-fn table(alloc: Global) -> Result<TableDef, Fail> {
-    let mut cols = Seq::new(alloc);
-    cols.push(Column {
-        name: name(alloc, b"time")?,
-        must: true,
-    })?;
-    cols.push(Column {
-        name: name(alloc, b"v")?,
-        must: false,
-    })?;
-    Ok(TableDef {
-        name: name(alloc, b"m")?,
-        cols,
-    })
-}
-
-#[test]
-fn a_log_has_a_line_for_each_event(rt: HostRuntime) -> Result<(), Fail> {
-    let alloc = rt.alloc();
-    let mut tables = Seq::new(alloc);
-    tables.push(TableInfo {
-        def: table(alloc)?,
-        hyper: None,
-    })?;
-    let roster = Roster {
-        tables,
-        views: Seq::new(alloc),
-    };
-    let mut out = Vec::new(alloc);
-    put_event(1, &Event::Table(table(alloc)?), &roster, &mut out)?;
-    let hyper = Hyper {
-        at: 0,
-        interval: 100,
-    };
-    put_event(2, &Event::Hyper { table: 0, hyper }, &roster, &mut out)?;
-    put_event(9, &Event::Built { cut: 5, snap: 6 }, &roster, &mut out)?;
-    let wanted = b"@1 TABLE m time! v\n@2 HYPER m time 100\n@9 BUILT 5 snap 6\n";
-    assert!(rt; out.as_slice() == wanted.as_slice());
-    Ok(())
-}
-
-#[test]
-fn a_history_and_what_is_pending_have_a_line_each(rt: HostRuntime) -> Result<(), Fail> {
-    let mut out = Vec::new(rt.alloc());
-    put_history(5, &mut out)?;
-    put_pending(
-        5,
-        &name(rt.alloc(), b"c")?,
-        Span { lo: -10, hi: 130 },
-        -10,
-        &mut out,
-    )?;
-    assert!(rt; out.as_slice() == b"HISTORY @5\nPENDING 5 c min..130\n".as_slice());
     Ok(())
 }
 

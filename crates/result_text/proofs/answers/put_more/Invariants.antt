@@ -2,6 +2,9 @@ use Rattle.std.proofs.Common.{◌≡◌, ◌++◌, drop}
 use Rattle.result_text.specs.Answers.{more_cells}
 use Rattle.result_text.proofs.answers.put_more.Given as goal
 
--- what is written and what is left make the whole
+-- what is written and what is left make the whole, and what stood before is kept
 abbrev pub invariant-loop-datum : goal.invariant-loop-datum
-invariant-loop-datum l = l.initial.text.items ++ more_cells l.fn.more ≡ l.text.items ++ more_cells (drop l.datum-index l.fn.more)
+invariant-loop-datum l = record {
+  written : l.initial.text.after ++ more_cells l.fn.more ≡ l.text.after ++ more_cells (drop l.datum-index l.fn.more);
+  kept : l.text.before ≡ l.initial.text.before;
+}

@@ -2,6 +2,9 @@ use Rattle.std.proofs.Common.{◌≡◌, ◌++◌, drop}
 use Rattle.result_text.specs.Answers.{rows_text}
 use Rattle.result_text.proofs.answers.put_rows.Given as goal
 
--- what is written and what is left make the whole
+-- what is written and what is left make the whole, and what stood before is kept
 abbrev pub invariant-loop-row : goal.invariant-loop-row
-invariant-loop-row l = l.initial.text.items ++ rows_text l.fn.rows ≡ l.text.items ++ rows_text (drop l.row-index l.fn.rows)
+invariant-loop-row l = record {
+  written : l.initial.text.after ++ rows_text l.fn.rows ≡ l.text.after ++ rows_text (drop l.row-index l.fn.rows);
+  kept : l.text.before ≡ l.initial.text.before;
+}

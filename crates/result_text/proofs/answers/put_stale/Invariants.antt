@@ -2,6 +2,9 @@ use Rattle.std.proofs.Common.{◌≡◌, ◌++◌, drop}
 use Rattle.result_text.specs.Answers.{stale_text}
 use Rattle.result_text.proofs.answers.put_stale.Given as goal
 
--- what is written and what is left make the whole
+-- what is written and what is left make the whole, and what stood before is kept
 abbrev pub invariant-loop-span : goal.invariant-loop-span
-invariant-loop-span l = l.initial.text.items ++ stale_text l.fn.min l.fn.stale ≡ l.text.items ++ stale_text l.fn.min (drop l.span-index l.fn.stale)
+invariant-loop-span l = record {
+  written : l.initial.text.after ++ stale_text l.fn.min l.fn.stale ≡ l.text.after ++ stale_text l.fn.min (drop l.span-index l.fn.stale);
+  kept : l.text.before ≡ l.initial.text.before;
+}
