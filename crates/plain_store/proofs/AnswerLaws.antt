@@ -19,11 +19,14 @@ use Rattle.ts_schema.specs.Conditions.{passes_all}
 use Rattle.ts_model.specs.declared.views.Fold.{Fold}
 use Rattle.ts_model.specs.declared.views.ViewDef.{ViewDef}
 use Rattle.ts_model.specs.History.{History}
-use Rattle.ts_model.specs.Allowed.{all_allowed, rows_at}
+use Rattle.ts_model.specs.Allowed.{all_allowed}
+use Rattle.ts_model.specs.Rows.{rows_at}
 use Rattle.ts_model.specs.Answers.{buckets_in, left_by, ranges, shown}
-use Rattle.ts_model.specs.Laws.{AreRangesOf, IsOnce, Rises, is_asked}
+use Rattle.ts_bucket.specs.Ranges.{AreRanges, is_asked}
+use Rattle.ts_model.specs.Laws.{IsOnce, Rises}
 use Rattle.ts_model.specs.Reads.{inserted}
-use Rattle.ts_model.specs.Refreshes.{invalid, is_below, last, stale, watermark}
+use Rattle.ts_model.specs.Refreshes.{invalid, last, stale, watermark}
+use Rattle.ts_bucket.specs.WholeSpans.{is_below}
 use Rattle.ts_model.specs.Rows.{rows}
 use Rattle.ts_model.specs.Scratch.{bucket_rows, group_rows, once, scratch, scratch_of}
 use Rattle.ts_model.proofs.OrderLaws.{is_once}
@@ -214,15 +217,15 @@ rows_shown n def h past starts p width ok =
 
 -- ---- what is stale
 
-no_range : (w : Width) (starts : Span) (test : ℤ → Bool) (found : List Span) → found ≡ [] → ((c : ℤ) → is_bucket w c ≡ true → (is_asked w starts c && test c) ≡ false) → AreRangesOf w starts test found
-no_range w starts test found none each = subst (AreRangesOf w starts test) (sym none) (record { whole = tt; rising = tt; exact = λ c bucket. sym (each c bucket) })
+no_range : (w : Width) (starts : Span) (test : ℤ → Bool) (found : List Span) → found ≡ [] → ((c : ℤ) → is_bucket w c ≡ true → (is_asked w starts c && test c) ≡ false) → AreRanges w starts test found
+no_range w starts test found none each = subst (AreRanges w starts test) (sym none) (record { whole = tt; rising = tt; exact = λ c bucket. sym (each c bucket) })
 
 and_swap : (a l i : Bool) → ((a && l) && i) ≡ (a && (l && i))
 and_swap true l i = refl
 and_swap false l i = refl
 
 module _ (n : ℕ) (def : ViewDef) (h : History) (past : Past) (starts : Span) (found : List Span) (p : IsPast n def h past) (width : IsWidth def.fold.width) (whole_r : AreWholeMarks def.fold.width (refreshes_of n h)) (whole_t : AreWholeMarks def.fold.width (touches_of def h)) where
-  in_mark : (mark : ℤ) (o : Option Span) → MatchOption o (NoneIsAskedBelow def.fold.width starts mark) (AreAskedBelow def.fold.width starts mark) → MatchOption o (found ≡ []) (λ span. AreDirtyFrom past.refreshed.items past.touched.items span span.lo found) → AreRangesOf def.fold.width starts (λ b. int_lt b mark && invalid n def h b) found
+  in_mark : (mark : ℤ) (o : Option Span) → MatchOption o (NoneIsAskedBelow def.fold.width starts mark) (AreAskedBelow def.fold.width starts mark) → MatchOption o (found ≡ []) (λ span. AreDirtyFrom past.refreshed.items past.touched.items span span.lo found) → AreRanges def.fold.width starts (λ b. int_lt b mark && invalid n def h b) found
   in_mark mark None none e = no_range def.fold.width starts _ found e (λ c bucket. sym (and_swap (is_asked def.fold.width starts c) (int_lt c mark) (invalid n def h c)) ∙ ap (λ t. t && invalid n def h c) (none c bucket))
   in_mark mark (Some span) asked dirty =
       let r = dirty def.fold.width width (subst (AreWholeMarks def.fold.width) (sym p.refreshed) whole_r) (subst (AreWholeMarks def.fold.width) (sym p.touched) whole_t) asked.whole in
@@ -236,7 +239,7 @@ module _ (n : ℕ) (def : ViewDef) (h : History) (past : Past) (starts : Span) (
             ∙ and_swap (is_asked def.fold.width starts c) (int_lt c mark) (invalid n def h c);
       }
 
-  by_mark : (o : Option ℤ) → MatchOption o (found ≡ []) (λ mark. MatchOption (asked_span def.fold.width starts mark) (found ≡ []) (λ span. AreDirtyFrom past.refreshed.items past.touched.items span span.lo found)) → AreRangesOf def.fold.width starts (λ b. is_below b o && invalid n def h b) found
+  by_mark : (o : Option ℤ) → MatchOption o (found ≡ []) (λ mark. MatchOption (asked_span def.fold.width starts mark) (found ≡ []) (λ span. AreDirtyFrom past.refreshed.items past.touched.items span span.lo found)) → AreRanges def.fold.width starts (λ b. is_below b o && invalid n def h b) found
   by_mark None e = no_range def.fold.width starts _ found e (λ c bucket. and_none (is_asked def.fold.width starts c))
     where
       and_none : (a : Bool) → (a && false) ≡ false
@@ -246,7 +249,7 @@ module _ (n : ℕ) (def : ViewDef) (h : History) (past : Past) (starts : Span) (
 
   pub stale_found : AreStaleBy def.fold.width past starts found → found ≡ ranges def.fold.width (stale n def h) (buckets_in def.fold.width starts)
   stale_found e =
-      let this : AreRangesOf def.fold.width starts (stale n def h) found = subst (λ o. AreRangesOf def.fold.width starts (λ b. is_below b o && invalid n def h b) found) p.mark (by_mark past.mark e) in
+      let this : AreRanges def.fold.width starts (stale n def h) found = subst (λ o. AreRanges def.fold.width starts (λ b. is_below b o && invalid n def h b) found) p.mark (by_mark past.mark e) in
       one_list_of_ranges def.fold.width starts (stale n def h) found (ranges def.fold.width (stale n def h) (buckets_in def.fold.width starts)) this (ranges_are_maximal def.fold.width starts (stale n def h) width)
 
 -- ---- what the code finds
@@ -272,7 +275,7 @@ asked_more w starts xs left row start found made t l k is start_is test before w
 pub dirty_found : (n : ℕ) (def : ViewDef) (h : History) (span : Span) (found : List Span) → IsWidth def.fold.width → AreWholeMarks def.fold.width (refreshes_of n h) → AreWholeMarks def.fold.width (touches_of def h) → IsWholeSpan def.fold.width span → first_of def.fold.width ≤ℤ span.lo → AreDirtyFrom (refreshes_of n h) (touches_of def h) span span.lo found → found ≡ ranges def.fold.width (invalid n def h) (buckets_in def.fold.width span)
 dirty_found n def h span found width whole_r whole_t whole first dirty =
     let r = dirty def.fold.width width whole_r whole_t whole in
-    let this : AreRangesOf def.fold.width span (invalid n def h) found = record {
+    let this : AreRanges def.fold.width span (invalid n def h) found = record {
       whole = r.1.whole;
       rising = r.1.rising;
       exact = λ c bucket.

@@ -8,7 +8,7 @@ use Rattle.ts_bucket.specs.Windows.{IsInscribed, HasNoBucket, inscribed, is_whol
 use Rattle.ts_bucket.specs.declared.spans.Span.{Span}
 use Rattle.ts_bucket.specs.declared.widths.Width.{Width}
 use Rattle.ts_bucket.proofs.WindowLaws.{inscribed_meets}
-use Rattle.ts_model.specs.Laws.{is_asked}
+use Rattle.ts_bucket.specs.Ranges.{is_asked}
 use Rattle.plain_store.specs.Near.{IsByTimes}
 use Rattle.plain_store.specs.Pieces.{AreAskedBelow, NoneIsAskedBelow, asked_span}
 

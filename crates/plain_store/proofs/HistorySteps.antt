@@ -1,19 +1,22 @@
 -- What one more event of a list does to its history, and the history of the first events of a list.
-use Rattle.std.proofs.Common.{◌≡◌, ℕ, suc, ◌+◌, ◌<◌, ◌≤◌, true, false, cond, nat_lt, nat_le, ◌==◌, List, [], ◌∷◌, ◌++◌, length, take, drop, get_or, Option, sym, refl, ap, ◌∙◌, subst, arith, length-take, append-nil}
+use Rattle.std.proofs.Common.{◌≡◌, ℕ, suc, ◌+◌, ◌<◌, ◌≤◌, true, false, cond, nat_le, ◌==◌, List, [], ◌∷◌, ◌++◌, length, take, drop, get_or, Option, sym, refl, ap, ◌∙◌, subst, arith, length-take, append-nil}
 use Rattle.std.proofs.lemmas.Bool.{true≢false, and_parts, and_from, eqb-true, le-leb}
 use Rattle.std.proofs.lemmas.List.{take-append-drop}
 use Rattle.ts_bucket.specs.declared.spans.Span.{Span}
 use Rattle.ts_model.specs.declared.events.Event.{Event}
 use Rattle.ts_model.specs.declared.events.Event.TheVariants.{Table, Hyper, View, Mode, Commit, Cut, Built}
 use Rattle.ts_model.specs.declared.refreshes.Pending.{Pending}
-use Rattle.ts_model.specs.History.{History, start, ◌▸◌, position, prefix, Begins, same, further}
-use Rattle.ts_model.specs.Allowed.{all_allowed, allowed, pending, rows_at, finished_by, is_known, is_waiting, sound}
+use Rattle.ts_model.specs.History.{History, start, ◌▸◌, position, base_position, prefix, Begins, same, further}
+use Rattle.ts_model.specs.Allowed.{all_allowed, allowed}
+use Rattle.ts_model.specs.Pending.{pending, finished_by, is_known, is_waiting}
+use Rattle.ts_model.specs.Rows.{rows_at}
+use Rattle.ts_model.specs.Sound.{sound}
 use Rattle.ts_model.specs.declared.refreshes.Pending.TheVariants.{Waiting, Finished, Unknown}
 use Rattle.ts_model.specs.Refreshes.{span_of_cut}
 use Rattle.ts_model.specs.Rows.{rows, after_ops}
 use Rattle.ts_model.specs.Reads.{inserted}
 use Rattle.ts_model.specs.Effect.{all_appended}
-use Rattle.ts_model.proofs.HistoryLaws.{followed_push, followed_append, position_followed, begins_followed, prefix_begins, prefix_end}
+use Rattle.ts_model.proofs.HistoryLaws.{followed_push, followed_append, position_followed, begins_followed, prefix_begins, prefix_end, base_below}
 use Rattle.plain_store.specs.Histories.{history_of, ops_of, cut_with, pending_with}
 use Rattle.plain_store.proofs.Lists.{taken}
 
@@ -81,9 +84,7 @@ allowed_next events i e l is ok =
 
 -- the rows at a position
 pub rows_at_prefix : (t : ℕ) (h : History) (s : ℕ) → rows_at t h s ≡ rows t (prefix h s)
-rows_at_prefix t start s = refl
-rows_at_prefix t (h ▸ e) s =
-    elim (nat_lt (position h) s) as (λ b. cond b (rows t (h ▸ e)) (rows_at t h s) ≡ rows t (cond b (h ▸ e) (prefix h s))) [ true ↦ refl | false ↦ rows_at_prefix t h s ]
+rows_at_prefix t h s = refl
 
 pub prefix_taken : (events : List Event) (i : ℕ) → i ≤ length events → prefix (history_of events) i ≡ history_of (take i events)
 prefix_taken events i l =
@@ -163,4 +164,5 @@ job_sound events cut snap is waits =
     let bound : cut ≤ position (history_of events) = known_bound (history_of events) cut known in
     let after : nat_le cut snap ≡ true = le-leb cut snap (omega arith) in
     let before : nat_le snap (position (history_of events)) ≡ true = le-leb snap (position (history_of events)) (omega arith) in
-    and_from _ _ (and_from _ _ (and_from _ _ known after) before) refl
+    let based : nat_le (base_position (history_of events)) snap ≡ true = le-leb (base_position (history_of events)) snap (omega (arith, base_below (history_of events))) in
+    and_from _ _ (and_from _ _ (and_from _ _ (and_from _ _ known after) based) before) refl

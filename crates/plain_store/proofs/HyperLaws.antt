@@ -10,7 +10,8 @@ use Rattle.ts_model.specs.declared.tables.Hyper.{Hyper as HyperInfo}
 use Rattle.ts_model.specs.declared.tables.TableInfo.{TableInfo}
 use Rattle.ts_model.specs.History.{History, start, ◌▸◌}
 use Rattle.ts_model.specs.Roster.{change_at, hyper_of, made_hyper, roster, table_of}
-use Rattle.ts_model.specs.Allowed.{all_allowed, allowed, hyper_fits, sound}
+use Rattle.ts_model.specs.Allowed.{all_allowed, allowed}
+use Rattle.ts_model.specs.Sound.{hyper_fits, sound}
 
 abbrev hyper_ok : Option HyperInfo → Bool
 hyper_ok None = true

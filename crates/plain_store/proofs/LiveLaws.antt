@@ -15,9 +15,10 @@ use Rattle.ts_bucket.proofs.BucketLaws.{is_bucket-bucket_of}
 use Rattle.ts_bucket.proofs.WindowLaws.{start_from-above, start_from-first}
 use Rattle.ts_schema.specs.declared.rows.Row.{Row}
 use Rattle.ts_model.specs.Answers.{buckets_in}
-use Rattle.ts_model.specs.Laws.{is_asked, IsWholeRange}
-use Rattle.ts_model.specs.Reads.{chunk_of, rows_near, rows_near_in, spans_meet}
-use Rattle.ts_model.specs.Refreshes.{is_below}
+use Rattle.ts_bucket.specs.Ranges.{is_asked, IsWholeRange}
+use Rattle.ts_bucket.specs.Chunks.{chunk_of}
+use Rattle.ts_model.specs.Reads.{rows_near, rows_near_in, spans_meet}
+use Rattle.ts_bucket.specs.WholeSpans.{is_below}
 use Rattle.ts_model.specs.declared.tables.Hyper.{Hyper as HyperInfo}
 use Rattle.ts_model.proofs.RangeLaws.{among, among-buckets_in, RisingBuckets, rising-buckets_in}
 use Rattle.ts_model.proofs.ReadLaws.{rows_near-buckets}

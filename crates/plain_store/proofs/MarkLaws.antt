@@ -1,5 +1,5 @@
 -- What the lists of refreshes and of commits say of a bucket is what the definitions say.
-use Rattle.std.proofs.Common.{◌≡◌, ℕ, suc, ◌+◌, ◌<◌, length, take, get_or, Bool, true, false, ◌&&◌, cond, nat_lt, ◌==◌, List, [], ◌∷◌, ℤ, pos, negsuc, ◌+ℤ◌, ◌≤ℤ◌, ◌<ℤ◌, int_le, int_lt, Option, Some, None, sym, refl, ap, ◌∙◌, subst, arith}
+use Rattle.std.proofs.Common.{◌≡◌, ℕ, suc, ◌+◌, ◌<◌, length, take, get_or, Bool, true, false, ◌&&◌, cond, ◌==◌, List, [], ◌∷◌, ℤ, pos, negsuc, ◌+ℤ◌, ◌≤ℤ◌, ◌<ℤ◌, int_le, int_lt, Option, Some, None, sym, refl, ap, ◌∙◌, subst, arith}
 use Rattle.std.specs.Prelude.{option_map, IfSome}
 use Rattle.std.specs.List.{list_all}
 use Rattle.std.proofs.lemmas.Bool.{and_parts, eqb-true}
@@ -25,10 +25,15 @@ use Rattle.ts_model.specs.Rows.{rows, after_ops}
 use Rattle.ts_model.specs.declared.events.Op.{Op}
 use Rattle.ts_model.specs.Roster.{roster, view_of}
 use Rattle.ts_model.specs.Effect.{hull_of_ops}
-use Rattle.ts_model.specs.Scratch.{scratch, scratch_at, scratch_of}
-use Rattle.ts_model.specs.Allowed.{all_allowed, allowed, sound, span_fits, last_end, rows_at}
-use Rattle.ts_model.specs.Refreshes.{is_covered, is_met, last, last_touch, span_of_cut, top_in, top_at, top_of, watermark, is_invalid, invalid}
+use Rattle.ts_model.specs.Scratch.{scratch_of}
+use Rattle.ts_model.specs.Groups.{scratch_at}
+use Rattle.ts_model.specs.Allowed.{all_allowed, allowed}
+use Rattle.ts_model.specs.Sound.{sound, span_fits}
+use Rattle.ts_model.specs.Windows.{last_end}
+use Rattle.ts_model.specs.Rows.{rows_at}
+use Rattle.ts_model.specs.Refreshes.{is_covered, is_met, last, last_touch, span_of_cut, top_in, top_of, watermark, is_invalid, invalid}
 use Rattle.ts_model.proofs.AllowedLaws.{sound_stays, cut_stays}
+use Rattle.ts_model.proofs.GroupLaws.{scratch_at_is}
 use Rattle.ts_model.proofs.HistoryLaws.{begins_trans}
 use Rattle.plain_store.specs.Histories.{history_of, ops_of, is_timed}
 use Rattle.plain_store.specs.Marks.{latest, with_mark, refreshes_of, touches_of, mark_with, top_then, outdated, is_outdated, AreWholeMarks}
@@ -126,7 +131,9 @@ pub record IsSpanOfView (w : Width) (span : Span) : Type 0 where
 fits_view : (span : Span) (o : Option ViewDef) (def : ViewDef) → o ≡ Some def → span_fits span o ≡ true → IsSpanOfView def.fold.width span
 fits_view span o def there e =
     let fit : span_fits span (Some def) ≡ true = subst (λ x. span_fits span x ≡ true) there e in
-    let last = and_parts _ _ fit in
+    let words = and_parts _ _ fit in
+    let word = and_parts _ _ words.0 in
+    let last = and_parts _ _ word.0 in
     let rest = and_parts _ _ last.0 in
     let ends = and_parts (is_bucket def.fold.width span.lo) (is_bucket def.fold.width span.hi) rest.0 in
     record { whole = record { starts = ends.0; ends = ends.1 }; first = at_most (first_of def.fold.width) span.lo last.1 }
@@ -167,14 +174,9 @@ whole_touches def (h ▸ e) width = whole_touched def.fold.width (hull_of_ops de
 
 -- ---- the watermark
 
-top_at_rows : (n : ℕ) (def : ViewDef) (h : History) (s : ℕ) (span : Span) → top_at n def h s span ≡ top_in def.fold span (rows_at def.table h s)
-top_at_rows n def start s span = refl
-top_at_rows n def (h ▸ e) s span =
-    elim (nat_lt (position h) s) as (λ c. cond c (top_in def.fold span (rows def.table (h ▸ e))) (top_at n def h s span) ≡ top_in def.fold span (cond c (rows def.table (h ▸ e)) (rows_at def.table h s))) [ true ↦ refl | false ↦ top_at_rows n def h s span ]
-
-top_of_then : (n : ℕ) (def : ViewDef) (h : History) (s : ℕ) (o : Option Span) → top_of n def h s o ≡ top_then def h s o
-top_of_then n def h s None = refl
-top_of_then n def h s (Some span) = top_at_rows n def h s span
+top_of_then : (def : ViewDef) (h : History) (s : ℕ) (o : Option Span) → top_of def h s o ≡ top_then def h s o
+top_of_then def h s None = refl
+top_of_then def h s (Some span) = refl
 
 pub mark_further : (n : ℕ) (def : ViewDef) (h : History) (e : Event) → watermark n def (h ▸ e) ≡ mark_with n def h e (watermark n def h)
 mark_further n def h (Table made) = refl
@@ -183,12 +185,10 @@ mark_further n def h (View made) = refl
 mark_further n def h (Mode v only) = refl
 mark_further n def h (Commit ops) = refl
 mark_further n def h (Cut v span) = refl
-mark_further n def h (Built cut snap) = ap (greater (watermark n def h)) (top_of_then n def h snap (span_of_cut n h cut))
+mark_further n def h (Built cut snap) = ap (greater (watermark n def h)) (top_of_then def h snap (span_of_cut n h cut))
 
 pub scratch_then : (n : ℕ) (def : ViewDef) (h : History) (s : ℕ) (b : ℤ) → scratch_at n def h s b ≡ scratch_of def.fold b (rows_at def.table h s)
-scratch_then n def start s b = refl
-scratch_then n def (h ▸ e) s b =
-    elim (nat_lt (position h) s) as (λ c. cond c (scratch def (h ▸ e) b) (scratch_at n def h s b) ≡ scratch_of def.fold b (cond c (rows def.table (h ▸ e)) (rows_at def.table h s))) [ true ↦ refl | false ↦ scratch_then n def h s b ]
+scratch_then n def h s b = scratch_at_is n def h s b
 
 -- the end of the bucket of a time
 near_end : (t b step : ℤ) → is_time t ≡ true → b ≤ℤ t → t <ℤ (b +ℤ step) → step ≤ℤ pos 1099511627776 → IsByTimes (b +ℤ step)
@@ -224,11 +224,9 @@ last_end_end w (row ∷ xs) width e =
     let parts = and_parts (is_time row.at) (list_all is_timed xs) e in
     greater_some (IsEnd w) (Some (bucket_of w row.at +ℤ w.step)) (last_end w xs) (end_of w row.at width parts.0) (last_end_end w xs width parts.1)
 
-top_of_end : (n : ℕ) (def : ViewDef) (h : History) (s : ℕ) (o : Option Span) → IsWidth def.fold.width → all_allowed h ≡ true → IfSome (top_of n def h s o) (IsEnd def.fold.width)
-top_of_end n def h s None width ok = tt
-top_of_end n def h s (Some span) width ok =
-    let P : Option ℤ → Type 0 = λ x. IfSome x (IsEnd def.fold.width) in
-    subst P (sym (top_at_rows n def h s span)) (top_end def.fold span (rows_at def.table h s) width (rows_at_timed def.table h s ok))
+top_of_end : (def : ViewDef) (h : History) (s : ℕ) (o : Option Span) → IsWidth def.fold.width → all_allowed h ≡ true → IfSome (top_of def h s o) (IsEnd def.fold.width)
+top_of_end def h s None width ok = tt
+top_of_end def h s (Some span) width ok = top_end def.fold span (rows_at def.table h s) width (rows_at_timed def.table h s ok)
 
 -- the watermark is the end of a bucket that holds a time
 pub watermark_end : (n : ℕ) (def : ViewDef) (h : History) → IsWidth def.fold.width → all_allowed h ≡ true → IfSome (watermark n def h) (IsEnd def.fold.width)
@@ -241,7 +239,7 @@ watermark_end n def (h ▸ Commit ops) width ok = watermark_end n def h width (a
 watermark_end n def (h ▸ Cut v span) width ok = watermark_end n def h width (and_parts _ _ ok).0
 watermark_end n def (h ▸ Built cut snap) width ok =
     let before = (and_parts (all_allowed h) (allowed h (Built cut snap)) ok).0 in
-    greater_some (IsEnd def.fold.width) (watermark n def h) (top_of n def h snap (span_of_cut n h cut)) (watermark_end n def h width before) (top_of_end n def h snap (span_of_cut n h cut) width before)
+    greater_some (IsEnd def.fold.width) (watermark n def h) (top_of def h snap (span_of_cut n h cut)) (watermark_end n def h width before) (top_of_end def h snap (span_of_cut n h cut) width before)
 
 -- the end of a window that has none is such an end too
 pub window_end_end : (n : ℕ) (def : ViewDef) (h : History) → IsWidth def.fold.width → all_allowed h ≡ true → IfSome (greater (watermark n def h) (last_end def.fold.width (rows def.table h))) (IsEnd def.fold.width)

@@ -9,9 +9,9 @@ use Rattle.ts_bucket.specs.Spans.{in_span}
 use Rattle.ts_bucket.specs.declared.spans.Span.{Span}
 use Rattle.ts_bucket.specs.declared.widths.Width.{Width}
 use Rattle.ts_bucket.proofs.SpanLaws.{in_span-ends}
-use Rattle.ts_model.specs.Allowed.{lies_in}
+use Rattle.ts_bucket.specs.Ranges.{lies_in}
 use Rattle.ts_model.specs.Answers.{count_of}
-use Rattle.ts_model.specs.Laws.{is_asked, IsWholeRange, RiseApart, AreRangesOf}
+use Rattle.ts_bucket.specs.Ranges.{is_asked, IsWholeRange, RiseApart, AreRanges}
 use Rattle.plain_store.specs.Pieces.{IsSteady, StartsFrom, AreRangesIn, with_piece}
 
 -- ---- one piece
@@ -137,7 +137,7 @@ steady_later w f start next end s bucket low high c other above below =
     s c other (omega (arith, ints)) below ∙ sym (s next bucket low high)
 
 -- a test that agrees with another at each bucket
-pub same_ranges_of : (w : Width) (starts : Span) (p q : ℤ → Bool) (found : List Span) → ((c : ℤ) → is_bucket w c ≡ true → p c ≡ q c) → AreRangesOf w starts p found → AreRangesOf w starts q found
+pub same_ranges_of : (w : Width) (starts : Span) (p q : ℤ → Bool) (found : List Span) → ((c : ℤ) → is_bucket w c ≡ true → p c ≡ q c) → AreRanges w starts p found → AreRanges w starts q found
 same_ranges_of w starts p q found same r = record {
   whole = r.whole;
   rising = r.rising;

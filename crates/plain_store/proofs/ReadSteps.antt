@@ -8,7 +8,8 @@ use Rattle.ts_bucket.specs.Bucket.{WidthValue, IsWidth, bucket_of}
 use Rattle.ts_bucket.proofs.Remainders.{remainder_bounds}
 use Rattle.ts_bucket.specs.declared.spans.Span.{Span}
 use Rattle.ts_schema.specs.declared.rows.Row.{Row}
-use Rattle.ts_model.specs.Reads.{chunk_of, rows_near, spans_meet}
+use Rattle.ts_bucket.specs.Chunks.{chunk_of}
+use Rattle.ts_model.specs.Reads.{rows_near, spans_meet}
 use Rattle.plain_store.proofs.Lists.{taken}
 
 -- ---- counts

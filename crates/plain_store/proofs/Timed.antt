@@ -20,12 +20,15 @@ use Rattle.ts_model.specs.declared.rosters.Roster.{Roster}
 use Rattle.ts_model.specs.declared.tables.Hyper.{Hyper as HyperInfo}
 use Rattle.ts_model.specs.declared.tables.TableDef.{TableDef}
 use Rattle.ts_model.specs.declared.tables.TableInfo.{TableInfo}
-use Rattle.ts_model.specs.History.{History, start, ◌▸◌, position}
+use Rattle.ts_model.specs.History.{History, start, ◌▸◌, position, prefix}
 use Rattle.ts_model.specs.Roster.{roster, table_of}
 use Rattle.ts_model.specs.Rows.{with_row, with_rows, after_op, after_ops, rows}
 use Rattle.ts_model.specs.Effect.{appended_by, taken_by, all_appended, all_taken, hull_with, hull_of, hull_of_ops}
 use Rattle.ts_model.specs.Reads.{inserted}
-use Rattle.ts_model.specs.Allowed.{row_fits, rows_fit, of_hyper, of_table, op_fits, sound, allowed, all_allowed, rows_at}
+use Rattle.ts_model.specs.Sound.{row_fits, rows_fit, op_fits, sound}
+use Rattle.ts_model.specs.Roster.{of_hyper, of_table}
+use Rattle.ts_model.specs.Allowed.{allowed, all_allowed}
+use Rattle.ts_model.specs.Rows.{rows_at}
 use Rattle.plain_store.specs.Histories.{ops_of, is_timed}
 use Rattle.plain_store.specs.Near.{IsNear}
 
@@ -180,7 +183,7 @@ near_moved t h (Built cut snap) ok fits = tt
 pub rows_at_timed : (t : ℕ) (h : History) (s : ℕ) → all_allowed h ≡ true → list_all is_timed (rows_at t h s) ≡ true
 rows_at_timed t start s ok = refl
 rows_at_timed t (h ▸ e) s ok =
-    elim (nat_lt (position h) s) as (λ c. list_all is_timed (cond c (rows t (h ▸ e)) (rows_at t h s)) ≡ true) [
+    elim (nat_lt (position h) s) as (λ c. list_all is_timed (rows t (cond c (h ▸ e) (prefix h s))) ≡ true) [
       | true ↦ rows_timed t (h ▸ e) ok
       | false ↦ rows_at_timed t h s (and_parts (all_allowed h) (allowed h e) ok).0
     ]
@@ -189,7 +192,7 @@ rows_at_timed t (h ▸ e) s ok =
 pub rows_at_hold : (p : Row → Bool) (t : ℕ) (h : History) (s : ℕ) → list_all p (inserted t h) ≡ true → list_all p (rows_at t h s) ≡ true
 rows_at_hold p t start s e = refl
 rows_at_hold p t (h ▸ x) s e =
-    elim (nat_lt (position h) s) as (λ c. list_all p (cond c (rows t (h ▸ x)) (rows_at t h s)) ≡ true) [
+    elim (nat_lt (position h) s) as (λ c. list_all p (rows t (cond c (h ▸ x) (prefix h s))) ≡ true) [
       | true ↦ rows_hold p t (h ▸ x) e
       | false ↦ rows_at_hold p t h s (inserted_before p t h x e)
     ]

@@ -9,7 +9,8 @@ use Rattle.ts_model.specs.declared.events.Event.TheVariants.{Table, Hyper, View,
 use Rattle.ts_model.specs.declared.events.Op.{Op}
 use Rattle.ts_model.specs.declared.refreshes.Pending.{Pending}
 use Rattle.ts_model.specs.declared.refreshes.Pending.TheVariants.{Waiting}
-use Rattle.ts_model.specs.Allowed.{all_allowed, finished_by}
+use Rattle.ts_model.specs.Allowed.{all_allowed}
+use Rattle.ts_model.specs.Pending.{finished_by}
 use Rattle.ts_model.specs.History.{History, start, ◌▸▸◌}
 
 -- the history with these events, of which the oldest comes first

@@ -7,3 +7,4 @@ pub mod Shown
 pub mod Live
 pub mod Shots
 pub mod Doings
+pub mod Stores

@@ -14,7 +14,7 @@ use Rattle.ts_model.specs.History.{History, start, ◌▸◌, position}
 use Rattle.ts_model.specs.Rows.{rows}
 use Rattle.ts_model.specs.Effect.{hull_of_ops}
 use Rattle.ts_model.specs.Refreshes.{span_of_cut, top_in}
-use Rattle.ts_model.specs.Allowed.{rows_at}
+use Rattle.ts_model.specs.Rows.{rows_at}
 use Rattle.plain_store.specs.declared.marks.Mark.{Mark}
 use Rattle.plain_store.specs.Histories.{ops_of}
 use Rattle.plain_store.specs.Pieces.{AreRangesIn, IsWholeSpan, span_after}

@@ -8,8 +8,8 @@ use Rattle.std.specs.Int.{int_min, int_max}
 use Rattle.ts_bucket.specs.Spans.{in_span}
 use Rattle.ts_bucket.specs.declared.spans.Span.{Span}
 use Rattle.ts_bucket.specs.declared.widths.Width.{Width}
-use Rattle.ts_model.specs.Allowed.{lies_in}
-use Rattle.ts_model.specs.Laws.{is_asked, IsWholeRange, RiseApart}
+use Rattle.ts_bucket.specs.Ranges.{lies_in}
+use Rattle.ts_bucket.specs.Ranges.{is_asked, IsWholeRange, RiseApart}
 
 -- at each bucket from start on and below end the function gives what it gives at start
 abbrev pub IsSteady : {X : Type 0} → Width → (ℤ → X) → ℤ → ℤ → Type 0

@@ -9,8 +9,8 @@ use Rattle.ts_bucket.specs.declared.widths.Width.{Width}
 use Rattle.ts_schema.specs.declared.rows.Row.{Row}
 use Rattle.ts_model.specs.declared.views.ViewDef.{ViewDef}
 use Rattle.ts_model.specs.History.{History}
-use Rattle.ts_model.specs.Allowed.{rows_at}
-use Rattle.ts_model.specs.Refreshes.{is_below}
+use Rattle.ts_model.specs.Rows.{rows_at}
+use Rattle.ts_bucket.specs.WholeSpans.{is_below}
 use Rattle.ts_model.specs.Scratch.{once, scratch, scratch_of}
 use Rattle.plain_store.specs.declared.past.Past.{Past}
 use Rattle.plain_store.specs.Marks.{AreDirtyFrom, latest, outdated}

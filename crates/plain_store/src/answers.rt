@@ -10,7 +10,6 @@ ghost use Rattle.plain_store.specs.Shown.{AreStaleBy, left_then, shown_by};
 
 use crate::buckets::width_law;
 use crate::cells::shown;
-use crate::fields::passes;
 use crate::inserts::{asked_in, inserted_of};
 use crate::marks::{is_dirty, latest_at};
 use crate::past::{Past, is_under, past_of};
@@ -23,7 +22,7 @@ use std::alloc::Global;
 use ts_bucket::{Span, Width};
 use ts_model::{Answer, Event, Hyper, Query, Roster, ViewDef};
 use ts_num::Datum;
-use ts_schema::{NoMemory, Row, Seq, Test};
+use ts_schema::{NoMemory, Row, Seq, Test, passes};
 
 /// A row with all its columns in declared order, where the time column is at this place.
 fn columns_of(alloc: Global, at: usize, row: &Row) -> Result<Seq<Datum>, NoMemory>

@@ -7,11 +7,10 @@ ghost use Rattle.ts_num.specs.declared.values.Datum.TheVariants.{Int, Ratio};
 ghost use Rattle.ts_model.specs.Scratch.{cell};
 ghost use Rattle.std.specs.Prelude.{pos};
 
-use crate::fields::field;
 use std::alloc::Global;
 use ts_model::Agg;
 use ts_num::{Datum, Fun, lowest};
-use ts_schema::{NoMemory, Row};
+use ts_schema::{NoMemory, Row, field};
 
 /// The values of a column that aren't NULL.
 #[tactic(auto, using(crate::proofs::Lists::dropped))]

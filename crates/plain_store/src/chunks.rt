@@ -1,6 +1,7 @@
 //! Rows in chunks that meet a span.
 ghost use Rattle.std.specs.Prelude.{◌≡◌, ◌∷◌, ◌^◌, ◌≤◌, ◌≤ℤ◌, ◌<ℤ◌, cond, [], pos, negsuc, IfSome};
-ghost use Rattle.ts_model.specs.Reads.{chunk_of, rows_near, rows_near_in, spans_meet};
+ghost use Rattle.ts_bucket.specs.Chunks.{chunk_of};
+ghost use Rattle.ts_model.specs.Reads.{rows_near, rows_near_in, spans_meet};
 
 use ts_model::Hyper;
 use ts_schema::Row;

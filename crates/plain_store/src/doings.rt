@@ -3,7 +3,7 @@ ghost use Rattle.std.specs.Prelude.{◌≡◌, ◌++◌, ◌∷◌, [], suc, len
 ghost use Rattle.std.specs.Option.{ForSome};
 ghost use Rattle.ts_bucket.specs.Bucket.{is_time, IsWidth};
 ghost use Rattle.ts_model.specs.declared.events.Event.TheVariants.{Built, Commit, Hyper as HyperMade, Mode, Table, View};
-ghost use Rattle.ts_model.specs.Allowed.{sound};
+ghost use Rattle.ts_model.specs.Sound.{sound};
 ghost use Rattle.ts_model.specs.Calls.{committed, committing, cutting, finishing, making_hyper, making_table, making_view, refusal, setting_mode};
 ghost use Rattle.ts_model.specs.Roster.{hyper_of, is_taken, roster, view_of};
 ghost use Rattle.plain_store.specs.Doings.{Does, relation_refusal, view_window};

@@ -3,12 +3,11 @@ ghost use Rattle.std.specs.Prelude.{◌≡◌, ◌++◌, IfOk, filter};
 ghost use Rattle.ts_schema.specs.Conditions.{passes_all};
 ghost use Rattle.ts_model.specs.Effect.{all_appended, all_taken, appended_by, taken_by, hull_of, hull_of_ops, hull_with};
 
-use crate::fields::{copy_row, passes};
-use crate::rows::rows_after_op;
+use crate::rows::{copy_row, rows_after_op};
 use std::alloc::Global;
 use ts_bucket::Hull;
 use ts_model::Op;
-use ts_schema::{NoMemory, Row, Seq, Test};
+use ts_schema::{NoMemory, Row, Seq, Test, passes};
 
 /// Appends copies of rows.
 pub(crate) fn add_rows(found: &mut Vec<Row>, rows: &[Row]) -> Result<(), NoMemory>

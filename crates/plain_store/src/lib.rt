@@ -10,7 +10,6 @@ mod counts;
 mod doings;
 mod effects;
 mod events;
-mod fields;
 mod inserts;
 mod jobs;
 mod marks;
@@ -23,13 +22,9 @@ mod rosters;
 mod rows;
 mod scratch;
 mod snapshots;
-pub mod sound;
 mod store;
 mod windows;
 
 pub use jobs::PlainJob;
 pub use snapshots::PlainShot;
 pub use store::PlainStore;
-
-#[cfg(test)]
-mod tests;

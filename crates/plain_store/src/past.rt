@@ -1,6 +1,6 @@
 //! What refreshes and commits left of an aggregate.
 ghost use Rattle.std.specs.Prelude.{◌≡◌, ◌&&◌, IfOk, int_lt};
-ghost use Rattle.ts_model.specs.Refreshes.{is_below};
+ghost use Rattle.ts_bucket.specs.WholeSpans.{is_below};
 ghost use Rattle.plain_store.specs.Histories.{AreAllowed, history_of};
 ghost use Rattle.plain_store.specs.Marks.{outdated};
 ghost use Rattle.plain_store.specs.Pasts.{IsPast};

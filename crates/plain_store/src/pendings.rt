@@ -1,6 +1,6 @@
 //! What became of refreshes.
 ghost use Rattle.std.specs.Prelude.{◌≡◌};
-ghost use Rattle.ts_model.specs.Allowed.{finished_by, pending};
+ghost use Rattle.ts_model.specs.Pending.{finished_by, pending};
 ghost use Rattle.plain_store.specs.Histories.{history_of, pending_with};
 
 use ts_model::{Event, Pending};

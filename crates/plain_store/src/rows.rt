@@ -5,10 +5,19 @@ ghost use Rattle.ts_model.specs.Rows.{with_row, with_rows, after_op, after_ops, 
 ghost use Rattle.plain_store.specs.Histories.{history_of, ops_of};
 
 use crate::events::ops_in;
-use crate::fields::{copy_row, order, passes};
 use std::alloc::Global;
 use ts_model::{Event, Op};
-use ts_schema::{NoMemory, Row, Seq, Test};
+use ts_schema::{NoMemory, Row, Seq, Test, passes, row_order};
+
+/// The same row again.
+pub(crate) fn copy_row(row: &Row) -> Result<Row, NoMemory>
+    ensures { IfOk result (λ copy. copy ≡ row.now) }
+{
+    Ok(Row {
+        at: row.at,
+        vals: row.vals.copy()?,
+    })
+}
 
 #[tactic(auto, using(crate::proofs::Lists::dropped))]
 /// The place of a row among rows in order: before the first row that isn't less.
@@ -17,7 +26,7 @@ fn place_of(found: &[Row], row: &Row) -> usize
     ensures place { insert found.now result row.now ≡ with_row row.now found.now }
 {
     for (i, other) in found.iter().enumerate() {
-        if !order(row, other).is_gt() {
+        if !row_order(row, other).is_gt() {
             return i;
         }
     }

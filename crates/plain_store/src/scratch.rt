@@ -10,13 +10,13 @@ ghost use Rattle.plain_store.specs.Histories.{AreTimed};
 
 use crate::buckets::in_bucket;
 use crate::cells::{cell_of, shown};
-use crate::fields::{copy_row, field, passes};
+use crate::rows::copy_row;
 use std::alloc::Global;
 use std::cmp::Ordering;
 use ts_bucket::bucket;
 use ts_model::{Agg, Fold};
 use ts_num::Datum;
-use ts_schema::{NoMemory, Row, Seq, values_order};
+use ts_schema::{NoMemory, Row, Seq, field, passes, values_order};
 
 /// The rows of a bucket that pass every test.
 fn rows_in(alloc: Global, fold: &Fold, start: i64, rows: &[Row]) -> Result<Vec<Row>, NoMemory>

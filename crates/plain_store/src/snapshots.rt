@@ -61,7 +61,7 @@ pub(crate) fn shot_of(alloc: Global, events: &[Event]) -> Result<PlainShot, NoMe
 impl Shown for PlainShot {
     ghost use Rattle.std.specs.Prelude.{◌≡◌, IsTrue};
     ghost use Rattle.ts_model.specs.declared.events.Event.TheVariants.{Built};
-    ghost use Rattle.ts_model.specs.Allowed.{sound};
+    ghost use Rattle.ts_model.specs.Sound.{sound};
     ghost use Rattle.ts_model.proofs.AllowedLaws.{sound_stays};
     ghost use Rattle.plain_store.specs.Histories.{history_of};
 

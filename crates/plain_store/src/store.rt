@@ -30,58 +30,48 @@ impl PlainStore {
 }
 
 impl Backend for PlainStore {
-    ghost use Rattle.std.specs.Prelude.{true, false};
+    ghost use Rattle.std.specs.Prelude.{true};
     ghost use Rattle.plain_store.specs.Histories.{history_of};
-
-    type Job = PlainJob;
+    ghost use Rattle.plain_store.specs.Stores.{state_of};
 
     type Shot = PlainShot;
 
-    ghost seen = { λ s. history_of s.events.items };
-
-    ghost halted = { λ s. false };
+    ghost state = { λ s. state_of (history_of s.events.items) };
 
     ghost alone = { true };
 
-    ghost faults = { λ s. 0 };
+    ghost Kin = { Unit {0} };
 
-    ghost first_faults = { λ s. 0 };
+    ghost kin = { λ s. tt };
 
     fn snap(&mut self) -> Result<PlainShot, NoMemory> {
         shot_of(*self.events.allocator(), self.events.as_slice())
     }
 
-    #[tactic(auto, using(crate::proofs::StoreLaws::counted_none))]
     fn make_table(&mut self, def: TableDef) -> Outcome<u64> {
         doings::make_table(&mut self.events, def)
     }
 
-    #[tactic(auto, using(crate::proofs::StoreLaws::counted_none))]
     fn make_hyper(&mut self, table: u32, hyper: Hyper) -> Outcome<u64> {
         doings::make_hyper(&mut self.events, table, hyper)
     }
 
-    #[tactic(auto, using(crate::proofs::StoreLaws::counted_none))]
     fn make_view(&mut self, def: ViewDef) -> Outcome<u64> {
         doings::make_view(&mut self.events, def)
     }
 
-    #[tactic(auto, using(crate::proofs::StoreLaws::counted_none))]
     fn set_mode(&mut self, view: u32, only: bool) -> Outcome<u64> {
         doings::set_mode(&mut self.events, view, only)
     }
 
-    #[tactic(auto, using(crate::proofs::StoreLaws::counted_none))]
     fn commit(&mut self, ops: Seq<Op>) -> Outcome<Committed> {
         doings::commit(&mut self.events, ops)
     }
 
-    #[tactic(auto, using(crate::proofs::StoreLaws::counted_none))]
     fn cut(&mut self, view: u32, lo: Option<i64>, hi: Option<i64>) -> Outcome<CutDone> {
         doings::cut(&mut self.events, view, lo, hi)
     }
 
-    #[tactic(auto, using(crate::proofs::StoreLaws::counted_none))]
     fn finish(&mut self, job: PlainJob) -> Outcome<u64> {
         doings::finish(&mut self.events, job.cut, job.snap)
     }
@@ -94,6 +84,4 @@ impl Backend for PlainStore {
     fn stopped(&self) -> Option<u64> {
         None
     }
-
-    ghost seen_is_allowed = { λ s. s.allowed };
 }

@@ -7,7 +7,8 @@ ghost use Rattle.ts_bucket.specs.Windows.{inscribed};
 ghost use Rattle.ts_num.specs.Aggregates.{greater};
 ghost use Rattle.ts_model.specs.Rows.{rows};
 ghost use Rattle.ts_schema.specs.Conditions.{passes_all};
-ghost use Rattle.ts_model.specs.Allowed.{last_end, rows_at, whole_or, window};
+ghost use Rattle.ts_model.specs.Windows.{last_end, whole_or, window};
+ghost use Rattle.ts_model.specs.Rows.{rows_at};
 ghost use Rattle.ts_model.specs.Refreshes.{top_in, watermark};
 ghost use Rattle.plain_store.specs.Histories.{AreAllowed, AreTimed, history_of, is_timed};
 ghost use Rattle.plain_store.specs.Near.{IsEnd};
@@ -15,13 +16,12 @@ ghost use Rattle.plain_store.specs.Marks.{mark_with, top_then};
 
 use crate::buckets::{bucket_end, width_law};
 use crate::cells::greater_of;
-use crate::fields::passes;
 use crate::marks::{cut_span, holds};
 use crate::rows::rows_of;
 use std::alloc::Global;
 use ts_bucket::{Span, Width, bucket, inscribe};
 use ts_model::{Event, Fold, ViewDef, Window};
-use ts_schema::{NoMemory, Row};
+use ts_schema::{NoMemory, Row, passes};
 
 /// The rows of a table at a position.
 #[tactic(auto, using(crate::proofs::HistorySteps::rows_at_taken, crate::proofs::HistorySteps::rows_at_end))]

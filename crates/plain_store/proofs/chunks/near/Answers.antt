@@ -3,7 +3,8 @@ use Rattle.std.specs.Int.{w64, w128, cast_signed as to_z, cast_unsigned as of_z}
 use Rattle.std.specs.List.{count_by}
 use Rattle.std.proofs.lemmas.Int.{to_z-of_z}
 use Rattle.std.proofs.lemmas.List.{take_all}
-use Rattle.ts_model.specs.Reads.{chunk_of, spans_meet}
+use Rattle.ts_bucket.specs.Chunks.{chunk_of}
+use Rattle.ts_model.specs.Reads.{spans_meet}
 use Rattle.plain_store.proofs.ReadSteps.{counted_more, near_one}
 use Rattle.plain_store.proofs.chunks.near.Goals as goal
 

@@ -1,6 +1,7 @@
 use Rattle.std.proofs.Common.{◌≡◌, ◌≤◌, take}
 use Rattle.std.specs.List.{count_by}
-use Rattle.ts_model.specs.Reads.{chunk_of, spans_meet}
+use Rattle.ts_bucket.specs.Chunks.{chunk_of}
+use Rattle.ts_model.specs.Reads.{spans_meet}
 use Rattle.plain_store.proofs.chunks.near.Given as goal
 
 abbrev pub invariant-loop-row : goal.invariant-loop-row

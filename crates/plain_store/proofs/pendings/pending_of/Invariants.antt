@@ -1,5 +1,5 @@
 use Rattle.std.proofs.Common.{◌≡◌, take}
-use Rattle.ts_model.specs.Allowed.{pending}
+use Rattle.ts_model.specs.Pending.{pending}
 use Rattle.plain_store.specs.Histories.{history_of}
 use Rattle.plain_store.proofs.pendings.pending_of.Given as goal
 

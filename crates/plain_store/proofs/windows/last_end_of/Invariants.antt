@@ -1,5 +1,5 @@
 use Rattle.std.proofs.Common.{◌≡◌, ◌≤◌, length, drop}
-use Rattle.ts_model.specs.Allowed.{last_end}
+use Rattle.ts_model.specs.Windows.{last_end}
 use Rattle.plain_store.proofs.windows.last_end_of.Given as goal
 
 abbrev pub invariant-loop-left : goal.invariant-loop-left

@@ -1,7 +1,7 @@
 use Rattle.std.proofs.Common.{◌≡◌, sym, subst, rules}
 use Rattle.std.specs.Prelude.{IfSome}
 use Rattle.ts_num.specs.Aggregates.{greater}
-use Rattle.ts_model.specs.Allowed.{last_end}
+use Rattle.ts_model.specs.Windows.{last_end}
 use Rattle.ts_model.specs.Refreshes.{watermark}
 use Rattle.ts_model.specs.Rows.{rows}
 use Rattle.plain_store.specs.Histories.{history_of}

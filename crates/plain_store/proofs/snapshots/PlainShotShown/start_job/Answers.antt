@@ -1,7 +1,7 @@
 use Rattle.std.proofs.Common.{◌≡◌, true, length, refl, sym, ap, ◌∙◌, subst, rules}
 use Rattle.ts_model.specs.declared.events.Event.TheVariants.{Built}
 use Rattle.ts_model.specs.History.{position}
-use Rattle.ts_model.specs.Allowed.{sound}
+use Rattle.ts_model.specs.Sound.{sound}
 use Rattle.plain_store.specs.Histories.{history_of}
 use Rattle.plain_store.proofs.HistorySteps.{job_sound, position_of}
 use Rattle.plain_store.proofs.snapshots.PlainShotShown.start_job.Goals as goal

@@ -1,5 +1,0 @@
-use Rattle.std.proofs.Common.{length}
-use Rattle.plain_store.proofs.sound.+names_apart.Given as goal
-
-abbrev pub decreases-names_apart : goal.decreases-names_apart
-decreases-names_apart l = length l.names.now

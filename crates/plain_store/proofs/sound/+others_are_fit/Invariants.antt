@@ -1,5 +1,0 @@
-use Rattle.std.proofs.Common.{length}
-use Rattle.plain_store.proofs.sound.+others_are_fit.Given as goal
-
-abbrev pub decreases-others_are_fit : goal.decreases-others_are_fit
-decreases-others_are_fit l = length l.cols.now

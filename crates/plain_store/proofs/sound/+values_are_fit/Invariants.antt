@@ -1,5 +1,0 @@
-use Rattle.std.proofs.Common.{length}
-use Rattle.plain_store.proofs.sound.+values_are_fit.Given as goal
-
-abbrev pub decreases-values_are_fit : goal.decreases-values_are_fit
-decreases-values_are_fit l = length l.cols.now

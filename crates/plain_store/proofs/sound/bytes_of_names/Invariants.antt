@@ -1,7 +1,0 @@
-use Rattle.std.proofs.Common.{◌≡◌, take, min}
-use Rattle.std.specs.List.{sum_by}
-use Rattle.ts_model.specs.Allowed.{name_bytes}
-use Rattle.plain_store.proofs.sound.bytes_of_names.Given as goal
-
-abbrev pub invariant-loop-name : goal.invariant-loop-name
-invariant-loop-name l = l.total ≡ min (sum_by name_bytes (take l.name-index l.names)) 18446744073709551615
