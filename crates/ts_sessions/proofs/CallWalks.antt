@@ -1,126 +1,102 @@
 -- A call of a store is the walk of its deed, whatever it answers.
-use Rattle.std.proofs.Common.{◌≡◌, ℕ, suc, Bool, true, false, cond, nat_lt, List, [], ◌∷◌, Option, Some, None, sym, refl, ap, ◌∙◌, subst, arith}
-use Rattle.std.proofs.lemmas.Bool.{true≢false}
-use Rattle.std.proofs.Common.{inl, length}
-use Rattle.std.specs.Prelude.{is_some, ⊤}
-use Rattle.ts_model.specs.declared.events.Event.{Event}
-use Rattle.ts_model.specs.declared.events.Event.TheVariants.{Table, Hyper, View}
-use Rattle.ts_model.specs.declared.events.Op.{Op}
-use Rattle.ts_model.specs.declared.tables.Hyper.{Hyper as HyperInfo}
-use Rattle.ts_model.specs.declared.tables.TableDef.{TableDef}
-use Rattle.ts_model.specs.declared.views.ViewDef.{ViewDef}
-use Rattle.ts_model.specs.Roster.{roster, hyper_of, is_taken}
-use Rattle.ts_model.specs.Allowed.{most_relations}
-use Rattle.ts_model.specs.declared.outcomes.Outcome.TheVariants.{Done, Refused, DiskFault, NoMemory}
+use Rattle.std.proofs.Common.{◌≡◌, ℕ, Bool, true, false, List, sym, refl, ap, subst, inl, inr}
+use Rattle.std.specs.Prelude.{Result, Ok, Err}
+use Rattle.ts_schema.specs.declared.memory.NoMemory.{NoMemory}
+use Rattle.ts_model.specs.declared.outcomes.Outcome.{Outcome}
+use Rattle.ts_model.specs.declared.outcomes.Outcome.TheVariants as outcomes
 use Rattle.ts_model.specs.declared.outcomes.Refusal.{Refusal}
 use Rattle.ts_model.specs.History.{History, position}
-use Rattle.ts_model.specs.Calls.{Act, refuses, says, makes, refusal, new_relation, making_table, making_hyper, making_view, committing, Answered, Called, Counted}
+use Rattle.ts_model.specs.States.{State}
+use Rattle.ts_model.specs.Calls.{Act, refuses, says, makes, Answered, Called}
 use Rattle.result_text.specs.declared.replies.Said.{Said}
-use Rattle.result_text.specs.declared.replies.Said.TheVariants.{Fault}
-use Rattle.ts_sessions.specs.declared.endings.Ending.{Ending}
-use Rattle.ts_sessions.specs.declared.endings.Ending.TheVariants as endings
-use Rattle.ts_sessions.specs.Deeds.{Deed, doing, calls}
-use Rattle.ts_sessions.specs.Sessions.{Ends, Says, Falls, Tallied, event_list, stopped_at}
-use Rattle.ts_sessions.specs.Step.{says as saying, faults_as}
+use Rattle.ts_sessions.specs.declared.changes.Change.{Change}
+use Rattle.ts_sessions.specs.declared.changes.Told.{Told}
+use Rattle.ts_sessions.specs.declared.tries.Tried.{Tried}
+use Rattle.ts_sessions.specs.declared.tries.Tried.TheVariants as tried
+use Rattle.ts_sessions.specs.Deeds.{Deed, ending_as, tries, tries_at}
+use Rattle.ts_sessions.specs.Places.{Places, Turn}
+use Rattle.ts_sessions.specs.Sessions.{EndsAt, Says, Tries, came, changed, has_fallen, turn_of}
+use Rattle.ts_sessions.specs.Tried.{IsTried, stopped_at}
 use Rattle.ts_sessions.specs.Walks.{Walks, Breaks}
-use Rattle.ts_sessions.proofs.WalkLaws.{walks_break}
-
--- an act that makes an event or is refused, whose answer has the number of its event
-abbrev pub MakesOnly : {A : Type 0} → (A → ℕ) → ℕ → Act A → Type 0
-MakesOnly number n (refuses r) = ⊤
-MakesOnly number n (says a) = ⊥
-MakesOnly number n (makes e a) = number a ≡ n
+use Rattle.ts_sessions.proofs.StateLaws.{kept}
+use Rattle.ts_sessions.proofs.WalkLaws.{walks_as, walks_break}
 
 -- ---- at the history that was found
 
-done_there : {A : Type 0} (number : A → ℕ) (g : A → Said) (alone : Bool) (act : Act A) (h : History) (stood : Bool) (a : A) (new : History) (halted : Bool) → MakesOnly number (suc (position h)) act → Answered act h stood (Done a) new halted → Walks alone false h stood [] (doing h act (λ b. saying (g b)) faults_as) new halted (number a ∷ []) (g a ∷ [])
-done_there number g alone (refuses r) h stood a new halted m w = absurd w
-done_there number g alone (says b) h stood a new halted m w = absurd m
-done_there number g alone (makes e b) h true a new halted m w = absurd (true≢false w.0)
-done_there number g alone (makes e b) h false a new halted m w = (w.2, ap (λ n. n ∷ []) (ap number w.1 ∙ m), ap (λ x. g x ∷ []) w.1)
+tries_done : {A : Type 0} (alone : Bool) (act : Act A) (found : State) (a : A) (new : State) → Answered act found (outcomes.Done a) new → Walks alone false found (tries_at found.history act) new (Ok a)
+tries_done alone (refuses r) found a new w = absurd w
+tries_done alone (says b) found a new w = (refl, kept found new w.1, ap Ok w.0)
+tries_done alone (makes e b) found a new w = inr (inl (record { mid = new; first = w.1; rest = (refl, refl, ap Ok w.0) }))
 
-refused_there : {A : Type 0} (g : A → Said) (alone : Bool) (act : Act A) (h : History) (stood : Bool) (q : Refusal) (new : History) (halted : Bool) → Answered act h stood (Refused q) new halted → Walks alone false h stood [] (doing h act (λ b. saying (g b)) faults_as) new halted [] (Fault q ∷ [])
-refused_there g alone (refuses r) h stood q new halted w = (w.1, refl, ap (λ x. Fault x ∷ []) w.0)
-refused_there g alone (says b) h stood q new halted w = absurd w
-refused_there g alone (makes e b) h true q new halted w = (w.2, refl, ap (λ x. Fault x ∷ []) w.1)
-refused_there g alone (makes e b) h false q new halted w = absurd (true≢false (sym w.0))
+tries_refused : {A : Type 0} (alone : Bool) (act : Act A) (found : State) (q : Refusal) (new : State) → Answered act found (outcomes.Refused q) new → Walks alone false found (tries_at found.history act) new (Err q)
+tries_refused alone (refuses r) found q new w = (refl, kept found new w.1, ap Err w.0)
+tries_refused alone (says b) found q new w = absurd w
+tries_refused alone (makes e b) found q new w = inl (w.0, (refl, kept found new w.2, ap Err w.1))
 
-fell_there : {A : Type 0} (g : A → Said) (alone : Bool) (act : Act A) (h : History) (stood : Bool) (new : History) (halted : Bool) → Answered act h stood DiskFault new halted → Walks alone true h stood [] (doing h act (λ b. saying (g b)) faults_as) new halted [] (stopped_at (position new) ∷ [])
-fell_there g alone (refuses r) h stood new halted w = absurd w
-fell_there g alone (says b) h stood new halted w = absurd w
-fell_there g alone (makes e b) h true new halted w = absurd (true≢false w.0)
-fell_there g alone (makes e b) h false new halted w = inl (w.1, refl, ap (λ p. stopped_at p ∷ []) (ap position w.1.0))
+tries_fell : {A : Type 0} (alone : Bool) (act : Act A) (found new : State) → Answered act found outcomes.DiskFault new → Walks alone true found (tries_at found.history act) new (Err (stopped_at (position new.history)))
+tries_fell alone (refuses r) found new w = absurd w
+tries_fell alone (says b) found new w = absurd w
+tries_fell alone (makes e b) found new w = inr (inr (refl, record { mid = new; first = w; rest = (refl, refl, ap (λ h. Err (stopped_at (position h))) w.history) }))
 
-broken_there : {A : Type 0} (g : A → Said) (alone : Bool) (act : Act A) (h : History) (stood : Bool) (new : History) (halted : Bool) → Answered act h stood NoMemory new halted → Breaks alone h stood (doing h act (λ b. saying (g b)) faults_as) new halted
-broken_there g alone (refuses r) h stood new halted w = w
-broken_there g alone (says b) h stood new halted w = w
-broken_there g alone (makes e b) h true new halted w = w
-broken_there g alone (makes e b) h false new halted w = inl w
+tries_broken : {A : Type 0} (alone : Bool) (act : Act A) (found new : State) → Answered act found outcomes.NoMemory new → Breaks alone found (tries_at found.history act) new
+tries_broken alone (refuses r) found new w = kept found new w
+tries_broken alone (says b) found new w = kept found new w
+tries_broken alone (makes e b) found new w = inl (kept found new w)
+
+pub answered_tries : {A : Type 0} (alone : Bool) (act : Act A) (found : State) (outcome : Outcome A) (new : State) (result : Result (Tried A) NoMemory) → Answered act found outcome new → IsTried (position new.history) outcome result → Tries alone found (tries_at found.history act) result new
+answered_tries alone act found (outcomes.Done a) new (Ok t) w i = subst (λ x. Walks alone (has_fallen x) found (tries_at found.history act) new (came x)) (sym i) (tries_done alone act found a new w)
+answered_tries alone act found (outcomes.Done a) new (Err e) w i = absurd i
+answered_tries alone act found (outcomes.Refused r) new (Ok t) w i = subst (λ x. Walks alone (has_fallen x) found (tries_at found.history act) new (came x)) (sym i) (tries_refused alone act found r new w)
+answered_tries alone act found (outcomes.Refused r) new (Err e) w i = absurd i
+answered_tries alone act found outcomes.DiskFault new (Ok t) w i = subst (λ x. Walks alone (has_fallen x) found (tries_at found.history act) new (came x)) (sym i) (tries_fell alone act found new w)
+answered_tries alone act found outcomes.DiskFault new (Err e) w i = absurd i
+answered_tries alone act found outcomes.NoMemory new (Ok t) w i = absurd i
+answered_tries alone act found outcomes.NoMemory new (Err e) w i = tries_broken alone act found new w
 
 -- ---- over the call
 
--- what is said of a walk is its ending
-told_so : (deed : Deed (List Said)) (alone : Bool) (old : History) (was : Bool) (new : History) (halted : Bool) (x : Said) (event : Option ℕ) (ending : Ending) → Says x event ending → Walks alone false old was [] deed new halted (event_list event) (x ∷ []) → Ends alone old was deed ending new halted
-told_so deed alone old was new halted x event (endings.Told t) s w =
-    let P : List ℕ → List Said → Type 0 = λ made lines. Walks alone false old was [] deed new halted made lines in
-    subst (λ made. P made t.said) (sym s.1) (subst (λ lines. P (event_list event) lines) (sym s.0) w)
-told_so deed alone old was new halted x event (endings.Fell t) s w = absurd s
-told_so deed alone old was new halted x event endings.NoMemory s w = walks_break alone false old was [] deed new halted (event_list event) (x ∷ []) w
+pub called_tries : {A : Type 0} (alone : Bool) (old : State) (act : History → Act A) (outcome : Outcome A) (new : State) (result : Result (Tried A) NoMemory) → Called alone old act outcome new → IsTried (position new.history) outcome result → Tries alone old (tries act) result new
+called_tries alone old act outcome new (Ok t) c i = record { mid = c.found; first = inr c.finds; rest = answered_tries alone (act c.found.history) c.found outcome new (Ok t) c.answered i }
+called_tries alone old act outcome new (Err e) c i = record { mid = c.found; first = inr c.finds; rest = answered_tries alone (act c.found.history) c.found outcome new (Err e) c.answered i }
 
-fell_so : (deed : Deed (List Said)) (alone : Bool) (old : History) (was : Bool) (new : History) (halted : Bool) (p : ℕ) (ending : Ending) → Falls p ending → Walks alone true old was [] deed new halted [] (stopped_at p ∷ []) → Ends alone old was deed ending new halted
-fell_so deed alone old was new halted p (endings.Told t) s w = absurd s
-fell_so deed alone old was new halted p (endings.Fell t) s w =
-    let P : List ℕ → List Said → Type 0 = λ made lines. Walks alone true old was [] deed new halted made lines in
-    subst (λ made. P made t.said) (sym s.1) (subst (λ lines. P [] lines) (sym s.0) w)
-fell_so deed alone old was new halted p endings.NoMemory s w = walks_break alone true old was [] deed new halted [] (stopped_at p ∷ []) w
+-- ---- what is said of it
 
--- the deed of a call whose answer is said so
-abbrev pub told_by : {A : Type 0} → (History → Act A) → (A → Said) → Deed (List Said)
-told_by act g = calls act (λ b. saying (g b)) faults_as
+-- a walk whose end is said so
+pub says_walk : {T J : Type 0} (alone fell : Bool) (old : State) (deed : Deed (Turn Places)) (new : State) (p : Places) (read : ℕ) (said : List Said) (change : Change T J) (result : Result (Told T J) NoMemory) → Walks alone fell old deed new (record { places = changed change p; said = said; reads = read }) → Says said change fell result → EndsAt alone old deed p read result new
+says_walk alone fell old deed new p read said change (Ok t) w s =
+    subst (λ x. Walks alone x old deed new (turn_of p read t)) (sym s.2)
+    (subst (λ x. Walks alone fell old deed new (record { places = changed x p; said = t.said; reads = read })) (sym s.1)
+    (subst (λ x. Walks alone fell old deed new (record { places = changed change p; said = x; reads = read })) (sym s.0) w))
+says_walk alone fell old deed new p read said change (Err e) w s = walks_break alone fell old deed new (record { places = changed change p; said = said; reads = read }) w
 
-pub ends_done : {A : Type 0} (number : A → ℕ) (g : A → Said) (alone : Bool) (old : History) (was : Bool) (act : History → Act A) (a : A) (new : History) (halted : Bool) (ending : Ending) → ((h : History) → MakesOnly number (suc (position h)) (act h)) → Called alone old was act (Done a) new halted → Says (g a) (Some (number a)) ending → Ends alone old was (told_by act g) ending new halted
-ends_done number g alone old was act a new halted ending only c s =
-    told_so (told_by act g) alone old was new halted (g a) (Some (number a)) ending s
-    (c.history, c.stood, c.found, done_there number g alone (act c.history) c.history c.stood a new halted (only c.history) c.answered)
+-- what came of a call is said in this way
+pub says_ends : {A T J : Type 0} (g : Result A Refusal → Turn Places) (alone : Bool) (old : State) (deed : Deed (Result A Refusal)) (t : Tried A) (new : State) (p : Places) (read : ℕ) (said : List Said) (change : Change T J) (result : Result (Told T J) NoMemory) → Tries alone old deed (Ok t) new → g (came t) ≡ record { places = changed change p; said = said; reads = read } → Says said change (has_fallen t) result → EndsAt alone old (ending_as g deed) p read result new
+says_ends g alone old deed t new p read said change result w e s =
+    says_walk alone (has_fallen t) old (ending_as g deed) new p read said change result
+    (subst (λ y. Walks alone (has_fallen t) old (ending_as g deed) new y) e (walks_as g alone (has_fallen t) old deed new (came t) w)) s
 
-pub ends_refused : {A : Type 0} (g : A → Said) (alone : Bool) (old : History) (was : Bool) (act : History → Act A) (q : Refusal) (new : History) (halted : Bool) (ending : Ending) → Called alone old was act (Refused q) new halted → Says (Fault q) None ending → Ends alone old was (told_by act g) ending new halted
-ends_refused g alone old was act q new halted ending c s =
-    told_so (told_by act g) alone old was new halted (Fault q) None ending s
-    (c.history, c.stood, c.found, refused_there g alone (act c.history) c.history c.stood q new halted c.answered)
+-- the three answers of a call that was asked for its position, each with its line
+pub done_ends : {A T J : Type 0} (g : Result A Refusal → Turn Places) (alone : Bool) (old : State) (act : History → Act A) (outcome : Outcome A) (pos : ℕ) (t : Tried A) (a : A) (new : State) (p : Places) (read : ℕ) (said : List Said) (change : Change T J) (result : Result (Told T J) NoMemory) → Called alone old act outcome new → pos ≡ position new.history → IsTried pos outcome (Ok t) → t ≡ tried.Done a → Says said change false result → g (Ok a) ≡ record { places = changed change p; said = said; reads = read } → EndsAt alone old (ending_as g (tries act)) p read result new
+done_ends g alone old act outcome pos t a new p read said change result c e i j s f =
+    let w = called_tries alone old act outcome new (Ok t) c (subst (λ x. IsTried x outcome (Ok t)) e i) in
+    says_ends g alone old (tries act) (tried.Done a) new p read said change result (subst (λ y. Tries alone old (tries act) (Ok y) new) j w) f s
 
-pub ends_fell : {A : Type 0} (g : A → Said) (alone : Bool) (old : History) (was : Bool) (act : History → Act A) (new : History) (halted : Bool) (ending : Ending) → Called alone old was act DiskFault new halted → Falls (position new) ending → Ends alone old was (told_by act g) ending new halted
-ends_fell g alone old was act new halted ending c s =
-    fell_so (told_by act g) alone old was new halted (position new) ending s
-    (c.history, c.stood, c.found, fell_there g alone (act c.history) c.history c.stood new halted c.answered)
+pub refused_ends : {A T J : Type 0} (g : Result A Refusal → Turn Places) (alone : Bool) (old : State) (act : History → Act A) (outcome : Outcome A) (pos : ℕ) (t : Tried A) (r : Refusal) (new : State) (p : Places) (read : ℕ) (said : List Said) (change : Change T J) (result : Result (Told T J) NoMemory) → Called alone old act outcome new → pos ≡ position new.history → IsTried pos outcome (Ok t) → t ≡ tried.Refused r → Says said change false result → g (Err r) ≡ record { places = changed change p; said = said; reads = read } → EndsAt alone old (ending_as g (tries act)) p read result new
+refused_ends g alone old act outcome pos t r new p read said change result c e i j s f =
+    let w = called_tries alone old act outcome new (Ok t) c (subst (λ x. IsTried x outcome (Ok t)) e i) in
+    says_ends g alone old (tries act) (tried.Refused r) new p read said change result (subst (λ y. Tries alone old (tries act) (Ok y) new) j w) f s
 
-pub ends_no_memory : {A : Type 0} (g : A → Said) (alone : Bool) (old : History) (was : Bool) (act : History → Act A) (new : History) (halted : Bool) → Called alone old was act NoMemory new halted → Ends alone old was (told_by act g) endings.NoMemory new halted
-ends_no_memory g alone old was act new halted c =
-    (c.history, c.stood, c.found, broken_there g alone (act c.history) c.history c.stood new halted c.answered)
+pub fell_ends : {A T J : Type 0} (g : Result A Refusal → Turn Places) (alone : Bool) (old : State) (act : History → Act A) (outcome : Outcome A) (pos : ℕ) (t : Tried A) (r : Refusal) (new : State) (p : Places) (read : ℕ) (said : List Said) (change : Change T J) (result : Result (Told T J) NoMemory) → Called alone old act outcome new → pos ≡ position new.history → IsTried pos outcome (Ok t) → t ≡ tried.Fell r → Says said change true result → g (Err r) ≡ record { places = changed change p; said = said; reads = read } → EndsAt alone old (ending_as g (tries act)) p read result new
+fell_ends g alone old act outcome pos t r new p read said change result c e i j s f =
+    let w = called_tries alone old act outcome new (Ok t) c (subst (λ x. IsTried x outcome (Ok t)) e i) in
+    says_ends g alone old (tries act) (tried.Fell r) new p read said change result (subst (λ y. Tries alone old (tries act) (Ok y) new) j w) f s
 
--- ---- the calls that make one event
+-- the three answers of a call whose deed was walked, each with its line
+pub says_done : {A T J : Type 0} (g : Result A Refusal → Turn Places) (alone : Bool) (old : State) (deed : Deed (Result A Refusal)) (t : Tried A) (a : A) (new : State) (p : Places) (read : ℕ) (said : List Said) (change : Change T J) (result : Result (Told T J) NoMemory) → Tries alone old deed (Ok t) new → t ≡ tried.Done a → Says said change false result → g (Ok a) ≡ record { places = changed change p; said = said; reads = read } → EndsAt alone old (ending_as g deed) p read result new
+says_done g alone old deed t a new p read said change result w j s e = says_ends g alone old deed (tried.Done a) new p read said change result (subst (λ y. Tries alone old deed (Ok y) new) j w) e s
 
-relation_only : (h : History) (taken : Bool) (many : ℕ) (e : Event) → MakesOnly (λ n. n) (suc (position h)) (new_relation h taken many e)
-relation_only h true many e = tt
-relation_only h false many e = elim (nat_lt many most_relations) as (λ t. MakesOnly (λ n. n) (suc (position h)) (cond t (makes e (suc (position h))) (refuses (refusal 21 h (suc most_relations))))) [ true ↦ refl | false ↦ tt ]
+pub says_refused : {A T J : Type 0} (g : Result A Refusal → Turn Places) (alone : Bool) (old : State) (deed : Deed (Result A Refusal)) (t : Tried A) (r : Refusal) (new : State) (p : Places) (read : ℕ) (said : List Said) (change : Change T J) (result : Result (Told T J) NoMemory) → Tries alone old deed (Ok t) new → t ≡ tried.Refused r → Says said change false result → g (Err r) ≡ record { places = changed change p; said = said; reads = read } → EndsAt alone old (ending_as g deed) p read result new
+says_refused g alone old deed t r new p read said change result w j s e = says_ends g alone old deed (tried.Refused r) new p read said change result (subst (λ y. Tries alone old deed (Ok y) new) j w) e s
 
-pub tables_only : (def : TableDef) (h : History) → MakesOnly (λ n. n) (suc (position h)) (making_table def h)
-tables_only def h = relation_only h (is_taken (roster h) def.name) (length (roster h).tables) (Table def)
-
-pub views_only : (def : ViewDef) (h : History) → MakesOnly (λ n. n) (suc (position h)) (making_view def h)
-views_only def h = relation_only h (is_taken (roster h) def.name) (length (roster h).views) (View def)
-
-pub hypers_only : (t : ℕ) (hyper : HyperInfo) (h : History) → MakesOnly (λ n. n) (suc (position h)) (making_hyper t hyper h)
-hypers_only t hyper h = elim (is_some (hyper_of (roster h) t)) as (λ was. MakesOnly (λ n. n) (suc (position h)) (cond was (refuses (refusal 7 h 0)) (makes (Hyper t hyper) (suc (position h))))) [ true ↦ tt | false ↦ refl ]
-
-pub commits_only : (ops : List Op) (h : History) → MakesOnly (λ done. done.pos) (suc (position h)) (committing ops h)
-commits_only ops h = refl
-
--- ---- counts of faults
-
--- what a call does to the counts is what its statement does
-pub tallied_call : (alone : Bool) (first old : ℕ) (failed : Bool) (first_after new : ℕ) (halted : Bool) → Counted alone first old failed first_after new halted → Tallied alone first old failed first_after new
-tallied_call alone first old failed first_after new halted c = record {
-  same_first = c.same_first;
-  never_falls = λ t. omega (arith, c.alone_found t, c.kept);
-  raised = λ f. record { found = c.count; from_old = λ t. omega (arith, c.alone_found t); rose = c.raised f };
-}
+pub says_fell : {A T J : Type 0} (g : Result A Refusal → Turn Places) (alone : Bool) (old : State) (deed : Deed (Result A Refusal)) (t : Tried A) (r : Refusal) (new : State) (p : Places) (read : ℕ) (said : List Said) (change : Change T J) (result : Result (Told T J) NoMemory) → Tries alone old deed (Ok t) new → t ≡ tried.Fell r → Says said change true result → g (Err r) ≡ record { places = changed change p; said = said; reads = read } → EndsAt alone old (ending_as g deed) p read result new
+says_fell g alone old deed t r new p read said change result w j s e = says_ends g alone old deed (tried.Fell r) new p read said change result (subst (λ y. Tries alone old deed (Ok y) new) j w) e s

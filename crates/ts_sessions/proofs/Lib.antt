@@ -1,6 +1,18 @@
+pub mod StateLaws
 pub mod WalkLaws
-mod CallWalks
-mod EndingLaws
-pub mod SaidLaws
-mod SoundLaws
-mod TurnLaws
+pub mod CallWalks
+pub mod LookWalks
+pub mod EndLaws
+pub mod ViewWalks
+pub mod SoundLaws
+pub mod NameWalks
+pub mod BlockWalks
+pub mod HoldLaws
+pub mod JobLaws
+pub mod SessionLaws
+pub mod GivesLaws
+pub mod GivenWalks
+pub mod MadeLaws
+pub mod StepLaws
+pub mod ReplyLaws
+pub mod SteadyLaws

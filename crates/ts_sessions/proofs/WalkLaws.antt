@@ -1,111 +1,115 @@
--- Laws of walks: what they leave, and what they come to over a store that is alone.
-use Rattle.std.proofs.Common.{◌≡◌, ℕ, suc, Bool, true, false, List, [], ◌∷◌, ◌++◌, sym, refl, ap, subst}
-use Rattle.std.proofs.Common.{inl, inr}
-use Rattle.ts_model.specs.History.{History, ◌▸◌, position, Begins, same, further}
-use Rattle.ts_model.specs.Calls.{Found, Leaves, Looked}
-use Rattle.ts_model.proofs.HistoryLaws.{begins_trans}
-use Rattle.ts_model.proofs.CallLaws.{begins_found}
-use Rattle.ts_sessions.specs.Deeds.{Deed, looks, adds, ends, ending_as}
-use Rattle.ts_sessions.specs.Walks.{Walks, Breaks, history_after, ending}
+-- Laws of walks: how they go on, one after the other, and where they broke off.
+use Rattle.std.proofs.Common.{Bool, true, false, sym, refl, subst, inl, inr}
+use Rattle.std.specs.Prelude.{IsTrue, ◌||◌, is_some}
+use Rattle.std.proofs.lemmas.Bool.{true≢false}
+use Rattle.ts_model.specs.History.{History}
+use Rattle.ts_model.specs.States.{State, stands_still}
+use Rattle.ts_sessions.specs.Deeds.{Deed, sees, adds, ends, followed_by, ending_as}
+use Rattle.ts_sessions.specs.Held.{GoesOn}
+use Rattle.ts_sessions.specs.Walks.{Walks, Breaks, Sees}
+use Rattle.ts_sessions.proofs.StateLaws.{sees_trans, goes_trans, goes_same, goes_seen, goes_made, goes_failed}
 
-leaves_begins : (old : History) (was : Bool) (new : History) (halted : Bool) → Leaves old was new halted → Begins old new
-leaves_begins old was new halted l = subst (λ g. Begins old g) (sym l.0) same
+-- ---- what a walk leaves goes on from where it began
 
--- what a walk leaves begins with what was seen before
-pub begins_walks : {A : Type 0} (alone fell : Bool) (old : History) (was : Bool) (so_far : List ℕ) (deed : Deed A) (new : History) (halted : Bool) (made : List ℕ) (y : A) → Walks alone fell old was so_far deed new halted made y → Begins old new
-begins_walks alone false old was so_far (looks f) new halted made y w = begins_trans (begins_found alone old was w.0 w.1 w.2) (begins_walks alone false w.0 w.1 so_far (f w.0) new halted made y w.3)
-begins_walks alone true old was so_far (looks f) new halted made y w = begins_trans (begins_found alone old was w.0 w.1 w.2) (begins_walks alone true w.0 w.1 so_far (f w.0) new halted made y w.3)
-begins_walks alone false old true so_far (adds e next stopped) new halted made y w = begins_walks alone false old true so_far stopped new halted made y w
-begins_walks alone true old true so_far (adds e next stopped) new halted made y w = begins_walks alone true old true so_far stopped new halted made y w
-begins_walks alone false old false so_far (adds e next stopped) new halted made y w = begins_trans (further same) (begins_walks alone false (old ▸ e) false (so_far ++ suc (position old) ∷ []) next new halted made y w)
-begins_walks alone true old false so_far (adds e next stopped) new halted made y (inl w) = begins_walks alone false old true so_far stopped new halted made y w
-begins_walks alone true old false so_far (adds e next stopped) new halted made y (inr w) = begins_trans (further same) (begins_walks alone true (old ▸ e) false (so_far ++ suc (position old) ∷ []) next new halted made y w)
-begins_walks alone false old was so_far (ends a) new halted made y w = leaves_begins old was new halted w.0
-begins_walks alone true old was so_far (ends a) new halted made y w = absurd w
+pub goes_walks : {A : Type 0} (alone fell : Bool) (old : State) (deed : Deed A) (new : State) (y : A) → Walks alone fell old deed new y → GoesOn old new
+goes_walks alone fell old (sees shown f) new y w = goes_trans old w.mid new (goes_seen alone old w.mid w.first) (goes_walks alone fell w.mid (f w.mid.history) new y w.rest)
+goes_walks alone fell old (adds e next stop) new y (inl w) = goes_walks alone fell old stop new y w.1
+goes_walks alone fell old (adds e next stop) new y (inr (inl w)) = goes_trans old w.mid new (goes_made e old w.mid w.first) (goes_walks alone fell w.mid next new y w.rest)
+goes_walks alone fell old (adds e next stop) new y (inr (inr w)) = goes_trans old w.1.mid new (goes_failed e old w.1.mid w.1.first) (goes_walks alone false w.1.mid stop new y w.1.rest)
+goes_walks alone fell old (ends a) new y w = goes_same old new w.1
 
-pub begins_breaks : {A : Type 0} (alone : Bool) (old : History) (was : Bool) (deed : Deed A) (new : History) (halted : Bool) → Breaks alone old was deed new halted → Begins old new
-begins_breaks alone old was (looks f) new halted b = begins_trans (begins_found alone old was b.0 b.1 b.2) (begins_breaks alone b.0 b.1 (f b.0) new halted b.3)
-begins_breaks alone old true (adds e next stopped) new halted b = begins_breaks alone old true stopped new halted b
-begins_breaks alone old false (adds e next stopped) new halted (inl l) = leaves_begins old false new halted l
-begins_breaks alone old false (adds e next stopped) new halted (inr (inl b)) = begins_breaks alone old true stopped new halted b
-begins_breaks alone old false (adds e next stopped) new halted (inr (inr b)) = begins_trans (further same) (begins_breaks alone (old ▸ e) false next new halted b)
-begins_breaks alone old was (ends a) new halted l = leaves_begins old was new halted l
+pub goes_breaks : {A : Type 0} (alone : Bool) (old : State) (deed : Deed A) (new : State) → Breaks alone old deed new → GoesOn old new
+goes_breaks alone old (sees shown f) new b = goes_trans old b.mid new (goes_seen alone old b.mid b.first) (goes_breaks alone b.mid (f b.mid.history) new b.rest)
+goes_breaks alone old (adds e next stop) new (inl b) = goes_same old new b
+goes_breaks alone old (adds e next stop) new (inr (inl b)) = goes_breaks alone old stop new b.1
+goes_breaks alone old (adds e next stop) new (inr (inr (inl b))) = goes_trans old b.mid new (goes_made e old b.mid b.first) (goes_breaks alone b.mid next new b.rest)
+goes_breaks alone old (adds e next stop) new (inr (inr (inr b))) = goes_trans old b.mid new (goes_failed e old b.mid b.first) (goes_breaks alone b.mid stop new b.rest)
+goes_breaks alone old (ends a) new b = goes_same old new b
+
+-- ---- where they broke off
 
 -- a walk that came to its end may have broken off there
-pub walks_break : {A : Type 0} (alone fell : Bool) (old : History) (was : Bool) (so_far : List ℕ) (deed : Deed A) (new : History) (halted : Bool) (made : List ℕ) (y : A) → Walks alone fell old was so_far deed new halted made y → Breaks alone old was deed new halted
-walks_break alone false old was so_far (looks f) new halted made y w = (w.0, w.1, w.2, walks_break alone false w.0 w.1 so_far (f w.0) new halted made y w.3)
-walks_break alone true old was so_far (looks f) new halted made y w = (w.0, w.1, w.2, walks_break alone true w.0 w.1 so_far (f w.0) new halted made y w.3)
-walks_break alone false old true so_far (adds e next stopped) new halted made y w = walks_break alone false old true so_far stopped new halted made y w
-walks_break alone true old true so_far (adds e next stopped) new halted made y w = walks_break alone true old true so_far stopped new halted made y w
-walks_break alone false old false so_far (adds e next stopped) new halted made y w = inr (inr (walks_break alone false (old ▸ e) false (so_far ++ suc (position old) ∷ []) next new halted made y w))
-walks_break alone true old false so_far (adds e next stopped) new halted made y (inl w) = inr (inl (walks_break alone false old true so_far stopped new halted made y w))
-walks_break alone true old false so_far (adds e next stopped) new halted made y (inr w) = inr (inr (walks_break alone true (old ▸ e) false (so_far ++ suc (position old) ∷ []) next new halted made y w))
-walks_break alone false old was so_far (ends a) new halted made y w = w.0
-walks_break alone true old was so_far (ends a) new halted made y w = absurd w
-
--- a walk of a deed is one of the deed with something else said of its end
-pub walks_as : {A B : Type 0} (g : A → B) (alone fell : Bool) (old : History) (was : Bool) (so_far : List ℕ) (deed : Deed A) (new : History) (halted : Bool) (made : List ℕ) (y : A) → Walks alone fell old was so_far deed new halted made y → Walks alone fell old was so_far (ending_as g deed) new halted made (g y)
-walks_as g alone false old was so_far (looks f) new halted made y w = (w.0, w.1, w.2, walks_as g alone false w.0 w.1 so_far (f w.0) new halted made y w.3)
-walks_as g alone true old was so_far (looks f) new halted made y w = (w.0, w.1, w.2, walks_as g alone true w.0 w.1 so_far (f w.0) new halted made y w.3)
-walks_as g alone false old true so_far (adds e next stopped) new halted made y w = walks_as g alone false old true so_far stopped new halted made y w
-walks_as g alone true old true so_far (adds e next stopped) new halted made y w = walks_as g alone true old true so_far stopped new halted made y w
-walks_as g alone false old false so_far (adds e next stopped) new halted made y w = walks_as g alone false (old ▸ e) false (so_far ++ suc (position old) ∷ []) next new halted made y w
-walks_as g alone true old false so_far (adds e next stopped) new halted made y (inl w) = inl (walks_as g alone false old true so_far stopped new halted made y w)
-walks_as g alone true old false so_far (adds e next stopped) new halted made y (inr w) = inr (walks_as g alone true (old ▸ e) false (so_far ++ suc (position old) ∷ []) next new halted made y w)
-walks_as g alone false old was so_far (ends a) new halted made y w = (w.0, w.1, ap g w.2)
-walks_as g alone true old was so_far (ends a) new halted made y w = absurd w
-
-pub breaks_as : {A B : Type 0} (g : A → B) (alone : Bool) (old : History) (was : Bool) (deed : Deed A) (new : History) (halted : Bool) → Breaks alone old was deed new halted → Breaks alone old was (ending_as g deed) new halted
-breaks_as g alone old was (looks f) new halted b = (b.0, b.1, b.2, breaks_as g alone b.0 b.1 (f b.0) new halted b.3)
-breaks_as g alone old true (adds e next stopped) new halted b = breaks_as g alone old true stopped new halted b
-breaks_as g alone old false (adds e next stopped) new halted (inl l) = inl l
-breaks_as g alone old false (adds e next stopped) new halted (inr (inl b)) = inr (inl (breaks_as g alone old true stopped new halted b))
-breaks_as g alone old false (adds e next stopped) new halted (inr (inr b)) = inr (inr (breaks_as g alone (old ▸ e) false next new halted b))
-breaks_as g alone old was (ends a) new halted l = l
-
--- what a deed comes to over a store that is alone and doesn't fail
-pub record Computed {A : Type 0} (deed : Deed A) (old new : History) (halted : Bool) (y : A) : Type 0 where
-  pub history : new ≡ history_after deed old
-  pub going : halted ≡ false
-  pub end : y ≡ ending deed old
-
-pub walks_alone : {A : Type 0} (old : History) (so_far : List ℕ) (deed : Deed A) (new : History) (halted : Bool) (made : List ℕ) (y : A) → Walks true false old false so_far deed new halted made y → Computed deed old new halted y
-walks_alone old so_far (looks f) new halted made y w =
-    let P : History → Bool → Type 0 = λ h s. Walks true false h s so_far (f h) new halted made y in
-    let here : P old false = subst (λ s. P old s) w.2.1 (subst (λ h. P h w.1) w.2.0 w.3) in
-    let c = walks_alone old so_far (f old) new halted made y here in
-    record { history = c.history; going = c.going; end = c.end }
-walks_alone old so_far (adds e next stopped) new halted made y w =
-    let c = walks_alone (old ▸ e) (so_far ++ suc (position old) ∷ []) next new halted made y w in
-    record { history = c.history; going = c.going; end = c.end }
-walks_alone old so_far (ends a) new halted made y w = record { history = w.0.0; going = w.0.1; end = w.2 }
-
--- a call that only looks leaves what it found
-found_left : {alone : Bool} {old : History} {was : Bool} {Tells : History → Type 0} {mid : History} {halt : Bool} → Looked alone old was Tells mid halt → Found alone old was mid halt
-found_left {alone} {old} {was} {Tells} {mid} {halt} l =
-    subst (λ s. Found alone old was mid s) (sym l.leaves.1) (subst (λ h. Found alone old was h l.stood) (sym l.leaves.0) l.found)
-
--- what a call that only looks tells, it tells of what it leaves
-pub looked_tells : {alone : Bool} {old : History} {was : Bool} {Tells : History → Type 0} {mid : History} {halt : Bool} → Looked alone old was Tells mid halt → Tells mid
-looked_tells {alone} {old} {was} {Tells} {mid} {halt} l = subst Tells (sym l.leaves.0) l.tells
-
--- what is found where nobody else changes anything
-pub found_same : (alone : Bool) (old : History) (was : Bool) → Found alone old was old was
-found_same true old was = (refl, refl)
-found_same false old true = (refl, refl)
-found_same false old false = same
+pub walks_break : {A : Type 0} (alone fell : Bool) (old : State) (deed : Deed A) (new : State) (y : A) → Walks alone fell old deed new y → Breaks alone old deed new
+walks_break alone fell old (sees shown f) new y w = record { mid = w.mid; first = w.first; rest = walks_break alone fell w.mid (f w.mid.history) new y w.rest }
+walks_break alone fell old (adds e next stop) new y (inl w) = inr (inl (w.0, walks_break alone fell old stop new y w.1))
+walks_break alone fell old (adds e next stop) new y (inr (inl w)) = inr (inr (inl (record { mid = w.mid; first = w.first; rest = walks_break alone fell w.mid next new y w.rest })))
+walks_break alone fell old (adds e next stop) new y (inr (inr w)) = inr (inr (inr (record { mid = w.1.mid; first = w.1.first; rest = walks_break alone false w.1.mid stop new y w.1.rest })))
+walks_break alone fell old (ends a) new y w = w.1
 
 -- a deed that wasn't begun
-pub not_begun : {A : Type 0} (alone : Bool) (old : History) (was : Bool) (deed : Deed A) → Breaks alone old was deed old was
-not_begun alone old was (looks f) = (old, was, found_same alone old was, not_begun alone old was (f old))
-not_begun alone old true (adds e next stopped) = not_begun alone old true stopped
-not_begun alone old false (adds e next stopped) = inl (refl, refl)
-not_begun alone old was (ends a) = (refl, refl)
+pub not_begun : {A : Type 0} (alone : Bool) (old : State) (deed : Deed A) → Breaks alone old deed old
+not_begun alone old (sees shown f) = record { mid = old; first = inl refl; rest = not_begun alone old (f old.history) }
+not_begun alone old (adds e next stop) = inl refl
+not_begun alone old (ends a) = refl
 
--- a look by a call that only looks, and the rest of the deed
-pub walks_looked : {A : Type 0} (alone fell : Bool) (old : History) (was : Bool) (f : History → Deed A) (Tells : History → Type 0) (mid : History) (halt : Bool) (new : History) (halted : Bool) (made : List ℕ) (y : A) → Looked alone old was Tells mid halt → Walks alone fell mid halt [] (f mid) new halted made y → Walks alone fell old was [] (looks f) new halted made y
-walks_looked alone false old was f Tells mid halt new halted made y l w = (mid, halt, found_left l, w)
-walks_looked alone true old was f Tells mid halt new halted made y l w = (mid, halt, found_left l, w)
+-- a deed that broke off, whatever was to follow it
+pub breaks_first : {A B : Type 0} (alone : Bool) (old : State) (first : Deed A) (next : A → Deed B) (new : State) → Breaks alone old first new → Breaks alone old (followed_by first next) new
+breaks_first alone old (sees shown f) next new b = record { mid = b.mid; first = b.first; rest = breaks_first alone b.mid (f b.mid.history) next new b.rest }
+breaks_first alone old (adds e n stop) next new (inl b) = inl b
+breaks_first alone old (adds e n stop) next new (inr (inl b)) = inr (inl (b.0, breaks_first alone old stop next new b.1))
+breaks_first alone old (adds e n stop) next new (inr (inr (inl b))) = inr (inr (inl (record { mid = b.mid; first = b.first; rest = breaks_first alone b.mid n next new b.rest })))
+breaks_first alone old (adds e n stop) next new (inr (inr (inr b))) = inr (inr (inr (record { mid = b.mid; first = b.first; rest = breaks_first alone b.mid stop next new b.rest })))
+breaks_first alone old (ends a) next new b = subst (λ s. Breaks alone old (next a) s) (sym b) (not_begun alone old (next a))
 
-pub breaks_looked : {A : Type 0} (alone : Bool) (old : History) (was : Bool) (f : History → Deed A) (Tells : History → Type 0) (mid : History) (halt : Bool) (new : History) (halted : Bool) → Looked alone old was Tells mid halt → Breaks alone mid halt (f mid) new halted → Breaks alone old was (looks f) new halted
-breaks_looked alone old was f Tells mid halt new halted l b = (mid, halt, found_left l, b)
+-- ---- one after the other
+
+-- where a store stands still no disk fails
+no_fall : {A : Type 0} (alone : Bool) (old : State) (deed : Deed A) (new : State) (y : A) → IsTrue (stands_still old) → Walks alone true old deed new y → ⊥
+no_fall alone old (sees shown f) new y s w = no_fall alone w.mid (f w.mid.history) new y ((goes_seen alone old w.mid w.first).still s) w.rest
+no_fall alone old (adds e next stop) new y s (inl w) = no_fall alone old stop new y s w.1
+no_fall alone old (adds e next stop) new y s (inr (inl w)) = absurd (true≢false (sym (subst (λ x. IsTrue (is_some x)) w.first.went_on s)))
+no_fall alone old (adds e next stop) new y s (inr (inr w)) = absurd (true≢false (sym (subst (λ x. IsTrue (is_some x)) w.1.first.went_on s)))
+no_fall alone old (ends a) new y s w = absurd (true≢false w.0)
+
+-- where the disk failed in a walk, the store stands still after it
+fallen_stands : {A : Type 0} (alone : Bool) (old : State) (deed : Deed A) (new : State) (y : A) → Walks alone true old deed new y → IsTrue (stands_still new)
+fallen_stands alone old (sees shown f) new y w = fallen_stands alone w.mid (f w.mid.history) new y w.rest
+fallen_stands alone old (adds e next stop) new y (inl w) = fallen_stands alone old stop new y w.1
+fallen_stands alone old (adds e next stop) new y (inr (inl w)) = fallen_stands alone w.mid next new y w.rest
+fallen_stands alone old (adds e next stop) new y (inr (inr w)) =
+    let here : IsTrue (stands_still w.1.mid) = subst (λ x. IsTrue (is_some x)) (sym w.1.first.failed) refl in
+    (goes_walks alone false w.1.mid stop new y w.1.rest).still here
+fallen_stands alone old (ends a) new y w = absurd (true≢false w.0)
+
+-- a deed after which the store stands still: what follows takes no fault
+put_after : {A B : Type 0} (alone fell : Bool) (old : State) (first : Deed A) (mid : State) (a : A) (next : A → Deed B) (new : State) (y : B) → Walks alone false old first mid a → Walks alone fell mid (next a) new y → Walks alone fell old (followed_by first next) new y
+put_after alone fell old (sees shown f) mid a next new y w v = record { mid = w.mid; first = w.first; rest = put_after alone fell w.mid (f w.mid.history) mid a next new y w.rest v }
+put_after alone fell old (adds e n stop) mid a next new y (inl w) v = inl (w.0, put_after alone fell old stop mid a next new y w.1 v)
+put_after alone fell old (adds e n stop) mid a next new y (inr (inl w)) v = inr (inl (record { mid = w.mid; first = w.first; rest = put_after alone fell w.mid n mid a next new y w.rest v }))
+put_after alone fell old (adds e n stop) mid a next new y (inr (inr w)) v = absurd (true≢false (sym w.0))
+put_after alone fell old (ends x) mid a next new y w v = subst (λ s. Walks alone fell s (next x) new y) w.1 (subst (λ z. Walks alone fell mid (next z) new y) w.2 v)
+
+put_fallen : {A B : Type 0} (alone : Bool) (old : State) (first : Deed A) (mid : State) (a : A) (next : A → Deed B) (new : State) (y : B) → Walks alone true old first mid a → Walks alone false mid (next a) new y → Walks alone true old (followed_by first next) new y
+put_fallen alone old (sees shown f) mid a next new y w v = record { mid = w.mid; first = w.first; rest = put_fallen alone w.mid (f w.mid.history) mid a next new y w.rest v }
+put_fallen alone old (adds e n stop) mid a next new y (inl w) v = inl (w.0, put_fallen alone old stop mid a next new y w.1 v)
+put_fallen alone old (adds e n stop) mid a next new y (inr (inl w)) v = inr (inl (record { mid = w.mid; first = w.first; rest = put_fallen alone w.mid n mid a next new y w.rest v }))
+put_fallen alone old (adds e n stop) mid a next new y (inr (inr w)) v = inr (inr (refl, record { mid = w.1.mid; first = w.1.first; rest = put_after alone false w.1.mid stop mid a next new y w.1.rest v }))
+put_fallen alone old (ends x) mid a next new y w v = absurd (true≢false w.0)
+
+-- a deed that was walked, and then the deed that follows it, are the walk of both, also where the disk failed in the first
+pub put_together : {A B : Type 0} (alone fell fell_then : Bool) (old : State) (first : Deed A) (mid : State) (a : A) (next : A → Deed B) (new : State) (y : B) → Walks alone fell old first mid a → Walks alone fell_then mid (next a) new y → Walks alone (fell || fell_then) old (followed_by first next) new y
+put_together alone false fell_then old first mid a next new y w v = put_after alone fell_then old first mid a next new y w v
+put_together alone true false old first mid a next new y w v = put_fallen alone old first mid a next new y w v
+put_together alone true true old first mid a next new y w v = absurd (no_fall alone mid (next a) new y (fallen_stands alone old first mid a w) v)
+
+-- the same, where the second broke off
+pub break_together : {A B : Type 0} (alone fell : Bool) (old : State) (first : Deed A) (mid : State) (a : A) (next : A → Deed B) (new : State) → Walks alone fell old first mid a → Breaks alone mid (next a) new → Breaks alone old (followed_by first next) new
+break_together alone fell old (sees shown f) mid a next new w v = record { mid = w.mid; first = w.first; rest = break_together alone fell w.mid (f w.mid.history) mid a next new w.rest v }
+break_together alone fell old (adds e n stop) mid a next new (inl w) v = inr (inl (w.0, break_together alone fell old stop mid a next new w.1 v))
+break_together alone fell old (adds e n stop) mid a next new (inr (inl w)) v = inr (inr (inl (record { mid = w.mid; first = w.first; rest = break_together alone fell w.mid n mid a next new w.rest v })))
+break_together alone fell old (adds e n stop) mid a next new (inr (inr w)) v = inr (inr (inr (record { mid = w.1.mid; first = w.1.first; rest = break_together alone false w.1.mid stop mid a next new w.1.rest v })))
+break_together alone fell old (ends x) mid a next new w v = subst (λ s. Breaks alone s (next x) new) w.1 (subst (λ z. Breaks alone mid (next z) new) w.2 v)
+
+-- a walk of a deed is one of the deed with something else said of its end
+pub walks_as : {A B : Type 0} (g : A → B) (alone fell : Bool) (old : State) (deed : Deed A) (new : State) (y : A) → Walks alone fell old deed new y → Walks alone fell old (ending_as g deed) new (g y)
+walks_as g alone true old deed new y w = put_together alone true false old deed new y (λ a. ends (g a)) new (g y) w (refl, refl, refl)
+walks_as g alone false old deed new y w = put_together alone false false old deed new y (λ a. ends (g a)) new (g y) w (refl, refl, refl)
+
+-- ---- looks
+
+-- a deed that begins with a look, from an earlier state on
+pub walks_seen : {A : Type 0} (alone fell : Bool) (old mid : State) (shown : History → Bool) (f : History → Deed A) (new : State) (y : A) → Sees alone old mid → Walks alone fell mid (sees shown f) new y → Walks alone fell old (sees shown f) new y
+walks_seen alone fell old mid shown f new y s w = record { mid = w.mid; first = sees_trans alone old mid w.mid s w.first; rest = w.rest }
+
+pub breaks_seen : {A : Type 0} (alone : Bool) (old mid : State) (shown : History → Bool) (f : History → Deed A) (new : State) → Sees alone old mid → Breaks alone mid (sees shown f) new → Breaks alone old (sees shown f) new
+breaks_seen alone old mid shown f new s b = record { mid = b.mid; first = sees_trans alone old mid b.mid s b.first; rest = b.rest }

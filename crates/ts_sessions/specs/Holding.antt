@@ -1,20 +1,108 @@
--- What a session holds goes with the history.
-use Rattle.std.proofs.Common.{◌≡◌, ℕ, ◌≤◌, sym, refl, ◌∙◌, subst, arith}
-use Rattle.ts_model.specs.History.{History, position, prefix, Begins, same, further}
-use Rattle.ts_model.proofs.HistoryLaws.{position_begins, prefix_further, prefix_end}
-use Rattle.ts_sessions.specs.declared.sessions.Held.{Held}
-use Rattle.ts_sessions.specs.declared.sessions.Held.TheVariants.{Nothing, Snapshot}
-use Rattle.ts_sessions.specs.Sessions.{HoldsOf}
+-- What a session holds goes with what its store has seen.
+use Rattle.std.proofs.Common.{◌≡◌, ℕ, ◌≤◌, ◌==◌, Bool, true, false, cond, List, [], ◌∷◌, Option, Some, None, sym, refl, ◌∙◌, subst, arith}
+use Rattle.std.specs.Prelude.{IsTrue, ◌||◌, suc}
+use Rattle.std.proofs.lemmas.Bool.{true≢false}
+use Rattle.std.proofs.lemmas.Bool.Decides.{nat_tests}
+use Rattle.ts_model.specs.declared.events.Event.{Event}
+use Rattle.ts_model.specs.declared.events.Event.TheVariants.{Table, Hyper, View, Mode, Commit, Cut, Built}
+use Rattle.ts_model.specs.declared.refreshes.Pending.{Pending}
+use Rattle.ts_model.specs.declared.refreshes.Pending.TheVariants.{Waiting, Finished, Unknown}
+use Rattle.ts_model.specs.Allowed.{all_allowed}
+use Rattle.ts_model.specs.Pending.{finished_by, is_known, pending}
+use Rattle.ts_model.specs.History.{History, start, ◌▸◌, position, prefix, Begins, same, further}
+use Rattle.ts_model.specs.States.{State, stands_still}
+use Rattle.ts_model.proofs.HistoryLaws.{position_begins, prefix_further}
+use Rattle.ts_sessions.specs.declared.blocks.Open.{Open}
+use Rattle.ts_sessions.specs.declared.blocks.Open.TheVariants.{Nothing, Write, Read}
+use Rattle.ts_sessions.specs.declared.sessions.Session.{Session}
+use Rattle.ts_sessions.specs.declared.sessions.Snapshot.{Snapshot}
+use Rattle.ts_sessions.specs.Held.{GoesOn, HoldsBlock, HoldsJob, HoldsSnapshots, HoldsOf, is_finished, is_lost}
+use Rattle.stmt_check.proofs.QueueLaws.{queues_are_sound}
 
-prefix_on : {g h : History} (p : ℕ) → Begins g h → p ≤ position g → prefix h p ≡ prefix g p
+pub prefix_on : {g h : History} (p : ℕ) → Begins g h → p ≤ position g → prefix h p ≡ prefix g p
 prefix_on p same le = refl
 prefix_on p (further {h} {e} b) le = prefix_further h e p (omega (arith, le, position_begins b)) ∙ prefix_on p b le
 
--- what a session holds goes on standing for what it stood for
-pub holds_on : {T : Type 0} (stands : T → History → Type 0) (held : Held T) (g h : History) → Begins g h → HoldsOf stands held g → HoldsOf stands held h
-holds_on stands Nothing g h b k = tt
-holds_on stands (Snapshot at shot) g h b k = (subst (stands shot) (sym (prefix_on at b k.1)) k.0, omega (arith, k.1, position_begins b))
+-- ---- a refresh that was finished stays so
 
--- a snapshot of the whole history is one at its position
-pub holds_whole : {T : Type 0} (stands : T → History → Type 0) (shot : T) (at : ℕ) (h : History) → stands shot h → at ≡ position h → HoldsOf stands (Snapshot at shot) h
-holds_whole stands shot at h s e = (subst (stands shot) (sym (prefix_end h at (omega (arith, e)))) s, omega (arith, e))
+-- a refresh that is known has a number up to the position
+finished_known : (p : Pending) → is_finished p ≡ true → is_known p ≡ true
+finished_known (Waiting n) e = absurd (true≢false (sym e))
+finished_known (Finished f) e = refl
+finished_known Unknown e = absurd (true≢false (sym e))
+
+known_by : (k : ℕ) (p : Pending) → is_known (finished_by k p) ≡ true → is_known p ≡ true
+known_by k (Waiting n) e = refl
+known_by k (Finished f) e = refl
+known_by k Unknown e = e
+
+known_within : (h : History) (k : ℕ) → is_known (pending h k) ≡ true → k ≤ position h
+known_within start k e = absurd (true≢false (sym e))
+known_within (h ▸ Table def) k e = omega (arith, known_within h k e)
+known_within (h ▸ Hyper t hyper) k e = omega (arith, known_within h k e)
+known_within (h ▸ View def) k e = omega (arith, known_within h k e)
+known_within (h ▸ Mode v only) k e = omega (arith, known_within h k e)
+known_within (h ▸ Commit ops) k e = omega (arith, known_within h k e)
+known_within (h ▸ Cut v span) k e =
+    elim (k == suc (position h)) as (λ t. (k == suc (position h)) ≡ t → is_known (cond t (Waiting v) (pending h k)) ≡ true → k ≤ suc (position h)) [
+      | true ↦ λ t _. grind (arith, nat_tests)
+      | false ↦ λ _ f. omega (arith, known_within h k f)
+    ] refl e
+known_within (h ▸ Built cut snap) k e =
+    elim (k == cut) as (λ t. is_known (cond t (finished_by (suc (position h)) (pending h k)) (pending h k)) ≡ true → k ≤ suc (position h)) [
+      | true ↦ λ f. omega (arith, known_within h k (known_by (suc (position h)) (pending h k) f))
+      | false ↦ λ f. omega (arith, known_within h k f)
+    ] e
+
+finished_twice : (k : ℕ) (p : Pending) → is_finished p ≡ true → is_finished (finished_by k p) ≡ true
+finished_twice k (Waiting n) e = refl
+finished_twice k (Finished f) e = e
+finished_twice k Unknown e = e
+
+finished_further : (h : History) (x : Event) (k : ℕ) → is_finished (pending h k) ≡ true → is_finished (pending (h ▸ x) k) ≡ true
+finished_further h (Table def) k f = f
+finished_further h (Hyper t hyper) k f = f
+finished_further h (View def) k f = f
+finished_further h (Mode v only) k f = f
+finished_further h (Commit ops) k f = f
+finished_further h (Cut v span) k f =
+    let within : k ≤ position h = known_within h k (finished_known (pending h k) f) in
+    let no : (k == suc (position h)) ≡ false = grind (arith, nat_tests) in
+    rw no f
+finished_further h (Built cut snap) k f = elim (k == cut) as (λ t. is_finished (cond t (finished_by (suc (position h)) (pending h k)) (pending h k)) ≡ true) [ true ↦ finished_twice (suc (position h)) (pending h k) f | false ↦ f ]
+
+finished_stays : {g h : History} (k : ℕ) → Begins g h → is_finished (pending g k) ≡ true → is_finished (pending h k) ≡ true
+finished_stays k same f = f
+finished_stays k (further {h = h} {e = x} q) f = finished_further h x k (finished_stays k q f)
+
+either : (a b c d : Bool) → (a ≡ true → c ≡ true) → (b ≡ true → d ≡ true) → (a || b) ≡ true → (c || d) ≡ true
+either true b c d f g e = rw (f refl) refl
+either false b true d f g e = refl
+either false b false d f g e = g e
+
+pub lost_stays : (g h : State) (c : ℕ) → GoesOn g h → IsTrue (is_lost g c) → IsTrue (is_lost h c)
+lost_stays g h c on l = either (is_finished (pending g.history c)) (stands_still g) (is_finished (pending h.history c)) (stands_still h) (finished_stays c on.begins) on.still l
+
+-- ---- what a session holds
+
+pub block_on : {T : Type 0} (stands : T → History → Type 0) (b : Open T) (g h : History) → Begins g h → HoldsBlock stands b g → HoldsBlock stands b h
+block_on stands Nothing g h on k = tt
+block_on stands (Write queue) g h on k = (queues_are_sound.stays g h queue.bytes queue.ops on k.1 k.0, k.1)
+block_on stands (Read at shot) g h on k =
+    let same_there : prefix h at ≡ prefix g at = prefix_on at on k.1 in
+    (subst (stands shot) (sym same_there) k.0, omega (arith, k.1, position_begins on), subst (λ x. IsTrue (all_allowed x)) (sym same_there) k.2)
+
+pub job_on : {J : Type 0} (fits : J → History → Type 0) (cut_of snap_of : J → ℕ) (fits_on : (job : J) (g h : History) → Begins g h → fits job g → fits job h) (g h : State) (c at : ℕ) (job : Option J) → GoesOn g h → HoldsJob fits cut_of snap_of g c at job → HoldsJob fits cut_of snap_of h c at job
+job_on fits cut_of snap_of fits_on g h c at None on k = lost_stays g h c on k
+job_on fits cut_of snap_of fits_on g h c at (Some job) on k = (fits_on job g.history h.history on.begins k.0, k.1, k.2)
+
+pub snapshots_on : {J : Type 0} (fits : J → History → Type 0) (cut_of snap_of : J → ℕ) (fits_on : (job : J) (g h : History) → Begins g h → fits job g → fits job h) (g h : State) (entries : List (ℕ × Snapshot J)) → GoesOn g h → HoldsSnapshots fits cut_of snap_of g entries → HoldsSnapshots fits cut_of snap_of h entries
+snapshots_on fits cut_of snap_of fits_on g h [] on k = tt
+snapshots_on fits cut_of snap_of fits_on g h (e ∷ es) on k = (job_on fits cut_of snap_of fits_on g h e.0 e.1.at e.1.job on k.0, snapshots_on fits cut_of snap_of fits_on g h es on k.1)
+
+-- what a session holds goes on going with what its store has seen
+pub holds_on : {T J : Type 0} (stands : T → History → Type 0) (fits : J → History → Type 0) (cut_of snap_of : J → ℕ) (fits_on : (job : J) (g h : History) → Begins g h → fits job g → fits job h) (session : Session T J) (g h : State) → GoesOn g h → HoldsOf stands fits cut_of snap_of session g → HoldsOf stands fits cut_of snap_of session h
+holds_on stands fits cut_of snap_of fits_on session g h on k = record {
+  block = block_on stands session.block g.history h.history on.begins k.block;
+  snapshots = snapshots_on fits cut_of snap_of fits_on g h session.held.entries on k.snapshots;
+}

@@ -1,41 +1,54 @@
--- Laws of what lines do, each in one sentence.
-use Rattle.std.specs.Prelude.{◌≡◌, ℕ, Bool, true, false, List, [], Option}
+-- Laws of deeds, each in one sentence. They hold whatever a deed ends with, and so for turns of any kind of place.
+use Rattle.std.specs.Prelude.{◌≡◌, ℕ, ◌≤◌, max, Bool, false, ◌||◌, List, [], ◌++◌, Option}
+use Rattle.std.specs.List.{AllByRecursion}
+use Rattle.ts_model.specs.declared.events.Event.{Event}
 use Rattle.ts_model.specs.History.{History, position, Begins}
-use Rattle.ts_model.specs.Calls.{stop_of}
+use Rattle.ts_model.specs.States.{State, stop_of}
 use Rattle.ts_sessions.specs.Deeds.{Deed, followed_by}
-use Rattle.ts_sessions.specs.Step.{Places, Turn}
-use Rattle.ts_sessions.specs.Walks.{Walks, SaidAt, history_after, ending}
+use Rattle.ts_sessions.specs.Gives.{AreEvents, Gives, StopsAtEnd, StopsLater, last_of, numbers, printed}
+use Rattle.ts_sessions.specs.Steady.{Steady}
+use Rattle.ts_sessions.specs.Walks.{Walks}
 
--- what a line comes to over a history, it comes to over each longer one
-abbrev pub SaidOverLonger : Type 0
-SaidOverLonger = (g h : History) (stop : Option ℕ) (at : ℕ) (deed : Deed (Turn Places)) (positions : List ℕ) (y : Turn Places) → Begins g h → SaidAt g stop at deed positions y → SaidAt h stop at deed positions y
+-- ---- one after the other
 
--- a store that stands still goes on standing still, its history stays, and no event is made
-pub record Stays (old new : History) (halted : Bool) (so_far made : List ℕ) : Type 0 where
-  pub history : new ≡ old
-  pub halted_still : halted ≡ true
-  pub none_made : made ≡ so_far
+-- a deed that was walked, and then the deed that follows it, are the walk of both, also where the disk failed in the first
+abbrev pub PutTogether : (A B : Type 0) → Type 0
+PutTogether A B = (alone fell fell_then : Bool) (old : State) (first : Deed A) (mid : State) (a : A) (next : A → Deed B) (new : State) (y : B) → Walks alone fell old first mid a → Walks alone fell_then mid (next a) new y → Walks alone (fell || fell_then) old (followed_by first next) new y
 
-abbrev pub StoppedStays : Type 0
-StoppedStays = (alone fell : Bool) (old : History) (so_far : List ℕ) (deed : Deed (Turn Places)) (new : History) (halted : Bool) (made : List ℕ) (y : Turn Places) → Walks alone fell old true so_far deed new halted made y → Stays old new halted so_far made
+-- ---- over a whole history
 
--- over a store that is alone and doesn't fail a line comes to what is computed
-pub record IsComputed (deed : Deed (Turn Places)) (old new : History) (halted : Bool) (y : Turn Places) : Type 0 where
-  pub history : new ≡ history_after deed old
-  pub going : halted ≡ false
-  pub end : y ≡ ending deed old
+-- what a deed that is steady from a history on gives by looks from there on, it gives over each longer history, also over one whose store stopped later
+abbrev pub GivesOverLonger : (A : Type 0) → Type 0
+GivesOverLonger A = (fresh : Bool) (base all longer : History) (stop later : Option ℕ) (at : ℕ) (so_far : List (ℕ × Event)) (deed : Deed A) (looks : List (Option ℕ)) (last : ℕ) (given : List (ℕ × Event)) (y : A) → Steady fresh base deed → Begins base all → AllByRecursion (λ p. position base ≤ p) (printed looks) → Begins all longer → StopsLater stop later → Gives all stop at so_far deed looks last given y → Gives longer later at so_far deed looks last given y
 
-abbrev pub AloneIsComputed : Type 0
-AloneIsComputed = (old : History) (deed : Deed (Turn Places)) (new : History) (halted : Bool) (made : List ℕ) (y : Turn Places) → Walks true false old false [] deed new halted made y → IsComputed deed old new halted y
+-- the last position of a deed is its last printed look, or the number of its last event where that is later. So a look that isn't printed raises nothing
+abbrev pub LastIsPrinted : (A : Type 0) → Type 0
+LastIsPrinted A = (all : History) (stop : Option ℕ) (at : ℕ) (deed : Deed A) (looks : List (Option ℕ)) (last : ℕ) (given : List (ℕ × Event)) (y : A) → Gives all stop at [] deed looks last given y → last ≡ max (last_of at (printed looks)) (last_of at (numbers given))
 
--- what was walked over a store is what the line comes to over the history that it left, by the positions of some looks
-pub record IsSaid (at : ℕ) (deed : Deed (Turn Places)) (new : History) (halted : Bool) (y : Turn Places) : Type 0 where
-  pub positions : List ℕ
-  pub said : SaidAt new (stop_of halted new) at deed positions y
+-- the events that a deed gives are those of the history with their numbers, in order between its first position and its last
+abbrev pub GivesEvents : (A : Type 0) → Type 0
+GivesEvents A = (all : History) (stop : Option ℕ) (at : ℕ) (deed : Deed A) (looks : List (Option ℕ)) (last : ℕ) (given : List (ℕ × Event)) (y : A) → Gives all stop at [] deed looks last given y → AreEvents all at given last
 
-abbrev pub WalksAreSaid : Type 0
-WalksAreSaid = (alone fell : Bool) (old : History) (was : Bool) (deed : Deed (Turn Places)) (new : History) (halted : Bool) (made : List ℕ) (y : Turn Places) → Walks alone fell old was [] deed new halted made y → IsSaid (position old) deed new halted y
+-- two readings of a deed came to the same
+pub record SameReading {A : Type 0} (y z : A) (given given_too : List (ℕ × Event)) : Type 0 where
+  pub end : z ≡ y
+  pub events : given_too ≡ given
 
--- one after the other: a deed that was walked, and then the deed that follows it, are the walk of both
-abbrev pub PutTogether : Type 0
-PutTogether = (alone : Bool) (old : History) (was : Bool) (so_far : List ℕ) (first : Deed (Turn Places)) (mid : History) (halt : Bool) (made : List ℕ) (a : Turn Places) (next : Turn Places → Deed (Turn Places)) (fell : Bool) (new : History) (halted : Bool) (made_then : List ℕ) (y : Turn Places) → Walks alone false old was so_far first mid halt made a → Walks alone fell mid halt made (next a) new halted made_then y → Walks alone fell old was so_far (followed_by first next) new halted made_then y
+-- what a deed gives is determined by its printed looks, wherever its session had looked before
+abbrev pub PrintedLooksDetermine : (A : Type 0) → Type 0
+PrintedLooksDetermine A = (base all : History) (stop : Option ℕ) (at at_too : ℕ) (deed : Deed A) (looks looks_too : List (Option ℕ)) (last last_too : ℕ) (given given_too : List (ℕ × Event)) (y z : A) → Steady false base deed → Begins base all → AllByRecursion (λ p. position base ≤ p) (printed looks) → StopsAtEnd all stop → printed looks_too ≡ printed looks → Gives all stop at [] deed looks last given y → Gives all stop at_too [] deed looks_too last_too given_too z → SameReading y z given given_too
+
+-- ---- walks
+
+-- what was walked is what the deed gives over the history that was left, to a session that had looked at or before the beginning. Its printed looks are positions that the store had meanwhile, and its events those that were made
+pub record IsGiven {A : Type 0} (old new : State) (at : ℕ) (deed : Deed A) (y : A) : Type 0 where
+  pub looks : List (Option ℕ)
+  pub last : ℕ
+  pub given : List (ℕ × Event)
+  pub gives : Gives new.history (stop_of new) at [] deed looks last given y
+  pub seen : AllByRecursion (λ p. position old.history ≤ p) (printed looks)
+  pub made : new.made ≡ old.made ++ numbers given
+  pub within : last ≤ position new.history
+
+abbrev pub WalksAreGiven : (A : Type 0) → Type 0
+WalksAreGiven A = (alone fell : Bool) (old : State) (at : ℕ) (deed : Deed A) (new : State) (y : A) → Steady false old.history deed → at ≤ position old.history → Walks alone fell old deed new y → IsGiven old new at deed y

@@ -1,139 +1,207 @@
--- What contracts see of sessions and of what a line came to.
-use Rattle.std.specs.Prelude.{◌≡◌, ℕ, ◌≤◌, Bool, true, false, IsTrue, List, [], ◌∷◌, Option, Some, None, Result, Ok, Err, ⊤}
-use Rattle.ts_schema.specs.Faults.{Rose}
+-- What contracts see of how calls and statements end, and of what a line came to.
+use Rattle.std.specs.Prelude.{◌≡◌, ℕ, ◌+◌, ◌≤◌, Bool, true, false, List, [], ◌∷◌, ◌++◌, Option, Some, None, Result, Ok, Err, ⊤}
+use Rattle.ts_schema.specs.Counts.{raised_by}
 use Rattle.ts_schema.specs.declared.memory.NoMemory.{NoMemory}
-use Rattle.ts_model.specs.History.{History, position, prefix}
+use Rattle.ts_model.specs.declared.events.Op.{Op}
+use Rattle.ts_model.specs.declared.outcomes.Refusal.{Refusal}
+use Rattle.ts_model.specs.History.{History}
+use Rattle.ts_model.specs.States.{State}
+use Rattle.stmt_check.specs.Sound.{IsOperation}
 use Rattle.result_text.specs.declared.replies.Said.{Said}
-use Rattle.result_text.specs.declared.replies.Said.TheVariants.{Fault}
-use Rattle.ts_sessions.specs.declared.endings.Told.{Told}
-use Rattle.ts_sessions.specs.declared.endings.Ending.{Ending}
-use Rattle.ts_sessions.specs.declared.endings.Ending.TheVariants as endings
+use Rattle.ts_sessions.specs.declared.changes.Change.{Change}
+use Rattle.ts_sessions.specs.declared.changes.Change.TheVariants as changes
+use Rattle.ts_sessions.specs.declared.changes.Told.{Told}
+use Rattle.ts_sessions.specs.declared.refreshes.Snapped.{Snapped}
+use Rattle.ts_sessions.specs.declared.refreshes.Snapped.TheVariants as snapped
+use Rattle.ts_sessions.specs.declared.tries.Tried.{Tried}
+use Rattle.ts_sessions.specs.declared.tries.Tried.TheVariants as tried
 use Rattle.ts_sessions.specs.declared.replies.Reply.{Reply as ReplyMade}
 use Rattle.ts_sessions.specs.declared.replies.StepEnd.{StepEnd}
 use Rattle.ts_sessions.specs.declared.replies.StepEnd.TheVariants as steps
-use Rattle.ts_sessions.specs.declared.sessions.Held.{Held}
-use Rattle.ts_sessions.specs.declared.sessions.Held.TheVariants.{Nothing, Snapshot}
-use Rattle.ts_sessions.specs.declared.sessions.Session.{Session}
 use Rattle.ts_sessions.specs.Deeds.{Deed}
 use Rattle.ts_sessions.specs.Walks.{Walks, Breaks}
-use Rattle.ts_sessions.specs.Step.{Block, none, reading, Places, Turn}
+use Rattle.ts_sessions.specs.Places.{Block, none, writing, reading, Places, Turn, enters, cuts, holds, gives_up}
+use Rattle.ts_sessions.specs.Held.{block_of, queued, most_queued, HoldsBlock}
+use Rattle.ts_sessions.specs.Made.{made_in}
 use Rattle.ts_sessions.specs.Script.{text_of, has_fault}
+use Rattle.ts_sessions.specs.Step.{Taken, takes_snapshot}
 
--- ---- sessions
+-- ---- calls of a store
 
--- the block that a session is in, by the snapshot that it holds
-abbrev pub block_of : {T : Type 0} → Held T → Block
-block_of Nothing = none
-block_of (Snapshot at shot) = reading at
+-- what came of a call, and whether the disk failed in it
+abbrev pub came : {A : Type 0} → Tried A → Result A Refusal
+came (tried.Done a) = Ok a
+came (tried.Refused r) = Err r
+came (tried.Fell r) = Err r
 
--- the places of a session
-abbrev pub places_in : {T : Type 0} → Session T → Places
-places_in s = record { block = block_of s.held }
+abbrev pub has_fallen : {A : Type 0} → Tried A → Bool
+has_fallen (tried.Done a) = false
+has_fallen (tried.Refused r) = false
+has_fallen (tried.Fell r) = true
 
--- a snapshot stands for the history at its position, which is one of this history's
-abbrev pub HoldsOf : {T : Type 0} → (T → History → Type 0) → Held T → History → Type 0
-HoldsOf stands Nothing h = ⊤
-HoldsOf stands (Snapshot at shot) h = stands shot (prefix h at) × (at ≤ position h)
+-- a call ended with the walk of its deed, or broke off for want of memory
+abbrev pub Tries : {A : Type 0} → Bool → State → Deed (Result A Refusal) → Result (Tried A) NoMemory → State → Type 0
+Tries alone old deed (Ok t) new = Walks alone (has_fallen t) old deed new (came t)
+Tries alone old deed (Err e) new = Breaks alone old deed new
 
--- ---- what a statement came to
+-- what a snapshot for a refresh came to, where so many rows were read
+abbrev pub taken_as : {J : Type 0} → ℕ → Snapped J → Result Taken Refusal
+taken_as read (snapped.Taken at job) = Ok (record { at = at; reads = read })
+taken_as read (snapped.Refused r) = Err r
 
--- how a statement ended: with the walk of its deed, or broken off for want of memory
-abbrev pub Ends : Bool → History → Bool → Deed (List Said) → Ending → History → Bool → Type 0
-Ends alone old was deed (endings.Told t) new halted = Walks alone false old was [] deed new halted t.events t.said
-Ends alone old was deed (endings.Fell t) new halted = Walks alone true old was [] deed new halted t.events t.said
-Ends alone old was deed endings.NoMemory new halted = Breaks alone old was deed new halted
+-- how many rows it read: none where the refresh wasn't pending
+abbrev pub read_by : {J : Type 0} → ℕ → Snapped J → ℕ
+read_by read (snapped.Taken at job) = read
+read_by read (snapped.Refused r) = 0
 
--- it ended where it began, at whatever history
-abbrev pub EndsHere : Deed (List Said) → Ending → Type 0
-EndsHere deed ending = (alone : Bool) (h : History) (was : Bool) → Ends alone h was deed ending h was
+-- the job of a snapshot fits what was seen, and is that of a snapshot of this refresh
+abbrev pub FitsSnapped : {J : Type 0} → (J → History → Type 0) → (J → ℕ) → (J → ℕ) → ℕ → History → Snapped J → Type 0
+FitsSnapped fits cut_of snap_of c h (snapped.Taken at job) = fits job h × (cut_of job ≡ c) × (snap_of job ≡ at)
+FitsSnapped fits cut_of snap_of c h (snapped.Refused r) = ⊤
 
--- how a line's statement ended, and the places of its session then
-abbrev pub TurnEnds : Bool → History → Bool → Deed (Turn Places) → Ending → History → Bool → Places → Type 0
-TurnEnds alone old was deed (endings.Told t) new halted p = Walks alone false old was [] deed new halted t.events (record { places = p; said = t.said })
-TurnEnds alone old was deed (endings.Fell t) new halted p = Walks alone true old was [] deed new halted t.events (record { places = p; said = t.said })
-TurnEnds alone old was deed endings.NoMemory new halted p = Breaks alone old was deed new halted
+-- a snapshot was taken for a refresh, or the refresh isn't pending; the rows that it read were counted
+pub record Snaps {J : Type 0} (alone : Bool) (old : State) (c : ℕ) (s : Snapped J) (new : State) (before after : ℕ) : Type 0 where
+  pub read : ℕ
+  pub walks : Walks alone false old (takes_snapshot c) new (taken_as read s)
+  pub counted : after ≡ raised_by (read_by read s) before
 
--- one line, and the number of the event that it tells of, where it tells of one
-abbrev pub event_list : Option ℕ → List ℕ
-event_list None = []
-event_list (Some n) = n ∷ []
+abbrev pub SnapEnds : {J : Type 0} → Bool → State → ℕ → Result (Snapped J) NoMemory → State → ℕ → ℕ → Type 0
+SnapEnds alone old c (Ok s) new before after = Snaps alone old c s new before after
+SnapEnds alone old c (Err e) new before after = Breaks alone old (takes_snapshot c) new × (before ≤ after)
 
-abbrev pub Says : Said → Option ℕ → Ending → Type 0
-Says s event (endings.Told t) = (t.said ≡ s ∷ []) × (t.events ≡ event_list event)
-Says s event (endings.Fell t) = ⊥
-Says s event endings.NoMemory = ⊤
+-- ---- statements
 
--- the refusal of an event where the store stopped at this position
-abbrev pub stopped_at : ℕ → Said
-stopped_at p = Fault (record { code = 24; pos = p; mark = 0 })
+-- an operation waits for the end of a write block
+abbrev pub queued_on : Op → ℕ → Block → Block
+queued_on op more none = none
+queued_on op more (writing ops bytes) = writing (ops ++ op ∷ []) (bytes + more)
+queued_on op more (reading at) = reading at
 
-abbrev pub Falls : ℕ → Ending → Type 0
-Falls p (endings.Told t) = ⊥
-Falls p (endings.Fell t) = (t.said ≡ stopped_at p ∷ []) × (t.events ≡ [])
-Falls p endings.NoMemory = ⊤
+-- the places of a session after a change
+abbrev pub changed : {T J : Type 0} → Change T J → Places → Places
+changed changes.Nothing p = p
+changed (changes.Cuts c) p = cuts c p
+changed (changes.Holds c at job) p = holds c at p
+changed (changes.GivesUp c) p = gives_up c p
+changed (changes.Enters b) p = enters (block_of b) p
+changed (changes.Queues op more) p = enters (queued_on op more p.block) p
 
--- ---- what a line came to
+-- what a change brings goes with what was seen; an operation that is to wait came from a text of so many bytes
+abbrev pub ChangeHolds : {T J : Type 0} → (T → History → Type 0) → (J → History → Type 0) → (J → ℕ) → (J → ℕ) → ℕ → Change T J → History → Type 0
+ChangeHolds stands fits cut_of snap_of bytes changes.Nothing h = ⊤
+ChangeHolds stands fits cut_of snap_of bytes (changes.Cuts c) h = ⊤
+ChangeHolds stands fits cut_of snap_of bytes (changes.Holds c at job) h = fits job h × (cut_of job ≡ c) × (snap_of job ≡ at)
+ChangeHolds stands fits cut_of snap_of bytes (changes.GivesUp c) h = ⊤
+ChangeHolds stands fits cut_of snap_of bytes (changes.Enters b) h = HoldsBlock stands b h × (queued (block_of b) ≡ 0)
+ChangeHolds stands fits cut_of snap_of bytes (changes.Queues op more) h = IsOperation h more op × (more ≡ bytes)
 
--- the reply tells of the walk of the line's deed, whose disk failed or not
-pub record Tells {P : Type 0} (alone fell : Bool) (old : History) (was : Bool) (deed : Deed (Turn P)) (name : List ℕ) (reply : ReplyMade) (new : History) (halted : Bool) (places : P) : Type 0 where
-  -- the lines of the reply
+-- there is room in a queue for what a change brings there
+abbrev pub ChangeFits : {T J : Type 0} → Change T J → Block → Type 0
+ChangeFits changes.Nothing b = ⊤
+ChangeFits (changes.Cuts c) b = ⊤
+ChangeFits (changes.Holds c at job) b = ⊤
+ChangeFits (changes.GivesUp c) b = ⊤
+ChangeFits (changes.Enters c) b = ⊤
+ChangeFits (changes.Queues op more) b = queued b + more ≤ most_queued
+
+-- a change that brings nothing that has to go with what was seen
+abbrev pub BringsNothing : {T J : Type 0} → Change T J → Type 0
+BringsNothing changes.Nothing = ⊤
+BringsNothing (changes.Cuts c) = ⊤
+BringsNothing (changes.Holds c at job) = ⊥
+BringsNothing (changes.GivesUp c) = ⊤
+BringsNothing (changes.Enters b) = ⊥
+BringsNothing (changes.Queues op more) = ⊥
+
+-- the same, but that the session may come out of its block
+abbrev pub BringsLittle : {T J : Type 0} → Change T J → Type 0
+BringsLittle changes.Nothing = ⊤
+BringsLittle (changes.Cuts c) = ⊤
+BringsLittle (changes.Holds c at job) = ⊥
+BringsLittle (changes.GivesUp c) = ⊤
+BringsLittle (changes.Enters b) = block_of b ≡ none
+BringsLittle (changes.Queues op more) = ⊥
+
+-- what a statement came to, with places that it began with, where so many rows were read
+abbrev pub turn_of : {T J : Type 0} → Places → ℕ → Told T J → Turn Places
+turn_of p read t = record { places = changed t.change p; said = t.said; reads = read }
+
+-- a statement ended with the walk of its deed, or broke off for want of memory
+abbrev pub EndsAt : {T J : Type 0} → Bool → State → Deed (Turn Places) → Places → ℕ → Result (Told T J) NoMemory → State → Type 0
+EndsAt alone old deed p read (Ok t) new = Walks alone t.fell old deed new (turn_of p read t)
+EndsAt alone old deed p read (Err e) new = Breaks alone old deed new
+
+abbrev pub Counts : {A : Type 0} → Result A NoMemory → ℕ → ℕ → ℕ → Type 0
+Counts (Ok a) read before after = after ≡ raised_by read before
+Counts (Err e) read before after = before ≤ after
+
+-- and the rows that it read were counted
+pub record Ends {T J : Type 0} (alone : Bool) (old : State) (deed : Deed (Turn Places)) (p : Places) (result : Result (Told T J) NoMemory) (new : State) (before after : ℕ) : Type 0 where
+  pub read : ℕ
+  pub ends : EndsAt alone old deed p read result new
+  pub counted : Counts result read before after
+
+-- what a statement says and changes, and whether the disk failed
+abbrev pub Says : {T J : Type 0} → List Said → Change T J → Bool → Result (Told T J) NoMemory → Type 0
+Says said change fell (Ok t) = (t.said ≡ said) × (t.change ≡ change) × (t.fell ≡ fell)
+Says said change fell (Err e) = ⊤
+
+-- ---- lines
+
+-- the reply tells of the walk of the line's deed, whose disk failed or not: its text, the numbers of the events that were made, which it names, and the rows read
+pub record Tells {P : Type 0} (alone fell : Bool) (old : State) (deed : Deed (Turn P)) (name : List ℕ) (reply : ReplyMade) (new : State) (places : P) (before after : ℕ) : Type 0 where
+  -- the lines of the reply, and how many rows were read
   pub said : List Said
-  pub walks : Walks alone fell old was [] deed new halted reply.events (record { places = places; said = said })
+  pub read : ℕ
+  pub walks : Walks alone fell old deed new (record { places = places; said = said; reads = read })
   pub text : reply.text ≡ text_of name said
   pub fault : reply.fault ≡ has_fault said
+  pub names : reply.events ≡ made_in said
+  pub made : new.made ≡ old.made ++ reply.events
+  pub counted : after ≡ raised_by read before
 
--- a reply that was written, or wasn't for want of memory
-abbrev pub replied_as : Result ReplyMade NoMemory → StepEnd
-replied_as (Ok r) = steps.Reply r
-replied_as (Err e) = steps.NoMemory
+-- a line of the session with a name did this deed: it is told, told up to where the disk failed and on from there, or broken off for want of memory
+abbrev pub Stepped : {P : Type 0} → Bool → State → Deed (Turn P) → List ℕ → StepEnd → State → P → ℕ → ℕ → Type 0
+Stepped alone old deed name (steps.Reply r) new places before after = Tells alone false old deed name r new places before after
+Stepped alone old deed name (steps.DiskFault r) new places before after = Tells alone true old deed name r new places before after
+Stepped alone old deed name steps.NoMemory new places before after = Breaks alone old deed new × (before ≤ after)
 
-abbrev pub fallen_as : Result ReplyMade NoMemory → StepEnd
-fallen_as (Ok r) = steps.DiskFault r
-fallen_as (Err e) = steps.NoMemory
+-- a reply with the text of these lines, the numbers that they name, and whether one of them is a FAULT
+pub record IsReply (name : List ℕ) (said : List Said) (r : ReplyMade) : Type 0 where
+  pub text : r.text ≡ text_of name said
+  pub fault : r.fault ≡ has_fault said
+  pub names : r.events ≡ made_in said
 
--- a reply of the session with a name tells of what was told
-abbrev pub IsReply : List ℕ → Told → ReplyMade → Type 0
-IsReply name t r = (r.text ≡ text_of name t.said) × (r.fault ≡ has_fault t.said) × (r.events ≡ t.events)
+-- these lines were answered, of a disk that failed or not, unless there was no memory
+abbrev pub AnswersSo : List ℕ → List Said → Bool → StepEnd → Type 0
+AnswersSo name said fell (steps.Reply r) = (fell ≡ false) × IsReply name said r
+AnswersSo name said fell (steps.DiskFault r) = (fell ≡ true) × IsReply name said r
+AnswersSo name said fell steps.NoMemory = ⊤
 
--- how a step ends whose statement ended so
-abbrev pub RepliesTo : List ℕ → Ending → StepEnd → Type 0
-RepliesTo name (endings.Told t) (steps.Reply r) = IsReply name t r
-RepliesTo name (endings.Told t) (steps.DiskFault r) = ⊥
-RepliesTo name (endings.Told t) steps.NoMemory = ⊤
-RepliesTo name (endings.Fell t) (steps.Reply r) = ⊥
-RepliesTo name (endings.Fell t) (steps.DiskFault r) = IsReply name t r
-RepliesTo name (endings.Fell t) steps.NoMemory = ⊤
-RepliesTo name endings.NoMemory (steps.Reply r) = ⊥
-RepliesTo name endings.NoMemory (steps.DiskFault r) = ⊥
-RepliesTo name endings.NoMemory steps.NoMemory = ⊤
+-- this is the answer, of a disk that failed or not
+abbrev pub IsReplied : Bool → ReplyMade → StepEnd → Type 0
+IsReplied fell r (steps.Reply q) = (fell ≡ false) × (q ≡ r)
+IsReplied fell r (steps.DiskFault q) = (fell ≡ true) × (q ≡ r)
+IsReplied fell r steps.NoMemory = ⊥
 
--- a line of the session with a name did this deed: it is told, told up to where the disk failed, or broken off for want of memory
-abbrev pub Stepped : {P : Type 0} → Bool → History → Bool → Deed (Turn P) → List ℕ → StepEnd → History → Bool → P → Type 0
-Stepped alone old was deed name (steps.Reply r) new halted places = Tells alone false old was deed name r new halted places
-Stepped alone old was deed name (steps.DiskFault r) new halted places = Tells alone true old was deed name r new halted places
-Stepped alone old was deed name steps.NoMemory new halted places = Breaks alone old was deed new halted
+-- P holds where there was no memory
+abbrev pub IfNoMemory : StepEnd → Type 0 → Type 0
+IfNoMemory (steps.Reply r) P = ⊤
+IfNoMemory (steps.DiskFault r) P = ⊤
+IfNoMemory steps.NoMemory P = P
 
--- ---- faults of the disk
+-- and where there was
+abbrev pub IfAnswered : StepEnd → Type 0 → Type 0
+IfAnswered (steps.Reply r) P = P
+IfAnswered (steps.DiskFault r) P = P
+IfAnswered steps.NoMemory P = ⊤
 
--- a call raised the count of faults that it found; a store that is alone had at least the old one
-pub record Raised (alone : Bool) (old new : ℕ) : Type 0 where
-  pub found : ℕ
-  pub from_old : IsTrue alone → old ≤ found
-  pub rose : Rose found new
+-- the places without a snapshot that was given up, if one was
+abbrev pub without : Option ℕ → Places → Places
+without None p = p
+without (Some c) p = gives_up c p
 
--- the count that the store was made with stays; an alone store's count doesn't fall; and where the disk failed, a call raised it
-pub record Tallied (alone : Bool) (first old : ℕ) (failed : Bool) (first_after new : ℕ) : Type 0 where
-  pub same_first : first_after ≡ first
-  pub never_falls : IsTrue alone → old ≤ new
-  pub raised : IsTrue failed → Raised alone old new
-
--- the disk failed in a statement, in a line
-abbrev pub has_fallen : Ending → Bool
-has_fallen (endings.Told t) = false
-has_fallen (endings.Fell t) = true
-has_fallen endings.NoMemory = false
-
-abbrev pub is_disk_fault : StepEnd → Bool
-is_disk_fault (steps.Reply r) = false
-is_disk_fault (steps.DiskFault r) = true
-is_disk_fault steps.NoMemory = false
+-- the places are as before, or a snapshot was given up whose job a store took
+pub record Spares (old new : Places) : Type 0 where
+  pub gone : Option ℕ
+  pub same : new ≡ without gone old

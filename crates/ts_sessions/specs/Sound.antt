@@ -1,22 +1,21 @@
 -- What may be asked of a store.
-use Rattle.std.specs.Prelude.{◌≡◌, ℕ, IsTrue, Option, Some, None}
-use Rattle.ts_model.specs.declared.queries.Query.{Query}
+use Rattle.std.specs.Prelude.{◌≡◌, ℕ, ◌+◌, List, [], ◌∷◌, if◌then◌else◌, IsTrue, None}
+use Rattle.ts_model.specs.declared.views.ViewDef.{ViewDef}
 use Rattle.ts_model.specs.History.{History, position}
-use Rattle.ts_model.specs.Roster.{roster}
-use Rattle.ts_model.specs.Allowed.{all_allowed, can_ask}
+use Rattle.ts_model.specs.declared.rosters.Roster.{Roster}
+use Rattle.ts_model.specs.Roster.{roster, same_name}
+use Rattle.ts_model.specs.Allowed.{all_allowed}
 use Rattle.stmt_reader.specs.declared.statements.Stmt.{Stmt}
 use Rattle.stmt_check.specs.declared.actions.Action.{Action}
 use Rattle.stmt_check.specs.declared.actions.Action.TheVariants as actions
 use Rattle.stmt_check.specs.Check.{action_of, refusal_of}
 use Rattle.stmt_check.specs.Sound.{IsSound}
+use Rattle.ts_sessions.specs.declared.kinds.Kind.{Kind}
+use Rattle.ts_sessions.specs.declared.kinds.Kind.TheVariants as kinds
 
--- an action of some text is sound at a history
-abbrev pub CanBe : History → Action → Type 0
-CanBe h action = (bytes : ℕ) × IsSound h bytes action
-
--- what a statement asks for is sound at each history at which nothing of it is refused
-abbrev pub AsksSoundly : Stmt → Type 0
-AsksSoundly stmt = (h : History) → IsTrue (all_allowed h) → refusal_of (position h) (roster h) stmt ≡ None → CanBe h (action_of (roster h) stmt)
+-- what a statement of a text of so many bytes asks for is sound at each history at which nothing of it is refused
+abbrev pub AsksSoundly : ℕ → Stmt → Type 0
+AsksSoundly bytes stmt = (h : History) → IsTrue (all_allowed h) → refusal_of (position h) (roster h) stmt ≡ None → IsSound h bytes (action_of (roster h) stmt)
 
 -- a snapshot stands for some allowed history
 pub record StandsForAllowed {T : Type 0} (stands : T → History → Type 0) (shot : T) : Type 0 where
@@ -24,31 +23,27 @@ pub record StandsForAllowed {T : Type 0} (stands : T → History → Type 0) (sh
   pub holds : stands shot history
   pub allowed : IsTrue (all_allowed history)
 
--- a snapshot stands for some history at which the query can be asked
-pub record CanAsk {T : Type 0} (stands : T → History → Type 0) (shot : T) (query : Query) : Type 0 where
-  pub history : History
-  pub holds : stands shot history
-  pub can : IsTrue (can_ask (roster history) query)
+-- the kind of what a statement asks for
+abbrev pub kind_of_action : Action → Kind
+kind_of_action (actions.Table def) = kinds.Defines
+kind_of_action (actions.Hyper t hyper) = kinds.Defines
+kind_of_action (actions.View def filled) = kinds.Defines
+kind_of_action (actions.Mode n only) = kinds.Defines
+kind_of_action (actions.Change op) = kinds.Changes
+kind_of_action (actions.Refresh n lo hi) = kinds.Defines
+kind_of_action (actions.Cut n lo hi) = kinds.Defines
+kind_of_action (actions.Snap cut) = kinds.Snaps
+kind_of_action (actions.Finish cut) = kinds.Finishes
+kind_of_action actions.Begin = kinds.Begins
+kind_of_action actions.BeginRead = kinds.BeginsRead
+kind_of_action actions.Commit = kinds.Commits
+kind_of_action actions.Rollback = kinds.RollsBack
+kind_of_action (actions.Ask q) = kinds.Asks
 
--- and at which the action is sound
-pub record CanDo {T : Type 0} (stands : T → History → Type 0) (shot : T) (action : Action) : Type 0 where
-  pub history : History
-  pub holds : stands shot history
-  pub can : CanBe history action
+-- the number of the first aggregate with a name, where the aggregates are numbered from k, or how many there are
+abbrev pub number_from : List ℕ → ℕ → List ViewDef → ℕ
+number_from name k [] = k
+number_from name k (v ∷ vs) = if same_name v.name name then k else number_from name (k + 1) vs
 
--- the query of an action that is one
-abbrev pub query_of : Action → Option Query
-query_of (actions.Table def) = None
-query_of (actions.Hyper t hyper) = None
-query_of (actions.View def filled) = None
-query_of (actions.Mode n only) = None
-query_of (actions.Change op) = None
-query_of (actions.Refresh n lo hi) = None
-query_of (actions.Cut n lo hi) = None
-query_of (actions.Snap cut) = None
-query_of (actions.Finish cut) = None
-query_of actions.Begin = None
-query_of actions.BeginRead = None
-query_of actions.Commit = None
-query_of actions.Rollback = None
-query_of (actions.Ask q) = Some q
+abbrev pub view_number : Roster → List ℕ → ℕ
+view_number r name = number_from name 0 r.views

@@ -1,15 +1,24 @@
 -- The step of a session: what a line does, by the places of its session.
-use Rattle.std.specs.Prelude.{ℕ, ℤ, pos as nonneg, ◌||◌, cond, List, [], ◌∷◌, Option, Some, None, Result, Ok, Err}
+use Rattle.std.specs.Prelude.{ℕ, ◌+◌, ℤ, pos as nonneg, negsuc, Bool, true, false, not, cond, is_some, List, [], ◌∷◌, ◌++◌, length, Option, Some, None, Result, Ok, Err}
 use Rattle.ts_bucket.specs.Bucket.{first_of}
+use Rattle.ts_bucket.specs.declared.spans.Span.{Span}
+use Rattle.ts_model.specs.declared.events.Op.{Op}
+use Rattle.ts_model.specs.declared.outcomes.CutDone.{CutDone}
+use Rattle.ts_model.specs.declared.outcomes.CutDone.TheVariants.{Cut as CutMade, Nothing as NothingDone}
+use Rattle.ts_model.specs.declared.outcomes.Committed.{Committed}
 use Rattle.ts_model.specs.declared.outcomes.Refusal.{Refusal}
 use Rattle.ts_model.specs.declared.queries.Query.{Query}
 use Rattle.ts_model.specs.declared.queries.Query.TheVariants as queries
+use Rattle.ts_model.specs.declared.refreshes.Pending.{Pending}
+use Rattle.ts_model.specs.declared.refreshes.Pending.TheVariants.{Waiting, Finished, Unknown}
 use Rattle.ts_model.specs.declared.rosters.Roster.{Roster}
 use Rattle.ts_model.specs.declared.views.ViewDef.{ViewDef}
 use Rattle.ts_model.specs.History.{History, position, prefix}
 use Rattle.ts_model.specs.Roster.{roster, view_of}
 use Rattle.ts_model.specs.Answers.{answer}
-use Rattle.ts_model.specs.Calls.{making_table, making_hyper, making_view, committing}
+use Rattle.ts_model.specs.Pending.{pending}
+use Rattle.ts_model.specs.Reads.{reads as reads_of, job_reads}
+use Rattle.ts_model.specs.Calls.{refusal, no_refresh, making_table, making_hyper, making_view, setting_mode, committing, cutting, finishing}
 use Rattle.stmt_reader.specs.declared.faults.Fault.{Fault}
 use Rattle.stmt_reader.specs.declared.faults.Fault.TheVariants as faults
 use Rattle.stmt_reader.specs.declared.statements.Stmt.{Stmt}
@@ -19,29 +28,14 @@ use Rattle.stmt_reader.specs.Streams.{Stream, stream}
 use Rattle.stmt_check.specs.declared.actions.Action.{Action}
 use Rattle.stmt_check.specs.declared.actions.Action.TheVariants as actions
 use Rattle.stmt_check.specs.Check.{action_of, refusal_of}
+use Rattle.result_text.specs.declared.codes.TheConstants.{NO_TOKEN, SYNTAX, BAD_NUMBER, IN_WRITE_BLOCK, IN_READ_BLOCK, NO_BLOCK, NO_SNAPSHOT}
 use Rattle.result_text.specs.declared.replies.Said.{Said}
 use Rattle.result_text.specs.declared.replies.Said.TheVariants as said
 use Rattle.ts_sessions.specs.declared.kinds.Kind.{Kind}
 use Rattle.ts_sessions.specs.declared.kinds.Kind.TheVariants as kinds
-use Rattle.ts_sessions.specs.Deeds.{Deed, looks, ends, calls, ending_as}
-
--- the block that a session is in: none, or a read block at a position
-pub data Block : Type 0 where
-  none : Block
-  reading : ℕ → Block
-
--- what a session carries from one line to the next
-pub record Places : Type 0 where
-  pub block : Block
-
--- the places of a session at its first line
-abbrev pub no_places : Places
-no_places = record { block = none }
-
--- what a line comes to: the places of its session after it, and the lines of its reply
-pub record Turn (P : Type 0) : Type 0 where
-  pub places : P
-  pub said : List Said
+use Rattle.ts_sessions.specs.declared.queries.Plan.{Plan}
+use Rattle.ts_sessions.specs.Deeds.{Deed, sees, looks, ends, followed_by, ending_as, tries_at, tries}
+use Rattle.ts_sessions.specs.Places.{Block, none, writing, reading, Places, held_for, enters, cuts, holds, gives_up, Turn, turns, refuses}
 
 -- ---- refusals of the text and of the block
 
@@ -54,63 +48,191 @@ abbrev pub placed : ℕ → ℕ → Refusal
 placed code place = record { code = code; pos = 0; mark = place }
 
 abbrev pub misread : Fault → Refusal
-misread (faults.NoToken place) = placed 4 place
-misread (faults.Syntax place) = placed 5 place
-misread (faults.BadNumber place) = placed 10 place
+misread (faults.NoToken place) = placed NO_TOKEN place
+misread (faults.Syntax place) = placed SYNTAX place
+misread (faults.BadNumber place) = placed BAD_NUMBER place
 
 -- the kind of a statement, as blocks let it pass or not
 abbrev pub kind_of : Stmt → Kind
-kind_of (stmts.Table name cols) = kinds.Changes
-kind_of (stmts.Hyper table col interval) = kinds.Changes
-kind_of (stmts.View name only filled fold) = cond (only || filled) kinds.Unbuilt kinds.Changes
-kind_of (stmts.Mode view only) = kinds.Unbuilt
+kind_of (stmts.Table name cols) = kinds.Defines
+kind_of (stmts.Hyper table col interval) = kinds.Defines
+kind_of (stmts.View name only filled fold) = kinds.Defines
+kind_of (stmts.Mode view only) = kinds.Defines
 kind_of (stmts.Insert table cols rows) = kinds.Changes
 kind_of (stmts.Delete table tests) = kinds.Changes
 kind_of (stmts.Drop table below) = kinds.Changes
-kind_of (stmts.Refresh view lo hi) = kinds.Unbuilt
-kind_of (stmts.Cut view lo hi) = kinds.Unbuilt
-kind_of (stmts.Snap cut) = kinds.Unbuilt
-kind_of (stmts.Finish cut) = kinds.Unbuilt
-kind_of stmts.Begin = kinds.Unbuilt
+kind_of (stmts.Refresh view lo hi) = kinds.Defines
+kind_of (stmts.Cut view lo hi) = kinds.Defines
+kind_of (stmts.Snap cut) = kinds.Snaps
+kind_of (stmts.Finish cut) = kinds.Finishes
+kind_of stmts.Begin = kinds.Begins
 kind_of stmts.BeginRead = kinds.BeginsRead
-kind_of stmts.Commit = kinds.EndsBlock
-kind_of stmts.Rollback = kinds.EndsBlock
+kind_of stmts.Commit = kinds.Commits
+kind_of stmts.Rollback = kinds.RollsBack
 kind_of (stmts.Buckets fold) = kinds.Asks
 kind_of (stmts.Rows table tests) = kinds.Asks
 
 -- why a statement of this kind may not be outside a block, where there is nothing to end
 abbrev pub refusal_outside : Kind → Option Refusal
+refusal_outside kinds.Defines = None
 refusal_outside kinds.Changes = None
 refusal_outside kinds.Asks = None
+refusal_outside kinds.Snaps = None
+refusal_outside kinds.Finishes = None
+refusal_outside kinds.Begins = None
 refusal_outside kinds.BeginsRead = None
-refusal_outside kinds.EndsBlock = Some (bare 18)
-refusal_outside kinds.Unbuilt = None
+refusal_outside kinds.Commits = Some (bare NO_BLOCK)
+refusal_outside kinds.RollsBack = Some (bare NO_BLOCK)
+
+-- and in a write block, which lets changes pass, and what ends it
+abbrev pub refusal_writing : Kind → Option Refusal
+refusal_writing kinds.Defines = Some (bare IN_WRITE_BLOCK)
+refusal_writing kinds.Changes = None
+refusal_writing kinds.Asks = Some (bare IN_WRITE_BLOCK)
+refusal_writing kinds.Snaps = Some (bare IN_WRITE_BLOCK)
+refusal_writing kinds.Finishes = Some (bare IN_WRITE_BLOCK)
+refusal_writing kinds.Begins = Some (bare IN_WRITE_BLOCK)
+refusal_writing kinds.BeginsRead = Some (bare IN_WRITE_BLOCK)
+refusal_writing kinds.Commits = None
+refusal_writing kinds.RollsBack = None
 
 -- and in a read block, which lets queries pass, and what ends it
 abbrev pub refusal_reading : Kind → Option Refusal
-refusal_reading kinds.Changes = Some (bare 17)
+refusal_reading kinds.Defines = Some (bare IN_READ_BLOCK)
+refusal_reading kinds.Changes = Some (bare IN_READ_BLOCK)
 refusal_reading kinds.Asks = None
-refusal_reading kinds.BeginsRead = Some (bare 17)
-refusal_reading kinds.EndsBlock = None
-refusal_reading kinds.Unbuilt = Some (bare 17)
+refusal_reading kinds.Snaps = Some (bare IN_READ_BLOCK)
+refusal_reading kinds.Finishes = Some (bare IN_READ_BLOCK)
+refusal_reading kinds.Begins = Some (bare IN_READ_BLOCK)
+refusal_reading kinds.BeginsRead = Some (bare IN_READ_BLOCK)
+refusal_reading kinds.Commits = None
+refusal_reading kinds.RollsBack = None
 
 abbrev pub block_refusal : Block → Kind → Option Refusal
 block_refusal none kind = refusal_outside kind
-block_refusal (reading p) kind = refusal_reading kind
+block_refusal (writing ops bytes) kind = refusal_writing kind
+block_refusal (reading at) kind = refusal_reading kind
 
--- ---- what a statement does
+-- ---- events
 
--- it says this, and nothing else
-abbrev pub says : Said → Deed (List Said)
-says s = ends (s ∷ [])
+-- what came of it is said in one line, and the session stays as it is
+abbrev pub told : {A : Type 0} → Places → (A → Said) → Result A Refusal → Turn Places
+told p says (Ok a) = turns p (says a)
+told p says (Err r) = refuses p r
 
-abbrev pub faults_as : Refusal → Deed (List Said)
-faults_as r = says (said.Fault r)
+-- ---- refreshes
 
 -- the start of the first bucket of an aggregate
 abbrev pub least_start : Option ViewDef → ℤ
 least_start None = nonneg 0
 least_start (Some def) = first_of def.fold.width
+
+-- a snapshot for a refresh: its position, and how many stored rows its job looked at
+pub record Taken : Type 0 where
+  pub at : ℕ
+  pub reads : ℕ
+
+-- a snapshot of a history for a refresh that waits there
+abbrev pub taken_of : History → ℕ → Pending → Result Taken Refusal
+taken_of h c (Waiting n) = Ok (record { at = position h; reads = job_reads h c })
+taken_of h c (Finished f) = Err (refusal no_refresh h f)
+taken_of h c Unknown = Err (refusal no_refresh h 0)
+
+abbrev pub taken : ℕ → History → Result Taken Refusal
+taken c h = taken_of h c (pending h c)
+
+-- the three phases of a refresh, each with one look: its cut, a snapshot, and its finish
+abbrev pub cuts_refresh : ℕ → Option ℤ → Option ℤ → Deed (Result CutDone Refusal)
+cuts_refresh n lo hi = tries (cutting n lo hi)
+
+abbrev pub takes_snapshot : ℕ → Deed (Result Taken Refusal)
+takes_snapshot c = looks (λ h. ends (taken c h))
+
+abbrev pub finishes_refresh : ℕ → ℕ → Deed (Result ℕ Refusal)
+finishes_refresh c at = tries (finishing c at)
+
+-- what a cut is said to have done
+abbrev pub cut_turn : Places → ℤ → Result CutDone Refusal → Turn Places
+cut_turn p min (Ok (CutMade c span)) = turns (cuts c p) (said.Cut c span min)
+cut_turn p min (Ok (NothingDone at)) = turns p (said.Nothing at)
+cut_turn p min (Err r) = refuses p r
+
+-- a refresh that was cut and then refused, after so many rows were read
+abbrev pub cut_refused : Places → ℕ → Span → ℤ → Refusal → ℕ → Turn Places
+cut_refused p c span min r read = record { places = p; said = said.Cut c span min ∷ said.Fault r ∷ []; reads = read }
+
+-- the finish of a refresh that was cut, with a snapshot
+abbrev pub refreshed : Places → ℕ → Span → ℤ → Taken → Result ℕ Refusal → Turn Places
+refreshed p c span min t (Ok k) = record { places = p; said = said.Refresh c k t.at span min ∷ []; reads = t.reads }
+refreshed p c span min t (Err r) = cut_refused p c span min r t.reads
+
+-- a refresh goes on after its snapshot
+abbrev pub after_snapshot : Places → ℕ → Span → ℤ → Result Taken Refusal → Deed (Turn Places)
+after_snapshot p c span min (Ok t) = ending_as (refreshed p c span min t) (finishes_refresh c t.at)
+after_snapshot p c span min (Err r) = ends (cut_refused p c span min r 0)
+
+-- and after its cut
+abbrev pub after_cut : Places → ℤ → Result CutDone Refusal → Deed (Turn Places)
+after_cut p min (Ok (CutMade c span)) = followed_by (takes_snapshot c) (after_snapshot (cuts c p) c span min)
+after_cut p min (Ok (NothingDone at)) = ends (turns p (said.Nothing at))
+after_cut p min (Err r) = ends (refuses p r)
+
+-- a whole refresh: its phases one after the other
+abbrev pub refreshes : Places → ℕ → Option ℤ → Option ℤ → ℤ → Deed (Turn Places)
+refreshes p n lo hi min = followed_by (cuts_refresh n lo hi) (after_cut p min)
+
+-- a line comes before those of a turn
+abbrev pub after_line : Said → Turn Places → Turn Places
+after_line s t = record t { said = s ∷ t.said }
+
+-- an aggregate with this number was made, or not; with data it is refreshed
+abbrev pub view_made : Places → ℕ → ℤ → ℕ → Bool → Deed (Turn Places)
+view_made p n min k false = ends (turns p (said.View k))
+view_made p n min k true = ending_as (after_line (said.View k)) (refreshes p n None None min)
+
+abbrev pub after_view : Places → ℕ → ViewDef → Bool → Result ℕ Refusal → Deed (Turn Places)
+after_view p n def filled (Ok k) = view_made p n (first_of def.fold.width) k filled
+after_view p n def filled (Err r) = ends (refuses p r)
+
+-- a number that counts something
+abbrev pub natural : ℤ → Option ℕ
+natural (nonneg c) = Some c
+natural (negsuc c) = None
+
+-- the refresh that a statement means: the one with its number, or the last that the session cut
+abbrev pub refresh_meant : Places → Option ℤ → Option ℕ
+refresh_meant p None = p.cut
+refresh_meant p (Some number) = natural number
+
+-- a snapshot is taken for a refresh, and the session holds it
+abbrev pub snap_turn : Places → ℕ → Result Taken Refusal → Turn Places
+snap_turn p c (Ok t) = record { places = holds c t.at p; said = said.Snap c t.at ∷ []; reads = t.reads }
+snap_turn p c (Err r) = refuses p r
+
+abbrev pub snaps : Places → History → Option ℕ → Turn Places
+snaps p h None = refuses p (refusal no_refresh h 0)
+snaps p h (Some c) = snap_turn p c (taken c h)
+
+-- why a refresh can't be finished: with this number where it waits
+abbrev pub unfinished : ℕ → History → Pending → Refusal
+unfinished code h (Waiting n) = refusal code h 0
+unfinished code h (Finished f) = refusal no_refresh h f
+unfinished code h Unknown = refusal no_refresh h 0
+
+-- a refresh is finished with the snapshot at a position, which the session then gives up
+abbrev pub finish_turn : Places → ℕ → ℕ → Result ℕ Refusal → Turn Places
+finish_turn p c at (Ok k) = turns (gives_up c p) (said.Finish c k at)
+finish_turn p c at (Err r) = refuses p r
+
+abbrev pub finishes_held : Places → History → ℕ → Option ℕ → Deed (Turn Places)
+finishes_held p h c None = ends (refuses p (unfinished NO_SNAPSHOT h (pending h c)))
+finishes_held p h c (Some at) = ending_as (finish_turn p c at) (tries_at h (finishing c at h))
+
+abbrev pub finishes : Places → History → Option ℕ → Deed (Turn Places)
+finishes p h None = ends (refuses p (refusal no_refresh h 0))
+finishes p h (Some c) = finishes_held p h c (held_for c p.held)
+
+-- ---- queries
 
 -- the start of the first bucket of what is asked, which is of no account where nothing can be stale
 abbrev pub asked_start : Roster → Query → ℤ
@@ -118,70 +240,152 @@ asked_start r (queries.Rows t tests) = nonneg 0
 asked_start r (queries.Buckets t fold) = nonneg 0
 asked_start r (queries.Aggregate n starts) = least_start (view_of r n)
 
--- the answer of a query at a history
-abbrev pub asked : History → Query → Said
-asked h q = said.Answered (answer q h) (position h) (asked_start (roster h) q)
+-- what answers a query statement
+abbrev pub plan_of : Roster → Query → Plan
+plan_of r q = record { query = q; min = asked_start r q }
 
--- an action, whose names were looked at in a history. What isn't built is refused
-abbrev pub acts : History → Action → Deed (List Said)
-acts h (actions.Table def) = calls (making_table def) (λ n. says (said.Table n)) faults_as
-acts h (actions.Hyper t hyper) = calls (making_hyper t hyper) (λ n. says (said.Hypertable n)) faults_as
-acts h (actions.View def filled) = calls (making_view def) (λ n. says (said.View n)) faults_as
-acts h (actions.Mode n only) = faults_as (bare 0)
-acts h (actions.Change op) = calls (committing (op ∷ [])) (λ done. says (said.Commit done)) faults_as
-acts h (actions.Refresh n lo hi) = faults_as (bare 0)
-acts h (actions.Cut n lo hi) = faults_as (bare 0)
-acts h (actions.Snap cut) = faults_as (bare 0)
-acts h (actions.Finish cut) = faults_as (bare 0)
-acts h actions.Begin = faults_as (bare 0)
-acts h actions.BeginRead = faults_as (bare 0)
-acts h actions.Commit = faults_as (bare 0)
-acts h actions.Rollback = faults_as (bare 0)
-acts h (actions.Ask q) = says (asked h q)
+-- the answer by a plan at a history
+abbrev pub answers : Places → History → Plan → Turn Places
+answers p h plan = record { places = p; said = said.Answered (answer plan.query h) (position h) plan.min ∷ []; reads = reads_of plan.query h }
+
+-- ---- blocks
+
+-- operations took effect, or they didn't, and the session stays in its block
+abbrev pub committed : Places → Places → Result Committed Refusal → Turn Places
+committed p after (Ok done) = turns after (said.Commit done)
+committed p after (Err r) = refuses p r
+
+abbrev pub commits : Places → Places → History → List Op → Deed (Turn Places)
+commits p after h ops = ending_as (committed p after) (tries_at h (committing ops h))
+
+-- an operation from a text of so many bytes: it takes effect, or waits for its block to end
+abbrev pub changes : Places → ℕ → History → Op → Block → Deed (Turn Places)
+changes p bytes h op none = commits p p h (op ∷ [])
+changes p bytes h op (writing ops n) = ends (turns (enters (writing (ops ++ op ∷ []) (n + bytes)) p) said.Queued)
+changes p bytes h op (reading at) = commits p p h (op ∷ [])
+
+-- a block ends: the operations of a write block take effect as one commit, if there are any
+abbrev pub closes : Places → History → Block → Deed (Turn Places)
+closes p h none = ends (turns (enters none p) said.End)
+closes p h (writing [] n) = ends (turns (enters none p) said.CommitEmpty)
+closes p h (writing (op ∷ ops) n) = commits p (enters none p) h (op ∷ ops)
+closes p h (reading at) = ends (turns (enters none p) said.End)
+
+-- a block is given up
+abbrev pub given_up : Block → Said
+given_up none = said.End
+given_up (writing ops n) = said.Rollback
+given_up (reading at) = said.End
+
+-- ---- statements
+
+-- an action from a text of so many bytes, at the history that the statement looks at
+abbrev pub acts : Places → ℕ → History → Action → Deed (Turn Places)
+acts p bytes h (actions.Table def) = ending_as (told p said.Table) (tries_at h (making_table def h))
+acts p bytes h (actions.Hyper t hyper) = ending_as (told p said.Hypertable) (tries_at h (making_hyper t hyper h))
+acts p bytes h (actions.View def filled) = followed_by (tries_at h (making_view def h)) (after_view p (length (roster h).views) def filled)
+acts p bytes h (actions.Mode n only) = ending_as (told p said.Mode) (tries_at h (setting_mode n only h))
+acts p bytes h (actions.Change op) = changes p bytes h op p.block
+acts p bytes h (actions.Refresh n lo hi) = followed_by (tries_at h (cutting n lo hi h)) (after_cut p (least_start (view_of (roster h) n)))
+acts p bytes h (actions.Cut n lo hi) = ending_as (cut_turn p (least_start (view_of (roster h) n))) (tries_at h (cutting n lo hi h))
+acts p bytes h (actions.Snap cut) = ends (snaps p h (refresh_meant p cut))
+acts p bytes h (actions.Finish cut) = finishes p h (refresh_meant p cut)
+acts p bytes h actions.Begin = ends (turns (enters (writing [] 0) p) said.Begin)
+acts p bytes h actions.BeginRead = ends (turns (enters (reading (position h)) p) (said.BeginRead (position h)))
+acts p bytes h actions.Commit = closes p h p.block
+acts p bytes h actions.Rollback = ends (turns (enters none p) (given_up p.block))
+acts p bytes h (actions.Ask q) = ends (answers p h (plan_of (roster h) q))
 
 -- a statement whose names and values are refused in a history, or not
-abbrev pub passed : History → Stmt → Option Refusal → Deed (List Said)
-passed h stmt (Some r) = faults_as r
-passed h stmt None = acts h (action_of (roster h) stmt)
+abbrev pub passed : Places → ℕ → History → Stmt → Option Refusal → Deed (Turn Places)
+passed p bytes h stmt (Some r) = ends (refuses p r)
+passed p bytes h stmt None = acts p bytes h (action_of (roster h) stmt)
 
 -- a statement whose names are looked at in a history
-abbrev pub named : Stmt → History → Deed (List Said)
-named stmt h = passed h stmt (refusal_of (position h) (roster h) stmt)
+abbrev pub named : Places → ℕ → Stmt → History → Deed (Turn Places)
+named p bytes stmt h = passed p bytes h stmt (refusal_of (position h) (roster h) stmt)
 
 -- the history that a session reads: in a read block, as it was when the block began
 abbrev pub read_at : Block → History → History
 read_at none h = h
-read_at (reading p) h = prefix h p
+read_at (writing ops n) h = h
+read_at (reading at) h = prefix h at
 
--- the session stays in its block, and says this
-abbrev pub stays : Places → List Said → Turn Places
-stays p lines = record { places = p; said = lines }
+-- ---- looks
 
--- the session comes into another block, and says this
-abbrev pub comes : Block → Said → Turn Places
-comes b s = record { places = record { block = b }; said = s ∷ [] }
+-- statements of this kind make events by names
+abbrev pub makes_event : Kind → Bool
+makes_event kinds.Defines = true
+makes_event kinds.Changes = true
+makes_event kinds.Asks = false
+makes_event kinds.Snaps = false
+makes_event kinds.Finishes = false
+makes_event kinds.Begins = false
+makes_event kinds.BeginsRead = false
+makes_event kinds.Commits = false
+makes_event kinds.RollsBack = false
 
--- a read block begins
-abbrev pub begins_read : Deed (Turn Places)
-begins_read = looks (λ h. ends (comes (reading (position h)) (said.BeginRead (position h))))
+-- a statement that makes an event, outside a block: its names are looked at first, and the reply prints where only if they are refused. Then the event has its own look
+abbrev pub passed_first : Places → ℕ → History → Stmt → Option Refusal → Deed (Turn Places)
+passed_first p bytes g stmt (Some r) = ends (refuses p r)
+passed_first p bytes g stmt None = looks (λ h. acts p bytes h (action_of (roster g) stmt))
 
--- a statement that its session's block lets pass
-abbrev pub performs : Places → Stmt → Kind → Deed (Turn Places)
-performs p stmt kinds.Changes = ending_as (stays p) (looks (named stmt))
-performs p stmt kinds.Asks = ending_as (stays p) (looks (λ h. named stmt (read_at p.block h)))
-performs p stmt kinds.BeginsRead = begins_read
-performs p stmt kinds.EndsBlock = ends (comes none said.End)
-performs p stmt kinds.Unbuilt = ending_as (stays p) (faults_as (bare 0))
+abbrev pub named_first : Places → ℕ → Stmt → Deed (Turn Places)
+named_first p bytes stmt = sees (λ h. is_some (refusal_of (position h) (roster h) stmt)) (λ h. passed_first p bytes h stmt (refusal_of (position h) (roster h) stmt))
 
-abbrev pub let_pass : Places → Stmt → Option Refusal → Deed (Turn Places)
-let_pass p stmt (Some r) = ending_as (stays p) (faults_as r)
-let_pass p stmt None = performs p stmt (kind_of stmt)
+-- the reply to any other statement outside a block prints its look, unless it only begins a block
+abbrev pub begins : Kind → Bool
+begins kinds.Defines = false
+begins kinds.Changes = false
+begins kinds.Asks = false
+begins kinds.Snaps = false
+begins kinds.Finishes = false
+begins kinds.Begins = true
+begins kinds.BeginsRead = false
+begins kinds.Commits = false
+begins kinds.RollsBack = false
 
--- what was read of a line
-abbrev pub reads : Places → Result (Stmt × Stream) Fault → Deed (Turn Places)
-reads p (Ok read) = let_pass p read.0 (block_refusal p.block (kind_of read.0))
-reads p (Err f) = ending_as (stays p) (faults_as (misread f))
+-- in a write block with these operations it prints where names are refused, or the operations take effect
+abbrev pub prints_writing : List Op → Kind → Option Refusal → Bool
+prints_writing ops kinds.Defines r = false
+prints_writing ops kinds.Changes r = is_some r
+prints_writing ops kinds.Asks r = false
+prints_writing ops kinds.Snaps r = false
+prints_writing ops kinds.Finishes r = false
+prints_writing ops kinds.Begins r = false
+prints_writing ops kinds.BeginsRead r = false
+prints_writing [] kinds.Commits r = false
+prints_writing (op ∷ ops) kinds.Commits r = true
+prints_writing ops kinds.RollsBack r = false
+
+-- in a read block it prints the position of the block, whatever the look was
+abbrev pub prints : Block → Kind → Option Refusal → Bool
+prints none kind r = not (begins kind)
+prints (writing ops n) kind r = prints_writing ops kind r
+prints (reading at) kind r = false
+
+-- any other statement: its one look, and what it does there
+abbrev pub named_here : Places → ℕ → Stmt → Deed (Turn Places)
+named_here p bytes stmt = sees (λ h. prints p.block (kind_of stmt) (refusal_of (position h) (roster h) stmt)) (λ h. named p bytes stmt (read_at p.block h))
+
+-- a statement that its session's block lets pass, from a text of so many bytes
+abbrev pub performs_in : Places → ℕ → Stmt → Block → Deed (Turn Places)
+performs_in p bytes stmt none = cond (makes_event (kind_of stmt)) (named_first p bytes stmt) (named_here p bytes stmt)
+performs_in p bytes stmt (writing ops n) = named_here p bytes stmt
+performs_in p bytes stmt (reading at) = named_here p bytes stmt
+
+abbrev pub performs : Places → ℕ → Stmt → Deed (Turn Places)
+performs p bytes stmt = performs_in p bytes stmt p.block
+
+abbrev pub let_pass : Places → ℕ → Stmt → Option Refusal → Deed (Turn Places)
+let_pass p bytes stmt (Some r) = ends (refuses p r)
+let_pass p bytes stmt None = performs p bytes stmt
+
+-- what was read of a text of so many bytes
+abbrev pub reads_as : Places → ℕ → Result (Stmt × Stream) Fault → Deed (Turn Places)
+reads_as p bytes (Ok read) = let_pass p bytes read.0 (block_refusal p.block (kind_of read.0))
+reads_as p bytes (Err f) = ends (refuses p (misread f))
 
 -- a line of a session with these places: its text before the comment, in which a statement stands after the first `skip` bytes
 abbrev pub step : Places → List ℕ → ℕ → Deed (Turn Places)
-step p text skip = reads p (statement (stream text skip))
+step p text skip = reads_as p (length text) (statement (stream text skip))

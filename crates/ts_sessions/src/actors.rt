@@ -1,19 +1,25 @@
 //! Who takes part in a script.
+use crate::blocks::Block;
 use crate::replies::StepEnd;
+use crate::sessions::Session;
 use std::alloc::Global;
 use std::thread::Threads;
-use ts_model::Backend;
+use ts_model::{Backend, Gate, Shown};
 use ts_schema::{Name, Steps};
 
-/// One who takes part in a script under a name, over stores of this type: a session, or whoever else
-/// does something at each of its lines. A program implements it for its store's sessions by
-/// `Session::new` and `Session::step`.
-pub trait Actor<B: Backend> {
-    ghost use Rattle.std.specs.Prelude.{◌≡◌, ℕ, ◌≤◌, List, length, IfOk};
+/// One who takes part in a script under a name: a session, or whoever else does something at each of
+/// its lines, over any store with snapshots of this type.
+pub trait Actor {
+    ghost use Rattle.std.specs.Prelude.{◌≡◌, ℕ, ◌+◌, ◌≤◌, List, length};
     ghost use Rattle.std.specs.Thread.{IsSync};
-    ghost use Rattle.ts_model.specs.History.{History, Begins};
+    ghost use Rattle.ts_model.specs.States.{State};
+    ghost use Rattle.ts_sessions.specs.Held.{GoesOn, most_queued};
+    ghost use Rattle.ts_sessions.specs.Places.{Block as BlockPlace, stage_of};
     ghost use Rattle.ts_sessions.specs.Script.{Play};
-    ghost use Rattle.ts_sessions.specs.Sessions.{Stepped, Tallied, is_disk_fault};
+    ghost use Rattle.ts_sessions.specs.Sessions.{IfAnswered, Stepped};
+
+    /// The snapshots of the stores that it acts on.
+    type Shot: Shown;
 
     // What it carries from one line to the next.
     ghost Places: { Type 0 };
@@ -25,22 +31,46 @@ pub trait Actor<B: Backend> {
 
     ghost named: { Self → List ℕ };
 
-    // What it holds goes with the history.
-    ghost holds: { Self → History → Type 0 };
+    ghost numbered: { Self → ℕ };
 
-    /// One that says its first line. Those who take part are numbered from 0 in order of appearance.
-    fn begin(name: Name, number: u32) -> Self
+    // The bytes of the texts whose operations wait for the end of its write block.
+    ghost waiting: { Self → ℕ };
+
+    // The block of its places.
+    ghost within: { Self.Places → BlockPlace };
+
+    // What it holds goes with what its store has seen, and with whether that stands still.
+    ghost holds: { Self → State → Type 0 };
+
+    /// One that says its first line. Those who take part are numbered from 0 in order of appearance. It
+    /// takes no memory.
+    fn begin(alloc: Global, name: Name, number: u32) -> Self
         ensures name { Self.named result ≡ name }
-        ensures places { Self.places result ≡ Self.play.opening }
-        ensures holds { (h : History) → Self.holds result h };
+        ensures number { Self.numbered result ≡ number }
+        ensures places { Self.places result ≡ Self.play.opening number }
+        ensures waiting { Self.waiting result ≡ 0 }
+        ensures holds { (s : State) → Self.holds result s };
+
+    /// Its number.
+    fn number(&self) -> u32
+        ensures { result ≡ Self.numbered self.now };
+
+    /// The bytes of the texts whose operations wait for the end of its write block, or 0.
+    fn queued(&self) -> u64
+        ensures { result ≡ Self.waiting self.now };
+
+    /// The block that it is in.
+    fn block(&self) -> Block
+        ensures { result ≡ stage_of (Self.within (Self.places self.now)) };
 
     /// Does what a line asks for. `text` is the line before its comment, and its statement stands after
-    /// the first `skip` bytes.
-    fn act<R: Threads + Sync, L>(
+    /// the first `skip` bytes. It may be called again after a disk fault.
+    fn act<R: Threads + Sync, B: Backend<Shot = Self::Shot>, G: Gate, L>(
         &mut self,
         rt: &R,
         alloc: Global,
         backend: &mut B,
+        gate: &G,
         text: &[u8],
         skip: u32,
         steps: &mut Steps<L>,
@@ -48,11 +78,73 @@ pub trait Actor<B: Backend> {
         requires sync { IsSync R.row }
         requires short { length text.now ≤ 65536 }
         requires within { skip ≤ length text.now }
-        requires holds { Self.holds self.old (B.seen backend.old) }
-        ensures stepped { Stepped B.alone (B.seen backend.old) (B.halted backend.old) (Self.play.does (Self.places self.old) text.now skip) (Self.named self.old) result (B.seen backend.new) (B.halted backend.new) (Self.places self.new) }
+        requires room { Self.waiting self.old + length text.now ≤ most_queued }
+        requires holds { Self.holds self.old (B.state backend.old) }
+        ensures stepped { Stepped B.alone (B.state backend.old) (Self.play.does (Self.places self.old) text.now skip) (Self.named self.old) result (B.state backend.new) (Self.places self.new) steps.old steps.new }
         ensures name { Self.named self.new ≡ Self.named self.old }
-        ensures holds { Self.holds self.new (B.seen backend.new) }
-        ensures tallied { Tallied B.alone (B.first_faults backend.old) (B.faults backend.old) (is_disk_fault result) (B.first_faults backend.new) (B.faults backend.new) };
+        ensures number { Self.numbered self.new ≡ Self.numbered self.old }
+        ensures waiting { Self.waiting self.new ≤ Self.waiting self.old + length text.now }
+        ensures holds { IfAnswered result (Self.holds self.new (B.state backend.new)) }
+        ensures kin { B.kin backend.new ≡ B.kin backend.old };
 
-    ghost holds_on: { (actor : Self) (g h : History) → Begins g h → Self.holds actor g → Self.holds actor h };
+    ghost holds_on: { (actor : Self) (g h : State) → GoesOn g h → Self.holds actor g → Self.holds actor h };
+}
+
+impl<T: Shown + Drop> Actor for Session<T>
+where
+    T::Job: Drop,
+{
+    ghost use Rattle.ts_sessions.specs.Held.{HoldsOf, places_in, queued as queued_in};
+    ghost use Rattle.ts_sessions.specs.Places.{Places};
+    ghost use Rattle.ts_sessions.specs.Script.{session_play};
+    ghost use Rattle.ts_sessions.specs.Holding.{holds_on as goes_on};
+
+    type Shot = T;
+
+    ghost Places = { Places };
+
+    ghost play = { session_play };
+
+    ghost places = { λ s. places_in s };
+
+    ghost named = { λ s. s.name };
+
+    ghost numbered = { λ s. s.number };
+
+    ghost waiting = { λ s. queued_in (places_in s).block };
+
+    ghost within = { λ p. p.block };
+
+    ghost holds = { λ s h. HoldsOf T.stands T.fits T.cut_of T.snap_of s h };
+
+    ghost holds_on = { λ s g h b k. goes_on T.stands T.fits T.cut_of T.snap_of T.fits_on s g h b k };
+
+    fn begin(alloc: Global, name: Name, number: u32) -> Session<T> {
+        Session::new(alloc, name, number)
+    }
+
+    fn number(&self) -> u32 {
+        self.number
+    }
+
+    fn queued(&self) -> u64 {
+        Session::queued(self)
+    }
+
+    fn block(&self) -> Block {
+        Session::block(self)
+    }
+
+    fn act<R: Threads + Sync, B: Backend<Shot = T>, G: Gate, L>(
+        &mut self,
+        rt: &R,
+        alloc: Global,
+        backend: &mut B,
+        gate: &G,
+        text: &[u8],
+        skip: u32,
+        steps: &mut Steps<L>,
+    ) -> StepEnd {
+        self.step(rt, alloc, backend, gate, text, skip, steps)
+    }
 }

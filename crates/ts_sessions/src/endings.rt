@@ -1,106 +1,360 @@
-//! How statements end.
-ghost use Rattle.std.specs.Prelude.{◌≡◌, IfOk, [], ◌∷◌, None};
-ghost use Rattle.result_text.specs.declared.replies.Said.TheVariants.{Fault};
-ghost use Rattle.ts_sessions.specs.Sessions.{Falls, Says, event_list};
-ghost use Rattle.ts_sessions.specs.Step.{bare as bare_refusal, placed as placed_refusal};
+//! Statements that begin or end blocks, and the phases of refreshes that a session holds snapshots for.
+ghost use Rattle.std.specs.Prelude.{◌≡◌, ℕ, ◌<◌, ◌≤◌, ◌^◌, Bool, [], ◌∷◌, ◌==◌, false, length, IfOk, OnOk, OnErr, IsTrue};
+ghost use Rattle.std.specs.Thread.{IsSync};
+ghost use Rattle.ts_model.specs.Pending.{pending};
+ghost use Rattle.ts_model.specs.Calls.{no_refresh, refusal};
+ghost use Rattle.ts_model.specs.States.{State};
+ghost use Rattle.stmt_check.specs.Sound.{IsQueue};
+ghost use Rattle.stmt_reader.specs.declared.statements.Stmt.TheVariants as stmts;
+ghost use Rattle.ts_sessions.specs.Deeds.{ending_as, ends, looks};
+ghost use Rattle.ts_sessions.specs.Held.{HoldsBlock, HoldsOf, is_lost, most_queued, places_in};
+ghost use Rattle.ts_sessions.specs.Places.{Places, held_for, none, refuses, writing};
+ghost use Rattle.ts_sessions.specs.Sessions.{BringsLittle, BringsNothing, ChangeHolds, Ends, EndsAt, Says, Spares};
+ghost use Rattle.ts_sessions.specs.Jobs.{TakesJob, took_of};
+ghost use Rattle.ts_sessions.specs.Step.{finish_turn, finishes, finishes_held, finishes_refresh, performs, refresh_meant, snap_turn, snaps, takes_snapshot, unfinished};
 
-use result_text::Said;
+use crate::blocks::{Open, Queue};
+use crate::changes::{Change, Told, fell, refused, says_so};
+use crate::events::commit;
+use crate::refreshes::{Snapped, finish, take_snapshot};
+use crate::refusals::at;
+use crate::sessions::Session;
+use crate::tries::Tried;
+use result_text::{Said, codes};
 use std::alloc::Global;
-use ts_model::Refusal;
-use ts_schema::{NoMemory, Seq};
+use std::thread::Threads;
+use ts_model::{Backend, Gate, Pending, Shown};
+use ts_schema::{NoMemory, Seq, Steps};
 
-/// What a statement says, and the numbers of the events that it made.
+/// What a session holds for a refresh that is to be finished.
 #[derive(Drop)]
-pub(crate) struct Told {
-    pub said: Seq<Said>,
-    pub events: Seq<u64>,
+enum Held<J> {
+    /// Nothing.
+    Nothing,
+    /// A snapshot at a position, whose job a store has taken.
+    Lost { at: u64 },
+    /// A snapshot at a position, with its job.
+    Job { at: u64, job: J },
 }
 
-/// How a statement ended.
-#[derive(Drop)]
-pub(crate) enum Ending {
-    /// It came to its end.
-    Told(Told),
-    /// The disk failed at one of its events.
-    Fell(Told),
-    /// There was no memory.
-    NoMemory,
-}
-
-/// A statement ends with one line, which tells of this event, if of any.
-pub(crate) fn says(alloc: Global, said: Said, event: Option<u64>) -> Ending
-    ensures { Says said event result }
+/// Begins a write block.
+pub(crate) fn begin<T: Shown + Drop>(alloc: Global) -> Result<Told<T>, NoMemory>
+where
+    T::Job: Drop,
+    ensures ends { (alone : Bool) (s : State) (p : Places) (bytes : ℕ) → EndsAt alone s (performs p bytes stmts.Begin) p 0 result s }
+    ensures change { (s : State) (bytes : ℕ) → IfOk result (λ t. ChangeHolds T.stands T.fits T.cut_of T.snap_of bytes t.change s.history) }
 {
-    match one_line(alloc, said, event) {
-        Ok(line) => Ending::Told(line),
-        Err(NoMemory) => Ending::NoMemory,
+    says_so(
+        alloc,
+        Said::Begin,
+        Change::Enters(Open::Write(no_queue(alloc))),
+    )
+}
+
+/// No operation waits.
+fn no_queue(alloc: Global) -> Queue
+    ensures { result ≡ record { ops = []; bytes = 0 } }
+{
+    Queue {
+        ops: Seq::new(alloc),
+        bytes: 0,
     }
 }
 
-/// A refusal without a position.
-pub(crate) fn bare(code: u8) -> Refusal
-    ensures { result ≡ bare_refusal code }
+/// Begins a read block.
+pub(crate) fn begin_read<B: Backend>(
+    alloc: Global,
+    backend: &mut B,
+) -> Result<Told<B::Shot>, NoMemory>
+where
+    <B::Shot as Shown>::Job: Drop,
+    ensures ends { (p : Places) (bytes : ℕ) → p.block ≡ none → EndsAt B.alone (B.state backend.old) (performs p bytes stmts.BeginRead) p 0 result (B.state backend.new) }
+    ensures change { (bytes : ℕ) → IfOk result (λ t. ChangeHolds B.Shot.stands B.Shot.fits B.Shot.cut_of B.Shot.snap_of bytes t.change (B.state backend.new).history) }
+    ensures kin { B.kin backend.new ≡ B.kin backend.old }
 {
-    Refusal {
-        code,
-        pos: 0,
-        mark: 0,
+    let shot = backend.snap()?;
+    let at = shot.position();
+    says_so(
+        alloc,
+        Said::BeginRead(at),
+        Change::Enters(Open::Read { at, shot }),
+    )
+}
+
+/// What is said where a block is given up or ends with nothing to do.
+fn leaves<T: Shown + Drop>(alloc: Global, said: Said) -> Result<Told<T>, NoMemory>
+where
+    T::Job: Drop,
+    ensures { Says (said ∷ []) (Change.Enters Open.Nothing) false result }
+{
+    says_so(alloc, said, Change::Enters(Open::Nothing))
+}
+
+impl<T: Shown + Drop> Session<T>
+where
+    T::Job: Drop,
+{
+    /// Ends a block: what waits in a write block takes effect.
+    pub(crate) fn commit<B: Backend<Shot = T>>(
+        &self,
+        alloc: Global,
+        backend: &mut B,
+    ) -> Result<Told<T>, NoMemory>
+        requires block { HoldsBlock T.stands self.now.block (B.state backend.old).history }
+        ensures ends { (bytes : ℕ) → EndsAt B.alone (B.state backend.old) (performs (places_in self.now) bytes stmts.Commit) (places_in self.now) 0 result (B.state backend.new) }
+        ensures change { IfOk result (λ t. BringsLittle t.change) }
+        ensures kin { B.kin backend.new ≡ B.kin backend.old }
+    {
+        match &self.block {
+            Open::Nothing => leaves(alloc, Said::End),
+            Open::Write(queue) => commit_queue(alloc, backend, queue),
+            Open::Read { .. } => leaves(alloc, Said::End),
+        }
+    }
+
+    /// Gives a block up.
+    pub(crate) fn roll_back(&self, alloc: Global) -> Result<Told<T>, NoMemory>
+        ensures ends { (alone : Bool) (s : State) (bytes : ℕ) → EndsAt alone s (performs (places_in self.now) bytes stmts.Rollback) (places_in self.now) 0 result s }
+        ensures change { IfOk result (λ t. BringsLittle t.change) }
+    {
+        match &self.block {
+            Open::Nothing => leaves(alloc, Said::End),
+            Open::Write(_) => leaves(alloc, Said::Rollback),
+            Open::Read { .. } => leaves(alloc, Said::End),
+        }
+    }
+
+    /// Takes a snapshot for a refresh, and holds it.
+    pub(crate) fn snap<R: Threads + Sync, B: Backend<Shot = T>, L>(
+        &self,
+        rt: &R,
+        alloc: Global,
+        backend: &mut B,
+        number: Option<i64>,
+        steps: &mut Steps<L>,
+    ) -> Result<Told<T>, NoMemory>
+        requires sync { IsSync R.row }
+        requires counts { steps.old < 2 ^ 64 }
+        ensures ends { Ends B.alone (B.state backend.old) (looks (λ h. ends (snaps (places_in self.now) h (refresh_meant (places_in self.now) number)))) (places_in self.now) result (B.state backend.new) steps.old steps.new }
+        ensures change { (bytes : ℕ) → IfOk result (λ t. ChangeHolds T.stands T.fits T.cut_of T.snap_of bytes t.change (B.state backend.new).history) }
+        ensures kin { B.kin backend.new ≡ B.kin backend.old }
+    {
+        match self.meant(number) {
+            Some(cut) => hold(rt, alloc, backend, cut, steps),
+            None => refuse_unknown(alloc, backend),
+        }
+    }
+
+    /// Finishes a refresh with the snapshot that it holds.
+    pub(crate) fn finish<B: Backend<Shot = T>, G: Gate>(
+        &mut self,
+        alloc: Global,
+        backend: &mut B,
+        gate: &G,
+        number: Option<i64>,
+    ) -> Result<Told<T>, NoMemory>
+        requires holds { HoldsOf T.stands T.fits T.cut_of T.snap_of self.old (B.state backend.old) }
+        ensures ends { EndsAt B.alone (B.state backend.old) (looks (λ h. finishes (places_in self.old) h (refresh_meant (places_in self.old) number))) (places_in self.old) 0 result (B.state backend.new) }
+        ensures change { IfOk result (λ t. BringsNothing t.change) }
+        ensures places { OnOk result (places_in self.new ≡ places_in self.old) }
+        ensures spared { OnErr result (Spares (places_in self.old) (places_in self.new)) }
+        ensures name { self.new.name ≡ self.old.name }
+        ensures number { self.new.number ≡ self.old.number }
+        ensures holds { HoldsOf T.stands T.fits T.cut_of T.snap_of self.new (B.state backend.new) }
+        ensures kin { B.kin backend.new ≡ B.kin backend.old }
+    {
+        match self.meant(number) {
+            Some(cut) => self.finish_held(alloc, backend, gate, cut),
+            None => refuse_unknown(alloc, backend),
+        }
+    }
+
+    /// Finishes the refresh with this number with the snapshot that it holds.
+    fn finish_held<B: Backend<Shot = T>, G: Gate>(
+        &mut self,
+        alloc: Global,
+        backend: &mut B,
+        gate: &G,
+        cut: u64,
+    ) -> Result<Told<T>, NoMemory>
+        requires holds { HoldsOf T.stands T.fits T.cut_of T.snap_of self.old (B.state backend.old) }
+        ensures ends { EndsAt B.alone (B.state backend.old) (looks (λ h. finishes_held (places_in self.old) h cut (held_for cut (places_in self.old).held))) (places_in self.old) 0 result (B.state backend.new) }
+        ensures change { IfOk result (λ t. BringsNothing t.change) }
+        ensures places { OnOk result (places_in self.new ≡ places_in self.old) }
+        ensures spared { OnErr result (Spares (places_in self.old) (places_in self.new)) }
+        ensures name { self.new.name ≡ self.old.name }
+        ensures number { self.new.number ≡ self.old.number }
+        ensures holds { HoldsOf T.stands T.fits T.cut_of T.snap_of self.new (B.state backend.new) }
+        ensures kin { B.kin backend.new ≡ B.kin backend.old }
+    {
+        match self.take_job(cut) {
+            Held::Job { at, job } => {
+                match finish_job(alloc, backend, gate, self.number, cut, at, job) {
+                    Ok(told) => Ok(told),
+                    Err(NoMemory) => {
+                        self.forget(cut);
+                        Err(NoMemory)
+                    }
+                }
+            }
+            Held::Lost { at: _ } => refuse_finish(alloc, backend, cut, codes::STOPPED),
+            Held::Nothing => refuse_finish(alloc, backend, cut, codes::NO_SNAPSHOT),
+        }
+    }
+
+    /// Takes the job of the snapshot that it holds for a refresh, and keeps the position.
+    fn take_job(&mut self, cut: u64) -> Held<T::Job>
+        ensures took { TakesJob cut self.old.held.entries result self.new.held.entries }
+        ensures block { self.new.block ≡ self.old.block }
+        ensures cut { self.new.cut ≡ self.old.cut }
+        ensures name { self.new.name ≡ self.old.name }
+        ensures number { self.new.number ≡ self.old.number }
+    {
+        match self.held.get_mut(&cut) {
+            Some(snapshot) => took(snapshot.at, snapshot.job.take()),
+            None => Held::Nothing,
+        }
     }
 }
 
-/// A refusal of the text at a place of the line.
-pub(crate) fn placed(code: u8, place: u32) -> Refusal
-    ensures { result ≡ placed_refusal code place }
+/// What was held of a snapshot at a position.
+fn took<J>(at: u64, job: Option<J>) -> Held<J>
+    ensures { result ≡ took_of at job }
 {
-    Refusal {
-        code,
-        pos: 0,
-        mark: u64::from(place),
+    match job {
+        Some(job) => Held::Job { at, job },
+        None => Held::Lost { at },
     }
 }
 
-/// A statement is refused.
-pub(crate) fn refused(alloc: Global, refusal: Refusal) -> Ending
-    ensures { Says (Fault refusal) None result }
+/// Lets operations take effect that waited for the end of a write block.
+fn commit_queue<B: Backend>(
+    alloc: Global,
+    backend: &mut B,
+    queue: &Queue,
+) -> Result<Told<B::Shot>, NoMemory>
+where
+    <B::Shot as Shown>::Job: Drop,
+    requires sound { IsQueue (B.state backend.old).history queue.now.bytes queue.now.ops }
+    requires fits { queue.now.bytes ≤ most_queued }
+    ensures ends { (p : Places) (bytes : ℕ) → p.block ≡ writing queue.now.ops queue.now.bytes → EndsAt B.alone (B.state backend.old) (performs p bytes stmts.Commit) p 0 result (B.state backend.new) }
+    ensures change { IfOk result (λ t. BringsLittle t.change) }
+    ensures kin { B.kin backend.new ≡ B.kin backend.old }
 {
-    says(alloc, Said::Fault(refusal), None)
-}
-
-/// The disk failed, and the store stopped at this position.
-pub(crate) fn falls(alloc: Global, position: u64) -> Ending
-    ensures { Falls position result }
-{
-    let refusal = Refusal {
-        code: 24,
-        pos: position,
-        mark: 0,
-    };
-    match one_line(alloc, Said::Fault(refusal), None) {
-        Ok(line) => Ending::Fell(line),
-        Err(NoMemory) => Ending::NoMemory,
+    match queue.ops.is_empty() {
+        true => leaves(alloc, Said::CommitEmpty),
+        false => commit_some(alloc, backend, queue),
     }
 }
 
-/// One line, and the event that it tells of.
-fn one_line(alloc: Global, said: Said, event: Option<u64>) -> Result<Told, NoMemory>
-    ensures said { IfOk result (λ t. t.said ≡ said ∷ []) }
-    ensures events { IfOk result (λ t. t.events ≡ event_list event) }
+/// Lets operations take effect, of which there are some.
+fn commit_some<B: Backend>(
+    alloc: Global,
+    backend: &mut B,
+    queue: &Queue,
+) -> Result<Told<B::Shot>, NoMemory>
+where
+    <B::Shot as Shown>::Job: Drop,
+    requires sound { IsQueue (B.state backend.old).history queue.now.bytes queue.now.ops }
+    requires fits { queue.now.bytes ≤ most_queued }
+    requires some { (length queue.now.ops == 0) ≡ false }
+    ensures ends { (p : Places) (bytes : ℕ) → p.block ≡ writing queue.now.ops queue.now.bytes → EndsAt B.alone (B.state backend.old) (performs p bytes stmts.Commit) p 0 result (B.state backend.new) }
+    ensures change { IfOk result (λ t. BringsLittle t.change) }
+    ensures kin { B.kin backend.new ≡ B.kin backend.old }
 {
-    let mut lines = Seq::new(alloc);
-    lines.push(said)?;
-    Ok(Told {
-        said: lines,
-        events: event_numbers(alloc, event)?,
-    })
+    let ops = queue.ops.copy()?;
+    match commit(backend, ops)? {
+        Tried::Done(done) => leaves(alloc, Said::Commit(done)),
+        Tried::Refused(refusal) => refused(alloc, refusal),
+        Tried::Fell(refusal) => fell(alloc, refusal),
+    }
 }
 
-/// The number of the event, if of any, as a list.
-fn event_numbers(alloc: Global, event: Option<u64>) -> Result<Seq<u64>, NoMemory>
-    ensures { IfOk result (λ numbers. numbers ≡ event_list event) }
+/// Takes a snapshot for a refresh, which the session is to hold.
+fn hold<R: Threads + Sync, B: Backend, L>(
+    rt: &R,
+    alloc: Global,
+    backend: &mut B,
+    cut: u64,
+    steps: &mut Steps<L>,
+) -> Result<Told<B::Shot>, NoMemory>
+where
+    <B::Shot as Shown>::Job: Drop,
+    requires sync { IsSync R.row }
+    requires counts { steps.old < 2 ^ 64 }
+    ensures ends { (p : Places) → Ends B.alone (B.state backend.old) (ending_as (snap_turn p cut) (takes_snapshot cut)) p result (B.state backend.new) steps.old steps.new }
+    ensures change { (bytes : ℕ) → IfOk result (λ t. ChangeHolds B.Shot.stands B.Shot.fits B.Shot.cut_of B.Shot.snap_of bytes t.change (B.state backend.new).history) }
+    ensures kin { B.kin backend.new ≡ B.kin backend.old }
 {
-    let mut numbers = Seq::new(alloc);
-    if let Some(number) = event {
-        numbers.push(number)?;
+    match take_snapshot(rt, backend, cut, steps)? {
+        Snapped::Taken { at, job } => {
+            let said = Said::Snap { cut, snap: at };
+            says_so(alloc, said, Change::Holds { cut, at, job })
+        }
+        Snapped::Refused(refusal) => refused(alloc, refusal),
     }
-    Ok(numbers)
+}
+
+/// Finishes a refresh, whose session then gives up its snapshot.
+fn finish_job<B: Backend, G: Gate>(
+    alloc: Global,
+    backend: &mut B,
+    gate: &G,
+    session: u32,
+    cut: u64,
+    at: u64,
+    job: <B::Shot as Shown>::Job,
+) -> Result<Told<B::Shot>, NoMemory>
+where
+    <B::Shot as Shown>::Job: Drop,
+    requires fits { B.Shot.fits job (B.state backend.old).history }
+    requires cut { B.Shot.cut_of job ≡ cut }
+    requires snap { B.Shot.snap_of job ≡ at }
+    ensures ends { (p : Places) → EndsAt B.alone (B.state backend.old) (ending_as (finish_turn p cut at) (finishes_refresh cut at)) p 0 result (B.state backend.new) }
+    ensures lost { OnOk result (IsTrue (is_lost (B.state backend.new) cut)) }
+    ensures change { IfOk result (λ t. BringsNothing t.change) }
+    ensures kin { B.kin backend.new ≡ B.kin backend.old }
+{
+    match finish(backend, gate, session, job)? {
+        Tried::Done(pos) => {
+            let said = Said::Finish { cut, pos, snap: at };
+            says_so(alloc, said, Change::GivesUp(cut))
+        }
+        Tried::Refused(refusal) => refused(alloc, refusal),
+        Tried::Fell(refusal) => fell(alloc, refusal),
+    }
+}
+
+/// A refresh without a number, of a session that has cut none.
+fn refuse_unknown<B: Backend>(alloc: Global, backend: &mut B) -> Result<Told<B::Shot>, NoMemory>
+where
+    <B::Shot as Shown>::Job: Drop,
+    ensures ends { (p : Places) → EndsAt B.alone (B.state backend.old) (looks (λ h. ends (refuses p (refusal no_refresh h 0)))) p 0 result (B.state backend.new) }
+    ensures change { IfOk result (λ t. BringsNothing t.change) }
+    ensures kin { B.kin backend.new ≡ B.kin backend.old }
+{
+    let shot = backend.snap()?;
+    refused(alloc, at(codes::NO_REFRESH, shot.position(), 0))
+}
+
+/// A refresh that can't be finished: it is refused with a number where it waits, and else as one that
+/// isn't pending.
+fn refuse_finish<B: Backend>(
+    alloc: Global,
+    backend: &mut B,
+    cut: u64,
+    waiting: u8,
+) -> Result<Told<B::Shot>, NoMemory>
+where
+    <B::Shot as Shown>::Job: Drop,
+    ensures ends { (p : Places) → EndsAt B.alone (B.state backend.old) (looks (λ h. ends (refuses p (unfinished waiting h (pending h cut))))) p 0 result (B.state backend.new) }
+    ensures change { IfOk result (λ t. BringsNothing t.change) }
+    ensures kin { B.kin backend.new ≡ B.kin backend.old }
+{
+    let shot = backend.snap()?;
+    match shot.pending(cut) {
+        Pending::Waiting(_) => refused(alloc, at(waiting, shot.position(), 0)),
+        Pending::Finished(finish) => refused(alloc, at(codes::NO_REFRESH, shot.position(), finish)),
+        Pending::Unknown => refused(alloc, at(codes::NO_REFRESH, shot.position(), 0)),
+    }
 }

@@ -1,95 +1,149 @@
-//! Statements that make an event.
-ghost use Rattle.std.specs.Prelude.{◌≡◌, ◌∷◌, [], IsTrue, IfOk};
-ghost use Rattle.ts_model.specs.declared.events.Event.TheVariants.{Table, Hyper as HyperMade, View, Commit};
-ghost use Rattle.ts_model.specs.Allowed.{sound};
-ghost use Rattle.ts_model.specs.Calls.{committing, making_hyper, making_table, making_view};
+//! Statements that make one event, or make an aggregate with data.
+ghost use Rattle.std.specs.Prelude.{◌≡◌, ℕ, ◌<◌, ◌^◌, ◌∷◌, [], length, Some, None, IsSome, IsTrue, IfOk};
+ghost use Rattle.std.specs.Thread.{IsSync};
+ghost use Rattle.ts_bucket.specs.Bucket.{first_of};
+ghost use Rattle.ts_model.specs.declared.events.Event.TheVariants.{Table, Hyper as HyperMade, View, Mode, Commit};
+ghost use Rattle.ts_model.specs.Sound.{sound};
+ghost use Rattle.ts_model.specs.Calls.{committing, making_hyper, making_table, making_view, setting_mode};
+ghost use Rattle.ts_model.specs.Roster.{roster, view_named, view_of};
 ghost use Rattle.result_text.specs.declared.replies.Said.TheVariants as said;
-ghost use Rattle.ts_sessions.specs.Deeds.{calls};
-ghost use Rattle.ts_sessions.specs.Sessions.{Ends, Tallied, has_fallen};
-ghost use Rattle.ts_sessions.specs.Step.{faults_as, says as saying};
+ghost use Rattle.ts_sessions.specs.Deeds.{ending_as, followed_by, looks, tries, tries_at};
+ghost use Rattle.ts_sessions.specs.Places.{Places};
+ghost use Rattle.ts_sessions.specs.Sessions.{BringsNothing, Ends, EndsAt, Tries};
+ghost use Rattle.ts_sessions.specs.Sound.{number_from, view_number as number_of};
+ghost use Rattle.ts_sessions.specs.Step.{after_line, after_view, committed, refreshes, told, view_made};
 
-use crate::endings::{Ending, falls, refused, says};
+use crate::changes::{Change, Told, fell, refused, says};
+use crate::refreshes::{Asked, refresh};
+use crate::tries::{Tried, answered};
 use result_text::Said;
 use std::alloc::Global;
-use ts_model::{Backend, Hyper, Op, Outcome, TableDef, ViewDef};
-use ts_schema::{NoMemory, Seq};
+use std::thread::Threads;
+use ts_bucket::{Width, first};
+use ts_model::{Backend, Committed, Gate, Hyper, Op, Shown, TableDef, ViewDef};
+use ts_schema::{Name, NoMemory, Seq, Steps};
 
 /// Makes a table.
-#[tactic(auto, using(crate::proofs::CallWalks::ends_done, crate::proofs::CallWalks::ends_refused, crate::proofs::CallWalks::ends_fell, crate::proofs::CallWalks::ends_no_memory, crate::proofs::CallWalks::tables_only, crate::proofs::CallWalks::tallied_call))]
-pub(crate) fn make_table<B: Backend>(alloc: Global, backend: &mut B, def: TableDef) -> Ending
-    requires { IsTrue (sound (B.seen backend.old) (Table def)) }
-    ensures ends { Ends B.alone (B.seen backend.old) (B.halted backend.old) (calls (making_table def) (λ n. saying (said.Table n)) faults_as) result (B.seen backend.new) (B.halted backend.new) }
-    ensures tallied { Tallied B.alone (B.first_faults backend.old) (B.faults backend.old) (has_fallen result) (B.first_faults backend.new) (B.faults backend.new) }
+#[tactic(auto, using(crate::proofs::CallWalks::called_tries, crate::proofs::CallWalks::says_ends, crate::proofs::WalkLaws::breaks_first))]
+pub(crate) fn make_table<B: Backend>(
+    alloc: Global,
+    backend: &mut B,
+    def: TableDef,
+) -> Result<Told<B::Shot>, NoMemory>
+where
+    <B::Shot as Shown>::Job: Drop,
+    requires { IsTrue (sound (B.state backend.old).history (Table def)) }
+    ensures ends { (p : Places) → EndsAt B.alone (B.state backend.old) (ending_as (told p said.Table) (tries (making_table def))) p 0 result (B.state backend.new) }
+    ensures change { IfOk result (λ t. BringsNothing t.change) }
+    ensures kin { B.kin backend.new ≡ B.kin backend.old }
 {
-    match backend.make_table(def) {
-        Outcome::Done(number) => says(alloc, Said::Table(number), Some(number)),
-        Outcome::Refused(refusal) => refused(alloc, refusal),
-        Outcome::DiskFault => falls(alloc, backend.position()),
-        Outcome::NoMemory => Ending::NoMemory,
+    let outcome = backend.make_table(def);
+    match answered(outcome, backend.position())? {
+        Tried::Done(number) => says(alloc, Said::Table(number)),
+        Tried::Refused(refusal) => refused(alloc, refusal),
+        Tried::Fell(refusal) => fell(alloc, refusal),
     }
 }
 
 /// Makes a table a hypertable.
-#[tactic(auto, using(crate::proofs::CallWalks::ends_done, crate::proofs::CallWalks::ends_refused, crate::proofs::CallWalks::ends_fell, crate::proofs::CallWalks::ends_no_memory, crate::proofs::CallWalks::hypers_only, crate::proofs::CallWalks::tallied_call))]
+#[tactic(auto, using(crate::proofs::CallWalks::called_tries, crate::proofs::CallWalks::says_ends, crate::proofs::WalkLaws::breaks_first))]
 pub(crate) fn make_hyper<B: Backend>(
     alloc: Global,
     backend: &mut B,
     table: u32,
     hyper: Hyper,
-) -> Ending
-    requires { IsTrue (sound (B.seen backend.old) (HyperMade table hyper)) }
-    ensures ends { Ends B.alone (B.seen backend.old) (B.halted backend.old) (calls (making_hyper table hyper) (λ n. saying (said.Hypertable n)) faults_as) result (B.seen backend.new) (B.halted backend.new) }
-    ensures tallied { Tallied B.alone (B.first_faults backend.old) (B.faults backend.old) (has_fallen result) (B.first_faults backend.new) (B.faults backend.new) }
+) -> Result<Told<B::Shot>, NoMemory>
+where
+    <B::Shot as Shown>::Job: Drop,
+    requires { IsTrue (sound (B.state backend.old).history (HyperMade table hyper)) }
+    ensures ends { (p : Places) → EndsAt B.alone (B.state backend.old) (ending_as (told p said.Hypertable) (tries (making_hyper table hyper))) p 0 result (B.state backend.new) }
+    ensures change { IfOk result (λ t. BringsNothing t.change) }
+    ensures kin { B.kin backend.new ≡ B.kin backend.old }
 {
-    match backend.make_hyper(table, hyper) {
-        Outcome::Done(number) => says(alloc, Said::Hypertable(number), Some(number)),
-        Outcome::Refused(refusal) => refused(alloc, refusal),
-        Outcome::DiskFault => falls(alloc, backend.position()),
-        Outcome::NoMemory => Ending::NoMemory,
+    let outcome = backend.make_hyper(table, hyper);
+    match answered(outcome, backend.position())? {
+        Tried::Done(number) => says(alloc, Said::Hypertable(number)),
+        Tried::Refused(refusal) => refused(alloc, refusal),
+        Tried::Fell(refusal) => fell(alloc, refusal),
     }
 }
 
-/// Makes an aggregate.
-#[tactic(auto, using(crate::proofs::CallWalks::ends_done, crate::proofs::CallWalks::ends_refused, crate::proofs::CallWalks::ends_fell, crate::proofs::CallWalks::ends_no_memory, crate::proofs::CallWalks::views_only, crate::proofs::CallWalks::tallied_call))]
-pub(crate) fn make_view<B: Backend>(alloc: Global, backend: &mut B, def: ViewDef) -> Ending
-    requires { IsTrue (sound (B.seen backend.old) (View def)) }
-    ensures ends { Ends B.alone (B.seen backend.old) (B.halted backend.old) (calls (making_view def) (λ n. saying (said.View n)) faults_as) result (B.seen backend.new) (B.halted backend.new) }
-    ensures tallied { Tallied B.alone (B.first_faults backend.old) (B.faults backend.old) (has_fallen result) (B.first_faults backend.new) (B.faults backend.new) }
+/// Sets the mode of an aggregate.
+#[tactic(auto, using(crate::proofs::CallWalks::called_tries, crate::proofs::CallWalks::says_ends, crate::proofs::WalkLaws::breaks_first))]
+pub(crate) fn set_mode<B: Backend>(
+    alloc: Global,
+    backend: &mut B,
+    view: u32,
+    only: bool,
+) -> Result<Told<B::Shot>, NoMemory>
+where
+    <B::Shot as Shown>::Job: Drop,
+    requires { IsTrue (sound (B.state backend.old).history (Mode view only)) }
+    ensures ends { (p : Places) → EndsAt B.alone (B.state backend.old) (ending_as (told p said.Mode) (tries (setting_mode view only))) p 0 result (B.state backend.new) }
+    ensures change { IfOk result (λ t. BringsNothing t.change) }
+    ensures kin { B.kin backend.new ≡ B.kin backend.old }
 {
-    match backend.make_view(def) {
-        Outcome::Done(number) => says(alloc, Said::View(number), Some(number)),
-        Outcome::Refused(refusal) => refused(alloc, refusal),
-        Outcome::DiskFault => falls(alloc, backend.position()),
-        Outcome::NoMemory => Ending::NoMemory,
+    let outcome = backend.set_mode(view, only);
+    match answered(outcome, backend.position())? {
+        Tried::Done(number) => says(alloc, Said::Mode(number)),
+        Tried::Refused(refusal) => refused(alloc, refusal),
+        Tried::Fell(refusal) => fell(alloc, refusal),
     }
 }
 
 /// Lets one operation take effect.
-#[tactic(auto, using(crate::proofs::WalkLaws::not_begun))]
-pub(crate) fn change<B: Backend>(alloc: Global, backend: &mut B, op: Op) -> Ending
-    requires { IsTrue (sound (B.seen backend.old) (Commit (op ∷ []))) }
-    ensures ends { Ends B.alone (B.seen backend.old) (B.halted backend.old) (calls (committing (op ∷ [])) (λ done. saying (said.Commit done)) faults_as) result (B.seen backend.new) (B.halted backend.new) }
-    ensures tallied { Tallied B.alone (B.first_faults backend.old) (B.faults backend.old) (has_fallen result) (B.first_faults backend.new) (B.faults backend.new) }
+#[tactic(auto, using(crate::proofs::CallWalks::says_ends, crate::proofs::WalkLaws::breaks_first, crate::proofs::WalkLaws::not_begun))]
+pub(crate) fn change<B: Backend>(
+    alloc: Global,
+    backend: &mut B,
+    op: Op,
+) -> Result<Told<B::Shot>, NoMemory>
+where
+    <B::Shot as Shown>::Job: Drop,
+    requires { IsTrue (sound (B.state backend.old).history (Commit (op ∷ []))) }
+    ensures ends { (p : Places) → EndsAt B.alone (B.state backend.old) (ending_as (committed p p) (tries (committing (op ∷ [])))) p 0 result (B.state backend.new) }
+    ensures change { IfOk result (λ t. BringsNothing t.change) }
+    ensures kin { B.kin backend.new ≡ B.kin backend.old }
 {
     match alone(alloc, op) {
-        Ok(ops) => commit(alloc, backend, ops),
-        Err(NoMemory) => Ending::NoMemory,
+        Ok(ops) => commit_alone(alloc, backend, ops),
+        Err(NoMemory) => Err(NoMemory),
+    }
+}
+
+/// Lets the operations of a statement outside a block take effect.
+#[tactic(auto, using(crate::proofs::CallWalks::says_ends, crate::proofs::WalkLaws::breaks_first))]
+fn commit_alone<B: Backend>(
+    alloc: Global,
+    backend: &mut B,
+    ops: Seq<Op>,
+) -> Result<Told<B::Shot>, NoMemory>
+where
+    <B::Shot as Shown>::Job: Drop,
+    requires { IsTrue (sound (B.state backend.old).history (Commit ops)) }
+    ensures ends { (p : Places) → EndsAt B.alone (B.state backend.old) (ending_as (committed p p) (tries (committing ops))) p 0 result (B.state backend.new) }
+    ensures change { IfOk result (λ t. BringsNothing t.change) }
+    ensures kin { B.kin backend.new ≡ B.kin backend.old }
+{
+    match commit(backend, ops)? {
+        Tried::Done(done) => says(alloc, Said::Commit(done)),
+        Tried::Refused(refusal) => refused(alloc, refusal),
+        Tried::Fell(refusal) => fell(alloc, refusal),
     }
 }
 
 /// Lets operations take effect.
-#[tactic(auto, using(crate::proofs::CallWalks::ends_done, crate::proofs::CallWalks::ends_refused, crate::proofs::CallWalks::ends_fell, crate::proofs::CallWalks::ends_no_memory, crate::proofs::CallWalks::commits_only, crate::proofs::CallWalks::tallied_call))]
-fn commit<B: Backend>(alloc: Global, backend: &mut B, ops: Seq<Op>) -> Ending
-    requires { IsTrue (sound (B.seen backend.old) (Commit ops)) }
-    ensures ends { Ends B.alone (B.seen backend.old) (B.halted backend.old) (calls (committing ops) (λ done. saying (said.Commit done)) faults_as) result (B.seen backend.new) (B.halted backend.new) }
-    ensures tallied { Tallied B.alone (B.first_faults backend.old) (B.faults backend.old) (has_fallen result) (B.first_faults backend.new) (B.faults backend.new) }
+#[tactic(auto, using(crate::proofs::CallWalks::called_tries, crate::proofs::CallWalks::says_ends, crate::proofs::WalkLaws::breaks_first))]
+pub(crate) fn commit<B: Backend>(
+    backend: &mut B,
+    ops: Seq<Op>,
+) -> Result<Tried<Committed>, NoMemory>
+    requires { IsTrue (sound (B.state backend.old).history (Commit ops)) }
+    ensures tries { Tries B.alone (B.state backend.old) (tries (committing ops)) result (B.state backend.new) }
+    ensures kin { B.kin backend.new ≡ B.kin backend.old }
 {
-    match backend.commit(ops) {
-        Outcome::Done(done) => says(alloc, Said::Commit(done), Some(done.pos)),
-        Outcome::Refused(refusal) => refused(alloc, refusal),
-        Outcome::DiskFault => falls(alloc, backend.position()),
-        Outcome::NoMemory => Ending::NoMemory,
-    }
+    let outcome = backend.commit(ops);
+    answered(outcome, backend.position())
 }
 
 /// One operation as a list.
@@ -99,4 +153,164 @@ fn alone(alloc: Global, op: Op) -> Result<Seq<Op>, NoMemory>
     let mut ops = Seq::new(alloc);
     ops.push(op)?;
     Ok(ops)
+}
+
+/// Makes an aggregate, and refreshes it where it is to be filled.
+#[tactic(auto, using(crate::proofs::ViewWalks::number_named))]
+pub(crate) fn make_view<R: Threads + Sync, B: Backend, G: Gate, L>(
+    rt: &R,
+    alloc: Global,
+    backend: &mut B,
+    gate: &G,
+    session: u32,
+    def: ViewDef,
+    filled: bool,
+    steps: &mut Steps<L>,
+) -> Result<Told<B::Shot>, NoMemory>
+where
+    <B::Shot as Shown>::Job: Drop,
+    requires sync { IsSync R.row }
+    requires counts { steps.old < 2 ^ 64 }
+    requires sound { IsTrue (sound (B.state backend.old).history (View def)) }
+    ensures ends { (p : Places) → Ends B.alone (B.state backend.old) (looks (λ h. followed_by (tries_at h (making_view def h)) (after_view p (length (roster h).views) def filled))) p result (B.state backend.new) steps.old steps.new }
+    ensures change { IfOk result (λ t. BringsNothing t.change) }
+    ensures kin { B.kin backend.new ≡ B.kin backend.old }
+{
+    let new = new_view(&def)?;
+    let outcome = backend.make_view(def);
+    match answered(outcome, backend.position())? {
+        Tried::Done(number) => {
+            view_is_made(
+                rt, alloc, backend, gate, session, filled, &new, number, steps,
+            )
+        }
+        Tried::Refused(refusal) => refused(alloc, refusal),
+        Tried::Fell(refusal) => fell(alloc, refusal),
+    }
+}
+
+/// An aggregate to be made, as its refresh finds it.
+#[derive(Drop)]
+struct NewView {
+    /// Its name.
+    name: Name,
+    /// Its width.
+    width: Width,
+}
+
+/// An aggregate to be made, as its refresh finds it.
+fn new_view(def: &ViewDef) -> Result<NewView, NoMemory>
+    ensures name { IfOk result (λ v. v.name ≡ def.now.name) }
+    ensures width { IfOk result (λ v. v.width ≡ def.now.fold.width) }
+{
+    Ok(NewView {
+        name: def.name.copy()?,
+        width: def.fold.width,
+    })
+}
+
+/// Goes on after event `number` made an aggregate, which is refreshed where it is to be filled.
+fn view_is_made<R: Threads + Sync, B: Backend, G: Gate, L>(
+    rt: &R,
+    alloc: Global,
+    backend: &mut B,
+    gate: &G,
+    session: u32,
+    filled: bool,
+    new: &NewView,
+    number: u64,
+    steps: &mut Steps<L>,
+) -> Result<Told<B::Shot>, NoMemory>
+where
+    <B::Shot as Shown>::Job: Drop,
+    requires sync { IsSync R.row }
+    requires counts { steps.old < 2 ^ 64 }
+    requires named { view_named (roster (B.state backend.old).history) new.now.name ≡ Some (number_of (roster (B.state backend.old).history) new.now.name) }
+    requires there { IsSome (view_of (roster (B.state backend.old).history) (number_of (roster (B.state backend.old).history) new.now.name)) }
+    ensures ends { (p : Places) → Ends B.alone (B.state backend.old)
+        (view_made p (number_of (roster (B.state backend.old).history) new.now.name) (first_of new.now.width) number filled)
+        p result (B.state backend.new) steps.old steps.new }
+    ensures change { IfOk result (λ t. BringsNothing t.change) }
+    ensures kin { B.kin backend.new ≡ B.kin backend.old }
+{
+    match filled {
+        true => fill(rt, alloc, backend, gate, session, new, number, steps),
+        false => says(alloc, Said::View(number)),
+    }
+}
+
+/// Refreshes an aggregate that event `number` made, over all that there is.
+fn fill<R: Threads + Sync, B: Backend, G: Gate, L>(
+    rt: &R,
+    alloc: Global,
+    backend: &mut B,
+    gate: &G,
+    session: u32,
+    new: &NewView,
+    number: u64,
+    steps: &mut Steps<L>,
+) -> Result<Told<B::Shot>, NoMemory>
+where
+    <B::Shot as Shown>::Job: Drop,
+    requires sync { IsSync R.row }
+    requires counts { steps.old < 2 ^ 64 }
+    requires named { view_named (roster (B.state backend.old).history) new.now.name ≡ Some (number_of (roster (B.state backend.old).history) new.now.name) }
+    requires there { IsSome (view_of (roster (B.state backend.old).history) (number_of (roster (B.state backend.old).history) new.now.name)) }
+    ensures ends { (p : Places) → Ends B.alone (B.state backend.old)
+        (ending_as (after_line (said.View number)) (refreshes p (number_of (roster (B.state backend.old).history) new.now.name) None None (first_of new.now.width)))
+        p result (B.state backend.new) steps.old steps.new }
+    ensures change { IfOk result (λ t. BringsNothing t.change) }
+    ensures kin { B.kin backend.new ≡ B.kin backend.old }
+{
+    let shot = backend.snap()?;
+    let view = view_number(shot.roster().views.items(), &new.name);
+    let asked = all_of(view, &new.width);
+    let told = refresh(rt, alloc, backend, gate, session, &asked, steps)?;
+    lead(told, Said::View(number))
+}
+
+/// A refresh of all that there is, of the aggregate with a number and a width.
+fn all_of(view: u32, width: &Width) -> Asked
+    ensures { result ≡ record { view = view; lo = None; hi = None; min = first_of width.now } }
+{
+    Asked {
+        view,
+        lo: None,
+        hi: None,
+        min: first(*width),
+    }
+}
+
+/// The number of the aggregate with a name, or how many there are.
+fn view_number(views: &[ViewDef], name: &Name) -> u32
+    requires { length views.now < 2 ^ 32 }
+    ensures { result ≡ number_from name.now 0 views.now }
+{
+    let mut number = 0;
+    let mut left = views;
+    while let [view, rest @ ..] = left {
+        if view.name == *name {
+            return number;
+        }
+        number += 1;
+        left = rest;
+    }
+    number
+}
+
+/// What was told, after a line that comes first.
+fn lead<T: Shown + Drop>(told: Told<T>, line: Said) -> Result<Told<T>, NoMemory>
+where
+    T::Job: Drop,
+    ensures said { IfOk result (λ t. t.said ≡ line ∷ told.said) }
+    ensures change { IfOk result (λ t. t.change ≡ told.change) }
+    ensures fell { IfOk result (λ t. t.fell ≡ told.fell) }
+{
+    let mut lines = told.said.into_items();
+    lines.insert(0, line)?;
+    Ok(Told {
+        said: Seq::of(lines),
+        change: told.change,
+        fell: told.fell,
+    })
 }

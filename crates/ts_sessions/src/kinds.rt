@@ -7,16 +7,24 @@ use stmt_reader::Stmt;
 /// The kind of a statement.
 #[derive(Clone, Copy, Debug, PartialEq, Eq)]
 pub enum Kind {
-    /// It makes or changes something.
+    /// It makes or sets a relation, or refreshes an aggregate.
+    Defines,
+    /// It inserts or deletes rows.
     Changes,
     /// It is a query.
     Asks,
+    /// It takes a snapshot for a refresh.
+    Snaps,
+    /// It finishes a refresh.
+    Finishes,
+    /// It begins a write block.
+    Begins,
     /// It begins a read block.
     BeginsRead,
-    /// It ends a block.
-    EndsBlock,
-    /// It isn't built yet.
-    Unbuilt,
+    /// It ends a block, and what waits there takes effect.
+    Commits,
+    /// It gives a block up.
+    RollsBack,
 }
 
 /// The kind of a statement.
@@ -24,27 +32,21 @@ pub(crate) fn kind_of(stmt: &Stmt) -> Kind
     ensures { result ≡ kind_of_stmt stmt.now }
 {
     match stmt {
-        Stmt::Table { .. } => Kind::Changes,
-        Stmt::Hyper { .. } => Kind::Changes,
-        Stmt::View { only, filled, .. } => {
-            if *only || *filled {
-                Kind::Unbuilt
-            } else {
-                Kind::Changes
-            }
-        }
-        Stmt::Mode { .. } => Kind::Unbuilt,
+        Stmt::Table { .. } => Kind::Defines,
+        Stmt::Hyper { .. } => Kind::Defines,
+        Stmt::View { .. } => Kind::Defines,
+        Stmt::Mode { .. } => Kind::Defines,
         Stmt::Insert { .. } => Kind::Changes,
         Stmt::Delete { .. } => Kind::Changes,
         Stmt::Drop { .. } => Kind::Changes,
-        Stmt::Refresh { .. } => Kind::Unbuilt,
-        Stmt::Cut { .. } => Kind::Unbuilt,
-        Stmt::Snap { .. } => Kind::Unbuilt,
-        Stmt::Finish { .. } => Kind::Unbuilt,
-        Stmt::Begin => Kind::Unbuilt,
+        Stmt::Refresh { .. } => Kind::Defines,
+        Stmt::Cut { .. } => Kind::Defines,
+        Stmt::Snap { .. } => Kind::Snaps,
+        Stmt::Finish { .. } => Kind::Finishes,
+        Stmt::Begin => Kind::Begins,
         Stmt::BeginRead => Kind::BeginsRead,
-        Stmt::Commit => Kind::EndsBlock,
-        Stmt::Rollback => Kind::EndsBlock,
+        Stmt::Commit => Kind::Commits,
+        Stmt::Rollback => Kind::RollsBack,
         Stmt::Buckets(_) => Kind::Asks,
         Stmt::Rows { .. } => Kind::Asks,
     }

@@ -1,27 +1,49 @@
-//! Laws of what lines do. Each is the clause of a function that does nothing.
-ghost use Rattle.ts_sessions.specs.Laws.{AloneIsComputed, PutTogether, SaidOverLonger, StoppedStays, WalksAreSaid};
-
-/// What a line comes to over a history, it comes to over each longer one.
-pub fn lines_say_the_same_over_longer_histories()
-    ensures { SaidOverLonger }
-{}
-
-/// A store that stands still goes on standing still, and its history stays.
-pub fn stopped_stores_stay()
-    ensures { StoppedStays }
-{}
-
-/// Over a store that is alone and doesn't fail a line comes to what is computed.
-pub fn lines_alone_are_computed()
-    ensures { AloneIsComputed }
-{}
-
-/// What was walked over a store is what the line comes to over the history that it left.
-pub fn walks_are_said()
-    ensures { WalksAreSaid }
-{}
+//! Laws of what lines do. Each is the clause of a function that does nothing, at any types.
+ghost use Rattle.ts_sessions.specs.LineLaws.{NamesStay, RepliesAreSteady, StepsAreReplies};
+ghost use Rattle.ts_sessions.specs.Laws.{GivesEvents, GivesOverLonger, LastIsPrinted, PrintedLooksDetermine, PutTogether, WalksAreGiven};
 
 /// A deed that was walked, and then the deed that follows it, are the walk of both.
-pub fn deeds_are_put_together()
-    ensures { PutTogether }
+pub fn deeds_are_put_together<A, B>()
+    ensures { PutTogether A B }
+{}
+
+/// What a deed gives over a history it gives over each longer one, also over one whose store stopped
+/// later.
+pub fn deeds_give_the_same_over_longer_histories<A>()
+    ensures { GivesOverLonger A }
+{}
+
+/// The last position of a deed is its last printed look, or its last event where that is later.
+pub fn the_last_position_is_printed<A>()
+    ensures { LastIsPrinted A }
+{}
+
+/// The events that a deed gives are those of the history with their numbers, in order.
+pub fn deeds_give_events_of_the_history<A>()
+    ensures { GivesEvents A }
+{}
+
+/// What a deed gives is determined by its printed looks.
+pub fn printed_looks_determine_deeds<A>()
+    ensures { PrintedLooksDetermine A }
+{}
+
+/// What was walked is what the deed gives over the history that was left.
+pub fn walks_are_given<A>()
+    ensures { WalksAreGiven A }
+{}
+
+/// Names that were looked at before an event are as they were at the event.
+pub fn names_are_as_at_the_event()
+    ensures { NamesStay }
+{}
+
+/// A step is what the reply to its line says.
+pub fn steps_are_replies()
+    ensures { StepsAreReplies }
+{}
+
+/// What the reply to a line says is steady from each history on at which its session's block had begun.
+pub fn replies_are_steady()
+    ensures { RepliesAreSteady }
 {}

@@ -1,134 +1,164 @@
-//! Statements whose names are looked at in a history.
-ghost use Rattle.std.specs.Prelude.{◌≡◌, IsSome, false};
-ghost use Rattle.ts_model.specs.History.{History};
+//! Statements whose names are looked at in a history, and that make events.
+ghost use Rattle.std.specs.Prelude.{◌≡◌, ℕ, List, ◌<◌, ◌^◌, IsTrue, IfOk};
+ghost use Rattle.std.specs.Thread.{IsSync};
+ghost use Rattle.ts_model.specs.declared.events.Op.{Op};
+ghost use Rattle.ts_model.specs.Roster.{view_of};
+ghost use Rattle.stmt_check.specs.Sound.{IsSound};
+ghost use Rattle.stmt_check.specs.declared.actions.Action.TheVariants as actions;
 ghost use Rattle.ts_sessions.specs.Deeds.{looks};
-ghost use Rattle.ts_sessions.specs.declared.kinds.Kind.TheVariants.{Asks};
-ghost use Rattle.ts_sessions.specs.Sessions.{Ends, EndsHere, Tallied, has_fallen};
-ghost use Rattle.ts_sessions.specs.Sound.{AsksSoundly, CanBe, CanDo, StandsForAllowed, query_of as query_of_action};
-ghost use Rattle.ts_sessions.specs.Step.{acts, kind_of, named};
+ghost use Rattle.ts_sessions.specs.declared.kinds.Kind.TheVariants.{Changes};
+ghost use Rattle.ts_sessions.specs.Places.{Places, none, writing};
+ghost use Rattle.ts_sessions.specs.Sessions.{BringsNothing, ChangeHolds, Ends, EndsAt};
+ghost use Rattle.ts_sessions.specs.Sound.{AsksSoundly, kind_of_action};
+ghost use Rattle.ts_sessions.specs.Step.{acts, kind_of, least_start as least_start_of, makes_event, named_first, performs};
 
-use crate::endings::{Ending, bare, refused};
-use crate::events::{change, make_hyper, make_table, make_view};
-use crate::queries::{ask, query_of};
+use crate::changes::{Change, Told, refused, says_so};
+use crate::events::{change, make_hyper, make_table, make_view, set_mode};
+use crate::queries::least_start;
+use crate::refreshes::{Asked, only_cut, refresh};
+use result_text::Said;
 use std::alloc::Global;
 use std::thread::Threads;
 use stmt_check::{Action, Checked, check};
 use stmt_reader::Stmt;
-use ts_model::{Backend, Shown};
-use ts_schema::Steps;
+use ts_model::{Backend, Gate, Op, Roster, Shown};
+use ts_schema::{NoMemory, Steps};
 
-/// A statement whose names are looked at in the present history.
-#[tactic(auto, using(crate::proofs::EndingLaws::ends_looked, crate::proofs::EndingLaws::ends_blind, crate::proofs::EndingLaws::tallied_looked, crate::proofs::EndingLaws::tallied_look))]
-pub(crate) fn look<R: Threads + Sync, B: Backend, L>(
+/// A statement that makes events, outside a block. Its names are looked at first; they are the same at
+/// its event, since no name and no kind is ever taken away.
+pub(crate) fn make<R: Threads + Sync, B: Backend, G: Gate, L>(
     rt: &R,
     alloc: Global,
     backend: &mut B,
+    gate: &G,
+    session: u32,
     stmt: &Stmt,
     steps: &mut Steps<L>,
-) -> Ending
-    requires { AsksSoundly stmt.now }
-    ensures ends { Ends B.alone (B.seen backend.old) (B.halted backend.old) (looks (named stmt.now)) result (B.seen backend.new) (B.halted backend.new) }
-    ensures tallied { Tallied B.alone (B.first_faults backend.old) (B.faults backend.old) (has_fallen result) (B.first_faults backend.new) (B.faults backend.new) }
+) -> Result<Told<B::Shot>, NoMemory>
+where
+    <B::Shot as Shown>::Job: Drop,
+    requires sync { IsSync R.row }
+    requires counts { steps.old < 2 ^ 64 }
+    requires sound { (bytes : ℕ) × AsksSoundly bytes stmt.now }
+    requires makes { IsTrue (makes_event (kind_of stmt.now)) }
+    ensures ends { (p : Places) (bytes : ℕ) → p.block ≡ none → Ends B.alone (B.state backend.old) (named_first p bytes stmt.now) p result (B.state backend.new) steps.old steps.new }
+    ensures change { IfOk result (λ t. BringsNothing t.change) }
+    ensures kin { B.kin backend.new ≡ B.kin backend.old }
 {
-    match backend.snap() {
-        Ok(shot) => resolve(rt, alloc, backend, &shot, stmt, steps),
-        Err(NoMemory) => Ending::NoMemory,
-    }
-}
-
-/// A statement whose names are looked at in a snapshot of the present history.
-#[tactic(auto, using(crate::proofs::EndingLaws::named_ready, crate::proofs::EndingLaws::named_refused, crate::proofs::EndingLaws::faults_here, crate::proofs::EndingLaws::no_memory_here, crate::proofs::EndingLaws::said_tallied, crate::proofs::EndingLaws::nothing_tallied))]
-fn resolve<R: Threads + Sync, B: Backend, L>(
-    rt: &R,
-    alloc: Global,
-    backend: &mut B,
-    shot: &B::Shot,
-    stmt: &Stmt,
-    steps: &mut Steps<L>,
-) -> Ending
-    requires sound { AsksSoundly stmt.now }
-    requires stands { B.Shot.stands shot.now (B.seen backend.old) }
-    ensures ends { Ends B.alone (B.seen backend.old) (B.halted backend.old) (named stmt.now (B.seen backend.old)) result (B.seen backend.new) (B.halted backend.new) }
-    ensures tallied { Tallied B.alone (B.first_faults backend.old) (B.faults backend.old) (has_fallen result) (B.first_faults backend.new) (B.faults backend.new) }
-{
+    let shot = backend.snap()?;
     match check(alloc, stmt, shot.roster(), shot.position()) {
-        Checked::Ready(action) => act(rt, alloc, backend, shot, action, steps),
+        Checked::Ready(action) => act(rt, alloc, backend, gate, session, &shot, action, steps),
         Checked::Refused(refusal) => refused(alloc, refusal),
-        Checked::NoMemory => Ending::NoMemory,
+        Checked::NoMemory => Err(NoMemory),
     }
 }
 
-/// An action at the present history.
-#[tactic(auto, using(crate::proofs::EndingLaws::faults_here, crate::proofs::EndingLaws::says_here, crate::proofs::EndingLaws::said_tallied, crate::proofs::EndingLaws::nothing_tallied))]
-fn act<R: Threads + Sync, B: Backend, L>(
+/// An action that makes events, whose names were looked at in a snapshot of what was seen last.
+fn act<R: Threads + Sync, B: Backend, G: Gate, L>(
     rt: &R,
     alloc: Global,
     backend: &mut B,
+    gate: &G,
+    session: u32,
     shot: &B::Shot,
     action: Action,
     steps: &mut Steps<L>,
-) -> Ending
-    requires sound { CanBe (B.seen backend.old) action }
-    requires stands { B.Shot.stands shot.now (B.seen backend.old) }
-    ensures ends { Ends B.alone (B.seen backend.old) (B.halted backend.old) (acts (B.seen backend.old) action) result (B.seen backend.new) (B.halted backend.new) }
-    ensures tallied { Tallied B.alone (B.first_faults backend.old) (B.faults backend.old) (has_fallen result) (B.first_faults backend.new) (B.faults backend.new) }
+) -> Result<Told<B::Shot>, NoMemory>
+where
+    <B::Shot as Shown>::Job: Drop,
+    requires sync { IsSync R.row }
+    requires counts { steps.old < 2 ^ 64 }
+    requires sound { (bytes : ℕ) × IsSound (B.state backend.old).history bytes action }
+    requires makes { IsTrue (makes_event (kind_of_action action)) }
+    requires stands { B.Shot.stands shot.now (B.state backend.old).history }
+    ensures ends { (p : Places) (bytes : ℕ) → p.block ≡ none → Ends B.alone (B.state backend.old) (looks (λ h. acts p bytes h action)) p result (B.state backend.new) steps.old steps.new }
+    ensures change { IfOk result (λ t. BringsNothing t.change) }
+    ensures kin { B.kin backend.new ≡ B.kin backend.old }
 {
     match action {
         Action::Table(def) => make_table(alloc, backend, def),
         Action::Hyper { table, hyper } => make_hyper(alloc, backend, table, hyper),
-        Action::View { def, filled: _ } => make_view(alloc, backend, def),
-        Action::Mode { .. } => refused(alloc, bare(0)),
+        Action::View { def, filled } => {
+            make_view(rt, alloc, backend, gate, session, def, filled, steps)
+        }
+        Action::Mode { view, only } => set_mode(alloc, backend, view, only),
         Action::Change(op) => change(alloc, backend, op),
-        Action::Refresh { .. } => refused(alloc, bare(0)),
-        Action::Cut { .. } => refused(alloc, bare(0)),
-        Action::Snap { .. } => refused(alloc, bare(0)),
-        Action::Finish { .. } => refused(alloc, bare(0)),
-        Action::Begin => refused(alloc, bare(0)),
-        Action::BeginRead => refused(alloc, bare(0)),
-        Action::Commit => refused(alloc, bare(0)),
-        Action::Rollback => refused(alloc, bare(0)),
-        Action::Ask(query) => ask(rt, alloc, shot, &query, steps),
+        Action::Refresh { view, lo, hi } => {
+            let asked = asked_of(shot.roster(), view, lo, hi);
+            refresh(rt, alloc, backend, gate, session, &asked, steps)
+        }
+        Action::Cut { view, lo, hi } => {
+            let asked = asked_of(shot.roster(), view, lo, hi);
+            only_cut(alloc, backend, &asked)
+        }
+        Action::Snap { .. } => unreachable!(),
+        Action::Finish { .. } => unreachable!(),
+        Action::Begin => unreachable!(),
+        Action::BeginRead => unreachable!(),
+        Action::Commit => unreachable!(),
+        Action::Rollback => unreachable!(),
+        Action::Ask(_) => unreachable!(),
     }
 }
 
-/// A query whose names are looked at in a snapshot of an earlier history.
-#[tactic(auto, using(crate::proofs::EndingLaws::named_ready, crate::proofs::EndingLaws::named_refused, crate::proofs::EndingLaws::faults_here, crate::proofs::EndingLaws::no_memory_here, crate::proofs::EndingLaws::said_told))]
-pub(crate) fn look_back<R: Threads + Sync, T: Shown, L>(
-    rt: &R,
+/// A refresh of an aggregate over a window.
+fn asked_of(roster: &Roster, view: u32, lo: Option<i64>, hi: Option<i64>) -> Asked
+    ensures { result ≡ record { view = view; lo = lo; hi = hi; min = least_start_of (view_of roster.now view) } }
+{
+    Asked {
+        view,
+        lo,
+        hi,
+        min: least_start(roster, view),
+    }
+}
+
+/// A statement that inserts or deletes rows, in a write block: its operation waits for the end of the
+/// block. Its text has so many bytes.
+pub(crate) fn queue<B: Backend>(
     alloc: Global,
-    shot: &T,
+    backend: &mut B,
     stmt: &Stmt,
-    steps: &mut Steps<L>,
-) -> Ending
-    requires sound { AsksSoundly stmt.now }
-    requires asks { kind_of stmt.now ≡ Asks }
-    requires stands { StandsForAllowed T.stands shot.now }
-    ensures ends { (h : History) → T.stands shot.now h → EndsHere (named stmt.now h) result }
-    ensures told { has_fallen result ≡ false }
+    bytes: u64,
+) -> Result<Told<B::Shot>, NoMemory>
+where
+    <B::Shot as Shown>::Job: Drop,
+    requires sound { AsksSoundly bytes stmt.now }
+    requires changes { kind_of stmt.now ≡ Changes }
+    ensures ends { (p : Places) (ops : List Op) (n : ℕ) → p.block ≡ writing ops n → EndsAt B.alone (B.state backend.old) (performs p bytes stmt.now) p 0 result (B.state backend.new) }
+    ensures change { IfOk result (λ t. ChangeHolds B.Shot.stands B.Shot.fits B.Shot.cut_of B.Shot.snap_of bytes t.change (B.state backend.new).history) }
+    ensures kin { B.kin backend.new ≡ B.kin backend.old }
 {
+    let shot = backend.snap()?;
     match check(alloc, stmt, shot.roster(), shot.position()) {
-        Checked::Ready(action) => answer(rt, alloc, shot, action, steps),
+        Checked::Ready(action) => {
+            let op = op_of(action);
+            says_so(alloc, Said::Queued, Change::Queues { op, bytes })
+        }
         Checked::Refused(refusal) => refused(alloc, refusal),
-        Checked::NoMemory => Ending::NoMemory,
+        Checked::NoMemory => Err(NoMemory),
     }
 }
 
-/// An action that is a query, in a snapshot.
-#[tactic(auto, using(crate::proofs::EndingLaws::faults_here, crate::proofs::EndingLaws::says_here, crate::proofs::EndingLaws::said_told))]
-fn answer<R: Threads + Sync, T: Shown, L>(
-    rt: &R,
-    alloc: Global,
-    shot: &T,
-    action: Action,
-    steps: &mut Steps<L>,
-) -> Ending
-    requires query { IsSome (query_of_action action) }
-    requires sound { CanDo T.stands shot.now action }
-    ensures ends { (h : History) → T.stands shot.now h → EndsHere (acts h action) result }
-    ensures told { has_fallen result ≡ false }
+/// The operation of an action that is one.
+fn op_of(action: Action) -> Op
+    requires { kind_of_action action ≡ Changes }
+    ensures { action ≡ actions.Change result }
 {
-    match query_of(action) {
-        Some(query) => ask(rt, alloc, shot, &query, steps),
-        None => refused(alloc, bare(0)),
+    match action {
+        Action::Change(op) => op,
+        Action::Table(_) => unreachable!(),
+        Action::Hyper { .. } => unreachable!(),
+        Action::View { .. } => unreachable!(),
+        Action::Mode { .. } => unreachable!(),
+        Action::Refresh { .. } => unreachable!(),
+        Action::Cut { .. } => unreachable!(),
+        Action::Snap { .. } => unreachable!(),
+        Action::Finish { .. } => unreachable!(),
+        Action::Begin => unreachable!(),
+        Action::BeginRead => unreachable!(),
+        Action::Commit => unreachable!(),
+        Action::Rollback => unreachable!(),
+        Action::Ask(_) => unreachable!(),
     }
 }

@@ -1,45 +1,103 @@
 //! Queries.
-ghost use Rattle.std.specs.Prelude.{◌≡◌, None, false};
+ghost use Rattle.std.specs.Prelude.{◌≡◌, ℕ, ◌<◌, ◌^◌, Bool, IsTrue, IfOk};
+ghost use Rattle.std.specs.Thread.{IsSync};
 ghost use Rattle.ts_model.specs.History.{History};
-ghost use Rattle.ts_model.specs.Roster.{view_of};
-ghost use Rattle.ts_sessions.specs.Sessions.{Says, has_fallen};
-ghost use Rattle.ts_sessions.specs.Sound.{CanAsk, query_of as query_of_action};
-ghost use Rattle.ts_sessions.specs.Step.{asked, asked_start as start_asked, least_start as start_of_view};
+ghost use Rattle.ts_model.specs.Roster.{roster as roster_of, view_of};
+ghost use Rattle.ts_model.specs.Answers.{can_ask};
+ghost use Rattle.result_text.specs.declared.replies.Said.TheVariants.{Answered};
+ghost use Rattle.ts_model.specs.States.{State};
+ghost use Rattle.stmt_check.specs.declared.actions.Action.TheVariants as actions;
+ghost use Rattle.ts_sessions.specs.Deeds.{ends};
+ghost use Rattle.ts_sessions.specs.declared.kinds.Kind.TheVariants.{Asks};
+ghost use Rattle.ts_sessions.specs.Places.{Places};
+ghost use Rattle.ts_sessions.specs.Sessions.{BringsNothing, Ends};
+ghost use Rattle.ts_sessions.specs.Sound.{AsksSoundly, StandsForAllowed, kind_of_action};
+ghost use Rattle.ts_sessions.specs.Step.{answers, asked_start as start_asked, kind_of, least_start as start_of_view, named, plan_of as plan_of_query};
 
-use crate::endings::{Ending, says};
+use crate::changes::{Told, refused, says};
 use result_text::Said;
 use std::alloc::Global;
 use std::thread::Threads;
-use stmt_check::Action;
+use stmt_check::{Action, Checked, check};
+use stmt_reader::Stmt;
 use ts_bucket::first;
-use ts_model::{Query, Roster, Shown};
-use ts_schema::Steps;
+use ts_model::{Answer, Query, Roster, Shown};
+use ts_schema::{NoMemory, Steps};
 
-/// Answers a query from a snapshot.
-#[tactic(auto, using(crate::proofs::EndingLaws::said_told))]
-pub(crate) fn ask<R: Threads + Sync, T: Shown, L>(
+/// What answers a query statement.
+#[derive(Drop)]
+pub(crate) struct Plan {
+    /// The query that is asked.
+    pub query: Query,
+    /// The start of the first bucket of what is asked.
+    pub min: i64,
+}
+
+/// Answers a query statement from a snapshot.
+pub(crate) fn ask<R: Threads + Sync, T: Shown + Drop, L>(
     rt: &R,
     alloc: Global,
     shot: &T,
-    query: &Query,
+    stmt: &Stmt,
     steps: &mut Steps<L>,
-) -> Ending
-    requires { CanAsk T.stands shot.now query.now }
-    ensures says { (h : History) → T.stands shot.now h → Says (asked h query.now) None result }
-    ensures told { has_fallen result ≡ false }
+) -> Result<Told<T>, NoMemory>
+where
+    T::Job: Drop,
+    requires sync { IsSync R.row }
+    requires counts { steps.old < 2 ^ 64 }
+    requires sound { (bytes : ℕ) × AsksSoundly bytes stmt.now }
+    requires asks { kind_of stmt.now ≡ Asks }
+    requires stands { StandsForAllowed T.stands shot.now }
+    ensures ends { (h : History) → T.stands shot.now h → (p : Places) (bytes : ℕ) (alone : Bool) (s : State) → Ends alone s (named p bytes stmt.now h) p result s steps.old steps.new }
+    ensures change { IfOk result (λ t. BringsNothing t.change) }
 {
-    let min = asked_start(shot.roster(), query);
-    match shot.answer(rt, query, steps) {
-        Ok(answer) => {
-            let said = Said::Answered {
-                answer,
-                pos: shot.position(),
-                min,
-            };
-            says(alloc, said, None)
+    match check(alloc, stmt, shot.roster(), shot.position()) {
+        Checked::Ready(action) => {
+            let plan = plan_of(shot.roster(), query_of(action));
+            answer(rt, alloc, shot, plan, steps)
         }
-        Err(NoMemory) => Ending::NoMemory,
+        Checked::Refused(refusal) => refused(alloc, refusal),
+        Checked::NoMemory => Err(NoMemory),
     }
+}
+
+/// Answers by a plan from a snapshot.
+fn answer<R: Threads + Sync, T: Shown + Drop, L>(
+    rt: &R,
+    alloc: Global,
+    shot: &T,
+    plan: Plan,
+    steps: &mut Steps<L>,
+) -> Result<Told<T>, NoMemory>
+where
+    T::Job: Drop,
+    requires sync { IsSync R.row }
+    requires counts { steps.old < 2 ^ 64 }
+    requires asks { (h : History) → T.stands shot.now h → IsTrue (can_ask (roster_of h) plan.query) }
+    ensures ends { (h : History) → T.stands shot.now h → (p : Places) (alone : Bool) (s : State) → Ends alone s (ends (answers p h plan)) p result s steps.old steps.new }
+    ensures change { IfOk result (λ t. BringsNothing t.change) }
+{
+    let answer = shot.answer(rt, &plan.query, steps)?;
+    says(alloc, answered(&plan, answer, shot.position()))
+}
+
+/// What is made of the answer at a position.
+fn answered(plan: &Plan, answer: Answer, pos: u64) -> Said
+    ensures { result ≡ Answered answer pos plan.now.min }
+{
+    Said::Answered {
+        answer,
+        pos,
+        min: plan.min,
+    }
+}
+
+/// What answers a query.
+fn plan_of(roster: &Roster, query: Query) -> Plan
+    ensures { result ≡ plan_of_query roster.now query }
+{
+    let min = asked_start(roster, &query);
+    Plan { query, min }
 }
 
 /// The start of the first bucket of what is asked.
@@ -54,7 +112,7 @@ fn asked_start(roster: &Roster, query: &Query) -> i64
 }
 
 /// The start of the first bucket of an aggregate.
-fn least_start(roster: &Roster, view: u32) -> i64
+pub(crate) fn least_start(roster: &Roster, view: u32) -> i64
     ensures { result ≡ start_of_view (view_of roster.now view) }
 {
     match roster.views.items().get(view as usize) {
@@ -63,24 +121,25 @@ fn least_start(roster: &Roster, view: u32) -> i64
     }
 }
 
-/// The query of an action that is one.
-pub(crate) fn query_of(action: Action) -> Option<Query>
-    ensures { result ≡ query_of_action action }
+/// The query that an action asks.
+fn query_of(action: Action) -> Query
+    requires { kind_of_action action ≡ Asks }
+    ensures { action ≡ actions.Ask result }
 {
     match action {
-        Action::Table(_) => None,
-        Action::Hyper { .. } => None,
-        Action::View { .. } => None,
-        Action::Mode { .. } => None,
-        Action::Change(_) => None,
-        Action::Refresh { .. } => None,
-        Action::Cut { .. } => None,
-        Action::Snap { .. } => None,
-        Action::Finish { .. } => None,
-        Action::Begin => None,
-        Action::BeginRead => None,
-        Action::Commit => None,
-        Action::Rollback => None,
-        Action::Ask(query) => Some(query),
+        Action::Ask(query) => query,
+        Action::Table(_) => unreachable!(),
+        Action::Hyper { .. } => unreachable!(),
+        Action::View { .. } => unreachable!(),
+        Action::Mode { .. } => unreachable!(),
+        Action::Change(_) => unreachable!(),
+        Action::Refresh { .. } => unreachable!(),
+        Action::Cut { .. } => unreachable!(),
+        Action::Snap { .. } => unreachable!(),
+        Action::Finish { .. } => unreachable!(),
+        Action::Begin => unreachable!(),
+        Action::BeginRead => unreachable!(),
+        Action::Commit => unreachable!(),
+        Action::Rollback => unreachable!(),
     }
 }

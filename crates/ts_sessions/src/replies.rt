@@ -1,9 +1,9 @@
 //! What a session answers to a line.
 ghost use Rattle.std.specs.Prelude.{◌≡◌, ◌++◌, IfOk};
+ghost use Rattle.ts_sessions.specs.Made.{made_by, made_in};
 ghost use Rattle.ts_sessions.specs.Script.{has_fault as has_fault_line, is_fault as is_fault_line, text_of};
-ghost use Rattle.ts_sessions.specs.Sessions.{RepliesTo, fallen_as, replied_as};
+ghost use Rattle.ts_sessions.specs.Sessions.{IsReplied, IsReply};
 
-use crate::endings::{Ending, Told};
 use result_text::{Said, put_reply};
 use std::alloc::Global;
 use ts_schema::{Name, NoMemory, Seq};
@@ -15,7 +15,7 @@ pub struct Reply {
     pub text: Seq<u8>,
     /// Whether one of its lines is a FAULT.
     pub fault: bool,
-    /// The numbers of the events that the line made.
+    /// The numbers of the events that the line made, which its lines name.
     pub events: Seq<u64>,
 }
 
@@ -31,47 +31,28 @@ pub enum StepEnd {
     NoMemory,
 }
 
-/// The reply of the session with a name, by how its line's statement ended.
-pub(crate) fn answer(alloc: Global, name: &Name, ending: Ending) -> StepEnd
-    ensures { RepliesTo name.now ending result }
+/// The answer with this reply, where the disk failed or not.
+pub(crate) fn replied(reply: Reply, fell: bool) -> StepEnd
+    ensures { IsReplied fell reply result }
 {
-    match ending {
-        Ending::Told(told) => replied(write_reply(alloc, name, told)),
-        Ending::Fell(told) => fallen(write_reply(alloc, name, told)),
-        Ending::NoMemory => StepEnd::NoMemory,
+    match fell {
+        true => StepEnd::DiskFault(reply),
+        false => StepEnd::Reply(reply),
     }
 }
 
-fn replied(reply: Result<Reply, NoMemory>) -> StepEnd
-    ensures { result ≡ replied_as reply }
-{
-    match reply {
-        Ok(reply) => StepEnd::Reply(reply),
-        Err(NoMemory) => StepEnd::NoMemory,
-    }
-}
-
-fn fallen(reply: Result<Reply, NoMemory>) -> StepEnd
-    ensures { result ≡ fallen_as reply }
-{
-    match reply {
-        Ok(reply) => StepEnd::DiskFault(reply),
-        Err(NoMemory) => StepEnd::NoMemory,
-    }
-}
-
-/// The reply of what was told.
-fn write_reply(alloc: Global, name: &Name, told: Told) -> Result<Reply, NoMemory>
-    ensures text { IfOk result (λ r. r.text ≡ text_of name.now told.said) }
-    ensures fault { IfOk result (λ r. r.fault ≡ has_fault_line told.said) }
-    ensures events { IfOk result (λ r. r.events ≡ told.events) }
+/// The reply of the session with a name that has these lines.
+pub(crate) fn write_reply(alloc: Global, name: &Name, said: &[Said]) -> Result<Reply, NoMemory>
+    ensures { IfOk result (λ r. IsReply name.now said.now r) }
 {
     let mut text = Vec::new(alloc);
-    put_lines(name, told.said.items(), &mut text)?;
+    let mut events = Seq::new(alloc);
+    put_lines(name, said, &mut text)?;
+    put_numbers(said, &mut events)?;
     Ok(Reply {
         text: Seq::of(text),
-        fault: has_fault(told.said.items()),
-        events: told.events,
+        fault: has_fault(said),
+        events,
     })
 }
 
@@ -83,6 +64,45 @@ fn put_lines(name: &Name, said: &[Said], text: &mut Vec<u8>) -> Result<(), NoMem
         put_reply(name, line, text)?;
     }
     Ok(())
+}
+
+/// Appends the numbers of the events that lines name as made.
+fn put_numbers(said: &[Said], events: &mut Seq<u64>) -> Result<(), NoMemory>
+    ensures { IfOk result (λ _. events.new ≡ events.old ++ made_in said.now) }
+{
+    for line in said {
+        put_made(line, events)?;
+    }
+    Ok(())
+}
+
+/// Appends the numbers of the events that a line names as made.
+fn put_made(said: &Said, events: &mut Seq<u64>) -> Result<(), NoMemory>
+    ensures { IfOk result (λ _. events.new ≡ events.old ++ made_by said.now) }
+{
+    match said {
+        Said::Table(pos) => events.push(*pos),
+        Said::Hypertable(pos) => events.push(*pos),
+        Said::View(pos) => events.push(*pos),
+        Said::Mode(pos) => events.push(*pos),
+        Said::Commit(done) => events.push(done.pos),
+        Said::Refresh { cut, pos, .. } => {
+            events.push(*cut)?;
+            events.push(*pos)
+        }
+        Said::Cut { cut, .. } => events.push(*cut),
+        Said::Finish { pos, .. } => events.push(*pos),
+        Said::Queued => Ok(()),
+        Said::Nothing(_) => Ok(()),
+        Said::Snap { .. } => Ok(()),
+        Said::Begin => Ok(()),
+        Said::BeginRead(_) => Ok(()),
+        Said::CommitEmpty => Ok(()),
+        Said::Rollback => Ok(()),
+        Said::End => Ok(()),
+        Said::Answered { .. } => Ok(()),
+        Said::Fault(_) => Ok(()),
+    }
 }
 
 /// Whether one of the lines of a reply is a FAULT.

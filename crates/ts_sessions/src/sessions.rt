@@ -1,66 +1,154 @@
 //! Sessions.
-ghost use Rattle.std.specs.Prelude.{◌≡◌};
-ghost use Rattle.ts_sessions.specs.Sessions.{block_of};
-ghost use Rattle.ts_sessions.specs.Step.{block_refusal, refusal_outside, refusal_reading};
+ghost use Rattle.std.specs.Prelude.{◌≡◌, ℕ, Some, OnOk, OnErr};
+ghost use Rattle.std.specs.Ordering.{nat_cmp};
+ghost use Rattle.std.specs.Map.{remove_entry};
+ghost use Rattle.std.specs.BTreeMap.{insert_entry, is_at};
+ghost use Rattle.ts_model.specs.States.{State};
+ghost use Rattle.ts_sessions.specs.Held.{Carries, HoldsOf, places_in, queued as queued_in};
+ghost use Rattle.ts_sessions.specs.Places.{no_places, stage_of};
+ghost use Rattle.ts_sessions.specs.Sessions.{ChangeFits, ChangeHolds, changed};
+ghost use Rattle.ts_sessions.specs.Step.{natural as natural_of, refresh_meant};
 
-use crate::endings::bare;
-use crate::kinds::Kind;
-use ts_model::Refusal;
-use ts_schema::Name;
+use crate::blocks::{Block, Open};
+use crate::changes::Change;
+use std::alloc::Global;
+use std::collections::BTreeMap;
+use ts_model::Shown;
+use ts_schema::{Name, NoMemory};
 
 /// A session: who speaks in a line, and what it carries from one line to the next.
 #[derive(Drop)]
-pub struct Session<T> {
+pub struct Session<T: Shown>
+where
+    T::Job: Drop,
+{
     /// Its name.
     pub name: Name,
     /// Its number, from 0 in order of appearance.
     pub number: u32,
-    /// What it holds.
-    pub held: Held<T>,
+    /// The block that it is in.
+    pub block: Open<T>,
+    /// The last refresh that it cut.
+    pub cut: Option<u64>,
+    /// The snapshots that it holds, by the numbers of their refreshes.
+    pub held: BTreeMap<u64, Snapshot<T::Job>>,
 }
 
-/// What a session holds.
+/// A snapshot for a refresh.
 #[derive(Drop)]
-pub enum Held<T> {
-    /// Nothing: it is in no block.
-    Nothing,
-    /// The snapshot of its read block.
-    Snapshot {
-        /// The position at which the block began.
-        at: u64,
-        /// The snapshot.
-        shot: T,
-    },
+pub struct Snapshot<J> {
+    /// Its position.
+    pub at: u64,
+    /// The job of the refresh, unless a store has taken it.
+    pub job: Option<J>,
 }
 
-impl<T> Held<T> {
-    /// Why a statement of this kind may not be, where it may not.
-    pub(crate) fn barrier(&self, kind: Kind) -> Option<Refusal>
-        ensures { result ≡ block_refusal (block_of self.now) kind }
+impl<T: Shown + Drop> Session<T>
+where
+    T::Job: Drop,
+{
+    /// A session that holds nothing. Sessions are numbered from 0 in order of appearance. It takes no
+    /// memory.
+    pub fn new(alloc: Global, name: Name, number: u32) -> Session<T>
+        ensures name { result.name ≡ name }
+        ensures number { result.number ≡ number }
+        ensures places { places_in result ≡ no_places }
+        ensures holds { (s : State) → HoldsOf T.stands T.fits T.cut_of T.snap_of result s }
     {
-        match self {
-            Held::Nothing => outside_block(kind),
-            Held::Snapshot { .. } => in_read_block(kind),
+        Session {
+            name,
+            number,
+            block: Open::Nothing,
+            cut: None,
+            held: BTreeMap::new(alloc),
         }
     }
-}
 
-/// Why a statement of this kind may not be outside a block.
-fn outside_block(kind: Kind) -> Option<Refusal>
-    ensures { result ≡ refusal_outside kind }
-{
-    match kind {
-        Kind::EndsBlock => Some(bare(18)),
-        Kind::Changes | Kind::Asks | Kind::BeginsRead | Kind::Unbuilt => None,
+    /// The bytes of the texts whose operations wait for the end of its write block, or 0.
+    pub fn queued(&self) -> u64
+        ensures { result ≡ queued_in (places_in self.now).block }
+    {
+        self.block.queued()
+    }
+
+    /// The block that it is in.
+    pub fn block(&self) -> Block
+        ensures { result ≡ stage_of (places_in self.now).block }
+    {
+        self.block.stage()
+    }
+
+    /// The refresh that a statement means: the one with its number, or the last that the session cut.
+    pub(crate) fn meant(&self, number: Option<i64>) -> Option<u64>
+        ensures { result ≡ refresh_meant (places_in self.now) number }
+    {
+        match number {
+            Some(number) => natural(number),
+            None => self.cut,
+        }
+    }
+
+    /// Changes as a statement says, or, where there is no memory, stays as it is.
+    pub(crate) fn settle(&mut self, change: Change<T>) -> Result<(), NoMemory>
+        requires fits { ChangeFits change (places_in self.old).block }
+        ensures places { OnOk result (places_in self.new ≡ changed change (places_in self.old)) }
+        ensures kept { OnErr result (Carries self.old self.new) }
+        ensures name { self.new.name ≡ self.old.name }
+        ensures number { self.new.number ≡ self.old.number }
+        ensures holds { (s : State) (bytes : ℕ) → HoldsOf T.stands T.fits T.cut_of T.snap_of self.old s → ChangeHolds T.stands T.fits T.cut_of T.snap_of bytes change s.history → HoldsOf T.stands T.fits T.cut_of T.snap_of self.new s }
+    {
+        match change {
+            Change::Nothing => Ok(()),
+            Change::Cuts(cut) => {
+                self.cut = Some(cut);
+                Ok(())
+            }
+            Change::Holds { cut, at, job } => self.hold(cut, at, job),
+            Change::GivesUp(cut) => {
+                self.forget(cut);
+                Ok(())
+            }
+            Change::Enters(block) => {
+                self.block = block;
+                Ok(())
+            }
+            Change::Queues { op, bytes } => self.block.push(op, bytes),
+        }
+    }
+
+    /// Gives up the snapshot for a refresh.
+    pub(crate) fn forget(&mut self, cut: u64)
+        ensures held { self.new.held.entries ≡ remove_entry (is_at (nat_cmp cut)) self.old.held.entries }
+        ensures block { self.new.block ≡ self.old.block }
+        ensures cut { self.new.cut ≡ self.old.cut }
+        ensures name { self.new.name ≡ self.old.name }
+        ensures number { self.new.number ≡ self.old.number }
+    {
+        self.held.remove(&cut);
+    }
+
+    /// Holds a snapshot for a refresh, in place of one that it held.
+    fn hold(&mut self, cut: u64, at: u64, job: T::Job) -> Result<(), NoMemory>
+        ensures held { OnOk result (self.new.held.entries ≡ insert_entry nat_cmp self.old.held.entries cut (record { at = at; job = Some job })) }
+        ensures block { self.new.block ≡ self.old.block }
+        ensures cut { self.new.cut ≡ self.old.cut }
+        ensures name { self.new.name ≡ self.old.name }
+        ensures number { self.new.number ≡ self.old.number }
+        ensures kept { OnErr result (Carries self.old self.new) }
+    {
+        let snapshot = Snapshot { at, job: Some(job) };
+        self.held.insert(cut, snapshot)?;
+        Ok(())
     }
 }
 
-/// Why a statement of this kind may not be in a read block.
-fn in_read_block(kind: Kind) -> Option<Refusal>
-    ensures { result ≡ refusal_reading kind }
+/// A number that counts something.
+fn natural(number: i64) -> Option<u64>
+    ensures { result ≡ natural_of number }
 {
-    match kind {
-        Kind::Changes | Kind::BeginsRead | Kind::Unbuilt => Some(bare(17)),
-        Kind::Asks | Kind::EndsBlock => None,
+    if number < 0 {
+        None
+    } else {
+        Some(number as u64)
     }
 }

@@ -1,148 +1,239 @@
 //! The step of a session: one line.
-ghost use Rattle.std.specs.Prelude.{◌≡◌, ◌≤◌, length, None};
-ghost use Rattle.result_text.specs.declared.replies.Said.TheVariants.{End};
-ghost use Rattle.ts_sessions.specs.declared.kinds.Kind.TheVariants.{Asks};
-ghost use Rattle.ts_sessions.specs.declared.sessions.Held.TheVariants.{Nothing};
-ghost use Rattle.ts_sessions.specs.Deeds.{looks};
-ghost use Rattle.ts_sessions.specs.Sessions.{Ends, HoldsOf, Says, Stepped, Tallied, TurnEnds, block_of, has_fallen, is_disk_fault, places_in};
+ghost use Rattle.std.specs.Prelude.{◌≡◌, ℕ, ◌+◌, ◌<◌, ◌≤◌, ◌^◌, length, None, IfOk, OnOk, OnErr};
+ghost use Rattle.std.specs.Thread.{IsSync};
+ghost use Rattle.ts_model.specs.States.{State};
+ghost use Rattle.ts_sessions.specs.declared.kinds.Kind.TheVariants.{Asks, Changes};
+ghost use Rattle.ts_sessions.specs.Held.{Carries, HoldsOf, most_queued, places_in, queued as queued_in};
+ghost use Rattle.ts_sessions.specs.Sessions.{AnswersSo, BringsNothing, ChangeFits, ChangeHolds, Ends, IfAnswered, IfNoMemory, IsReplied, Spares, Stepped, changed};
 ghost use Rattle.ts_sessions.specs.Sound.{AsksSoundly};
-ghost use Rattle.ts_sessions.specs.Step.{begins_read, block_refusal, kind_of as kind_of_stmt, let_pass, named, no_places, performs, read_at, step as step_of};
+ghost use Rattle.ts_sessions.specs.Step.{block_refusal, kind_of as kind_of_stmt, let_pass, performs, step as step_of};
 
-use crate::endings::{Ending, bare, placed, refused, says};
-use crate::kinds::{Kind, kind_of};
-use crate::looks::{look, look_back};
-use crate::replies::{StepEnd, answer};
-use crate::sessions::{Held, Session};
-use result_text::Said;
+use crate::blocks::Open;
+use crate::changes::{Change, Told, refused};
+use crate::endings::{begin, begin_read};
+use crate::kinds::kind_of;
+use crate::looks::{make, queue};
+use crate::queries::ask;
+use crate::refusals::placed;
+use crate::replies::{Reply, StepEnd, replied, write_reply};
+use crate::sessions::Session;
+use result_text::codes;
 use std::alloc::Global;
 use std::thread::Threads;
 use stmt_reader::{ReadStmt, Stmt, read_stmt};
-use ts_model::{Backend, Shown};
-use ts_schema::{Name, Steps};
+use ts_model::{Backend, Gate, Shown};
+use ts_schema::{NoMemory, Steps};
 
-impl<T: Shown + Drop> Session<T> {
-    /// A session that holds nothing. Sessions are numbered from 0 in order of appearance.
-    pub fn new(name: Name, number: u32) -> Session<T>
-        ensures name { result.name ≡ name }
-        ensures number { result.number ≡ number }
-        ensures places { places_in result ≡ no_places }
-    {
-        Session {
-            name,
-            number,
-            held: Held::Nothing,
-        }
-    }
-
+impl<T: Shown + Drop> Session<T>
+where
+    T::Job: Drop,
+{
     /// Does what a line asks for. `text` is the line before its comment, and its statement stands after
     /// the first `skip` bytes. It is one step of the model: the deed of the line, over whatever history
     /// the store is found at.
-    #[tactic(auto, using(crate::proofs::TurnLaws::stepped, crate::proofs::TurnLaws::tallied_reply))]
-    pub fn step<R: Threads + Sync, B: Backend<Shot = T>, L>(
+    pub fn step<R: Threads + Sync, B: Backend<Shot = T>, G: Gate, L>(
         &mut self,
         rt: &R,
         alloc: Global,
         backend: &mut B,
+        gate: &G,
         text: &[u8],
         skip: u32,
         steps: &mut Steps<L>,
     ) -> StepEnd
+        requires sync { IsSync R.row }
         requires short { length text.now ≤ 65536 }
         requires within { skip ≤ length text.now }
-        requires holds { HoldsOf T.stands self.old.held (B.seen backend.old) }
-        ensures stepped { Stepped B.alone (B.seen backend.old) (B.halted backend.old) (step_of (places_in self.old) text.now skip) self.old.name result (B.seen backend.new) (B.halted backend.new) (places_in self.new) }
+        requires room { queued_in (places_in self.old).block + length text.now ≤ most_queued }
+        requires holds { HoldsOf T.stands T.fits T.cut_of T.snap_of self.old (B.state backend.old) }
+        ensures stepped { Stepped B.alone (B.state backend.old) (step_of (places_in self.old) text.now skip) self.old.name result (B.state backend.new) (places_in self.new) steps.old steps.new }
+        ensures spared { IfNoMemory result (Spares (places_in self.old) (places_in self.new)) }
         ensures name { self.new.name ≡ self.old.name }
         ensures number { self.new.number ≡ self.old.number }
-        ensures holds { HoldsOf T.stands self.new.held (B.seen backend.new) }
-        ensures tallied { Tallied B.alone (B.first_faults backend.old) (B.faults backend.old) (is_disk_fault result) (B.first_faults backend.new) (B.faults backend.new) }
+        ensures holds { HoldsOf T.stands T.fits T.cut_of T.snap_of self.new (B.state backend.new) }
+        ensures queued { queued_in (places_in self.new).block ≤ queued_in (places_in self.old).block + length text.now }
+        ensures kin { B.kin backend.new ≡ B.kin backend.old }
     {
-        let ending = self.take_line(rt, alloc, backend, text, skip, steps);
-        answer(alloc, &self.name, ending)
-    }
-
-    /// Does what a line asks for.
-    #[tactic(auto, using(crate::proofs::TurnLaws::reads_stmt, crate::proofs::TurnLaws::reads_fault, crate::proofs::TurnLaws::turn_refused, crate::proofs::TurnLaws::turn_unbegun, crate::specs::Holding::holds_on, crate::proofs::EndingLaws::said_tallied, crate::proofs::EndingLaws::nothing_tallied))]
-    fn take_line<R: Threads + Sync, B: Backend<Shot = T>, L>(
-        &mut self,
-        rt: &R,
-        alloc: Global,
-        backend: &mut B,
-        text: &[u8],
-        skip: u32,
-        steps: &mut Steps<L>,
-    ) -> Ending
-        requires short { length text.now ≤ 65536 }
-        requires within { skip ≤ length text.now }
-        requires holds { HoldsOf T.stands self.old.held (B.seen backend.old) }
-        ensures ends { TurnEnds B.alone (B.seen backend.old) (B.halted backend.old) (step_of (places_in self.old) text.now skip) result (B.seen backend.new) (B.halted backend.new) (places_in self.new) }
-        ensures name { self.new.name ≡ self.old.name }
-        ensures number { self.new.number ≡ self.old.number }
-        ensures holds { HoldsOf T.stands self.new.held (B.seen backend.new) }
-        ensures tallied { Tallied B.alone (B.first_faults backend.old) (B.faults backend.old) (has_fallen result) (B.first_faults backend.new) (B.faults backend.new) }
-    {
-        match read_stmt(alloc, text, skip) {
-            ReadStmt::Stmt(stmt) => self.take(rt, alloc, backend, &stmt, steps),
-            ReadStmt::NoToken(place) => refused(alloc, placed(4, place)),
-            ReadStmt::Syntax(place) => refused(alloc, placed(5, place)),
-            ReadStmt::BadNumber(place) => refused(alloc, placed(10, place)),
-            ReadStmt::NoMemory => Ending::NoMemory,
+        let _so_far = steps.count();
+        match self.take_line(rt, alloc, backend, gate, text, skip, steps) {
+            Ok(told) => self.answer(alloc, told),
+            Err(NoMemory) => StepEnd::NoMemory,
         }
     }
 
-    /// Does what a statement asks for, where the block lets it pass.
-    #[tactic(auto, using(crate::proofs::TurnLaws::turn_refused, crate::proofs::EndingLaws::said_tallied, crate::proofs::EndingLaws::nothing_tallied))]
-    fn take<R: Threads + Sync, B: Backend<Shot = T>, L>(
+    /// Writes the reply to what a line came to, and changes as it says. Where there is no memory it stays
+    /// as it is.
+    fn answer(&mut self, alloc: Global, told: Told<T>) -> StepEnd
+        requires fits { ChangeFits told.change (places_in self.old).block }
+        ensures answers { AnswersSo self.old.name told.said told.fell result }
+        ensures places { IfAnswered result (places_in self.new ≡ changed told.change (places_in self.old)) }
+        ensures kept { IfNoMemory result (Carries self.old self.new) }
+        ensures name { self.new.name ≡ self.old.name }
+        ensures number { self.new.number ≡ self.old.number }
+        ensures holds { (s : State) (bytes : ℕ) → HoldsOf T.stands T.fits T.cut_of T.snap_of self.old s → ChangeHolds T.stands T.fits T.cut_of T.snap_of bytes told.change s.history → HoldsOf T.stands T.fits T.cut_of T.snap_of self.new s }
+    {
+        match write_reply(alloc, &self.name, told.said.items()) {
+            Ok(reply) => self.close(told.change, told.fell, reply),
+            Err(NoMemory) => StepEnd::NoMemory,
+        }
+    }
+
+    /// Changes as a line says whose reply was written.
+    fn close(&mut self, change: Change<T>, fell: bool, reply: Reply) -> StepEnd
+        requires fits { ChangeFits change (places_in self.old).block }
+        ensures replied { IfAnswered result (IsReplied fell reply result) }
+        ensures places { IfAnswered result (places_in self.new ≡ changed change (places_in self.old)) }
+        ensures kept { IfNoMemory result (Carries self.old self.new) }
+        ensures name { self.new.name ≡ self.old.name }
+        ensures number { self.new.number ≡ self.old.number }
+        ensures holds { (s : State) (bytes : ℕ) → HoldsOf T.stands T.fits T.cut_of T.snap_of self.old s → ChangeHolds T.stands T.fits T.cut_of T.snap_of bytes change s.history → HoldsOf T.stands T.fits T.cut_of T.snap_of self.new s }
+    {
+        match self.settle(change) {
+            Ok(()) => replied(reply, fell),
+            Err(NoMemory) => StepEnd::NoMemory,
+        }
+    }
+
+    /// Does what a line asks for.
+    fn take_line<R: Threads + Sync, B: Backend<Shot = T>, G: Gate, L>(
         &mut self,
         rt: &R,
         alloc: Global,
         backend: &mut B,
-        stmt: &Stmt,
+        gate: &G,
+        text: &[u8],
+        skip: u32,
         steps: &mut Steps<L>,
-    ) -> Ending
-        requires sound { AsksSoundly stmt.now }
-        requires holds { HoldsOf T.stands self.old.held (B.seen backend.old) }
-        ensures ends { TurnEnds B.alone (B.seen backend.old) (B.halted backend.old) (let_pass (places_in self.old) stmt.now (block_refusal (block_of self.old.held) (kind_of_stmt stmt.now))) result (B.seen backend.new) (B.halted backend.new) (places_in self.new) }
+    ) -> Result<Told<T>, NoMemory>
+        requires sync { IsSync R.row }
+        requires counts { steps.old < 2 ^ 64 }
+        requires short { length text.now ≤ 65536 }
+        requires within { skip ≤ length text.now }
+        requires holds { HoldsOf T.stands T.fits T.cut_of T.snap_of self.old (B.state backend.old) }
+        ensures ends { Ends B.alone (B.state backend.old) (step_of (places_in self.old) text.now skip) (places_in self.old) result (B.state backend.new) steps.old steps.new }
+        ensures change { IfOk result (λ t. ChangeHolds T.stands T.fits T.cut_of T.snap_of (length text.now) t.change (B.state backend.new).history) }
+        ensures places { OnOk result (places_in self.new ≡ places_in self.old) }
+        ensures spared { OnErr result (Spares (places_in self.old) (places_in self.new)) }
         ensures name { self.new.name ≡ self.old.name }
         ensures number { self.new.number ≡ self.old.number }
-        ensures holds { HoldsOf T.stands self.new.held (B.seen backend.new) }
-        ensures tallied { Tallied B.alone (B.first_faults backend.old) (B.faults backend.old) (has_fallen result) (B.first_faults backend.new) (B.faults backend.new) }
+        ensures holds { HoldsOf T.stands T.fits T.cut_of T.snap_of self.new (B.state backend.new) }
+        ensures kin { B.kin backend.new ≡ B.kin backend.old }
     {
-        match self.held.barrier(kind_of(stmt)) {
+        match read_stmt(alloc, text, skip) {
+            ReadStmt::Stmt(stmt) => {
+                self.take(rt, alloc, backend, gate, &stmt, text.len() as u64, steps)
+            }
+            ReadStmt::NoToken(place) => refused(alloc, placed(codes::NO_TOKEN, place)),
+            ReadStmt::Syntax(place) => refused(alloc, placed(codes::SYNTAX, place)),
+            ReadStmt::BadNumber(place) => refused(alloc, placed(codes::BAD_NUMBER, place)),
+            ReadStmt::NoMemory => Err(NoMemory),
+        }
+    }
+
+    /// Does what a statement asks for, from a text of so many bytes, where the block lets it pass.
+    fn take<R: Threads + Sync, B: Backend<Shot = T>, G: Gate, L>(
+        &mut self,
+        rt: &R,
+        alloc: Global,
+        backend: &mut B,
+        gate: &G,
+        stmt: &Stmt,
+        bytes: u64,
+        steps: &mut Steps<L>,
+    ) -> Result<Told<T>, NoMemory>
+        requires sync { IsSync R.row }
+        requires counts { steps.old < 2 ^ 64 }
+        requires sound { AsksSoundly bytes stmt.now }
+        requires holds { HoldsOf T.stands T.fits T.cut_of T.snap_of self.old (B.state backend.old) }
+        ensures ends { Ends B.alone (B.state backend.old) (let_pass (places_in self.old) bytes stmt.now (block_refusal (places_in self.old).block (kind_of_stmt stmt.now))) (places_in self.old) result (B.state backend.new) steps.old steps.new }
+        ensures change { IfOk result (λ t. ChangeHolds T.stands T.fits T.cut_of T.snap_of bytes t.change (B.state backend.new).history) }
+        ensures places { OnOk result (places_in self.new ≡ places_in self.old) }
+        ensures spared { OnErr result (Spares (places_in self.old) (places_in self.new)) }
+        ensures name { self.new.name ≡ self.old.name }
+        ensures number { self.new.number ≡ self.old.number }
+        ensures holds { HoldsOf T.stands T.fits T.cut_of T.snap_of self.new (B.state backend.new) }
+        ensures kin { B.kin backend.new ≡ B.kin backend.old }
+    {
+        match self.block.barrier(kind_of(stmt)) {
             Some(refusal) => refused(alloc, refusal),
-            None => self.perform(rt, alloc, backend, stmt, steps),
+            None => self.perform(rt, alloc, backend, gate, stmt, bytes, steps),
         }
     }
 
     /// Does what a statement asks for that the block lets pass.
-    #[tactic(auto, using(crate::proofs::TurnLaws::turn_stays, crate::proofs::TurnLaws::turn_refused, crate::proofs::TurnLaws::turn_ends_block, crate::specs::Holding::holds_on, crate::proofs::EndingLaws::begins_ends, crate::proofs::EndingLaws::said_tallied))]
-    fn perform<R: Threads + Sync, B: Backend<Shot = T>, L>(
+    fn perform<R: Threads + Sync, B: Backend<Shot = T>, G: Gate, L>(
         &mut self,
         rt: &R,
         alloc: Global,
         backend: &mut B,
+        gate: &G,
         stmt: &Stmt,
+        bytes: u64,
         steps: &mut Steps<L>,
-    ) -> Ending
-        requires sound { AsksSoundly stmt.now }
-        requires passes { block_refusal (block_of self.old.held) (kind_of_stmt stmt.now) ≡ None }
-        requires holds { HoldsOf T.stands self.old.held (B.seen backend.old) }
-        ensures ends { TurnEnds B.alone (B.seen backend.old) (B.halted backend.old) (performs (places_in self.old) stmt.now (kind_of_stmt stmt.now)) result (B.seen backend.new) (B.halted backend.new) (places_in self.new) }
+    ) -> Result<Told<T>, NoMemory>
+        requires sync { IsSync R.row }
+        requires counts { steps.old < 2 ^ 64 }
+        requires sound { AsksSoundly bytes stmt.now }
+        requires passes { block_refusal (places_in self.old).block (kind_of_stmt stmt.now) ≡ None }
+        requires holds { HoldsOf T.stands T.fits T.cut_of T.snap_of self.old (B.state backend.old) }
+        ensures ends { Ends B.alone (B.state backend.old) (performs (places_in self.old) bytes stmt.now) (places_in self.old) result (B.state backend.new) steps.old steps.new }
+        ensures change { IfOk result (λ t. ChangeHolds T.stands T.fits T.cut_of T.snap_of bytes t.change (B.state backend.new).history) }
+        ensures places { OnOk result (places_in self.new ≡ places_in self.old) }
+        ensures spared { OnErr result (Spares (places_in self.old) (places_in self.new)) }
         ensures name { self.new.name ≡ self.old.name }
         ensures number { self.new.number ≡ self.old.number }
-        ensures holds { HoldsOf T.stands self.new.held (B.seen backend.new) }
-        ensures tallied { Tallied B.alone (B.first_faults backend.old) (B.faults backend.old) (has_fallen result) (B.first_faults backend.new) (B.faults backend.new) }
+        ensures holds { HoldsOf T.stands T.fits T.cut_of T.snap_of self.new (B.state backend.new) }
+        ensures kin { B.kin backend.new ≡ B.kin backend.old }
     {
-        match kind_of(stmt) {
-            Kind::Changes => look(rt, alloc, backend, stmt, steps),
-            Kind::Asks => self.ask(rt, alloc, backend, stmt, steps),
-            Kind::BeginsRead => self.begin_read(alloc, backend),
-            Kind::EndsBlock => self.end_block(alloc),
-            Kind::Unbuilt => refused(alloc, bare(0)),
+        match stmt {
+            Stmt::Snap { cut } => self.snap(rt, alloc, backend, *cut, steps),
+            Stmt::Finish { cut } => self.finish(alloc, backend, gate, *cut),
+            Stmt::Begin => begin(alloc),
+            Stmt::BeginRead => begin_read(alloc, backend),
+            Stmt::Commit => self.commit(alloc, backend),
+            Stmt::Rollback => self.roll_back(alloc),
+            Stmt::Buckets(_) => self.ask(rt, alloc, backend, stmt, steps),
+            Stmt::Rows { .. } => self.ask(rt, alloc, backend, stmt, steps),
+            Stmt::Insert { .. } => self.change(rt, alloc, backend, gate, stmt, bytes, steps),
+            Stmt::Delete { .. } => self.change(rt, alloc, backend, gate, stmt, bytes, steps),
+            Stmt::Drop { .. } => self.change(rt, alloc, backend, gate, stmt, bytes, steps),
+            Stmt::Table { .. } => make(rt, alloc, backend, gate, self.number, stmt, steps),
+            Stmt::Hyper { .. } => make(rt, alloc, backend, gate, self.number, stmt, steps),
+            Stmt::View { .. } => make(rt, alloc, backend, gate, self.number, stmt, steps),
+            Stmt::Mode { .. } => make(rt, alloc, backend, gate, self.number, stmt, steps),
+            Stmt::Refresh { .. } => make(rt, alloc, backend, gate, self.number, stmt, steps),
+            Stmt::Cut { .. } => make(rt, alloc, backend, gate, self.number, stmt, steps),
+        }
+    }
+
+    /// Inserts or deletes rows: at once, or at the end of its write block.
+    fn change<R: Threads + Sync, B: Backend<Shot = T>, G: Gate, L>(
+        &self,
+        rt: &R,
+        alloc: Global,
+        backend: &mut B,
+        gate: &G,
+        stmt: &Stmt,
+        bytes: u64,
+        steps: &mut Steps<L>,
+    ) -> Result<Told<T>, NoMemory>
+        requires sync { IsSync R.row }
+        requires counts { steps.old < 2 ^ 64 }
+        requires sound { AsksSoundly bytes stmt.now }
+        requires changes { kind_of_stmt stmt.now ≡ Changes }
+        requires passes { block_refusal (places_in self.now).block Changes ≡ None }
+        ensures ends { Ends B.alone (B.state backend.old) (performs (places_in self.now) bytes stmt.now) (places_in self.now) result (B.state backend.new) steps.old steps.new }
+        ensures change { IfOk result (λ t. ChangeHolds T.stands T.fits T.cut_of T.snap_of bytes t.change (B.state backend.new).history) }
+        ensures kin { B.kin backend.new ≡ B.kin backend.old }
+    {
+        match &self.block {
+            Open::Nothing => make(rt, alloc, backend, gate, self.number, stmt, steps),
+            Open::Write(_) => queue(alloc, backend, stmt, bytes),
+            Open::Read { .. } => unreachable!(),
         }
     }
 
     /// Answers a query: in a read block from its snapshot.
-    #[tactic(auto, using(crate::proofs::EndingLaws::ends_unlooked))]
     fn ask<R: Threads + Sync, B: Backend<Shot = T>, L>(
         &self,
         rt: &R,
@@ -150,45 +241,24 @@ impl<T: Shown + Drop> Session<T> {
         backend: &mut B,
         stmt: &Stmt,
         steps: &mut Steps<L>,
-    ) -> Ending
-        requires sound { AsksSoundly stmt.now }
+    ) -> Result<Told<T>, NoMemory>
+        requires sync { IsSync R.row }
+        requires counts { steps.old < 2 ^ 64 }
+        requires sound { (bytes : ℕ) × AsksSoundly bytes stmt.now }
         requires asks { kind_of_stmt stmt.now ≡ Asks }
-        requires holds { HoldsOf T.stands self.now.held (B.seen backend.old) }
-        ensures ends { Ends B.alone (B.seen backend.old) (B.halted backend.old) (looks (λ h. named stmt.now (read_at (block_of self.now.held) h))) result (B.seen backend.new) (B.halted backend.new) }
-        ensures tallied { Tallied B.alone (B.first_faults backend.old) (B.faults backend.old) (has_fallen result) (B.first_faults backend.new) (B.faults backend.new) }
+        requires passes { block_refusal (places_in self.now).block Asks ≡ None }
+        requires holds { HoldsOf T.stands T.fits T.cut_of T.snap_of self.now (B.state backend.old) }
+        ensures ends { (bytes : ℕ) → Ends B.alone (B.state backend.old) (performs (places_in self.now) bytes stmt.now) (places_in self.now) result (B.state backend.new) steps.old steps.new }
+        ensures change { IfOk result (λ t. BringsNothing t.change) }
+        ensures kin { B.kin backend.new ≡ B.kin backend.old }
     {
-        match &self.held {
-            Held::Nothing => look(rt, alloc, backend, stmt, steps),
-            Held::Snapshot { at: _, shot } => look_back(rt, alloc, shot, stmt, steps),
-        }
-    }
-
-    /// Begins a read block.
-    #[tactic(auto, using(crate::proofs::TurnLaws::turn_begins, crate::proofs::TurnLaws::turn_blind, crate::specs::Holding::holds_on, crate::proofs::EndingLaws::tallied_look))]
-    fn begin_read<B: Backend<Shot = T>>(&mut self, alloc: Global, backend: &mut B) -> Ending
-        requires { HoldsOf T.stands self.old.held (B.seen backend.old) }
-        ensures ends { TurnEnds B.alone (B.seen backend.old) (B.halted backend.old) begins_read result (B.seen backend.new) (B.halted backend.new) (places_in self.new) }
-        ensures name { self.new.name ≡ self.old.name }
-        ensures number { self.new.number ≡ self.old.number }
-        ensures holds { HoldsOf T.stands self.new.held (B.seen backend.new) }
-        ensures tallied { Tallied B.alone (B.first_faults backend.old) (B.faults backend.old) (has_fallen result) (B.first_faults backend.new) (B.faults backend.new) }
-    {
-        match backend.snap() {
-            Ok(shot) => {
-                let at = shot.position();
-                self.held = Held::Snapshot { at, shot };
-                says(alloc, Said::BeginRead(at), None)
+        match &self.block {
+            Open::Nothing => {
+                let shot = backend.snap()?;
+                ask(rt, alloc, &shot, stmt, steps)
             }
-            Err(NoMemory) => Ending::NoMemory,
+            Open::Write(_) => unreachable!(),
+            Open::Read { at: _, shot } => ask(rt, alloc, shot, stmt, steps),
         }
-    }
-
-    /// Ends the block.
-    fn end_block(&mut self, alloc: Global) -> Ending
-        ensures says { Says End None result }
-        ensures held { self.new ≡ record self.old { held = Nothing } }
-    {
-        self.held = Held::Nothing;
-        says(alloc, Said::End, None)
     }
 }

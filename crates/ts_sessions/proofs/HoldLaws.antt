@@ -1,0 +1,100 @@
+-- What statements bring to their session, and what it holds after them.
+use Rattle.std.proofs.Common.{◌≡◌, ℕ, ◌+◌, ◌≤◌, Bool, List, [], sym, refl, subst, arith}
+use Rattle.std.specs.Prelude.{Result, Ok, Err, IsTrue, IfOk}
+use Rattle.ts_schema.specs.declared.memory.NoMemory.{NoMemory}
+use Rattle.ts_model.specs.declared.events.Op.{Op}
+use Rattle.ts_model.specs.History.{History, position, prefix}
+use Rattle.ts_model.specs.States.{State}
+use Rattle.ts_model.specs.Allowed.{all_allowed}
+use Rattle.ts_model.proofs.HistoryLaws.{prefix_end}
+use Rattle.stmt_check.proofs.QueueLaws.{queues_are_sound}
+use Rattle.result_text.specs.declared.replies.Said.{Said}
+use Rattle.ts_sessions.specs.declared.blocks.Open.{Open}
+use Rattle.ts_sessions.specs.declared.blocks.Open.TheVariants as opens
+use Rattle.ts_sessions.specs.declared.changes.Change.{Change}
+use Rattle.ts_sessions.specs.declared.changes.Change.TheVariants as changes
+use Rattle.ts_sessions.specs.declared.changes.Told.{Told}
+use Rattle.ts_sessions.specs.Deeds.{Deed}
+use Rattle.ts_sessions.specs.Held.{GoesOn, HoldsBlock, block_of, most_queued, queued}
+use Rattle.ts_sessions.specs.Places.{Block, none, writing, reading, Places, Turn}
+use Rattle.ts_sessions.specs.Sessions.{BringsLittle, BringsNothing, ChangeFits, ChangeHolds, Ends, EndsAt, Says, changed, queued_on, turn_of}
+use Rattle.ts_sessions.proofs.WalkLaws.{goes_breaks, goes_walks}
+
+-- ---- what statements bring
+
+pub says_holds : {T J : Type 0} (stands : T → History → Type 0) (fits : J → History → Type 0) (cut_of snap_of : J → ℕ) (bytes : ℕ) (h : History) (said : List Said) (change : Change T J) (fell : Bool) (result : Result (Told T J) NoMemory) → Says said change fell result → ChangeHolds stands fits cut_of snap_of bytes change h → IfOk result (λ t. ChangeHolds stands fits cut_of snap_of bytes t.change h)
+says_holds stands fits cut_of snap_of bytes h said change fell (Ok t) s k = subst (λ c. ChangeHolds stands fits cut_of snap_of bytes c h) (sym s.1) k
+says_holds stands fits cut_of snap_of bytes h said change fell (Err e) s k = tt
+
+nothing_holds : {T J : Type 0} (stands : T → History → Type 0) (fits : J → History → Type 0) (cut_of snap_of : J → ℕ) (bytes : ℕ) (h : History) (c : Change T J) → BringsNothing c → ChangeHolds stands fits cut_of snap_of bytes c h
+nothing_holds stands fits cut_of snap_of bytes h changes.Nothing b = tt
+nothing_holds stands fits cut_of snap_of bytes h (changes.Cuts c) b = tt
+nothing_holds stands fits cut_of snap_of bytes h (changes.Holds c at job) b = absurd b
+nothing_holds stands fits cut_of snap_of bytes h (changes.GivesUp c) b = tt
+nothing_holds stands fits cut_of snap_of bytes h (changes.Enters o) b = absurd b
+nothing_holds stands fits cut_of snap_of bytes h (changes.Queues op more) b = absurd b
+
+pub brings_nothing : {T J : Type 0} (stands : T → History → Type 0) (fits : J → History → Type 0) (cut_of snap_of : J → ℕ) (bytes : ℕ) (h : History) (result : Result (Told T J) NoMemory) → IfOk result (λ t. BringsNothing t.change) → IfOk result (λ t. ChangeHolds stands fits cut_of snap_of bytes t.change h)
+brings_nothing stands fits cut_of snap_of bytes h (Ok t) b = nothing_holds stands fits cut_of snap_of bytes h t.change b
+brings_nothing stands fits cut_of snap_of bytes h (Err e) b = tt
+
+out_holds : {T : Type 0} (stands : T → History → Type 0) (h : History) (o : Open T) → block_of o ≡ none → HoldsBlock stands o h × (queued (block_of o) ≡ 0)
+out_holds stands h opens.Nothing e = (tt, refl)
+out_holds stands h (opens.Write q) e = absurd cc
+out_holds stands h (opens.Read at shot) e = absurd cc
+
+little_holds : {T J : Type 0} (stands : T → History → Type 0) (fits : J → History → Type 0) (cut_of snap_of : J → ℕ) (bytes : ℕ) (h : History) (c : Change T J) → BringsLittle c → ChangeHolds stands fits cut_of snap_of bytes c h
+little_holds stands fits cut_of snap_of bytes h changes.Nothing b = tt
+little_holds stands fits cut_of snap_of bytes h (changes.Cuts c) b = tt
+little_holds stands fits cut_of snap_of bytes h (changes.Holds c at job) b = absurd b
+little_holds stands fits cut_of snap_of bytes h (changes.GivesUp c) b = tt
+little_holds stands fits cut_of snap_of bytes h (changes.Enters o) b = out_holds stands h o b
+little_holds stands fits cut_of snap_of bytes h (changes.Queues op more) b = absurd b
+
+pub brings_little : {T J : Type 0} (stands : T → History → Type 0) (fits : J → History → Type 0) (cut_of snap_of : J → ℕ) (bytes : ℕ) (h : History) (result : Result (Told T J) NoMemory) → IfOk result (λ t. BringsLittle t.change) → IfOk result (λ t. ChangeHolds stands fits cut_of snap_of bytes t.change h)
+brings_little stands fits cut_of snap_of bytes h (Ok t) b = little_holds stands fits cut_of snap_of bytes h t.change b
+brings_little stands fits cut_of snap_of bytes h (Err e) b = tt
+
+-- the snapshot of a whole history is that at its position
+pub whole_holds : {T : Type 0} (stands : T → History → Type 0) (shot : T) (at : ℕ) (h : History) → stands shot h → IsTrue (all_allowed h) → at ≡ position h → HoldsBlock stands (opens.Read at shot) h × (queued (block_of (opens.Read at shot)) ≡ 0)
+whole_holds stands shot at h s ok e =
+    let all : prefix h at ≡ h = prefix_end h at (omega (arith, e)) in
+    ((subst (stands shot) (sym all) s, omega (arith, e), subst (λ x. IsTrue (all_allowed x)) (sym all) ok), refl)
+
+-- an empty queue
+pub empty_holds : {T : Type 0} (stands : T → History → Type 0) (h : History) → HoldsBlock stands (opens.Write (record { ops = []; bytes = 0 })) h × (queued (block_of {T = T} (opens.Write (record { ops = []; bytes = 0 }))) ≡ 0)
+empty_holds stands h = ((queues_are_sound.begins h, omega arith), refl)
+
+-- ---- after a change
+
+-- there is room for what a change brings
+pub change_fits : {T J : Type 0} (stands : T → History → Type 0) (fits : J → History → Type 0) (cut_of snap_of : J → ℕ) (bytes : ℕ) (h : History) (c : Change T J) (b : Block) → queued b + bytes ≤ most_queued → ChangeHolds stands fits cut_of snap_of bytes c h → ChangeFits c b
+change_fits stands fits cut_of snap_of bytes h changes.Nothing b room k = tt
+change_fits stands fits cut_of snap_of bytes h (changes.Cuts c) b room k = tt
+change_fits stands fits cut_of snap_of bytes h (changes.Holds c at job) b room k = tt
+change_fits stands fits cut_of snap_of bytes h (changes.GivesUp c) b room k = tt
+change_fits stands fits cut_of snap_of bytes h (changes.Enters o) b room k = tt
+change_fits stands fits cut_of snap_of bytes h (changes.Queues op more) b room k = let is : more ≡ bytes = k.1 in omega (arith, is, room)
+
+queued_push : (op : Op) (more : ℕ) (b : Block) → queued (queued_on op more b) ≤ queued b + more
+queued_push op more none = omega arith
+queued_push op more (writing ops n) = omega arith
+queued_push op more (reading at) = omega arith
+
+-- the queue grows by at most the bytes of the text
+pub change_queues : {T J : Type 0} (stands : T → History → Type 0) (fits : J → History → Type 0) (cut_of snap_of : J → ℕ) (bytes : ℕ) (h : History) (c : Change T J) (p : Places) → ChangeHolds stands fits cut_of snap_of bytes c h → queued (changed c p).block ≤ queued p.block + bytes
+change_queues stands fits cut_of snap_of bytes h changes.Nothing p k = omega arith
+change_queues stands fits cut_of snap_of bytes h (changes.Cuts c) p k = omega arith
+change_queues stands fits cut_of snap_of bytes h (changes.Holds c at job) p k = omega arith
+change_queues stands fits cut_of snap_of bytes h (changes.GivesUp c) p k = omega arith
+change_queues stands fits cut_of snap_of bytes h (changes.Enters o) p k = let e : queued (block_of o) ≡ 0 = k.1 in omega (arith, e)
+change_queues stands fits cut_of snap_of bytes h (changes.Queues op more) p k = let is : more ≡ bytes = k.1 in omega (arith, is, queued_push op more p.block)
+
+-- ---- going on
+
+pub goes_ends : {T J : Type 0} (alone : Bool) (old : State) (deed : Deed (Turn Places)) (p : Places) (read : ℕ) (result : Result (Told T J) NoMemory) (new : State) → EndsAt alone old deed p read result new → GoesOn old new
+goes_ends alone old deed p read (Ok t) new e = goes_walks alone t.fell old deed new (turn_of p read t) e
+goes_ends alone old deed p read (Err x) new e = goes_breaks alone old deed new e
+
+pub goes_ended : {T J : Type 0} (alone : Bool) (old : State) (deed : Deed (Turn Places)) (p : Places) (result : Result (Told T J) NoMemory) (new : State) (before after : ℕ) → Ends alone old deed p result new before after → GoesOn old new
+goes_ended alone old deed p result new before after e = goes_ends alone old deed p e.read result new e.ends

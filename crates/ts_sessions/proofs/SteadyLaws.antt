@@ -1,0 +1,277 @@
+-- What the reply to a line says is the same over each longer history.
+use Rattle.std.proofs.Common.{◌≡◌, ℕ, ◌+◌, ◌≤◌, Bool, true, false, List, [], ◌∷◌, ◌++◌, length, Option, Some, None, sym, refl, ap, ◌∙◌, subst, arith}
+use Rattle.std.specs.Prelude.{Result, Ok, Err, ℤ, is_some, not}
+use Rattle.std.proofs.lemmas.Bool.{true≢false}
+use Rattle.ts_bucket.specs.declared.spans.Span.{Span}
+use Rattle.ts_model.specs.declared.events.Op.{Op}
+use Rattle.ts_model.specs.declared.outcomes.CutDone.{CutDone}
+use Rattle.ts_model.specs.declared.outcomes.CutDone.TheVariants.{Cut as CutMade, Nothing as NothingDone}
+use Rattle.ts_model.specs.declared.outcomes.Refusal.{Refusal}
+use Rattle.ts_model.specs.declared.rosters.Roster.{Roster}
+use Rattle.ts_model.specs.declared.views.ViewDef.{ViewDef}
+use Rattle.ts_model.specs.Calls.{Act, refuses as is_refused, says, makes, committing, cutting, finishing, making_hyper, making_table, making_view, setting_mode}
+use Rattle.ts_model.specs.History.{History, position, prefix, Begins}
+use Rattle.ts_model.specs.Roster.{roster, view_of}
+use Rattle.ts_model.proofs.HistoryLaws.{position_begins, prefix_stays}
+use Rattle.stmt_reader.specs.declared.faults.Fault.{Fault}
+use Rattle.stmt_reader.specs.declared.statements.Stmt.{Stmt}
+use Rattle.stmt_reader.specs.declared.statements.Stmt.TheVariants as stmts
+use Rattle.stmt_reader.specs.Reading.{statement}
+use Rattle.stmt_reader.specs.Streams.{Stream, stream}
+use Rattle.stmt_check.specs.declared.actions.Action.{Action}
+use Rattle.stmt_check.specs.declared.actions.Action.TheVariants as actions
+use Rattle.stmt_check.specs.Check.{action_of, refusal_of}
+use Rattle.stmt_check.proofs.LaterLaws.{Stays, delete_later, drop_later, insert_later}
+use Rattle.result_text.specs.declared.replies.Said.TheVariants as said
+use Rattle.ts_sessions.specs.declared.kinds.Kind.TheVariants as kinds
+use Rattle.ts_sessions.specs.Deeds.{Deed, sees, adds, ends, followed_by, ending_as, tries, tries_at}
+use Rattle.ts_sessions.specs.LineLaws.{ReadsWithin, RepliesAreSteady}
+use Rattle.ts_sessions.specs.Places.{Block, none, writing, reading, Places, Turn, cuts, enters, held_for, turns}
+use Rattle.ts_sessions.specs.Replies.{replies_as, replies_in}
+use Rattle.ts_sessions.specs.Steady.{IsEnded, SameLater, Steady}
+use Rattle.ts_sessions.specs.Step.{Taken, acts, begins, committed, cut_turn, finish_turn, refreshed, told, after_cut, after_line, after_snapshot, after_view, block_refusal, changes, closes, commits, finishes, finishes_held, kind_of, least_start, named, named_here, passed, prints, prints_writing, read_at, refresh_meant, refreshes, taken, view_made}
+use Rattle.ts_sessions.proofs.BlockWalks.{block_is}
+use Rattle.ts_sessions.proofs.ReplyLaws.{stays_named}
+
+-- ---- deeds one after the other
+
+-- a call after a look, or after an event, and what follows
+steady_tries : {A B : Type 0} (base h : History) (act : Act A) (then : Result A Refusal → Deed B) → ((r : Result A Refusal) → Steady true base (then r)) → Steady true base (followed_by (tries_at h act) then)
+steady_tries base h (is_refused r) then s = s (Err r)
+steady_tries base h (says a) then s = s (Ok a)
+steady_tries base h (makes e a) then s = (refl, s (Ok a), s (Err _))
+
+-- a call of which something is said
+steady_said : {A B : Type 0} (base h : History) (act : Act A) (g : Result A Refusal → B) → Steady true base (ending_as g (tries_at h act))
+steady_said base h (is_refused r) g = tt
+steady_said base h (says a) g = tt
+steady_said base h (makes e a) g = (refl, tt, tt)
+
+-- a call with a look of its own
+steady_call : {A B : Type 0} (fresh : Bool) (base : History) (act : History → Act A) (then : Result A Refusal → Deed B) → ((h : History) (r : Result A Refusal) → Steady true h (then r)) → Steady fresh base (followed_by (tries act) then)
+steady_call fresh base act then s = λ h b. (λ _. steady_tries h h (act h) then (s h), λ no_look. absurd (true≢false no_look))
+
+ended_as : {A B : Type 0} (g : A → B) (deed : Deed A) → IsEnded deed → IsEnded (ending_as g deed)
+ended_as g (sees shown f) i = absurd i
+ended_as g (adds e next stop) i = absurd i
+ended_as g (ends a) i = tt
+
+-- whatever is said of its end
+steady_as : {A B : Type 0} (g : A → B) (fresh : Bool) (base : History) (deed : Deed A) → Steady fresh base deed → Steady fresh base (ending_as g deed)
+steady_as g fresh base (sees shown f) s = λ h b. (λ look. steady_as g true h (f h) ((s h b).0 look), λ hidden. (λ l c. ((((s h b).1 hidden).0 l c).0, ap (ending_as g) (((s h b).1 hidden).0 l c).1), ended_as g (f h) ((s h b).1 hidden).1))
+steady_as g fresh base (adds e next stop) s = (s.0, steady_as g true base next s.1, steady_as g fresh base stop s.2)
+steady_as g fresh base (ends a) s = tt
+
+-- ---- refreshes
+
+steady_snapshot : (h : History) (p : Places) (c : ℕ) (span : Span) (min : ℤ) (t : Result Taken Refusal) → Steady true h (after_snapshot p c span min t)
+steady_snapshot h p c span min (Ok t) = λ l b. (λ _. steady_said l l (finishing c t.at l) (refreshed p c span min t), λ no_look. absurd (true≢false no_look))
+steady_snapshot h p c span min (Err r) = tt
+
+steady_cut : (h : History) (p : Places) (min : ℤ) (r : Result CutDone Refusal) → Steady true h (after_cut p min r)
+steady_cut h p min (Ok (CutMade c span)) = λ l b. (λ _. steady_snapshot l (cuts c p) c span min (taken c l), λ no_look. absurd (true≢false no_look))
+steady_cut h p min (Ok (NothingDone at)) = tt
+steady_cut h p min (Err r) = tt
+
+steady_refresh : (h : History) (p : Places) (n : ℕ) (lo hi : Option ℤ) (min : ℤ) → Steady true h (refreshes p n lo hi min)
+steady_refresh h p n lo hi min = steady_call true h (cutting n lo hi) (after_cut p min) (λ l r. steady_cut l p min r)
+
+steady_filled : (h : History) (p : Places) (n : ℕ) (min : ℤ) (k : ℕ) (filled : Bool) → Steady true h (view_made p n min k filled)
+steady_filled h p n min k false = tt
+steady_filled h p n min k true = steady_as (after_line (said.View k)) true h (refreshes p n None None min) (steady_refresh h p n None None min)
+
+steady_view : (h : History) (p : Places) (n : ℕ) (def : ViewDef) (filled : Bool) (r : Result ℕ Refusal) → Steady true h (after_view p n def filled r)
+steady_view h p n def filled (Ok k) = steady_filled h p n _ k filled
+steady_view h p n def filled (Err r) = tt
+
+-- ---- actions
+
+steady_commits : (h l : History) (p after : Places) (ops : List Op) → Steady true h (commits p after l ops)
+steady_commits h l p after ops = steady_said h l (committing ops l) (committed p after)
+
+steady_changes : (h l : History) (p : Places) (bytes : ℕ) (op : Op) (b : Block) → Steady true h (changes p bytes l op b)
+steady_changes h l p bytes op none = steady_commits h l p p (op ∷ [])
+steady_changes h l p bytes op (writing ops n) = tt
+steady_changes h l p bytes op (reading at) = steady_commits h l p p (op ∷ [])
+
+steady_closes : (h l : History) (p : Places) (b : Block) → Steady true h (closes p l b)
+steady_closes h l p none = tt
+steady_closes h l p (writing [] n) = tt
+steady_closes h l p (writing (op ∷ ops) n) = steady_commits h l p (enters none p) (op ∷ ops)
+steady_closes h l p (reading at) = tt
+
+steady_held : (h l : History) (p : Places) (c : ℕ) (o : Option ℕ) → Steady true h (finishes_held p l c o)
+steady_held h l p c None = tt
+steady_held h l p c (Some at) = steady_said h l (finishing c at l) (finish_turn p c at)
+
+steady_finishes : (h l : History) (p : Places) (o : Option ℕ) → Steady true h (finishes p l o)
+steady_finishes h l p None = tt
+steady_finishes h l p (Some c) = steady_held h l p c (held_for c p.held)
+
+steady_acts : (h l : History) (p : Places) (bytes : ℕ) (a : Action) → Steady true h (acts p bytes l a)
+steady_acts h l p bytes (actions.Table def) = steady_said h l (making_table def l) (told p said.Table)
+steady_acts h l p bytes (actions.Hyper t hyper) = steady_said h l (making_hyper t hyper l) (told p said.Hypertable)
+steady_acts h l p bytes (actions.View def filled) = steady_tries h l (making_view def l) (after_view p (length (roster l).views) def filled) (λ r. steady_view h p (length (roster l).views) def filled r)
+steady_acts h l p bytes (actions.Mode n only) = steady_said h l (setting_mode n only l) (told p said.Mode)
+steady_acts h l p bytes (actions.Change op) = steady_changes h l p bytes op p.block
+steady_acts h l p bytes (actions.Refresh n lo hi) = steady_tries h l (cutting n lo hi l) (after_cut p (least_start (view_of (roster l) n))) (λ r. steady_cut h p (least_start (view_of (roster l) n)) r)
+steady_acts h l p bytes (actions.Cut n lo hi) = steady_said h l (cutting n lo hi l) (cut_turn p (least_start (view_of (roster l) n)))
+steady_acts h l p bytes (actions.Snap cut) = tt
+steady_acts h l p bytes (actions.Finish cut) = steady_finishes h l p (refresh_meant p cut)
+steady_acts h l p bytes actions.Begin = tt
+steady_acts h l p bytes actions.BeginRead = tt
+steady_acts h l p bytes actions.Commit = steady_closes h l p p.block
+steady_acts h l p bytes actions.Rollback = tt
+steady_acts h l p bytes (actions.Ask q) = tt
+
+steady_passed : (h l : History) (p : Places) (bytes : ℕ) (stmt : Stmt) (o : Option Refusal) → Steady true h (passed p bytes l stmt o)
+steady_passed h l p bytes stmt (Some r) = tt
+steady_passed h l p bytes stmt None = steady_acts h l p bytes (action_of (roster l) stmt)
+
+steady_named : (h l : History) (p : Places) (bytes : ℕ) (stmt : Stmt) → Steady true h (named p bytes stmt l)
+steady_named h l p bytes stmt = steady_passed h l p bytes stmt (refusal_of (position l) (roster l) stmt)
+
+-- ---- looks
+
+-- a statement that looks once is steady where a look that isn't printed stays and ends it
+hidden : (base : History) (p : Places) (bytes : ℕ) (stmt : Stmt) → ((h : History) → Begins base h → prints p.block (kind_of stmt) (refusal_of (position h) (roster h) stmt) ≡ false → SameLater (λ l. prints p.block (kind_of stmt) (refusal_of (position l) (roster l) stmt)) (λ l. named p bytes stmt (read_at p.block l)) h × IsEnded (named p bytes stmt (read_at p.block h))) → Steady false base (named_here p bytes stmt)
+hidden base p bytes stmt stays = λ h on. (λ _. steady_named h (read_at p.block h) p bytes stmt, stays h on)
+
+-- or where each look is printed
+shown : (base : History) (p : Places) (bytes : ℕ) (stmt : Stmt) → ((r : Option Refusal) → prints p.block (kind_of stmt) r ≡ true) → Steady false base (named_here p bytes stmt)
+shown base p bytes stmt all = hidden base p bytes stmt (λ h on e. absurd (true≢false (sym (all (refusal_of (position h) (roster h) stmt)) ∙ e)))
+
+-- or where none is, and it says the same wherever it looks
+unshown : (base : History) (p : Places) (bytes : ℕ) (stmt : Stmt) (y : Turn Places) → ((r : Option Refusal) → prints p.block (kind_of stmt) r ≡ false) → ((h : History) → named p bytes stmt h ≡ ends y) → Steady false base (named_here p bytes stmt)
+unshown base p bytes stmt y no_look is =
+    hidden base p bytes stmt
+    (λ h on e. (λ l c. (no_look (refusal_of (position l) (roster l) stmt), is (read_at p.block l) ∙ sym (is (read_at p.block h))), subst IsEnded (sym (is (read_at p.block h))) tt))
+
+-- ---- outside a block
+
+only_begins : (stmt : Stmt) → begins (kind_of stmt) ≡ true → stmt ≡ stmts.Begin
+only_begins (stmts.Table name cols) e = absurd (true≢false (sym e))
+only_begins (stmts.Hyper table col interval) e = absurd (true≢false (sym e))
+only_begins (stmts.View name only filled fold) e = absurd (true≢false (sym e))
+only_begins (stmts.Mode view only) e = absurd (true≢false (sym e))
+only_begins (stmts.Insert table cols rows) e = absurd (true≢false (sym e))
+only_begins (stmts.Delete table tests) e = absurd (true≢false (sym e))
+only_begins (stmts.Drop table below) e = absurd (true≢false (sym e))
+only_begins (stmts.Refresh view lo hi) e = absurd (true≢false (sym e))
+only_begins (stmts.Cut view lo hi) e = absurd (true≢false (sym e))
+only_begins (stmts.Snap number) e = absurd (true≢false (sym e))
+only_begins (stmts.Finish number) e = absurd (true≢false (sym e))
+only_begins stmts.Begin e = refl
+only_begins stmts.BeginRead e = absurd (true≢false (sym e))
+only_begins stmts.Commit e = absurd (true≢false (sym e))
+only_begins stmts.Rollback e = absurd (true≢false (sym e))
+only_begins (stmts.Buckets fold) e = absurd (true≢false (sym e))
+only_begins (stmts.Rows table tests) e = absurd (true≢false (sym e))
+
+steady_outside : (base : History) (p : Places) (bytes : ℕ) (stmt : Stmt) → Steady false base (named_here (enters none p) bytes stmt)
+steady_outside base p bytes stmt =
+    let q = enters none p in
+    elim (begins (kind_of stmt)) as (λ b. begins (kind_of stmt) ≡ b → Steady false base (named_here q bytes stmt)) [
+      | true ↦ λ e. subst (λ s. Steady false base (named_here q bytes s)) (sym (only_begins stmt e)) (unshown base q bytes stmts.Begin (turns (enters (writing [] 0) q) said.Begin) (λ r. refl) (λ h. refl))
+      | false ↦ λ e. shown base q bytes stmt (λ r. ap not e)
+    ] refl
+
+-- ---- in a write block
+
+none_there : (o : Option Refusal) → is_some o ≡ false → o ≡ None
+none_there None e = refl
+none_there (Some r) e = absurd (true≢false e)
+
+-- an operation that is to wait
+steady_queue : (base : History) (p : Places) (bytes : ℕ) (stmt : Stmt) (ops : List Op) (n : ℕ) (op : Roster → Op) → kind_of stmt ≡ kinds.Changes → ((r : Roster) → action_of r stmt ≡ actions.Change (op r)) → ((h l : History) → Begins h l → refusal_of (position h) (roster h) stmt ≡ None → Stays h l stmt) → Steady false base (named_here (enters (writing ops n) p) bytes stmt)
+steady_queue base p bytes stmt ops n op kind is later =
+    let q = enters (writing ops n) p in
+    let y : Roster → Turn Places = λ r. turns (enters (writing (ops ++ op r ∷ []) (n + bytes)) q) said.Queued in
+    let waits : (l : History) (r : Roster) → acts q bytes l (action_of r stmt) ≡ ends (y r) = λ l r. ap (acts q bytes l) (is r) in
+    hidden base q bytes stmt (λ h on e.
+    let none_now : refusal_of (position h) (roster h) stmt ≡ None = none_there _ (ap (λ k. prints_writing ops k (refusal_of (position h) (roster h) stmt)) (sym kind) ∙ e) in
+    let here : named q bytes stmt h ≡ ends (y (roster h)) = ap (passed q bytes h stmt) none_now ∙ waits h (roster h) in (
+      λ l c.
+          let s = later h l c none_now in
+          (ap (λ k. prints_writing ops k (refusal_of (position l) (roster l) stmt)) kind ∙ ap is_some (s.passes (position l)), sym (stays_named q bytes stmt h l s) ∙ waits l (roster h) ∙ sym here),
+      subst IsEnded (sym here) tt,
+    ))
+
+-- the end of the block
+steady_commit : (base : History) (p : Places) (bytes : ℕ) (ops : List Op) (n : ℕ) → Steady false base (named_here (enters (writing ops n) p) bytes stmts.Commit)
+steady_commit base p bytes [] n = let q = enters (writing [] n) p in unshown base q bytes stmts.Commit (turns (enters none q) said.CommitEmpty) (λ r. refl) (λ h. refl)
+steady_commit base p bytes (op ∷ ops) n = shown base (enters (writing (op ∷ ops) n) p) bytes stmts.Commit (λ r. refl)
+
+refused_here : {X : Type 0} (r : Refusal) → Some r ≡ None → X
+refused_here r e = absurd cc
+
+steady_writing : (base : History) (p : Places) (bytes : ℕ) (stmt : Stmt) (ops : List Op) (n : ℕ) → block_refusal (writing ops n) (kind_of stmt) ≡ None → Steady false base (named_here (enters (writing ops n) p) bytes stmt)
+steady_writing base p bytes (stmts.Table name cols) ops n e = refused_here _ e
+steady_writing base p bytes (stmts.Hyper table col interval) ops n e = refused_here _ e
+steady_writing base p bytes (stmts.View name only filled fold) ops n e = refused_here _ e
+steady_writing base p bytes (stmts.Mode view only) ops n e = refused_here _ e
+steady_writing base p bytes (stmts.Insert table cols rows) ops n e = steady_queue base p bytes (stmts.Insert table cols rows) ops n _ refl (λ r. refl) (λ h l b i. insert_later h l (position h) table cols rows b i)
+steady_writing base p bytes (stmts.Delete table tests) ops n e = steady_queue base p bytes (stmts.Delete table tests) ops n _ refl (λ r. refl) (λ h l b i. delete_later h l (position h) table tests b i)
+steady_writing base p bytes (stmts.Drop table below) ops n e = steady_queue base p bytes (stmts.Drop table below) ops n _ refl (λ r. refl) (λ h l b i. drop_later h l (position h) table below b i)
+steady_writing base p bytes (stmts.Refresh view lo hi) ops n e = refused_here _ e
+steady_writing base p bytes (stmts.Cut view lo hi) ops n e = refused_here _ e
+steady_writing base p bytes (stmts.Snap number) ops n e = refused_here _ e
+steady_writing base p bytes (stmts.Finish number) ops n e = refused_here _ e
+steady_writing base p bytes stmts.Begin ops n e = refused_here _ e
+steady_writing base p bytes stmts.BeginRead ops n e = refused_here _ e
+steady_writing base p bytes stmts.Commit ops n e = steady_commit base p bytes ops n
+steady_writing base p bytes stmts.Rollback ops n e = let q = enters (writing ops n) p in unshown base q bytes stmts.Rollback (turns (enters none q) said.Rollback) (λ r. refl) (λ h. refl)
+steady_writing base p bytes (stmts.Buckets fold) ops n e = refused_here _ e
+steady_writing base p bytes (stmts.Rows table tests) ops n e = refused_here _ e
+
+-- ---- in a read block
+
+-- what is looked at is the position at which the block began
+steady_read : (base : History) (p : Places) (bytes : ℕ) (stmt : Stmt) (at : ℕ) → at ≤ position base → ((h : History) → IsEnded (named (enters (reading at) p) bytes stmt h)) → Steady false base (named_here (enters (reading at) p) bytes stmt)
+steady_read base p bytes stmt at le ended =
+    let q = enters (reading at) p in
+    hidden base q bytes stmt (λ h on e. (λ l c. (refl, ap (named q bytes stmt) (prefix_stays at c (omega (arith, le, position_begins on)))), ended (prefix h at)))
+
+ended_passed : (p : Places) (bytes : ℕ) (stmt : Stmt) (h : History) (o : Option Refusal) → IsEnded (acts p bytes h (action_of (roster h) stmt)) → IsEnded (passed p bytes h stmt o)
+ended_passed p bytes stmt h (Some r) i = tt
+ended_passed p bytes stmt h None i = i
+
+ended_named : (p : Places) (bytes : ℕ) (stmt : Stmt) → ((h : History) → IsEnded (acts p bytes h (action_of (roster h) stmt))) → (h : History) → IsEnded (named p bytes stmt h)
+ended_named p bytes stmt i h = ended_passed p bytes stmt h (refusal_of (position h) (roster h) stmt) (i h)
+
+steady_reading : (base : History) (p : Places) (bytes : ℕ) (stmt : Stmt) (at : ℕ) → at ≤ position base → block_refusal (reading at) (kind_of stmt) ≡ None → Steady false base (named_here (enters (reading at) p) bytes stmt)
+steady_reading base p bytes (stmts.Table name cols) at le e = refused_here _ e
+steady_reading base p bytes (stmts.Hyper table col interval) at le e = refused_here _ e
+steady_reading base p bytes (stmts.View name only filled fold) at le e = refused_here _ e
+steady_reading base p bytes (stmts.Mode view only) at le e = refused_here _ e
+steady_reading base p bytes (stmts.Insert table cols rows) at le e = refused_here _ e
+steady_reading base p bytes (stmts.Delete table tests) at le e = refused_here _ e
+steady_reading base p bytes (stmts.Drop table below) at le e = refused_here _ e
+steady_reading base p bytes (stmts.Refresh view lo hi) at le e = refused_here _ e
+steady_reading base p bytes (stmts.Cut view lo hi) at le e = refused_here _ e
+steady_reading base p bytes (stmts.Snap number) at le e = refused_here _ e
+steady_reading base p bytes (stmts.Finish number) at le e = refused_here _ e
+steady_reading base p bytes stmts.Begin at le e = refused_here _ e
+steady_reading base p bytes stmts.BeginRead at le e = refused_here _ e
+steady_reading base p bytes stmts.Commit at le e = steady_read base p bytes stmts.Commit at le (ended_named (enters (reading at) p) bytes stmts.Commit (λ h. tt))
+steady_reading base p bytes stmts.Rollback at le e = steady_read base p bytes stmts.Rollback at le (ended_named (enters (reading at) p) bytes stmts.Rollback (λ h. tt))
+steady_reading base p bytes (stmts.Buckets fold) at le e = steady_read base p bytes (stmts.Buckets fold) at le (ended_named (enters (reading at) p) bytes (stmts.Buckets fold) (λ h. tt))
+steady_reading base p bytes (stmts.Rows table tests) at le e = steady_read base p bytes (stmts.Rows table tests) at le (ended_named (enters (reading at) p) bytes (stmts.Rows table tests) (λ h. tt))
+
+-- ---- lines
+
+in_block : (base : History) (p : Places) (bytes : ℕ) (stmt : Stmt) (b : Block) → ReadsWithin b (position base) → block_refusal b (kind_of stmt) ≡ None → Steady false base (named_here (enters b p) bytes stmt)
+in_block base p bytes stmt none within e = steady_outside base p bytes stmt
+in_block base p bytes stmt (writing ops n) within e = steady_writing base p bytes stmt ops n e
+in_block base p bytes stmt (reading at) within e = steady_reading base p bytes stmt at within e
+
+let_in : (base : History) (p : Places) (bytes : ℕ) (stmt : Stmt) (o : Option Refusal) → ReadsWithin p.block (position base) → block_refusal p.block (kind_of stmt) ≡ o → Steady false base (replies_in p bytes stmt o)
+let_in base p bytes stmt (Some r) within e = tt
+let_in base p bytes stmt None within e = subst (λ q. Steady false base (named_here q bytes stmt)) (sym (block_is p p.block refl)) (in_block base p bytes stmt p.block within e)
+
+read_in : (base : History) (p : Places) (bytes : ℕ) (r : Result (Stmt × Stream) Fault) → ReadsWithin p.block (position base) → Steady false base (replies_as p bytes r)
+read_in base p bytes (Ok read) within = let_in base p bytes read.0 (block_refusal p.block (kind_of read.0)) within refl
+read_in base p bytes (Err f) within = tt
+
+pub replies_are_steady : RepliesAreSteady
+replies_are_steady p text skip base within = read_in base p (length text) (statement (stream text skip)) within

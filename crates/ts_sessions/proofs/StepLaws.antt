@@ -1,0 +1,97 @@
+-- What a line comes to, by what its statement came to and what was answered.
+use Rattle.std.proofs.Common.{◌≡◌, ℕ, ◌+◌, ◌<◌, ◌≤◌, ◌^◌, ◌++◌, Bool, true, false, List, Option, Some, None, sym, refl, ap, ◌∙◌, subst, arith}
+use Rattle.std.specs.Prelude.{Result, Ok}
+use Rattle.ts_schema.specs.declared.memory.NoMemory.{NoMemory}
+use Rattle.ts_model.specs.History.{History, Begins}
+use Rattle.ts_model.specs.States.{State}
+use Rattle.result_text.specs.declared.replies.Said.{Said}
+use Rattle.ts_sessions.specs.declared.changes.Change.{Change}
+use Rattle.ts_sessions.specs.declared.changes.Told.{Told}
+use Rattle.ts_sessions.specs.declared.replies.Reply.{Reply as ReplyMade}
+use Rattle.ts_sessions.specs.declared.replies.StepEnd.{StepEnd}
+use Rattle.ts_sessions.specs.declared.replies.StepEnd.TheVariants as steps
+use Rattle.ts_sessions.specs.declared.sessions.Session.{Session}
+use Rattle.ts_sessions.specs.Deeds.{Deed}
+use Rattle.ts_sessions.specs.Held.{Carries, HoldsOf, places_in, queued}
+use Rattle.ts_sessions.specs.Places.{Places, Turn}
+use Rattle.ts_sessions.specs.Sessions.{AnswersSo, ChangeHolds, Ends, IfAnswered, IfNoMemory, IsReplied, IsReply, Spares, Stepped, Tells, changed, turn_of, without}
+use Rattle.ts_sessions.specs.Step.{step}
+use Rattle.ts_sessions.specs.Walks.{Walks}
+use Rattle.ts_sessions.proofs.EndLaws.{raised_up}
+use Rattle.ts_sessions.proofs.HoldLaws.{change_queues, goes_ended}
+use Rattle.ts_sessions.proofs.MadeLaws.{step_made}
+use Rattle.ts_sessions.proofs.SessionLaws.{carried_places, kept_held, spared}
+use Rattle.ts_sessions.proofs.WalkLaws.{walks_break}
+
+-- ---- what is held after a statement
+
+module _ {T J : Type 0} (stands : T → History → Type 0) (fits : J → History → Type 0) (cut_of snap_of : J → ℕ) (fits_on : (job : J) (g h : History) → Begins g h → fits job g → fits job h) where
+  -- a session that a statement leaves as it is
+  pub ended_held : (s : Session T J) (alone : Bool) (old : State) (deed : Deed (Turn Places)) (p : Places) (result : Result (Told T J) NoMemory) (new : State) (before after : ℕ) → Ends alone old deed p result new before after → HoldsOf stands fits cut_of snap_of s old → HoldsOf stands fits cut_of snap_of s new
+  ended_held s alone old deed p result new before after e k = kept_held stands fits cut_of snap_of fits_on s s old new refl refl (goes_ended alone old deed p result new before after e) k
+
+-- ---- answers
+
+pub if_answered : (end : StepEnd) (P : Type 0) → P → IfAnswered end P
+if_answered (steps.Reply r) P p = p
+if_answered (steps.DiskFault r) P p = p
+if_answered steps.NoMemory P p = tt
+
+pub if_replied : (fell : Bool) (r : ReplyMade) (end : StepEnd) (P : Type 0) → IsReplied fell r end → IfNoMemory end P
+if_replied fell r (steps.Reply q) P e = tt
+if_replied fell r (steps.DiskFault q) P e = tt
+if_replied fell r steps.NoMemory P e = absurd e
+
+pub answered_so : (name : List ℕ) (said : List Said) (fell : Bool) (r : ReplyMade) (end : StepEnd) → IsReply name said r → IfAnswered end (IsReplied fell r end) → AnswersSo name said fell end
+answered_so name said fell r (steps.Reply q) is e = (e.0, subst (IsReply name said) (sym e.1) is)
+answered_so name said fell r (steps.DiskFault q) is e = (e.0, subst (IsReply name said) (sym e.1) is)
+answered_so name said fell r steps.NoMemory is e = tt
+
+-- ---- lines
+
+tells_so : {T J : Type 0} (alone fell : Bool) (old : State) (p : Places) (text : List ℕ) (skip : ℕ) (name : List ℕ) (told : Told T J) (r : ReplyMade) (new : State) (q : Places) (before after : ℕ) → Ends alone old (step p text skip) p (Ok told) new before after → told.fell ≡ fell → IsReply name told.said r → q ≡ changed told.change p → Tells alone fell old (step p text skip) name r new q before after
+tells_so alone fell old p text skip name told r new q before after e f is places =
+    let y : Turn Places = record { places = q; said = told.said; reads = e.read } in
+    let w : Walks alone fell old (step p text skip) new y =
+    subst (λ x. Walks alone fell old (step p text skip) new (record { places = x; said = told.said; reads = e.read })) (sym places) (subst (λ x. Walks alone x old (step p text skip) new (turn_of p e.read told)) f e.ends)
+    in
+    record {
+      said = told.said;
+      read = e.read;
+      walks = w;
+      text = is.text;
+      fault = is.fault;
+      names = is.names;
+      made = step_made alone fell old p text skip new y w ∙ ap (λ l. old.made ++ l) (sym is.names);
+      counted = e.counted;
+    }
+
+-- a line whose statement ended so, and whose answer was written or not
+pub stepped : {T J : Type 0} (alone : Bool) (old : State) (p : Places) (text : List ℕ) (skip : ℕ) (name : List ℕ) (told : Told T J) (end : StepEnd) (new : State) (q : Places) (before after : ℕ) → before < 2 ^ 64 → Ends alone old (step p text skip) p (Ok told) new before after → AnswersSo name told.said told.fell end → IfAnswered end (q ≡ changed told.change p) → Stepped alone old (step p text skip) name end new q before after
+stepped alone old p text skip name told (steps.Reply r) new q before after short e a places = tells_so alone false old p text skip name told r new q before after e a.0 a.1 places
+stepped alone old p text skip name told (steps.DiskFault r) new q before after short e a places = tells_so alone true old p text skip name told r new q before after e a.0 a.1 places
+stepped alone old p text skip name told steps.NoMemory new q before after short e a places =
+    (walks_break alone told.fell old (step p text skip) new (turn_of p e.read told) e.ends, subst (λ m. before ≤ m) (sym e.counted) (raised_up e.read before short))
+
+-- a line without memory for its answer leaves its session
+pub spares_then : {T J : Type 0} (s t : Session T J) (p : Places) (end : StepEnd) → places_in s ≡ p → IfNoMemory end (Carries s t) → IfNoMemory end (Spares p (places_in t))
+spares_then s t p (steps.Reply r) e k = tt
+spares_then s t p (steps.DiskFault r) e k = tt
+spares_then s t p steps.NoMemory e k = spared p (places_in t) (carried_places s t k ∙ e)
+
+-- ---- queues
+
+without_block : (gone : Option ℕ) (p : Places) → (without gone p).block ≡ p.block
+without_block None p = refl
+without_block (Some c) p = refl
+
+pub spared_queue : (p q : Places) (bytes : ℕ) → Spares p q → queued q.block ≤ queued p.block + bytes
+spared_queue p q bytes s =
+    let same : queued q.block ≡ queued p.block = ap (λ x. queued x.block) s.same ∙ ap queued (without_block s.gone p) in
+    omega (arith, same)
+
+-- the queue grows by at most the bytes of the line
+pub queue_then : {T J : Type 0} (stands : T → History → Type 0) (fits : J → History → Type 0) (cut_of snap_of : J → ℕ) (bytes : ℕ) (h : History) (c : Change T J) (p q : Places) (end : StepEnd) → ChangeHolds stands fits cut_of snap_of bytes c h → IfAnswered end (q ≡ changed c p) → IfNoMemory end (Spares p q) → queued q.block ≤ queued p.block + bytes
+queue_then stands fits cut_of snap_of bytes h c p q (steps.Reply r) k e s = subst (λ x. queued x.block ≤ queued p.block + bytes) (sym e) (change_queues stands fits cut_of snap_of bytes h c p k)
+queue_then stands fits cut_of snap_of bytes h c p q (steps.DiskFault r) k e s = subst (λ x. queued x.block ≤ queued p.block + bytes) (sym e) (change_queues stands fits cut_of snap_of bytes h c p k)
+queue_then stands fits cut_of snap_of bytes h c p q steps.NoMemory k e s = spared_queue p q bytes s

@@ -1,0 +1,259 @@
+-- An aggregate that is made, and the refresh that follows it.
+use Rattle.std.proofs.Common.{◌≡◌, ℕ, suc, ◌+◌, ◌<◌, ◌≤◌, ◌^◌, Bool, true, false, cond, nat_lt, not, List, [], ◌∷◌, ◌++◌, length, Option, Some, None, sym, refl, ap, ◌∙◌, subst, inr, arith}
+use Rattle.std.specs.Prelude.{Result, Ok, Err, IsSome, IfOk, is_some, ◌||◌, slice_get, position as place}
+use Rattle.std.specs.List.{position_or_len}
+use Rattle.std.specs.Result.{IsErr}
+use Rattle.std.proofs.lemmas.Bool.{true≢false, cond-true, ltb-false, lt-ltb}
+use Rattle.std.proofs.lemmas.List.Sums.{prefix_len-le-length}
+use Rattle.std.proofs.lemmas.List.Folds.{position_or_len_push}
+use Rattle.std.proofs.Common.{length-append, ◌==◌}
+use Rattle.std.proofs.lemmas.Bool.Decides.{nat_tests}
+use Rattle.std.proofs.lemmas.Slice.Eq.{bytes_eq-Decides}
+use Rattle.std.specs.Prelude.{ℤ}
+use Rattle.ts_bucket.specs.Bucket.{first_of}
+use Rattle.ts_schema.specs.declared.memory.NoMemory.{NoMemory}
+use Rattle.ts_model.specs.declared.events.Event.{Event}
+use Rattle.ts_model.specs.declared.events.Event.TheVariants.{View}
+use Rattle.ts_model.specs.declared.outcomes.Outcome.{Outcome}
+use Rattle.ts_model.specs.declared.outcomes.Outcome.TheVariants as outcomes
+use Rattle.ts_model.specs.declared.outcomes.Refusal.{Refusal}
+use Rattle.ts_model.specs.declared.rosters.Roster.{Roster}
+use Rattle.ts_model.specs.declared.views.ViewDef.{ViewDef}
+use Rattle.ts_model.specs.History.{History, ◌▸◌, position, Begins}
+use Rattle.ts_model.specs.States.{State, Found, Makes}
+use Rattle.ts_model.specs.Roster.{roster, roster_after, is_taken, same_name, table_named, view_named, view_of}
+use Rattle.ts_model.specs.Limits.{most_relations}
+use Rattle.ts_model.specs.Calls.{refuses, refusal, Answered, Called, making_view, new_relation, numbered, too_many}
+use Rattle.ts_model.specs.Laws.{KeepsView}
+use Rattle.ts_model.proofs.RosterLaws.{relations_stay}
+use Rattle.result_text.specs.declared.replies.Said.{Said}
+use Rattle.ts_sessions.specs.declared.changes.Change.{Change}
+use Rattle.ts_sessions.specs.declared.changes.Told.{Told}
+use Rattle.ts_sessions.specs.declared.tries.Tried.{Tried}
+use Rattle.ts_sessions.specs.declared.tries.Tried.TheVariants as tried
+use Rattle.ts_sessions.specs.Deeds.{Deed, looks, ends, ending_as, followed_by, tries_at}
+use Rattle.ts_sessions.specs.Places.{Places, Turn}
+use Rattle.ts_sessions.specs.Sessions.{Ends, EndsAt, Says, changed, has_fallen, came, turn_of}
+use Rattle.ts_sessions.specs.Step.{after_line, after_view, view_made}
+use Rattle.ts_sessions.specs.Sound.{number_from, view_number}
+use Rattle.ts_sessions.specs.Tried.{IsTried}
+use Rattle.ts_sessions.specs.Walks.{Walks, Breaks}
+use Rattle.ts_sessions.proofs.CallWalks.{answered_tries}
+use Rattle.ts_sessions.proofs.EndLaws.{quiet, raised_up, says_then, then_at}
+use Rattle.ts_sessions.proofs.WalkLaws.{breaks_first, walks_as, walks_break}
+
+-- ---- the number of an aggregate
+
+same_itself : (name : List ℕ) → same_name name name ≡ true
+same_itself name = (bytes_eq-Decides name name).1 refl
+
+named_at : (n m : ℕ) (k : ℕ) → cond (nat_lt n m) (Some n) None ≡ Some k → n ≡ k
+named_at n m k = elim (nat_lt n m) as (λ t. cond t (Some n) None ≡ Some k → n ≡ k) [ true ↦ λ e. cc | false ↦ λ e. absurd cc ]
+
+counted_from : (name : List ℕ) (k : ℕ) (vs : List ViewDef) → number_from name k vs ≡ k + position_or_len (λ v. same_name v.name name) vs
+counted_from name k [] = omega arith
+counted_from name k (v ∷ vs) =
+    elim (same_name v.name name) as (λ t. cond t k (number_from name (k + 1) vs) ≡ k + cond (not t) (1 + position_or_len (λ v. same_name v.name name) vs) 0) [
+      | true ↦ omega arith
+      | false ↦ counted_from name (k + 1) vs ∙ omega arith
+    ]
+
+-- the number under a name is that of the aggregate with it
+pub number_named : (r : Roster) (name : List ℕ) (k : ℕ) → view_named r name ≡ Some k → view_number r name ≡ k
+number_named r name k e =
+    let at : position_or_len (λ v. same_name v.name name) r.views ≡ k = named_at (position_or_len (λ v. same_name v.name name) r.views) (length r.views) k e in
+    let from : number_from name 0 r.views ≡ 0 + position_or_len (λ v. same_name v.name name) r.views = counted_from name 0 r.views in
+    omega (arith, at, from)
+
+-- what comes last is found last, where nothing before it has the name
+is_some-cond : (b : Bool) (n : ℕ) → is_some (cond b (Some n) None) ≡ false → b ≡ false
+is_some-cond true n e = absurd (true≢false e)
+is_some-cond false n e = refl
+
+found_last : {X : Type 0} (p : X → Bool) (xs : List X) (x : X) → p x ≡ true → is_some (place p xs) ≡ false → place p (xs ++ x ∷ []) ≡ Some (length xs)
+found_last p xs x e none =
+    let past : nat_lt (position_or_len p xs) (length xs) ≡ false = is_some-cond (nat_lt (position_or_len p xs) (length xs)) (position_or_len p xs) none in
+    let most : position_or_len p xs ≤ length xs = prefix_len-le-length (λ y. not (p y)) xs in
+    let least : length xs ≤ position_or_len p xs = ltb-false _ _ past in
+    let same : position_or_len p xs ≡ length xs = omega (arith, most, least) in
+    let tied : (position_or_len p xs == length xs) ≡ true = grind (arith, nat_tests) in
+    let at : position_or_len p (xs ++ x ∷ []) ≡ length xs = position_or_len_push p xs x ∙ cond-true (position_or_len p xs == length xs) _ _ tied ∙ ap (λ t. length xs + cond t 0 1) e ∙ omega arith in
+    let within : nat_lt (length xs) (length (xs ++ x ∷ [])) ≡ true = simp length-append (lt-ltb (length xs) (length xs + 1) (omega arith)) in
+    rw at (cond-true (nat_lt (length xs) (length (xs ++ x ∷ []))) (Some (length xs)) None within)
+
+not_either : (a b : Bool) → (a || b) ≡ false → b ≡ false
+not_either true b e = absurd (true≢false e)
+not_either false b e = e
+
+pub made_last : (r : Roster) (def : ViewDef) → is_taken r def.name ≡ false → view_named (roster_after r (View def)) def.name ≡ Some (length r.views)
+made_last r def free =
+    found_last (λ v. same_name v.name def.name) r.views def (same_itself def.name) (not_either (is_some (table_named r def.name)) (is_some (view_named r def.name)) free)
+
+-- it is there
+get_last : {X : Type 0} (xs : List X) (x : X) → slice_get (xs ++ x ∷ []) (length xs) ≡ Some x
+get_last [] x = refl
+get_last (y ∷ ys) x = get_last ys x
+
+-- ---- where it was made
+
+made_there : (found : State) (taken : Bool) (many : ℕ) (e : Event) (k : ℕ) (mid : State) → Answered (new_relation found.history taken many e) found (outcomes.Done k) mid → (taken ≡ false) × Makes e found mid
+made_there found true many e k mid w = absurd w
+made_there found false many e k mid w =
+    (elim (nat_lt many most_relations) as (λ t. Answered (cond t (numbered found.history e) (refuses (refusal too_many found.history (suc most_relations)))) found (outcomes.Done k) mid → (false ≡ false) × Makes e found mid) [
+      | true ↦ λ v. (refl, v.1)
+      | false ↦ λ v. absurd v
+    ]) w
+
+-- what was made under a name, and where
+pub record WasMade (def : ViewDef) (n : ℕ) (mid : History) : Type 0 where
+  pub named : view_named (roster mid) def.name ≡ Some n
+  pub there : IsSome (view_of (roster mid) n)
+
+pub was_made : (def : ViewDef) (found : State) (k : ℕ) (mid : State) → Answered (making_view def found.history) found (outcomes.Done k) mid → WasMade def (length (roster found.history).views) mid.history
+was_made def found k mid w =
+    let m = made_there found (is_taken (roster found.history) def.name) (length (roster found.history).views) (View def) k mid w in
+    let at : WasMade def (length (roster found.history).views) (found.history ▸ View def) = record {
+      named = made_last (roster found.history) def m.0;
+      there = subst (λ o. IsSome o) (sym (get_last (roster found.history).views def)) refl;
+    } in
+    subst (λ h. WasMade def (length (roster found.history).views) h) (sym m.1.history) at
+
+-- ---- the statement
+
+-- a statement at the history that its call found
+at_found : {T J : Type 0} (alone : Bool) (old found : State) (f : History → Deed (Turn Places)) (p : Places) (read : ℕ) (result : Result (Told T J) NoMemory) (new : State) → Found alone old found → EndsAt alone found (f found.history) p read result new → EndsAt alone old (looks f) p read result new
+at_found alone old found f p read (Ok t) new i e = record { mid = found; first = inr i; rest = e }
+at_found alone old found f p read (Err x) new i e = record { mid = found; first = inr i; rest = e }
+
+-- the aggregate was made, and its refresh went on
+pub made_then : {T J : Type 0} (alone : Bool) (old : State) (def : ViewDef) (k : ℕ) (mid : State) (next : ℕ → Result ℕ Refusal → Deed (Turn Places)) (p : Places) (result : Result (Told T J) NoMemory) (new : State) (before after : ℕ) → Called alone old (making_view def) (outcomes.Done k) mid → ((n : ℕ) → WasMade def n mid.history → Ends alone mid (next n (Ok k)) p result new before after) → Ends alone old (looks (λ h. followed_by (tries_at h (making_view def h)) (next (length (roster h).views)))) p result new before after
+made_then alone old def k mid next p result new before after c e =
+    let h = c.found.history in
+    let n = length (roster h).views in
+    let here = e n (was_made def c.found k mid c.answered) in
+    let w = answered_tries alone (making_view def h) c.found (outcomes.Done k) mid (Ok (tried.Done k)) c.answered refl in
+    record {
+      read = here.read;
+      ends = at_found alone old c.found (λ g. followed_by (tries_at g (making_view def g)) (next (length (roster g).views))) p here.read result new c.finds
+          (then_at alone c.found (tries_at h (making_view def h)) (Ok k) mid (next n) p here.read result new w here.ends);
+      counted = here.counted;
+    }
+
+-- the call ended so, and the statement ends with these lines
+pub view_says : {T J : Type 0} (alone : Bool) (old : State) (def : ViewDef) (outcome : Outcome ℕ) (pos : ℕ) (t : Tried ℕ) (fell : Bool) (new : State) (next : ℕ → Result ℕ Refusal → Deed (Turn Places)) (p : Places) (said : List Said) (change : Change T J) (result : Result (Told T J) NoMemory) (m : ℕ) → m < 2 ^ 64 → Called alone old (making_view def) outcome new → pos ≡ position new.history → IsTried pos outcome (Ok t) → fell ≡ has_fallen t → ((n : ℕ) → next n (came t) ≡ ends (record { places = changed change p; said = said; reads = 0 })) → Says said change fell result → Ends alone old (looks (λ h. followed_by (tries_at h (making_view def h)) (next (length (roster h).views)))) p result new m m
+view_says alone old def outcome pos t fell new next p said change result m short c e i f y s =
+    let h = c.found.history in
+    let w = answered_tries alone (making_view def h) c.found outcome new (Ok t) c.answered (subst (λ x. IsTried x outcome (Ok t)) e i) in
+    quiet alone old (looks (λ g. followed_by (tries_at g (making_view def g)) (next (length (roster g).views)))) p result new m short
+    (at_found alone old c.found (λ g. followed_by (tries_at g (making_view def g)) (next (length (roster g).views))) p 0 result new c.finds
+    (says_then alone (has_fallen t) c.found (tries_at h (making_view def h)) (came t) new (next (length (roster h).views)) p said change result w (y (length (roster h).views)) (subst (λ x. Says said change x result) f s)))
+
+pub view_done : {T J : Type 0} (alone : Bool) (old : State) (def : ViewDef) (outcome : Outcome ℕ) (pos : ℕ) (t : Tried ℕ) (k : ℕ) (new : State) (next : ℕ → Result ℕ Refusal → Deed (Turn Places)) (p : Places) (said : List Said) (change : Change T J) (result : Result (Told T J) NoMemory) (m : ℕ) → m < 2 ^ 64 → Called alone old (making_view def) outcome new → pos ≡ position new.history → IsTried pos outcome (Ok t) → t ≡ tried.Done k → Says said change false result → ((n : ℕ) → next n (Ok k) ≡ ends (record { places = changed change p; said = said; reads = 0 })) → Ends alone old (looks (λ h. followed_by (tries_at h (making_view def h)) (next (length (roster h).views)))) p result new m m
+view_done alone old def outcome pos t k new next p said change result m short c e i j s y = view_says alone old def outcome pos (tried.Done k) false new next p said change result m short c e (subst (λ x. IsTried pos outcome (Ok x)) j i) refl y s
+
+pub view_refused : {T J : Type 0} (alone : Bool) (old : State) (def : ViewDef) (outcome : Outcome ℕ) (pos : ℕ) (t : Tried ℕ) (r : Refusal) (new : State) (next : ℕ → Result ℕ Refusal → Deed (Turn Places)) (p : Places) (said : List Said) (change : Change T J) (result : Result (Told T J) NoMemory) (m : ℕ) → m < 2 ^ 64 → Called alone old (making_view def) outcome new → pos ≡ position new.history → IsTried pos outcome (Ok t) → t ≡ tried.Refused r → Says said change false result → ((n : ℕ) → next n (Err r) ≡ ends (record { places = changed change p; said = said; reads = 0 })) → Ends alone old (looks (λ h. followed_by (tries_at h (making_view def h)) (next (length (roster h).views)))) p result new m m
+view_refused alone old def outcome pos t r new next p said change result m short c e i j s y = view_says alone old def outcome pos (tried.Refused r) false new next p said change result m short c e (subst (λ x. IsTried pos outcome (Ok x)) j i) refl y s
+
+pub view_fell : {T J : Type 0} (alone : Bool) (old : State) (def : ViewDef) (outcome : Outcome ℕ) (pos : ℕ) (t : Tried ℕ) (r : Refusal) (new : State) (next : ℕ → Result ℕ Refusal → Deed (Turn Places)) (p : Places) (said : List Said) (change : Change T J) (result : Result (Told T J) NoMemory) (m : ℕ) → m < 2 ^ 64 → Called alone old (making_view def) outcome new → pos ≡ position new.history → IsTried pos outcome (Ok t) → t ≡ tried.Fell r → Says said change true result → ((n : ℕ) → next n (Err r) ≡ ends (record { places = changed change p; said = said; reads = 0 })) → Ends alone old (looks (λ h. followed_by (tries_at h (making_view def h)) (next (length (roster h).views)))) p result new m m
+view_fell alone old def outcome pos t r new next p said change result m short c e i j s y = view_says alone old def outcome pos (tried.Fell r) true new next p said change result m short c e (subst (λ x. IsTried pos outcome (Ok x)) j i) refl y s
+
+-- it did what it is for only where its call did
+done_outcome : (pos : ℕ) (outcome : Outcome ℕ) (k : ℕ) → IsTried pos outcome (Ok (tried.Done k)) → outcome ≡ outcomes.Done k
+done_outcome pos (outcomes.Done a) k i = done_same a k i
+  where
+    done_same : (a k : ℕ) → tried.Done k ≡ tried.Done a → outcomes.Done a ≡ outcomes.Done k
+    done_same a k e = cc
+done_outcome pos (outcomes.Refused r) k i = absurd cc
+done_outcome pos outcomes.DiskFault k i = absurd cc
+done_outcome pos outcomes.NoMemory k i = absurd i
+
+-- the aggregate was made, and its refresh went on
+pub made_on : {T J : Type 0} (alone : Bool) (old : State) (def : ViewDef) (outcome : Outcome ℕ) (pos : ℕ) (t : Tried ℕ) (k : ℕ) (mid : State) (next : ℕ → Result ℕ Refusal → Deed (Turn Places)) (p : Places) (result : Result (Told T J) NoMemory) (new : State) (before after : ℕ) → Called alone old (making_view def) outcome mid → IsTried pos outcome (Ok t) → t ≡ tried.Done k → ((n : ℕ) → WasMade def n mid.history → Ends alone mid (next n (Ok k)) p result new before after) → Ends alone old (looks (λ h. followed_by (tries_at h (making_view def h)) (next (length (roster h).views)))) p result new before after
+made_on alone old def outcome pos t k mid next p result new before after c i j e =
+    made_then alone old def k mid next p result new before after
+    (subst (λ o. Called alone old (making_view def) o mid) (done_outcome pos outcome k (subst (λ x. IsTried pos outcome (Ok x)) j i)) c) e
+
+-- what it made is there under its name
+pub made_named : (alone : Bool) (old : State) (def : ViewDef) (outcome : Outcome ℕ) (pos : ℕ) (t : Tried ℕ) (k : ℕ) (mid : State) → Called alone old (making_view def) outcome mid → IsTried pos outcome (Ok t) → t ≡ tried.Done k → (n : ℕ) × WasMade def n mid.history
+made_named alone old def outcome pos t k mid c i j =
+    let d = subst (λ o. Called alone old (making_view def) o mid) (done_outcome pos outcome k (subst (λ x. IsTried pos outcome (Ok x)) j i)) c in
+    (length (roster d.found.history).views, was_made def d.found k mid d.answered)
+
+pub view_broken : {A : Type 0} (alone : Bool) (old : State) (def : ViewDef) (outcome : Outcome ℕ) (pos : ℕ) (e : NoMemory) (new : State) (next : ℕ → Result ℕ Refusal → Deed A) → Called alone old (making_view def) outcome new → IsTried pos outcome (Err e) → Breaks alone old (looks (λ h. followed_by (tries_at h (making_view def h)) (next (length (roster h).views)))) new
+view_broken alone old def (outcomes.Done a) pos e new next c i = absurd i
+view_broken alone old def (outcomes.Refused r) pos e new next c i = absurd i
+view_broken alone old def outcomes.DiskFault pos e new next c i = absurd i
+view_broken alone old def outcomes.NoMemory pos e new next c i =
+    let h = c.found.history in
+    let b = answered_tries alone (making_view def h) c.found outcomes.NoMemory new (Err e) c.answered tt in
+    record { mid = c.found; first = inr c.finds; rest = breaks_first alone c.found (tries_at h (making_view def h)) (next (length (roster h).views)) new b }
+
+-- ---- the refresh that follows
+
+-- what was named where the aggregate was made is so later
+pub named_on : (g h : History) (name : List ℕ) (n : ℕ) → Begins g h → view_named (roster g) name ≡ Some n → view_number (roster h) name ≡ n
+named_on g h name n b e = number_named (roster h) name n ((relations_stay g h b).view_names name n e)
+
+there_on : (r : Roster) (s : Roster) (n : ℕ) (o : Option ViewDef) → view_of r n ≡ o → IsSome o → ((def : ViewDef) → view_of r n ≡ Some def → KeepsView def (view_of s n)) → IsSome (view_of s n)
+there_on r s n None e i k = absurd (true≢false (sym i))
+there_on r s n (Some def) e i k = subst (λ o. IsSome o) (sym (k def e).there) refl
+
+pub view_stays : (g h : History) (n : ℕ) → Begins g h → IsSome (view_of (roster g) n) → IsSome (view_of (roster h) n)
+view_stays g h n b i = there_on (roster g) (roster h) n (view_of (roster g) n) refl i ((relations_stay g h b).views n)
+
+-- a line comes before those of a turn
+pub led : {T J : Type 0} (alone : Bool) (old : State) (deed : Deed (Turn Places)) (line : Said) (p : Places) (told led_told : Told T J) (new : State) (before after : ℕ) → Ends alone old deed p (Ok told) new before after → led_told.said ≡ line ∷ told.said → led_told.change ≡ told.change → led_told.fell ≡ told.fell → Ends alone old (ending_as (after_line line) deed) p (Ok led_told) new before after
+led alone old deed line p told l new before after e s c f = record {
+  read = e.read;
+  ends =
+      let w = walks_as (after_line line) alone told.fell old deed new (turn_of p e.read told) e.ends in
+      let y : after_line line (turn_of p e.read told) ≡ turn_of p e.read l = sym (ap (λ lines. record { places = changed l.change p; said = lines; reads = e.read }) s ∙ ap (λ x. record { places = changed x p; said = line ∷ told.said; reads = e.read }) c) in
+      subst (λ x. Walks alone x old (ending_as (after_line line) deed) new (turn_of p e.read l)) (sym f) (subst (λ z. Walks alone told.fell old (ending_as (after_line line) deed) new z) y w);
+  counted = e.counted;
+}
+
+pub unled : {T J : Type 0} (alone : Bool) (old : State) (deed : Deed (Turn Places)) (line : Said) (p : Places) (result : Result (Told T J) NoMemory) (f : NoMemory) (new : State) (before after : ℕ) → before < 2 ^ 64 → Ends alone old deed p result new before after → Ends {T = T} {J = J} alone old (ending_as (after_line line) deed) p (Err f) new before after
+unled alone old deed line p (Ok t) f new before after short e = record {
+  read = 0;
+  ends = breaks_first alone old deed (λ a. ends (after_line line a)) new (walks_break alone t.fell old deed new (turn_of p e.read t) e.ends);
+  counted = subst (λ m. before ≤ m) (sym e.counted) (raised_up e.read before short);
+}
+unled alone old deed line p (Err x) f new before after short e = record { read = 0; ends = breaks_first alone old deed (λ a. ends (after_line line a)) new e.ends; counted = e.counted }
+
+pub led_by : {T J : Type 0} (alone : Bool) (old : State) (deed : Deed (Turn Places)) (line : Said) (p : Places) (told : Told T J) (result : Result (Told T J) NoMemory) (new : State) (before after : ℕ) → before < 2 ^ 64 → Ends alone old deed p (Ok told) new before after → IfOk result (λ t. t.said ≡ line ∷ told.said) → IfOk result (λ t. t.change ≡ told.change) → IfOk result (λ t. t.fell ≡ told.fell) → Ends alone old (ending_as (after_line line) deed) p result new before after
+led_by alone old deed line p told (Ok t) new before after short e s c f = led alone old deed line p told t new before after e s c f
+led_by alone old deed line p told (Err x) new before after short e s c f = unled alone old deed line p (Ok told) x new before after short e
+
+-- the number under a name, as a snapshot's roster has it
+pub number_in : (r : Roster) (views : List ViewDef) (g h : History) (name : List ℕ) (v n : ℕ) → v ≡ number_from name 0 views → views ≡ r.views → r ≡ roster h → Begins g h → view_named (roster g) name ≡ Some n → v ≡ n
+number_in r views g h name v n a b c d e = a ∙ ap (number_from name 0) (b ∙ ap (λ x. x.views) c) ∙ named_on g h name n d e
+
+-- what was made is there under its name, by its number
+pub record IsNamed (r : Roster) (name : List ℕ) : Type 0 where
+  pub named : view_named r name ≡ Some (view_number r name)
+  pub there : IsSome (view_of r (view_number r name))
+
+was_named : (def : ViewDef) (n : ℕ) (mid : History) → WasMade def n mid → IsNamed (roster mid) def.name
+was_named def n mid w =
+    let is : view_number (roster mid) def.name ≡ n = number_named (roster mid) def.name n w.named in
+    record {
+      named = w.named ∙ ap Some (sym is);
+      there = subst (λ v. IsSome (view_of (roster mid) v)) (sym is) w.there;
+    }
+
+pub made_is_named : (alone : Bool) (old : State) (def : ViewDef) (outcome : Outcome ℕ) (pos : ℕ) (t : Tried ℕ) (k : ℕ) (mid : State) (name : List ℕ) → Called alone old (making_view def) outcome mid → IsTried pos outcome (Ok t) → t ≡ tried.Done k → name ≡ def.name → IsNamed (roster mid.history) name
+made_is_named alone old def outcome pos t k mid name c i j e =
+    let w = made_named alone old def outcome pos t k mid c i j in
+    subst (λ x. IsNamed (roster mid.history) x) (sym e) (was_named def w.0 mid.history w.1)
+
+-- the statement went on after its aggregate was made
+pub made_goes_on : {T J : Type 0} (alone : Bool) (old : State) (def : ViewDef) (filled : Bool) (outcome : Outcome ℕ) (pos : ℕ) (t : Tried ℕ) (k : ℕ) (mid : State) (name : List ℕ) (min : ℤ) (p : Places) (result : Result (Told T J) NoMemory) (new : State) (before after : ℕ) → Called alone old (making_view def) outcome mid → IsTried pos outcome (Ok t) → t ≡ tried.Done k → name ≡ def.name → min ≡ first_of def.fold.width → Ends alone mid (view_made p (view_number (roster mid.history) name) min k filled) p result new before after → Ends alone old (looks (λ h. followed_by (tries_at h (making_view def h)) (after_view p (length (roster h).views) def filled))) p result new before after
+made_goes_on alone old def filled outcome pos t k mid name min p result new before after c i j e f ends_so =
+    made_on alone old def outcome pos t k mid (λ n. after_view p n def filled) p result new before after c i j
+    (λ n w. subst (λ m. Ends alone mid (view_made p m (first_of def.fold.width) k filled) p result new before after)
+    (ap (view_number (roster mid.history)) e ∙ number_named (roster mid.history) def.name n w.named)
+    (subst (λ m. Ends alone mid (view_made p (view_number (roster mid.history) name) m k filled) p result new before after) f ends_so))
+
+pub err_led : {T J : Type 0} (alone : Bool) (old : State) (deed : Deed (Turn Places)) (line : Said) (p : Places) (x : NoMemory) (result : Result (Told T J) NoMemory) (new : State) (before after : ℕ) → before < 2 ^ 64 → IsErr result → Ends {T = T} {J = J} alone old deed p (Err x) new before after → Ends alone old (ending_as (after_line line) deed) p result new before after
+err_led alone old deed line p x (Ok t) new before after short i e = absurd (true≢false (sym i))
+err_led {T = T} {J = J} alone old deed line p x (Err y) new before after short i e = unled {T = T} {J = J} alone old deed line p (Err x) y new before after short e

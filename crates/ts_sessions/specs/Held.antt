@@ -1,0 +1,87 @@
+-- What a session holds, and that it goes with what its store has seen.
+use Rattle.std.specs.Prelude.{◌≡◌, ℕ, ◌+◌, ◌≤◌, Bool, true, false, ◌||◌, List, [], ◌∷◌, ◌++◌, map, Option, Some, None, IsTrue, ⊤}
+use Rattle.std.specs.List.{AllByRecursion}
+use Rattle.ts_model.specs.declared.events.Op.{Op}
+use Rattle.ts_model.specs.History.{History, position, prefix, Begins}
+use Rattle.ts_model.specs.Allowed.{all_allowed}
+use Rattle.ts_model.specs.Pending.{pending}
+use Rattle.ts_model.specs.States.{State, stands_still}
+use Rattle.ts_model.specs.declared.refreshes.Pending.{Pending}
+use Rattle.ts_model.specs.declared.refreshes.Pending.TheVariants.{Waiting, Finished, Unknown}
+use Rattle.stmt_check.specs.Sound.{IsQueue}
+use Rattle.ts_sessions.specs.declared.blocks.Open.{Open}
+use Rattle.ts_sessions.specs.declared.blocks.Open.TheVariants.{Nothing, Write, Read}
+use Rattle.ts_sessions.specs.declared.sessions.Session.{Session}
+use Rattle.ts_sessions.specs.declared.sessions.Snapshot.{Snapshot}
+use Rattle.ts_sessions.specs.Places.{Block, none, writing, reading, Places}
+
+-- ---- the places of a session
+
+abbrev pub block_of : {T : Type 0} → Open T → Block
+block_of Nothing = none
+block_of (Write queue) = writing queue.ops queue.bytes
+block_of (Read at shot) = reading at
+
+-- the refreshes that snapshots are held for, each with the position of its snapshot
+abbrev pub positions : {J : Type 0} → List (ℕ × Snapshot J) → List (ℕ × ℕ)
+positions entries = map (λ e. (e.0, e.1.at)) entries
+
+abbrev pub places_in : {T J : Type 0} → Session T J → Places
+places_in s = record { block = block_of s.block; cut = s.cut; held = positions s.held.entries }
+
+-- a session carries what it did
+pub record Carries {T J : Type 0} (old new : Session T J) : Type 0 where
+  pub block : new.block ≡ old.block
+  pub cut : new.cut ≡ old.cut
+  pub held : new.held.entries ≡ old.held.entries
+
+-- the bytes of the texts whose operations wait for the end of a block
+abbrev pub queued : Block → ℕ
+queued none = 0
+queued (writing ops bytes) = bytes
+queued (reading at) = 0
+
+-- an operation from a text of so many bytes waits for the end of a write block
+abbrev pub pushed : {T : Type 0} → Op → ℕ → Open T → Open T
+pushed op more Nothing = Nothing
+pushed op more (Write queue) = Write (record { ops = queue.ops ++ op ∷ []; bytes = queue.bytes + more })
+pushed op more (Read at shot) = Read at shot
+
+-- the most bytes that they may have
+abbrev pub most_queued : ℕ
+most_queued = 67108864
+
+-- ---- what goes with a state
+
+-- a store went on from a state: its history grew, and where it stood still it does
+pub record GoesOn (old new : State) : Type 0 where
+  pub begins : Begins old.history new.history
+  pub still : IsTrue (stands_still old) → IsTrue (stands_still new)
+
+-- the snapshot of a read block stands for what was seen when the block began, and the queue of a write block can be committed
+abbrev pub HoldsBlock : {T : Type 0} → (T → History → Type 0) → Open T → History → Type 0
+HoldsBlock stands Nothing h = ⊤
+HoldsBlock stands (Write queue) h = IsQueue h queue.bytes queue.ops × (queue.bytes ≤ most_queued)
+HoldsBlock stands (Read at shot) h = stands shot (prefix h at) × (at ≤ position h) × IsTrue (all_allowed (prefix h at))
+
+abbrev pub is_finished : Pending → Bool
+is_finished (Waiting n) = false
+is_finished (Finished f) = true
+is_finished Unknown = false
+
+-- no refresh with this number can be finished any more: it was finished, or the store stands still
+abbrev pub is_lost : State → ℕ → Bool
+is_lost s c = is_finished (pending s.history c) || stands_still s
+
+-- a job fits what was seen, and is that of a snapshot of this refresh. A store may have taken it: then the refresh can't be finished any more
+abbrev pub HoldsJob : {J : Type 0} → (J → History → Type 0) → (J → ℕ) → (J → ℕ) → State → ℕ → ℕ → Option J → Type 0
+HoldsJob fits cut_of snap_of s c at None = IsTrue (is_lost s c)
+HoldsJob fits cut_of snap_of s c at (Some job) = fits job s.history × (cut_of job ≡ c) × (snap_of job ≡ at)
+
+abbrev pub HoldsSnapshots : {J : Type 0} → (J → History → Type 0) → (J → ℕ) → (J → ℕ) → State → List (ℕ × Snapshot J) → Type 0
+HoldsSnapshots fits cut_of snap_of s entries = AllByRecursion (λ e. HoldsJob fits cut_of snap_of s e.0 e.1.at e.1.job) entries
+
+-- what a session holds goes with what its store has seen
+pub record HoldsOf {T J : Type 0} (stands : T → History → Type 0) (fits : J → History → Type 0) (cut_of snap_of : J → ℕ) (session : Session T J) (s : State) : Type 0 where
+  pub block : HoldsBlock stands session.block s.history
+  pub snapshots : HoldsSnapshots fits cut_of snap_of s session.held.entries

@@ -1,0 +1,139 @@
+//! Blocks.
+ghost use Rattle.std.specs.Prelude.{◌≡◌, ◌+◌, ◌≤◌, OnOk, OnErr};
+ghost use Rattle.ts_sessions.specs.Held.{block_of, most_queued, pushed, queued as queued_in};
+ghost use Rattle.ts_sessions.specs.Places.{stage_of};
+ghost use Rattle.ts_sessions.specs.Sessions.{queued_on};
+ghost use Rattle.ts_sessions.specs.Step.{block_refusal, refusal_outside, refusal_reading, refusal_writing};
+
+use crate::kinds::Kind;
+use crate::refusals::bare;
+use result_text::codes;
+use ts_model::{Op, Refusal};
+use ts_schema::{NoMemory, Seq};
+
+/// The block that a session is in.
+#[derive(Clone, Copy, Debug, PartialEq, Eq)]
+pub enum Block {
+    /// None.
+    Outside,
+    /// A write block.
+    Write,
+    /// A read block.
+    Read,
+}
+
+/// The operations that wait for the end of a write block.
+#[derive(Drop)]
+pub struct Queue {
+    /// The operations, in order.
+    pub ops: Seq<Op>,
+    /// How many bytes the texts have that they came from.
+    pub bytes: u64,
+}
+
+/// The block that a session is in, with what it holds there.
+#[derive(Drop)]
+pub enum Open<T> {
+    /// It is in none.
+    Nothing,
+    /// A write block.
+    Write(Queue),
+    /// A read block.
+    Read {
+        /// The position at which the block began.
+        at: u64,
+        /// The snapshot that it shows.
+        shot: T,
+    },
+}
+
+impl<T> Open<T> {
+    /// Which block it is.
+    pub(crate) fn stage(&self) -> Block
+        ensures { result ≡ stage_of (block_of self.now) }
+    {
+        match self {
+            Open::Nothing => Block::Outside,
+            Open::Write(_) => Block::Write,
+            Open::Read { .. } => Block::Read,
+        }
+    }
+
+    /// How many bytes the texts have whose operations wait.
+    pub(crate) fn queued(&self) -> u64
+        ensures { result ≡ queued_in (block_of self.now) }
+    {
+        match self {
+            Open::Nothing => 0,
+            Open::Write(queue) => queue.bytes,
+            Open::Read { .. } => 0,
+        }
+    }
+
+    /// An operation, from a text of so many bytes, waits for the end of the block, if it is a write
+    /// block.
+    pub(crate) fn push(&mut self, op: Op, more: u64) -> Result<(), NoMemory>
+        requires { queued_in (block_of self.old) + more ≤ most_queued }
+        ensures queued { OnOk result (block_of self.new ≡ queued_on op more (block_of self.old)) }
+        ensures block { OnOk result (self.new ≡ pushed op more self.old) }
+        ensures kept { OnErr result (self.new ≡ self.old) }
+    {
+        match self {
+            Open::Nothing => Ok(()),
+            Open::Write(queue) => {
+                queue.ops.push(op)?;
+                queue.bytes += more;
+                Ok(())
+            }
+            Open::Read { .. } => Ok(()),
+        }
+    }
+
+    /// Why a statement of this kind may not be, where it may not.
+    pub(crate) fn barrier(&self, kind: Kind) -> Option<Refusal>
+        ensures { result ≡ block_refusal (block_of self.now) kind }
+    {
+        match self {
+            Open::Nothing => outside_block(kind),
+            Open::Write(_) => in_write_block(kind),
+            Open::Read { .. } => in_read_block(kind),
+        }
+    }
+}
+
+/// Why a statement of this kind may not be outside a block.
+fn outside_block(kind: Kind) -> Option<Refusal>
+    ensures { result ≡ refusal_outside kind }
+{
+    match kind {
+        Kind::Defines | Kind::Changes | Kind::Asks | Kind::Snaps | Kind::Finishes => None,
+        Kind::Begins | Kind::BeginsRead => None,
+        Kind::Commits | Kind::RollsBack => Some(bare(codes::NO_BLOCK)),
+    }
+}
+
+/// Why a statement of this kind may not be in a write block.
+fn in_write_block(kind: Kind) -> Option<Refusal>
+    ensures { result ≡ refusal_writing kind }
+{
+    match kind {
+        Kind::Changes | Kind::Commits | Kind::RollsBack => None,
+        Kind::Defines | Kind::Asks | Kind::Snaps | Kind::Finishes => {
+            Some(bare(codes::IN_WRITE_BLOCK))
+        }
+        Kind::Begins | Kind::BeginsRead => Some(bare(codes::IN_WRITE_BLOCK)),
+    }
+}
+
+/// Why a statement of this kind may not be in a read block.
+fn in_read_block(kind: Kind) -> Option<Refusal>
+    ensures { result ≡ refusal_reading kind }
+{
+    match kind {
+        Kind::Asks | Kind::Commits | Kind::RollsBack => None,
+        Kind::Defines | Kind::Changes | Kind::Snaps | Kind::Finishes => {
+            Some(bare(codes::IN_READ_BLOCK))
+        }
+        Kind::Begins | Kind::BeginsRead => Some(bare(codes::IN_READ_BLOCK)),
+    }
+}

@@ -1,0 +1,31 @@
+//! What comes of calls of a store.
+ghost use Rattle.std.specs.Prelude.{◌≡◌};
+ghost use Rattle.ts_sessions.specs.Tried.{IsTried};
+
+use crate::refusals::at;
+use result_text::codes;
+use ts_model::{Outcome, Refusal};
+use ts_schema::NoMemory;
+
+/// What came of a call that may make an event.
+#[derive(Drop, Debug, PartialEq, Eq)]
+pub enum Tried<T> {
+    /// It did what it is for.
+    Done(T),
+    /// It was refused, and nothing changed.
+    Refused(Refusal),
+    /// The disk failed at its event, and the store stands still. The refusal is that of an event there.
+    Fell(Refusal),
+}
+
+/// What came of a call that answered so, and left the store at this position.
+pub(crate) fn answered<T: Drop>(outcome: Outcome<T>, position: u64) -> Result<Tried<T>, NoMemory>
+    ensures { IsTried position outcome result }
+{
+    match outcome {
+        Outcome::Done(done) => Ok(Tried::Done(done)),
+        Outcome::Refused(refusal) => Ok(Tried::Refused(refusal)),
+        Outcome::DiskFault => Ok(Tried::Fell(at(codes::STOPPED, position, 0))),
+        Outcome::NoMemory => Err(NoMemory),
+    }
+}
