@@ -1,5 +1,5 @@
 -- The cast that contracts see, and the map that it is kept in.
-use Rattle.std.proofs.Common.{◌≡◌, ℕ, zero, suc, Bool, true, false, cond, List, [], ◌∷◌, length, slice_get, position, Option, Some, None, Result, Ok, OnOk, refl, sym, ap, ◌∙◌, subst, true≢false, unwrap_or, is_some, nat_eq, if◌then◌else◌}
+use Rattle.std.proofs.Common.{◌≡◌, ℕ, zero, suc, ◌+◌, ◌≤◌, Bool, true, false, cond, List, [], ◌∷◌, length, slice_get, position, Option, Some, None, Result, Ok, OnOk, refl, sym, ap, ◌∙◌, subst, true≢false, unwrap_or, is_some, nat_eq, if◌then◌else◌, arith}
 use Rattle.std.proofs.lemmas.Cmp.{nat_list_eq_equiv}
 use Rattle.std.specs.Cmp.Lexicographic.{pointwise, same_text}
 use Rattle.std.specs.Global.{Vec}
@@ -7,10 +7,11 @@ use Rattle.std.specs.Map.{keys_of, values_of, lookup, lookup_key}
 use Rattle.std.specs.Option.{option_map}
 use Rattle.indexmap.specs.IndexMap.{insert_entry, set_value_at}
 use Rattle.indexmap.proofs.MapLemmas.{Found-position, insert_entry-first}
-use Rattle.ts_model.specs.History.{History, Begins}
+use Rattle.ts_model.specs.States.{State}
 use Rattle.ts_model.specs.Roster.{same_name}
+use Rattle.ts_sessions.specs.Held.{GoesOn}
 use Rattle.ts_sessions.specs.Script.{places_of, with_places}
-use Rattle.script_run.specs.Casts.{cast_of, IsCast}
+use Rattle.script_run.specs.Casts.{cast_of, waiting_in, IsMember, IsCast, IsCastFrom}
 
 -- a key is this name
 abbrev is_key : List ℕ → Vec ℕ → Bool
@@ -144,37 +145,100 @@ set_cast places name entries i e actor place at =
 
 -- ---- what each of a cast knows and holds
 
-module _ {A : Type 0} (named : A → List ℕ) (holds : A → History → Type 0) where
-  pub cast_at : (h : History) (entries : List (Vec ℕ × A)) (i : ℕ) (e : Vec ℕ × A) → IsCast named holds h entries → slice_get entries i ≡ Some e → (named e.1 ≡ e.0.items) × holds e.1 h
-  cast_at h [] i e c at = absurd (some_none (sym at))
-  cast_at h (x ∷ xs) zero e c at = subst (λ e. (named e.1 ≡ e.0.items) × holds e.1 h) (some_same at) c.0
-  cast_at h (x ∷ xs) (suc i) e c at = cast_at h xs i e c.1 at
+-- a name that isn't in a cast isn't that of its first, nor in the others
+record Elsewhere {A P : Type 0} (places : A → P) (name : List ℕ) (entry : Vec ℕ × A) (entries : List (Vec ℕ × A)) : Type 0 where
+  other : is_key name entry.0 ≡ false
+  missing : places_of name (cast_of places entries) ≡ None
 
-  module _ (on : (a : A) (g h : History) → Begins g h → holds a g → holds a h) (g h : History) (longer : Begins g h) where
-    -- as the history goes on
-    pub cast_on : (entries : List (Vec ℕ × A)) → IsCast named holds g entries → IsCast named holds h entries
-    cast_on [] c = tt
-    cast_on (x ∷ xs) c = ((c.0.0, on x.1 g h longer c.0.1), cast_on xs c.1)
+elsewhere : {A P : Type 0} (places : A → P) (name : List ℕ) (entry : Vec ℕ × A) (entries : List (Vec ℕ × A)) → places_of name (cast_of places (entry ∷ entries)) ≡ None → Elsewhere places name entry entries
+elsewhere places name entry entries none = by (same_name entry.0.items name) refl none
+  where
+    by : (b : Bool) → same_name entry.0.items name ≡ b → cond b (Some (places entry.1)) (places_of name (cast_of places entries)) ≡ None → Elsewhere places name entry entries
+    by true e none = absurd (some_none none)
+    by false e none = record { other = sym (either_way name entry.0) ∙ e; missing = none }
 
-    -- and as one of them has its turn
-    pub cast_set : (entries : List (Vec ℕ × A)) (i : ℕ) (e : Vec ℕ × A) (actor : A) → IsCast named holds g entries → slice_get entries i ≡ Some e
-        → named actor ≡ named e.1 → holds actor h → IsCast named holds h (set_value_at entries i actor)
-    cast_set [] i e actor c at own has = tt
-    cast_set (x ∷ xs) zero e actor c at own has = ((own ∙ ap (λ e. named e.1) (sym (some_same at)) ∙ c.0.0, has), cast_on xs c.1)
-    cast_set (x ∷ xs) (suc i) e actor c at own has = ((c.0.0, on x.1 g h longer c.0.1), cast_set xs i e actor c.1 at own has)
+module _ {A : Type 0} (named : A → List ℕ) (numbered : A → ℕ) (holds : A → State → Type 0) where
+  from_there : (s : State) (n m : ℕ) (e : Vec ℕ × A) → n ≡ m → IsMember named numbered holds s n e → IsMember named numbered holds s m e
+  from_there s n m e same known = subst (λ k. IsMember named numbered holds s k e) same known
 
-    pub cast_put : (entries : List (Vec ℕ × A)) (key : Vec ℕ) (actor : A) → IsCast named holds g entries
-        → named actor ≡ key.items → holds actor h → IsCast named holds h (insert_entry (λ a b. pointwise nat_eq a.items b.items) entries key actor)
-    cast_put [] key actor c own has = ((own, has), tt)
-    cast_put (x ∷ xs) key actor c own has = by (pointwise nat_eq key.items x.0.items) refl (cast_put xs key actor c.1 own has)
-      where
-        by : (b : Bool) → pointwise nat_eq key.items x.0.items ≡ b → IsCast named holds h (insert_entry (λ a b. pointwise nat_eq a.items b.items) xs key actor)
-            → IsCast named holds h (if b then (x.0, actor) ∷ xs else x ∷ insert_entry (λ a b. pointwise nat_eq a.items b.items) xs key actor)
-        by true same rest = ((own ∙ same_text key.items x.0.items (sym same), has), cast_on xs c.1)
-        by false other rest = ((c.0.0, on x.1 g h longer c.0.1), rest)
+  -- one at a place
+  pub cast_at : (s : State) (n : ℕ) (entries : List (Vec ℕ × A)) (i : ℕ) (e : Vec ℕ × A) → IsCastFrom named numbered holds s n entries → slice_get entries i ≡ Some e → IsMember named numbered holds s (n + i) e
+  cast_at s n [] i e c at = absurd (some_none (sym at))
+  cast_at s n (x ∷ xs) zero e c at = from_there s n (n + 0) e (omega arith) (subst (λ e. IsMember named numbered holds s n e) (some_same at) c.0)
+  cast_at s n (x ∷ xs) (suc i) e c at = from_there s (suc n + i) (n + suc i) e (omega arith) (cast_at s (suc n) xs i e c.1 at)
 
-    pub cast_put_kept : (before kept after : List (Vec ℕ × A)) (key : Vec ℕ) (actor : A) → kept ≡ before
-        → after ≡ insert_entry (λ a b. pointwise nat_eq a.items b.items) kept key actor
-        → IsCast named holds g before → named actor ≡ key.items → holds actor h → IsCast named holds h after
-    cast_put_kept before kept after key actor same put c own has =
-        subst (IsCast named holds h) (sym put) (cast_put kept key actor (subst (IsCast named holds g) (sym same) c) own has)
+  module _ (on : (a : A) (g h : State) → GoesOn g h → holds a g → holds a h) (g h : State) (went : GoesOn g h) where
+    member_on : (n : ℕ) (e : Vec ℕ × A) → IsMember named numbered holds g n e → IsMember named numbered holds h n e
+    member_on n e m = record { name = m.name; number_known = m.number_known; holds_well = on e.1 g h went m.holds_well }
+
+    -- as the store goes on
+    pub cast_on : (n : ℕ) (entries : List (Vec ℕ × A)) → IsCastFrom named numbered holds g n entries → IsCastFrom named numbered holds h n entries
+    cast_on n [] c = tt
+    cast_on n (x ∷ xs) c = (member_on n x c.0, cast_on (suc n) xs c.1)
+
+    -- and as one of them has a line
+    pub cast_set : (n : ℕ) (entries : List (Vec ℕ × A)) (i : ℕ) (e : Vec ℕ × A) (actor : A) → IsCastFrom named numbered holds g n entries → slice_get entries i ≡ Some e
+        → named actor ≡ named e.1 → numbered actor ≡ numbered e.1 → holds actor h → IsCastFrom named numbered holds h n (set_value_at entries i actor)
+    cast_set n [] i e actor c at own number has = tt
+    cast_set n (x ∷ xs) zero e actor c at own number has =
+        let first = some_same at in (
+          record {
+            name = own ∙ ap (λ e. named e.1) (sym first) ∙ c.0.name;
+            number_known = number ∙ ap (λ e. numbered e.1) (sym first) ∙ c.0.number_known;
+            holds_well = has;
+          },
+          cast_on (suc n) xs c.1,
+        )
+    cast_set n (x ∷ xs) (suc i) e actor c at own number has = (member_on n x c.0, cast_set (suc n) xs i e actor c.1 at own number has)
+
+    -- and as a new one comes
+    pub cast_put : {P : Type 0} (places : A → P) (n : ℕ) (entries : List (Vec ℕ × A)) (key : Vec ℕ) (actor : A) → IsCastFrom named numbered holds g n entries → places_of key.items (cast_of places entries) ≡ None
+        → named actor ≡ key.items → numbered actor ≡ n + length entries → holds actor h → IsCastFrom named numbered holds h n (insert_entry (λ k. is_key key.items) entries key actor)
+    cast_put places n [] key actor c none own number has = (record { name = own; number_known = number ∙ (let e : n + 0 ≡ n = omega arith in e); holds_well = has }, tt)
+    cast_put places n (x ∷ xs) key actor c none own number has =
+        let apart = elsewhere places key.items x xs none in
+        let next : numbered actor ≡ suc n + length xs = number ∙ (let e : n + suc (length xs) ≡ suc n + length xs = omega arith in e) in
+        subst (λ b. IsCastFrom named numbered holds h n (if b then (x.0, actor) ∷ xs else x ∷ insert_entry (λ k. is_key key.items) xs key actor)) (sym apart.other)
+        (member_on n x c.0, cast_put places (suc n) xs key actor c.1 apart.missing own next has)
+
+    pub cast_put_kept : {P : Type 0} (places : A → P) (name : List ℕ) (before kept after : List (Vec ℕ × A)) (key : Vec ℕ) (actor : A) → kept ≡ before → key.items ≡ name
+        → after ≡ insert_entry (λ a b. pointwise nat_eq a.items b.items) kept key actor → IsCast named numbered holds g before → places_of name (cast_of places before) ≡ None
+        → named actor ≡ name → numbered actor ≡ length before → holds actor h → IsCast named numbered holds h after
+    cast_put_kept places name before kept after key actor same own new c none known number has =
+        let c_kept = subst (λ l. IsCast named numbered holds g l) (sym same) c in
+        let none_kept : places_of key.items (cast_of places kept) ≡ None = (λ i. places_of (own i) (cast_of places (same i))) ∙ none in
+        let number_kept : numbered actor ≡ 0 + length kept = number ∙ ap length (sym same) ∙ (let e : length kept ≡ 0 + length kept = omega arith in e) in
+        subst (λ l. IsCast named numbered holds h l) (sym (new ∙ put_same kept key actor))
+        (cast_put places 0 kept key actor c_kept none_kept (known ∙ sym own) number_kept has)
+
+-- ---- what waits
+
+module _ {A : Type 0} (waiting : A → ℕ) where
+  -- one has no more waiting than all
+  pub waiting_at : (entries : List (Vec ℕ × A)) (i : ℕ) (e : Vec ℕ × A) → slice_get entries i ≡ Some e → waiting e.1 ≤ waiting_in waiting entries
+  waiting_at [] i e at = absurd (some_none (sym at))
+  waiting_at (x ∷ xs) zero e at = let first : waiting x.1 ≡ waiting e.1 = ap (λ p. waiting p.1) (some_same at) in omega arith
+  waiting_at (x ∷ xs) (suc i) e at = let rest = waiting_at xs i e at in omega arith
+
+  -- where one has more waiting, all have
+  pub waiting_set : (entries : List (Vec ℕ × A)) (i : ℕ) (e : Vec ℕ × A) (actor : A) (more : ℕ) → slice_get entries i ≡ Some e → waiting actor ≤ waiting e.1 + more
+      → waiting_in waiting (set_value_at entries i actor) ≤ waiting_in waiting entries + more
+  waiting_set [] i e actor more at few = absurd (some_none (sym at))
+  waiting_set (x ∷ xs) zero e actor more at few = let first : waiting x.1 ≡ waiting e.1 = ap (λ p. waiting p.1) (some_same at) in omega arith
+  waiting_set (x ∷ xs) (suc i) e actor more at few = let rest = waiting_set xs i e actor more at few in omega arith
+
+  -- a new one adds what it has
+  waiting_put : (entries : List (Vec ℕ × A)) (key : Vec ℕ) (actor : A) → waiting_in waiting (insert_entry (λ a b. pointwise nat_eq a.items b.items) entries key actor) ≤ waiting_in waiting entries + waiting actor
+  waiting_put [] key actor = omega arith
+  waiting_put (x ∷ xs) key actor = by (pointwise nat_eq key.items x.0.items) (waiting_put xs key actor)
+    where
+      by : (b : Bool) → waiting_in waiting (insert_entry (λ a b. pointwise nat_eq a.items b.items) xs key actor) ≤ waiting_in waiting xs + waiting actor
+          → waiting_in waiting (if b then (x.0, actor) ∷ xs else x ∷ insert_entry (λ a b. pointwise nat_eq a.items b.items) xs key actor) ≤ waiting_in waiting (x ∷ xs) + waiting actor
+      by true rest = omega arith
+      by false rest = omega arith
+
+  pub waiting_put_kept : (before kept after : List (Vec ℕ × A)) (key : Vec ℕ) (actor : A) (more : ℕ) → kept ≡ before → after ≡ insert_entry (λ a b. pointwise nat_eq a.items b.items) kept key actor
+      → waiting actor ≤ more → waiting_in waiting after ≤ waiting_in waiting before + more
+  waiting_put_kept before kept after key actor more same new few =
+      subst (λ l. waiting_in waiting after ≤ waiting_in waiting l + more) same
+      (subst (λ l. waiting_in waiting l ≤ waiting_in waiting kept + more) (sym new) (let most = waiting_put kept key actor in omega arith))

@@ -1,7 +1,8 @@
 pub mod CastLaws
-pub mod DeedLaws
+pub mod Counting
+pub mod LineLaws
 pub mod Progress
 pub mod ScriptLaws
 pub mod SpokenLaws
 pub mod Telling
-pub mod Writing
+pub mod WalkedAlone

@@ -1,4 +1,5 @@
 pub mod Casts
+pub mod Went
 pub mod Plays
 pub mod Runs
 pub mod Stops

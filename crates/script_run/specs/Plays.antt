@@ -1,12 +1,15 @@
 -- What comes of a line of a script.
-use Rattle.std.specs.Prelude.{◌≡◌, ℕ, suc, ◌≤◌, Bool, false, ◌||◌, List, Option, length, IsTrue, ⊤}
+use Rattle.std.specs.Prelude.{◌≡◌, ℕ, suc, ◌≤◌, Bool, true, false, ◌||◌, ◌⊎◌, List, Option, length, IsTrue, Result, Ok, Err, ⊤}
 use Rattle.std.specs.Io.KnownBytes.{Appends}
 use Rattle.ts_schema.specs.Names.{is_name}
-use Rattle.ts_io.specs.Whole.{AppendsPart}
-use Rattle.ts_model.specs.History.{History, Begins}
+use Rattle.ts_schema.specs.Counts.{raised_by}
+use Rattle.ts_schema.specs.declared.memory.NoMemory.{NoMemory as NoMemoryLeft}
+use Rattle.ts_model.specs.States.{State}
+use Rattle.ts_sessions.specs.declared.replies.Reply.{Reply as ReplyMade}
 use Rattle.ts_sessions.specs.declared.replies.StepEnd.{StepEnd}
 use Rattle.ts_sessions.specs.declared.replies.StepEnd.TheVariants.{Reply, DiskFault, NoMemory}
 use Rattle.ts_sessions.specs.Script.{Played, Scene, session_name}
+use Rattle.script_run.specs.Went.{WentOn, IsBetween, FailedBetween}
 
 -- a line of a session: its name, which is a good one, stands directly before the colon, the colon before the statement, and the statement before the comment
 pub record IsSpoken (line : List ℕ) (len skip end : ℕ) : Type 0 where
@@ -15,33 +18,49 @@ pub record IsSpoken (line : List ℕ) (len skip end : ℕ) : Type 0 where
   pub statement : skip ≤ end
   pub within : end ≤ length line
 
--- a reply has this text, and is a FAULT or not, unless there was no memory for it
-abbrev pub Replies : List ℕ → Bool → StepEnd → Type 0
-Replies text fault (Reply r) = (r.text ≡ text) × (r.fault ≡ fault)
-Replies text fault (DiskFault r) = ⊥
-Replies text fault NoMemory = ⊤
+-- a reply with this text, which is a FAULT or not
+pub record IsReply (text : List ℕ) (fault : Bool) (reply : ReplyMade) : Type 0 where
+  pub text_is : reply.text ≡ text
+  pub fault_is : reply.fault ≡ fault
 
--- a line that has a reply came to what it should come to, and the store goes on
-abbrev pub Comes : {P : Type 0} → StepEnd → Played P → Scene P → Bool → Type 0
-Comes (Reply r) played scene halted = (r.text ≡ played.text) × (r.fault ≡ played.fault) × (scene ≡ played.scene) × (halted ≡ false)
-Comes (DiskFault r) played scene halted = ⊤
-Comes NoMemory played scene halted = ⊤
+-- a line came to what it should come to, and the store goes on
+pub record LineAnswered {P : Type 0} (played : Played P) (reply : ReplyMade) (old new : State) (scene : Scene P) (before after : ℕ) : Type 0 where
+  pub replied : IsReply played.text played.fault reply
+  pub reached : scene ≡ played.scene
+  pub went : WentOn false old new
+  pub counted : after ≡ raised_by played.reads before
 
--- what a line came to that should come to this: however it ended, its events are the first of those that it should make
-pub record LinePlayed {P : Type 0} (end : StepEnd) (played : Played P) (old : History) (scene : Scene P) (halted : Bool) : Type 0 where
-  pub comes : Comes end played scene halted
-  pub began : Begins old scene.history
-  pub within : Begins scene.history played.scene.history
+-- the disk failed at an event of a line that should come to this
+pub record LineFailed {P : Type 0} (played : Played P) (old new : State) (before after : ℕ) : Type 0 where
+  pub failed : FailedBetween old.history played.scene.history new
+  pub went : WentOn true old new
+  pub counted : before ≤ after
+
+-- a line that should come to this was broken off for want of memory
+pub record LineBroken {P : Type 0} (played : Played P) (old new : State) (before after : ℕ) : Type 0 where
+  pub between : IsBetween old.history played.scene.history new
+  pub went : WentOn false old new
+  pub counted : before ≤ after
+
+-- how a line ended that should come to this. Where there was no memory, the disk may have failed before
+abbrev pub LinePlayed : {P : Type 0} → StepEnd → Played P → State → State → Scene P → ℕ → ℕ → Type 0
+LinePlayed (Reply r) played old new scene before after = LineAnswered played r old new scene before after
+LinePlayed (DiskFault r) played old new scene before after = LineFailed played old new before after
+LinePlayed NoMemory played old new scene before after = LineBroken played old new before after ⊎ LineFailed played old new before after
+
+-- a reply was made, unless there was no memory for it
+abbrev pub Replies : List ℕ → Bool → Result ReplyMade NoMemoryLeft → Type 0
+Replies text fault (Ok r) = IsReply text fault r
+Replies text fault (Err e) = ⊤
+
+-- the end of a line that is answered so
+abbrev pub ends_with : Result ReplyMade NoMemoryLeft → StepEnd
+ends_with (Ok r) = Reply r
+ends_with (Err e) = NoMemory
 
 -- a line that should come to this was played, and its reply written whole
-pub record LineWritten {P : Type 0} (played : Played P) (scene : Scene P) (halted : Bool) (old new : Option (List ℕ)) (refused_before refused : Bool) : Type 0 where
+pub record LineWritten {P : Type 0} (played : Played P) (scene : Scene P) (old new : Option (List ℕ)) (was is : Bool) (before after : ℕ) : Type 0 where
   pub reached : scene ≡ played.scene
-  pub going : halted ≡ false
   pub wrote : Appends old new played.text
-  pub refused_too : refused ≡ (refused_before || played.fault)
-
--- a line that should come to this was cut short: a part of its reply was written, and its events are the first of those that it should make
-pub record LineCut {P : Type 0} (played : Played P) (before after : History) (old new : Option (List ℕ)) : Type 0 where
-  pub began : Begins before after
-  pub within : Begins after played.scene.history
-  pub wrote : AppendsPart old new played.text
+  pub refused : is ≡ (was || played.fault)
+  pub counted : after ≡ raised_by played.reads before

@@ -1,33 +1,54 @@
 -- How a run ends, and what it has then done.
-use Rattle.std.specs.Prelude.{◌≡◌, ℕ, ◌<◌, ◌≤◌, Bool, true, false, ⊤, List, ◌++◌, Option, length, take}
+use Rattle.std.specs.Prelude.{◌≡◌, ℕ, suc, ◌<◌, ◌≤◌, Bool, true, false, List, [], ◌∷◌, ◌++◌, Option, length, take}
 use Rattle.std.specs.Io.KnownBytes.{Appends, IsAtEnd}
+use Rattle.ts_schema.specs.Counts.{raised_by}
 use Rattle.ts_io.specs.Lines.{lines_within}
-use Rattle.ts_io.specs.declared.whole.TheConstants.{INPUT_LIMIT}
-use Rattle.ts_model.specs.History.{History, Begins}
-use Rattle.ts_sessions.specs.Script.{Play, output, is_refused, final_scene, opening_scene}
+use Rattle.ts_io.specs.declared.limits.TheConstants.{INPUT_LIMIT}
+use Rattle.ts_model.specs.History.{History}
+use Rattle.ts_model.specs.States.{State}
+use Rattle.ts_sessions.specs.Script.{Play, Played, Scene, plays, output, is_refused, reads_in, final_scene, opening_scene}
 use Rattle.script_run.specs.declared.ends.RunEnd.{RunEnd}
 use Rattle.script_run.specs.declared.ends.RunEnd.TheVariants.{Done, Refused, ReadFault, WriteFault, DiskFault, NoMemory, InputLong}
+use Rattle.script_run.specs.Went.{IsBetween, FailedBetween}
 
 -- the lines of an input that are executed: those that end within the limit
 abbrev pub executed : List ℕ → List (List ℕ)
 executed input = lines_within INPUT_LIMIT input
 
--- the text, the events and the faults of a script, whose lines count from 1, over a history
+-- ---- a script over a history, whose lines count from 1
+
+-- where it comes to
+abbrev pub scene_after : {P : Type 0} → Play P → History → List (List ℕ) → Scene P
+scene_after play h lines = final_scene play (opening_scene h) 1 lines
+
+abbrev pub history_of : {P : Type 0} → Play P → History → List (List ℕ) → History
+history_of play h lines = (scene_after play h lines).history
+
+-- its text
 abbrev pub output_of : {P : Type 0} → Play P → History → List (List ℕ) → List ℕ
 output_of play h lines = output play (opening_scene h) 1 lines
 
-abbrev pub history_of : {P : Type 0} → Play P → History → List (List ℕ) → History
-history_of play h lines = (final_scene play (opening_scene h) 1 lines).history
-
+-- a reply is a FAULT
 abbrev pub has_fault : {P : Type 0} → Play P → History → List (List ℕ) → Bool
 has_fault play h lines = is_refused play (opening_scene h) 1 lines
 
--- what a run left: the history seen, whether the store stands still, and the bytes written before and after
+-- how many stored rows it looks at
+abbrev pub reads_of : {P : Type 0} → Play P → History → List (List ℕ) → ℕ
+reads_of play h lines = reads_in play (opening_scene h) 1 lines
+
+-- what a line comes to that follows these
+abbrev pub played_after : {P : Type 0} → Play P → History → List (List ℕ) → List ℕ → Played P
+played_after play h lines line = plays play (scene_after play h lines) (suc (length lines)) line
+
+-- ---- what a run left
+
+-- the state of the store, the bytes written before and after, and the count of rows read before and after
 pub record Left : Type 0 where
-  pub seen : History
-  pub halted : Bool
-  pub before : Option (List ℕ)
-  pub after : Option (List ℕ)
+  pub store : State
+  pub written_before : Option (List ℕ)
+  pub written : Option (List ℕ)
+  pub read_before : ℕ
+  pub read : ℕ
 
 -- the input is within its limit, and was read to its end
 pub record ReadWhole (input : List ℕ) (rest : Option (List ℕ)) : Type 0 where
@@ -36,61 +57,84 @@ pub record ReadWhole (input : List ℕ) (rest : Option (List ℕ)) : Type 0 wher
 
 -- the lines were executed to the last, and their replies written
 pub record Executed {P : Type 0} (play : Play P) (h : History) (lines : List (List ℕ)) (left : Left) : Type 0 where
-  pub history : left.seen ≡ history_of play h lines
-  pub going : left.halted ≡ false
-  pub wrote : Appends left.before left.after (output_of play h lines)
+  pub history : left.store.history ≡ history_of play h lines
+  pub wrote : Appends left.written_before left.written (output_of play h lines)
+  pub counted : left.read ≡ raised_by (reads_of play h lines) left.read_before
 
--- the lines were executed in part: of the first ones all replies were written whole, and nothing more than a part of the text after them; the events are those of the first
--- lines, and the first of those of one line more
-pub record CutShort {P : Type 0} (play : Play P) (h : History) (lines : List (List ℕ)) (left : Left) : Type 0 where
+-- some first lines were executed, and their replies written, and nothing was done of the others
+pub record StoppedBefore {P : Type 0} (play : Play P) (h : History) (lines : List (List ℕ)) (left : Left) : Type 0 where
   pub done : List (List ℕ)
+  pub rest : List (List ℕ)
+  pub split : lines ≡ done ++ rest
+  pub executed_first : Executed play h done left
+
+-- the replies to some first lines were written, and the next line was executed, of whose reply a part was written
+pub record StoppedWriting {P : Type 0} (play : Play P) (h : History) (lines : List (List ℕ)) (left : Left) : Type 0 where
+  pub done : List (List ℕ)
+  pub line : List ℕ
   pub rest : List (List ℕ)
   pub part : List ℕ
   pub todo : List ℕ
-  pub lines_split : lines ≡ done ++ rest
-  pub text_split : output_of play h lines ≡ (output_of play h done ++ part) ++ todo
-  pub wrote : Appends left.before left.after (output_of play h done ++ part)
-  pub began : Begins (history_of play h done) left.seen
-  pub within : Begins left.seen (history_of play h (done ++ take 1 rest))
+  pub split : lines ≡ done ++ line ∷ rest
+  pub reply : (played_after play h done line).text ≡ part ++ todo
+  pub wrote : Appends left.written_before left.written (output_of play h done ++ part)
+  pub history : left.store.history ≡ history_of play h (done ++ line ∷ [])
+  pub counted : left.read ≡ raised_by (reads_of play h (done ++ line ∷ [])) left.read_before
+
+-- the replies to some first lines were written, and nothing of the next one's, at an event of which the disk failed
+pub record StoppedAtEvent {P : Type 0} (play : Play P) (h : History) (lines : List (List ℕ)) (left : Left) : Type 0 where
+  pub done : List (List ℕ)
+  pub line : List ℕ
+  pub rest : List (List ℕ)
+  pub split : lines ≡ done ++ line ∷ rest
+  pub wrote : Appends left.written_before left.written (output_of play h done)
+  pub failed : FailedBetween (history_of play h done) (history_of play h (done ++ line ∷ [])) left.store
+  pub counted : raised_by (reads_of play h done) left.read_before ≤ left.read
+
+-- the replies to some first lines were written, and nothing of the next one's, of which the first events may stand
+pub record StoppedWithin {P : Type 0} (play : Play P) (h : History) (lines : List (List ℕ)) (left : Left) : Type 0 where
+  pub done : List (List ℕ)
+  pub rest : List (List ℕ)
+  pub split : lines ≡ done ++ rest
+  pub wrote : Appends left.written_before left.written (output_of play h done)
+  pub between : IsBetween (history_of play h done) (history_of play h (done ++ take 1 rest)) left.store
+  pub counted : raised_by (reads_of play h done) left.read_before ≤ left.read
 
 -- what a run that ended so over a history has read of an input, executed of its lines, and written of their replies
 abbrev pub Ran : {P : Type 0} → RunEnd → Play P → History → List ℕ → Option (List ℕ) → Left → Type 0
 Ran Done play h input rest left = ReadWhole input rest × Executed play h (executed input) left × (has_fault play h (executed input) ≡ false)
 Ran Refused play h input rest left = ReadWhole input rest × Executed play h (executed input) left × (has_fault play h (executed input) ≡ true)
-Ran ReadFault play h input rest left = CutShort play h (executed input) left
-Ran WriteFault play h input rest left = CutShort play h (executed input) left
-Ran DiskFault play h input rest left = CutShort play h (executed input) left
-Ran NoMemory play h input rest left = CutShort play h (executed input) left
+Ran ReadFault play h input rest left = StoppedBefore play h (executed input) left
+Ran WriteFault play h input rest left = StoppedWriting play h (executed input) left
+Ran DiskFault play h input rest left = StoppedAtEvent play h (executed input) left
+Ran NoMemory play h input rest left = StoppedWithin play h (executed input) left
 Ran InputLong play h input rest left = (INPUT_LIMIT < length input) × Executed play h (executed input) left
 
--- ---- causes
+-- ---- faults
 
--- P holds where the source failed
-abbrev pub IfReadFault : RunEnd → Type 0 → Type 0
-IfReadFault Done P = ⊤
-IfReadFault Refused P = ⊤
-IfReadFault ReadFault P = P
-IfReadFault WriteFault P = ⊤
-IfReadFault DiskFault P = ⊤
-IfReadFault NoMemory P = ⊤
-IfReadFault InputLong P = ⊤
+abbrev pub is_read_fault : RunEnd → Bool
+is_read_fault Done = false
+is_read_fault Refused = false
+is_read_fault ReadFault = true
+is_read_fault WriteFault = false
+is_read_fault DiskFault = false
+is_read_fault NoMemory = false
+is_read_fault InputLong = false
 
--- P holds where the sink failed
-abbrev pub IfWriteFault : RunEnd → Type 0 → Type 0
-IfWriteFault Done P = ⊤
-IfWriteFault Refused P = ⊤
-IfWriteFault ReadFault P = ⊤
-IfWriteFault WriteFault P = P
-IfWriteFault DiskFault P = ⊤
-IfWriteFault NoMemory P = ⊤
-IfWriteFault InputLong P = ⊤
+abbrev pub is_write_fault : RunEnd → Bool
+is_write_fault Done = false
+is_write_fault Refused = false
+is_write_fault ReadFault = false
+is_write_fault WriteFault = true
+is_write_fault DiskFault = false
+is_write_fault NoMemory = false
+is_write_fault InputLong = false
 
--- P holds where the disk failed
-abbrev pub IfDiskFault : RunEnd → Type 0 → Type 0
-IfDiskFault Done P = ⊤
-IfDiskFault Refused P = ⊤
-IfDiskFault ReadFault P = ⊤
-IfDiskFault WriteFault P = ⊤
-IfDiskFault DiskFault P = P
-IfDiskFault NoMemory P = ⊤
-IfDiskFault InputLong P = ⊤
+abbrev pub is_disk_fault : RunEnd → Bool
+is_disk_fault Done = false
+is_disk_fault Refused = false
+is_disk_fault ReadFault = false
+is_disk_fault WriteFault = false
+is_disk_fault DiskFault = true
+is_disk_fault NoMemory = false
+is_disk_fault InputLong = false

@@ -1,35 +1,66 @@
--- Why a script stops at a line.
-use Rattle.std.specs.Prelude.{◌≡◌, ℕ, Bool, ◌||◌, List, Option, Result, Ok, Err, ⊤}
-use Rattle.std.specs.Io.KnownBytes.{Appends}
+-- Why a script stops at a line, and what is then done of it.
+use Rattle.std.specs.Prelude.{◌≡◌, ℕ, ◌≤◌, Bool, true, false, List, Option, Result, Ok, Err}
 use Rattle.ts_io.specs.Whole.{AppendsPart}
+use Rattle.ts_schema.specs.Counts.{raised_by}
+use Rattle.ts_model.specs.States.{State}
+use Rattle.ts_sessions.specs.declared.replies.Reply.{Reply as ReplyMade}
 use Rattle.ts_sessions.specs.declared.replies.StepEnd.{StepEnd}
 use Rattle.ts_sessions.specs.declared.replies.StepEnd.TheVariants as steps
+use Rattle.ts_sessions.specs.Script.{Played, Scene}
 use Rattle.script_run.specs.declared.stages.Stop.{Stop}
 use Rattle.script_run.specs.declared.stages.Stop.TheVariants.{WriteFault, DiskFault, NoMemory}
+use Rattle.script_run.specs.Went.{IsBetween, FailedBetween}
 
--- how a line that came to this is answered: its reply is written, and nothing where it has none
-abbrev pub AnswerEnds : StepEnd → Result Unit Stop → Option (List ℕ) → Option (List ℕ) → Bool → Bool → Type 0
-AnswerEnds (steps.Reply r) (Ok done) old new was is = Appends old new r.text × (is ≡ (was || r.fault))
-AnswerEnds (steps.Reply r) (Err WriteFault) old new was is = AppendsPart old new r.text
-AnswerEnds (steps.Reply r) (Err DiskFault) old new was is = ⊥
-AnswerEnds (steps.Reply r) (Err NoMemory) old new was is = ⊥
-AnswerEnds (steps.DiskFault r) (Ok done) old new was is = ⊥
-AnswerEnds (steps.DiskFault r) (Err WriteFault) old new was is = ⊥
-AnswerEnds (steps.DiskFault r) (Err DiskFault) old new was is = new ≡ old
-AnswerEnds (steps.DiskFault r) (Err NoMemory) old new was is = ⊥
-AnswerEnds steps.NoMemory (Ok done) old new was is = ⊥
-AnswerEnds steps.NoMemory (Err WriteFault) old new was is = ⊥
-AnswerEnds steps.NoMemory (Err DiskFault) old new was is = ⊥
-AnswerEnds steps.NoMemory (Err NoMemory) old new was is = new ≡ old
+-- the reply to a line that ended so, or why there is none, by whether the store then stands still
+abbrev pub settled : Bool → StepEnd → Result ReplyMade Stop
+settled still (steps.Reply r) = Ok r
+settled still (steps.DiskFault r) = Err DiskFault
+settled true steps.NoMemory = Err DiskFault
+settled false steps.NoMemory = Err NoMemory
 
--- P holds where the sink failed
-abbrev pub IfWriteStop : Stop → Type 0 → Type 0
-IfWriteStop WriteFault P = P
-IfWriteStop DiskFault P = ⊤
-IfWriteStop NoMemory P = ⊤
+-- a line was played, and a part of its reply written
+pub record ReplyCut {P : Type 0} (played : Played P) (scene : Scene P) (old new : Option (List ℕ)) (before after : ℕ) : Type 0 where
+  pub reached : scene ≡ played.scene
+  pub wrote : AppendsPart old new played.text
+  pub counted : after ≡ raised_by played.reads before
 
--- P holds where the disk failed
-abbrev pub IfDiskStop : Stop → Type 0 → Type 0
-IfDiskStop WriteFault P = ⊤
-IfDiskStop DiskFault P = P
-IfDiskStop NoMemory P = ⊤
+-- the disk failed at an event of a line, and nothing of its reply was written
+pub record EventFailed {P : Type 0} (played : Played P) (old new : State) (written_before written : Option (List ℕ)) (before after : ℕ) : Type 0 where
+  pub failed : FailedBetween old.history played.scene.history new
+  pub wrote : written ≡ written_before
+  pub counted : before ≤ after
+
+-- there was no memory for a line, and nothing of its reply was written
+pub record LineGivenUp {P : Type 0} (played : Played P) (old new : State) (written_before written : Option (List ℕ)) (before after : ℕ) : Type 0 where
+  pub between : IsBetween old.history played.scene.history new
+  pub wrote : written ≡ written_before
+  pub counted : before ≤ after
+
+-- what is done of a line that should come to this where the script stops at it
+abbrev pub LineCut : {P : Type 0} → Stop → Played P → State → State → Scene P → Option (List ℕ) → Option (List ℕ) → ℕ → ℕ → Type 0
+LineCut WriteFault played old new scene written_before written before after = ReplyCut played scene written_before written before after
+LineCut DiskFault played old new scene written_before written before after = EventFailed played old new written_before written before after
+LineCut NoMemory played old new scene written_before written before after = LineGivenUp played old new written_before written before after
+
+-- what is written of the refusal of a line where the script stops at it
+abbrev pub RefusalCut : Stop → Option (List ℕ) → Option (List ℕ) → List ℕ → Type 0
+RefusalCut WriteFault old new text = AppendsPart old new text
+RefusalCut DiskFault old new text = ⊥
+RefusalCut NoMemory old new text = new ≡ old
+
+-- ---- faults
+
+abbrev pub is_write_stop : Stop → Bool
+is_write_stop WriteFault = true
+is_write_stop DiskFault = false
+is_write_stop NoMemory = false
+
+abbrev pub is_disk_stop : Stop → Bool
+is_disk_stop WriteFault = false
+is_disk_stop DiskFault = true
+is_disk_stop NoMemory = false
+
+-- the test of why a script stopped, where it did
+abbrev pub stops_by : {A : Type 0} → (Stop → Bool) → Result A Stop → Bool
+stops_by test (Ok a) = false
+stops_by test (Err stop) = test stop

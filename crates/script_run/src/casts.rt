@@ -1,19 +1,21 @@
 //! Those who take part in a script.
-ghost use Rattle.std.specs.Prelude.{◌≡◌, ◌+◌, ◌<◌, ◌≤◌, false, true, None, length, nat_eq, IsTrue, IfOk, OnOk};
-ghost use Rattle.std.specs.Cmp.Lexicographic.{pointwise};
+ghost use Rattle.std.specs.Prelude.{◌≡◌, ◌+◌, ◌<◌, ◌≤◌, ◌^◌, false, None, length, IsTrue, IfOk, OnOk};
 ghost use Rattle.std.specs.Thread.{IsSync};
 ghost use Rattle.indexmap.specs.IndexMap.{index_map_len, spare};
 ghost use Rattle.ts_schema.specs.Names.{is_name};
+ghost use Rattle.ts_model.specs.States.{stands_still};
+ghost use Rattle.ts_sessions.specs.Held.{most_queued};
 ghost use Rattle.ts_sessions.specs.Script.{plays_as, places_of, takes_turn};
-ghost use Rattle.ts_sessions.specs.Sessions.{Tallied, is_disk_fault as is_disk_fault_end};
-ghost use Rattle.script_run.specs.Casts.{cast_of, scene_of, IsCast};
+ghost use Rattle.ts_sessions.specs.Sessions.{IfAnswered, Stepped};
+ghost use Rattle.script_run.specs.Casts.{cast_of, scene_of, waiting_in, IsCast};
 ghost use Rattle.script_run.specs.Plays.{LinePlayed};
 
-use crate::replies::refuse_session;
+use crate::replies::{ending, refuse_session};
 use indexmap::IndexMap;
+use result_text::codes;
 use std::alloc::Global;
 use std::thread::Threads;
-use ts_model::Backend;
+use ts_model::{Backend, Gate, NoGate};
 use ts_schema::{Name, NoMemory, Steps};
 use ts_sessions::{Actor, StepEnd};
 
@@ -35,27 +37,30 @@ pub(crate) fn play_session<A, R, B, L>(
     steps: &mut Steps<L>,
 ) -> StepEnd
 where
-    A: Actor<B> + Drop,
+    A: Actor<Shot = B::Shot> + Drop,
     R: Threads + Sync,
     B: Backend,
     requires sync { IsSync R.row }
     requires alone { IsTrue B.alone }
-    requires going { B.halted backend.old ≡ false }
+    requires going { stands_still (B.state backend.old) ≡ false }
+    requires counts { steps.old < 2 ^ 64 }
     requires name { IsTrue (is_name name.now) }
     requires short { length text.now ≤ 65536 }
     requires within { skip ≤ length text.now }
-    requires cast { IsCast A.named A.holds (B.seen backend.old) cast.old.entries }
-    ensures plays { let scene = scene_of A.places (B.seen backend.old) cast.old.entries in
+    requires cast { IsCast A.named A.numbered A.holds (B.state backend.old) cast.old.entries }
+    requires room { waiting_in A.waiting cast.old.entries + length text.now ≤ most_queued }
+    ensures plays { let scene = scene_of A.places (B.state backend.old).history cast.old.entries in
         LinePlayed result (plays_as A.play scene name.now text.now skip (places_of name.now scene.cast))
-        (B.seen backend.old) (scene_of A.places (B.seen backend.new) cast.new.entries) (B.halted backend.new) }
-    ensures cast { IsCast A.named A.holds (B.seen backend.new) cast.new.entries }
-    ensures tallied { Tallied B.alone (B.first_faults backend.old) (B.faults backend.old) (is_disk_fault_end result)
-        (B.first_faults backend.new) (B.faults backend.new) }
+        (B.state backend.old) (B.state backend.new)
+        (scene_of A.places (B.state backend.new).history cast.new.entries) steps.old steps.new }
+    ensures cast { IfAnswered result (IsCast A.named A.numbered A.holds (B.state backend.new) cast.new.entries) }
+    ensures waiting { waiting_in A.waiting cast.new.entries ≤ waiting_in A.waiting cast.old.entries + length text.now }
+    ensures kin { B.kin backend.new ≡ B.kin backend.old }
 {
     match cast.get_index_of(name) {
         Some(place) => {
             let (_, actor) = cast.pair_mut(place);
-            actor.act(rt, alloc, backend, text, skip, steps)
+            take_turn(rt, alloc, backend, actor, text, skip, steps)
         }
         None => meet_session(rt, alloc, backend, cast, name, text, skip, steps),
     }
@@ -73,23 +78,25 @@ fn meet_session<A, R, B, L>(
     steps: &mut Steps<L>,
 ) -> StepEnd
 where
-    A: Actor<B> + Drop,
+    A: Actor<Shot = B::Shot> + Drop,
     R: Threads + Sync,
     B: Backend,
     requires sync { IsSync R.row }
     requires alone { IsTrue B.alone }
-    requires going { B.halted backend.old ≡ false }
+    requires going { stands_still (B.state backend.old) ≡ false }
+    requires counts { steps.old < 2 ^ 64 }
     requires name { IsTrue (is_name name.now) }
     requires short { length text.now ≤ 65536 }
     requires within { skip ≤ length text.now }
-    requires cast { IsCast A.named A.holds (B.seen backend.old) cast.old.entries }
+    requires cast { IsCast A.named A.numbered A.holds (B.state backend.old) cast.old.entries }
     requires absent { places_of name.now (cast_of A.places cast.old.entries) ≡ None }
-    ensures plays { let scene = scene_of A.places (B.seen backend.old) cast.old.entries in
+    ensures plays { let scene = scene_of A.places (B.state backend.old).history cast.old.entries in
         LinePlayed result (plays_as A.play scene name.now text.now skip None)
-        (B.seen backend.old) (scene_of A.places (B.seen backend.new) cast.new.entries) (B.halted backend.new) }
-    ensures cast { IsCast A.named A.holds (B.seen backend.new) cast.new.entries }
-    ensures tallied { Tallied B.alone (B.first_faults backend.old) (B.faults backend.old) (is_disk_fault_end result)
-        (B.first_faults backend.new) (B.faults backend.new) }
+        (B.state backend.old) (B.state backend.new)
+        (scene_of A.places (B.state backend.new).history cast.new.entries) steps.old steps.new }
+    ensures cast { IfAnswered result (IsCast A.named A.numbered A.holds (B.state backend.new) cast.new.entries) }
+    ensures waiting { waiting_in A.waiting cast.new.entries ≤ waiting_in A.waiting cast.old.entries + length text.now }
+    ensures kin { B.kin backend.new ≡ B.kin backend.old }
 {
     let session = match session_name(alloc, name) {
         Ok(session) => session,
@@ -98,11 +105,11 @@ where
     if cast.len() < MOST_SESSIONS {
         begin_session(rt, alloc, backend, cast, session, text, skip, steps)
     } else {
-        refuse_session(alloc, &session, 23)
+        ending(refuse_session(alloc, &session, codes::TOO_MANY_SESSIONS))
     }
 }
 
-/// A new session has its first line.
+/// A new session has its first line. Its number is how many have appeared before it.
 fn begin_session<A, R, B, L>(
     rt: &R,
     alloc: Global,
@@ -114,31 +121,66 @@ fn begin_session<A, R, B, L>(
     steps: &mut Steps<L>,
 ) -> StepEnd
 where
-    A: Actor<B> + Drop,
+    A: Actor<Shot = B::Shot> + Drop,
     R: Threads + Sync,
     B: Backend,
     requires sync { IsSync R.row }
     requires alone { IsTrue B.alone }
-    requires going { B.halted backend.old ≡ false }
+    requires going { stands_still (B.state backend.old) ≡ false }
+    requires counts { steps.old < 2 ^ 64 }
     requires short { length text.now ≤ 65536 }
     requires within { skip ≤ length text.now }
     requires few { index_map_len cast.old < 64 }
-    requires cast { IsCast A.named A.holds (B.seen backend.old) cast.old.entries }
-    ensures plays { let scene = scene_of A.places (B.seen backend.old) cast.old.entries in
-        LinePlayed result (takes_turn scene session (A.play.does A.play.opening text.now skip))
-        (B.seen backend.old) (scene_of A.places (B.seen backend.new) cast.new.entries) (B.halted backend.new) }
-    ensures cast { IsCast A.named A.holds (B.seen backend.new) cast.new.entries }
-    ensures tallied { Tallied B.alone (B.first_faults backend.old) (B.faults backend.old) (is_disk_fault_end result)
-        (B.first_faults backend.new) (B.faults backend.new) }
+    requires cast { IsCast A.named A.numbered A.holds (B.state backend.old) cast.old.entries }
+    requires absent { places_of session (cast_of A.places cast.old.entries) ≡ None }
+    ensures plays { let scene = scene_of A.places (B.state backend.old).history cast.old.entries in
+        LinePlayed result (takes_turn scene session (A.play.does (A.play.opening (length scene.cast)) text.now skip))
+        (B.state backend.old) (B.state backend.new)
+        (scene_of A.places (B.state backend.new).history cast.new.entries) steps.old steps.new }
+    ensures cast { IfAnswered result (IsCast A.named A.numbered A.holds (B.state backend.new) cast.new.entries) }
+    ensures waiting { waiting_in A.waiting cast.new.entries ≤ waiting_in A.waiting cast.old.entries + length text.now }
+    ensures kin { B.kin backend.new ≡ B.kin backend.old }
 {
     let number = cast.len() as u32;
     let key = match make_room(alloc, cast, &session) {
         Ok(key) => key,
         Err(NoMemory) => return StepEnd::NoMemory,
     };
-    let mut actor = A::begin(session, number);
-    let end = actor.act(rt, alloc, backend, text, skip, steps);
+    let mut actor = A::begin(alloc, session, number);
+    let end = take_turn(rt, alloc, backend, &mut actor, text, skip, steps);
     cast.insert(key, actor).unwrap();
+    end
+}
+
+/// Someone has a line. Lines are played one after the other, so no gate holds anyone.
+fn take_turn<A, R, B, L>(
+    rt: &R,
+    alloc: Global,
+    backend: &mut B,
+    actor: &mut A,
+    text: &[u8],
+    skip: u32,
+    steps: &mut Steps<L>,
+) -> StepEnd
+where
+    A: Actor<Shot = B::Shot> + Drop,
+    R: Threads + Sync,
+    B: Backend,
+    requires sync { IsSync R.row }
+    requires short { length text.now ≤ 65536 }
+    requires within { skip ≤ length text.now }
+    requires room { A.waiting actor.old + length text.now ≤ most_queued }
+    requires holds { A.holds actor.old (B.state backend.old) }
+    ensures stepped { Stepped B.alone (B.state backend.old) (A.play.does (A.places actor.old) text.now skip)
+        (A.named actor.old) result (B.state backend.new) (A.places actor.new) steps.old steps.new }
+    ensures name { A.named actor.new ≡ A.named actor.old }
+    ensures number { A.numbered actor.new ≡ A.numbered actor.old }
+    ensures waiting { A.waiting actor.new ≤ A.waiting actor.old + length text.now }
+    ensures holds { IfAnswered result (A.holds actor.new (B.state backend.new)) }
+    ensures kin { B.kin backend.new ≡ B.kin backend.old }
+{
+    let end = actor.act(rt, alloc, backend, &NoGate, text, skip, steps);
+    NoGate.answered(actor.number());
     end
 }
 

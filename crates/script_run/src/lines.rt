@@ -1,13 +1,16 @@
 //! What a line comes to.
-ghost use Rattle.std.specs.Prelude.{◌≡◌, ◌+◌, ◌≤◌, false, take, drop, length, IsTrue};
+ghost use Rattle.std.specs.Prelude.{◌≡◌, ◌+◌, ◌<◌, ◌≤◌, ◌^◌, false, take, drop, length, IsTrue};
 ghost use Rattle.std.specs.Thread.{IsSync};
+ghost use Rattle.ts_model.specs.States.{stands_still};
+ghost use Rattle.ts_sessions.specs.Held.{most_queued};
 ghost use Rattle.ts_sessions.specs.Script.{plays, plays_as, places_of, session_name};
-ghost use Rattle.ts_sessions.specs.Sessions.{Tallied, is_disk_fault as is_disk_fault_end};
-ghost use Rattle.script_run.specs.Casts.{scene_of, IsCast};
+ghost use Rattle.ts_sessions.specs.Sessions.{IfAnswered};
+ghost use Rattle.script_run.specs.Casts.{scene_of, waiting_in, IsCast};
 ghost use Rattle.script_run.specs.Plays.{IsSpoken, LinePlayed};
 
 use crate::casts::{Cast, play_session};
-use crate::replies::{refuse_line, silence};
+use crate::replies::{ending, refuse_line, silence};
+use result_text::codes;
 use std::alloc::Global;
 use std::thread::Threads;
 use stmt_reader::{LineKind, split_line};
@@ -26,25 +29,28 @@ pub(crate) fn play_line<A, R, B, L>(
     steps: &mut Steps<L>,
 ) -> StepEnd
 where
-    A: Actor<B> + Drop,
+    A: Actor<Shot = B::Shot> + Drop,
     R: Threads + Sync,
     B: Backend,
     requires sync { IsSync R.row }
     requires alone { IsTrue B.alone }
-    requires going { B.halted backend.old ≡ false }
+    requires going { stands_still (B.state backend.old) ≡ false }
+    requires counts { steps.old < 2 ^ 64 }
     requires short { length line.now ≤ 65536 }
-    requires cast { IsCast A.named A.holds (B.seen backend.old) cast.old.entries }
+    requires cast { IsCast A.named A.numbered A.holds (B.state backend.old) cast.old.entries }
+    requires room { waiting_in A.waiting cast.old.entries + length line.now ≤ most_queued }
     ensures plays { LinePlayed result
-        (plays A.play (scene_of A.places (B.seen backend.old) cast.old.entries) number line.now)
-        (B.seen backend.old) (scene_of A.places (B.seen backend.new) cast.new.entries) (B.halted backend.new) }
-    ensures cast { IsCast A.named A.holds (B.seen backend.new) cast.new.entries }
-    ensures tallied { Tallied B.alone (B.first_faults backend.old) (B.faults backend.old) (is_disk_fault_end result)
-        (B.first_faults backend.new) (B.faults backend.new) }
+        (plays A.play (scene_of A.places (B.state backend.old).history cast.old.entries) number line.now)
+        (B.state backend.old) (B.state backend.new)
+        (scene_of A.places (B.state backend.new).history cast.new.entries) steps.old steps.new }
+    ensures cast { IfAnswered result (IsCast A.named A.numbered A.holds (B.state backend.new) cast.new.entries) }
+    ensures waiting { waiting_in A.waiting cast.new.entries ≤ waiting_in A.waiting cast.old.entries + length line.now }
+    ensures kin { B.kin backend.new ≡ B.kin backend.old }
 {
     match split_line(line) {
-        LineKind::Blank => silence(alloc),
-        LineKind::NotAscii => refuse_line(alloc, number, 2),
-        LineKind::NoSession => refuse_line(alloc, number, 3),
+        LineKind::Blank => StepEnd::Reply(silence(alloc)),
+        LineKind::NotAscii => ending(refuse_line(alloc, number, codes::NOT_ASCII)),
+        LineKind::NoSession => ending(refuse_line(alloc, number, codes::NO_SESSION)),
         LineKind::Stmt {
             name_len,
             skip,
@@ -67,22 +73,25 @@ fn play_statement<A, R, B, L>(
     steps: &mut Steps<L>,
 ) -> StepEnd
 where
-    A: Actor<B> + Drop,
+    A: Actor<Shot = B::Shot> + Drop,
     R: Threads + Sync,
     B: Backend,
     requires sync { IsSync R.row }
     requires alone { IsTrue B.alone }
-    requires going { B.halted backend.old ≡ false }
+    requires going { stands_still (B.state backend.old) ≡ false }
+    requires counts { steps.old < 2 ^ 64 }
     requires short { length line.now ≤ 65536 }
     requires spoken { IsSpoken line.now name_len skip end }
-    requires cast { IsCast A.named A.holds (B.seen backend.old) cast.old.entries }
-    ensures plays { let scene = scene_of A.places (B.seen backend.old) cast.old.entries in
+    requires cast { IsCast A.named A.numbered A.holds (B.state backend.old) cast.old.entries }
+    requires room { waiting_in A.waiting cast.old.entries + length line.now ≤ most_queued }
+    ensures plays { let scene = scene_of A.places (B.state backend.old).history cast.old.entries in
         let name = session_name line.now name_len skip in
         LinePlayed result (plays_as A.play scene name (take end line.now) skip (places_of name scene.cast))
-        (B.seen backend.old) (scene_of A.places (B.seen backend.new) cast.new.entries) (B.halted backend.new) }
-    ensures cast { IsCast A.named A.holds (B.seen backend.new) cast.new.entries }
-    ensures tallied { Tallied B.alone (B.first_faults backend.old) (B.faults backend.old) (is_disk_fault_end result)
-        (B.first_faults backend.new) (B.faults backend.new) }
+        (B.state backend.old) (B.state backend.new)
+        (scene_of A.places (B.state backend.new).history cast.new.entries) steps.old steps.new }
+    ensures cast { IfAnswered result (IsCast A.named A.numbered A.holds (B.state backend.new) cast.new.entries) }
+    ensures waiting { waiting_in A.waiting cast.new.entries ≤ waiting_in A.waiting cast.old.entries + length line.now }
+    ensures kin { B.kin backend.new ≡ B.kin backend.old }
 {
     let from = skip as usize - 1 - name_len as usize;
     let name = name_at(line, from, name_len as usize);

@@ -1,9 +1,9 @@
 //! Replies to lines that no session answers.
-ghost use Rattle.std.specs.Prelude.{◌≡◌, [], true, false, IfOk};
+ghost use Rattle.std.specs.Prelude.{◌≡◌, [], true, false, IfOk, Ok};
 ghost use Rattle.result_text.specs.declared.replies.Said.TheVariants.{Fault};
 ghost use Rattle.result_text.specs.Replies.{line_fault_text, reply_text};
 ghost use Rattle.ts_sessions.specs.Step.{bare as bare_refusal};
-ghost use Rattle.script_run.specs.Plays.{Replies};
+ghost use Rattle.script_run.specs.Plays.{IsReply, Replies, ends_with};
 
 use result_text::{Said, put_line_fault, put_reply};
 use std::alloc::Global;
@@ -11,51 +11,43 @@ use ts_model::Refusal;
 use ts_schema::{Name, NoMemory, Seq};
 use ts_sessions::{Reply, StepEnd};
 
-/// Nothing is said.
-pub(crate) fn silence(alloc: Global) -> StepEnd
-    ensures { Replies [] false result }
+/// The end of a line that has this reply, unless there was no memory for it.
+pub(crate) fn ending(reply: Result<Reply, NoMemory>) -> StepEnd
+    ensures { result ≡ ends_with reply }
 {
-    StepEnd::Reply(Reply {
+    match reply {
+        Ok(reply) => StepEnd::Reply(reply),
+        Err(NoMemory) => StepEnd::NoMemory,
+    }
+}
+
+/// Nothing is said.
+pub(crate) fn silence(alloc: Global) -> Reply
+    ensures { IsReply [] false result }
+{
+    Reply {
         text: Seq::new(alloc),
         fault: false,
         events: Seq::new(alloc),
-    })
+    }
 }
 
 /// The line with a number is refused.
-pub(crate) fn refuse_line(alloc: Global, line: u64, code: u8) -> StepEnd
+pub(crate) fn refuse_line(alloc: Global, line: u64, code: u8) -> Result<Reply, NoMemory>
     ensures { Replies (line_fault_text line (bare_refusal code)) true result }
-{
-    match line_fault(alloc, line, code) {
-        Ok(text) => fault(alloc, text),
-        Err(NoMemory) => StepEnd::NoMemory,
-    }
-}
-
-/// A session is refused by its name.
-pub(crate) fn refuse_session(alloc: Global, session: &Name, code: u8) -> StepEnd
-    ensures { Replies (reply_text session.now (Fault (bare_refusal code))) true result }
-{
-    match session_fault(alloc, session, code) {
-        Ok(text) => fault(alloc, text),
-        Err(NoMemory) => StepEnd::NoMemory,
-    }
-}
-
-fn line_fault(alloc: Global, line: u64, code: u8) -> Result<Vec<u8>, NoMemory>
-    ensures { IfOk result (λ text. text.items ≡ line_fault_text line (bare_refusal code)) }
 {
     let mut text = Vec::new(alloc);
     put_line_fault(line, &bare(code), &mut text)?;
-    Ok(text)
+    Ok(fault(alloc, text))
 }
 
-fn session_fault(alloc: Global, session: &Name, code: u8) -> Result<Vec<u8>, NoMemory>
-    ensures { IfOk result (λ text. text.items ≡ reply_text session.now (Fault (bare_refusal code))) }
+/// A session is refused by its name.
+pub(crate) fn refuse_session(alloc: Global, session: &Name, code: u8) -> Result<Reply, NoMemory>
+    ensures { Replies (reply_text session.now (Fault (bare_refusal code))) true result }
 {
     let mut text = Vec::new(alloc);
     put_reply(session, &Said::Fault(bare(code)), &mut text)?;
-    Ok(text)
+    Ok(fault(alloc, text))
 }
 
 /// A refusal without a position.
@@ -70,12 +62,12 @@ fn bare(code: u8) -> Refusal
 }
 
 /// A reply with this text, which is a FAULT.
-fn fault(alloc: Global, text: Vec<u8>) -> StepEnd
-    ensures { Replies text.items true result }
+fn fault(alloc: Global, text: Vec<u8>) -> Reply
+    ensures { IsReply text.items true result }
 {
-    StepEnd::Reply(Reply {
+    Reply {
         text: Seq::of(text),
         fault: true,
         events: Seq::new(alloc),
-    })
+    }
 }

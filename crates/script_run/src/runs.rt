@@ -1,8 +1,9 @@
 //! The loop over the lines of a script.
-ghost use Rattle.std.specs.Prelude.{◌≡◌, ◌≤◌, false, IsTrue, IfSome};
+ghost use Rattle.std.specs.Prelude.{◌≡◌, false, IsTrue, IfSome};
 ghost use Rattle.std.specs.Thread.{IsSync};
-ghost use Rattle.ts_schema.specs.Faults.{Rose};
-ghost use Rattle.script_run.specs.Runs.{Ran, IfReadFault, IfWriteFault, IfDiskFault};
+ghost use Rattle.ts_io.specs.Faults.{Counted};
+ghost use Rattle.ts_model.specs.States.{stands_still};
+ghost use Rattle.script_run.specs.Runs.{Ran, is_read_fault, is_write_fault, is_disk_fault};
 ghost use Rattle.script_run.specs.Stopped.{end_of_stop, end_of_input};
 
 use crate::ends::RunEnd;
@@ -25,23 +26,25 @@ pub fn run<A, R, B, S, K, L>(
     steps: &mut Steps<L>,
 ) -> RunEnd
 where
-    A: Actor<B> + Drop,
+    A: Actor<Shot = B::Shot> + Drop,
     R: Threads + Sync,
     B: Backend,
     S: Source,
     K: Sink,
     requires sync { IsSync R.row }
     requires alone { IsTrue B.alone }
-    requires going { B.halted backend.old ≡ false }
-    ensures ran { IfSome (S.left source.old) (λ input. Ran result A.play (B.seen backend.old) input (S.left source.new)
-        (record { seen = B.seen backend.new; halted = B.halted backend.new; before = K.written sink.old; after = K.written sink.new })) }
-    ensures reads_on { S.faults source.old ≤ S.faults source.new }
-    ensures writes_on { K.faults sink.old ≤ K.faults sink.new }
-    ensures disk_on { B.faults backend.old ≤ B.faults backend.new }
-    ensures read_cause { IfReadFault result (Rose (S.faults source.old) (S.faults source.new)) }
-    ensures write_cause { IfWriteFault result (Rose (K.faults sink.old) (K.faults sink.new)) }
-    ensures disk_cause { IfDiskFault result (Rose (B.faults backend.old) (B.faults backend.new)) }
+    requires going { stands_still (B.state backend.old) ≡ false }
+    requires untold { S.ended source.old ≡ false }
+    ensures ran { IfSome (S.left source.old) (λ input. Ran result A.play (B.state backend.old).history input (S.left source.new)
+        (record { store = B.state backend.new; written_before = K.written sink.old; written = K.written sink.new; read_before = steps.old; read = steps.new })) }
+    ensures reads { Counted (S.faults source.old) (S.faults source.new) (is_read_fault result) }
+    ensures writes { Counted (K.faults sink.old) (K.faults sink.new) (is_write_fault result) }
+    ensures disk { Counted (B.state backend.old).faults (B.state backend.new).faults (is_disk_fault result) }
+    ensures still { stands_still (B.state backend.new) ≡ is_disk_fault result }
+    ensures origin { (B.state backend.new).origin ≡ (B.state backend.old).origin }
+    ensures kin { B.kin backend.new ≡ B.kin backend.old }
 {
+    let _so_far = steps.count();
     let mut lines = match Lines::new(alloc) {
         Ok(lines) => lines,
         Err(NoMemory) => return RunEnd::NoMemory,

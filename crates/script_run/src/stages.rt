@@ -1,26 +1,31 @@
 //! Where a script has come to.
-ghost use Rattle.std.specs.Prelude.{◌≡◌, ◌+◌, ◌<◌, ◌≤◌, ◌^◌, [], false, true, length, IsTrue, IfErr, OnOk, OnErr};
+ghost use Rattle.std.specs.Prelude.{◌≡◌, ◌+◌, ◌<◌, ◌≤◌, ◌^◌, ◌||◌, [], false, true, is_err, length, IsTrue, IfErr, OnOk, OnErr};
 ghost use Rattle.std.specs.Thread.{IsSync};
 ghost use Rattle.std.specs.Io.KnownBytes.{Appends};
-ghost use Rattle.ts_schema.specs.Faults.{Rose};
+ghost use Rattle.ts_io.specs.Faults.{Counted};
 ghost use Rattle.ts_io.specs.Whole.{AppendsPart};
+ghost use Rattle.ts_model.specs.States.{stands_still};
 ghost use Rattle.result_text.specs.Replies.{line_fault_text};
+ghost use Rattle.result_text.specs.declared.codes.TheConstants.{LINE_LONG};
+ghost use Rattle.ts_sessions.specs.Held.{most_queued};
 ghost use Rattle.ts_sessions.specs.Script.{plays};
 ghost use Rattle.ts_sessions.specs.Step.{bare};
-ghost use Rattle.script_run.specs.Casts.{scene_of, IsCast};
-ghost use Rattle.script_run.specs.Plays.{LineWritten, LineCut};
-ghost use Rattle.script_run.specs.Stops.{AnswerEnds, IfWriteStop, IfDiskStop};
+ghost use Rattle.script_run.specs.Casts.{scene_of, waiting_in, IsCast};
+ghost use Rattle.script_run.specs.Went.{WentOn};
+ghost use Rattle.script_run.specs.Plays.{LineWritten};
+ghost use Rattle.script_run.specs.Stops.{LineCut, RefusalCut, is_disk_stop, is_write_stop, settled, stops_by};
 
 use crate::casts::Cast;
 use crate::lines::play_line;
 use crate::replies::refuse_line;
 use indexmap::IndexMap;
+use result_text::codes;
 use std::alloc::Global;
 use std::thread::Threads;
 use ts_io::{Sink, WriteFault, write_whole};
 use ts_model::Backend;
-use ts_schema::Steps;
-use ts_sessions::{Actor, StepEnd};
+use ts_schema::{NoMemory, Steps};
+use ts_sessions::{Actor, Reply, StepEnd};
 
 /// Why a script stopped at a line.
 #[derive(Clone, Copy, Debug, PartialEq, Eq)]
@@ -69,64 +74,68 @@ impl<A> Stage<A> {
         steps: &mut Steps<L>,
     ) -> Result<(), Stop>
     where
-        A: Actor<B> + Drop,
+        A: Actor<Shot = B::Shot> + Drop,
         R: Threads + Sync,
         B: Backend,
         K: Sink,
         requires sync { IsSync R.row }
         requires alone { IsTrue B.alone }
-        requires going { B.halted backend.old ≡ false }
+        requires going { stands_still (B.state backend.old) ≡ false }
+        requires counts { steps.old < 2 ^ 64 }
         requires short { length line.now ≤ 65536 }
         requires room { self.old.line + 1 < 2 ^ 64 }
-        requires cast { IsCast A.named A.holds (B.seen backend.old) self.old.cast.entries }
+        requires cast { IsCast A.named A.numbered A.holds (B.state backend.old) self.old.cast.entries }
+        requires queues { waiting_in A.waiting self.old.cast.entries + length line.now ≤ most_queued }
         ensures written { OnOk result (LineWritten
-            (plays A.play (scene_of A.places (B.seen backend.old) self.old.cast.entries) self.old.line line.now)
-            (scene_of A.places (B.seen backend.new) self.new.cast.entries) (B.halted backend.new)
-            (K.written sink.old) (K.written sink.new) self.old.refused self.new.refused) }
-        ensures cut { OnErr result (LineCut
-            (plays A.play (scene_of A.places (B.seen backend.old) self.old.cast.entries) self.old.line line.now)
-            (B.seen backend.old) (B.seen backend.new) (K.written sink.old) (K.written sink.new)) }
-        ensures counted { OnOk result (self.new.line ≡ self.old.line + 1) }
-        ensures cast { IsCast A.named A.holds (B.seen backend.new) self.new.cast.entries }
-        ensures writes_on { K.faults sink.old ≤ K.faults sink.new }
-        ensures disk_on { B.faults backend.old ≤ B.faults backend.new }
-        ensures write_cause { IfErr result (λ stop. IfWriteStop stop (Rose (K.faults sink.old) (K.faults sink.new))) }
-        ensures disk_cause { IfErr result (λ stop. IfDiskStop stop (Rose (B.faults backend.old) (B.faults backend.new))) }
+            (plays A.play (scene_of A.places (B.state backend.old).history self.old.cast.entries) self.old.line line.now)
+            (scene_of A.places (B.state backend.new).history self.new.cast.entries)
+            (K.written sink.old) (K.written sink.new) self.old.refused self.new.refused steps.old steps.new) }
+        ensures cut { IfErr result (λ stop. LineCut stop
+            (plays A.play (scene_of A.places (B.state backend.old).history self.old.cast.entries) self.old.line line.now)
+            (B.state backend.old) (B.state backend.new)
+            (scene_of A.places (B.state backend.new).history self.new.cast.entries)
+            (K.written sink.old) (K.written sink.new) steps.old steps.new) }
+        ensures numbered { OnOk result (self.new.line ≡ self.old.line + 1) }
+        ensures cast { OnOk result (IsCast A.named A.numbered A.holds (B.state backend.new) self.new.cast.entries) }
+        ensures waiting { waiting_in A.waiting self.new.cast.entries ≤ waiting_in A.waiting self.old.cast.entries + length line.now }
+        ensures store { WentOn (stops_by is_disk_stop result) (B.state backend.old) (B.state backend.new) }
+        ensures kin { B.kin backend.new ≡ B.kin backend.old }
+        ensures writes { Counted (K.faults sink.old) (K.faults sink.new) (stops_by is_write_stop result) }
     {
         let end = play_line(rt, alloc, backend, &mut self.cast, self.line, line, steps);
-        self.answer(end, sink)
+        let reply = reply_of(end, backend)?;
+        self.answer(reply, sink)
     }
 
     /// Refuses the next line, which has more than 65,536 bytes.
     pub fn refuse_long<K: Sink>(&mut self, alloc: Global, sink: &mut K) -> Result<(), Stop>
         requires room { self.old.line + 1 < 2 ^ 64 }
-        ensures wrote { OnOk result (Appends (K.written sink.old) (K.written sink.new) (line_fault_text self.old.line (bare 1))) }
+        ensures wrote { OnOk result (Appends (K.written sink.old) (K.written sink.new)
+            (line_fault_text self.old.line (bare LINE_LONG))) }
         ensures refused { OnOk result (self.new.refused ≡ true) }
-        ensures part { OnErr result (AppendsPart (K.written sink.old) (K.written sink.new) (line_fault_text self.old.line (bare 1))) }
-        ensures counted { OnOk result (self.new.line ≡ self.old.line + 1) }
+        ensures cut { IfErr result (λ stop. RefusalCut stop (K.written sink.old) (K.written sink.new)
+            (line_fault_text self.old.line (bare LINE_LONG))) }
+        ensures numbered { OnOk result (self.new.line ≡ self.old.line + 1) }
         ensures cast { self.new.cast ≡ self.old.cast }
-        ensures writes_on { K.faults sink.old ≤ K.faults sink.new }
-        ensures write_cause { IfErr result (λ stop. IfWriteStop stop (Rose (K.faults sink.old) (K.faults sink.new))) }
-        ensures no_disk { IfErr result (λ stop. IfDiskStop stop ⊥) }
+        ensures writes { Counted (K.faults sink.old) (K.faults sink.new) (stops_by is_write_stop result) }
     {
-        let end = refuse_line(alloc, self.line, 1);
-        self.answer(end, sink)
+        match refuse_line(alloc, self.line, codes::LINE_LONG) {
+            Ok(reply) => self.answer(reply, sink),
+            Err(NoMemory) => Err(Stop::NoMemory),
+        }
     }
 
-    /// Writes the reply to the line that was played, and comes to the next line.
-    fn answer<K: Sink>(&mut self, end: StepEnd, sink: &mut K) -> Result<(), Stop>
+    /// Writes the reply to a line that was played, and comes to the next line.
+    fn answer<K: Sink>(&mut self, reply: Reply, sink: &mut K) -> Result<(), Stop>
         requires room { self.old.line + 1 < 2 ^ 64 }
-        ensures ends { AnswerEnds end result (K.written sink.old) (K.written sink.new) self.old.refused self.new.refused }
-        ensures counted { OnOk result (self.new.line ≡ self.old.line + 1) }
+        ensures wrote { OnOk result (Appends (K.written sink.old) (K.written sink.new) reply.text) }
+        ensures refused { OnOk result (self.new.refused ≡ (self.old.refused || reply.fault)) }
+        ensures part { OnErr result (AppendsPart (K.written sink.old) (K.written sink.new) reply.text) }
+        ensures stops { IfErr result (λ stop. stop ≡ Stop.WriteFault) }
+        ensures numbered { OnOk result (self.new.line ≡ self.old.line + 1) }
         ensures cast { self.new.cast ≡ self.old.cast }
-        ensures writes_on { K.faults sink.old ≤ K.faults sink.new }
-        ensures write_cause { IfErr result (λ stop. IfWriteStop stop (Rose (K.faults sink.old) (K.faults sink.new))) }
+        ensures writes { Counted (K.faults sink.old) (K.faults sink.new) (is_err result) }
     {
-        let reply = match end {
-            StepEnd::Reply(reply) => reply,
-            StepEnd::DiskFault(_) => return Err(Stop::DiskFault),
-            StepEnd::NoMemory => return Err(Stop::NoMemory),
-        };
         match write_whole(sink, reply.text.items()) {
             Ok(()) => {
                 self.refused |= reply.fault;
@@ -135,5 +144,20 @@ impl<A> Stage<A> {
             }
             Err(WriteFault) => Err(Stop::WriteFault),
         }
+    }
+}
+
+/// The reply to a line that ended so, or why there is none. Where the disk failed and then there was no
+/// memory, the disk is told.
+fn reply_of<B: Backend>(end: StepEnd, backend: &B) -> Result<Reply, Stop>
+    ensures { result ≡ settled (stands_still (B.state backend.now)) end }
+{
+    match end {
+        StepEnd::Reply(reply) => Ok(reply),
+        StepEnd::DiskFault(_) => Err(Stop::DiskFault),
+        StepEnd::NoMemory => match backend.stopped() {
+            Some(_) => Err(Stop::DiskFault),
+            None => Err(Stop::NoMemory),
+        },
     }
 }

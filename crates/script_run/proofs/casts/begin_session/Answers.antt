@@ -1,28 +1,45 @@
 -- A new session comes last.
-use Rattle.std.proofs.Common.{sym, ◌∙◌}
+use Rattle.std.proofs.Common.{◌≡◌, length, ◌∙◌, arith, inl}
+use Rattle.ts_sessions.specs.Script.{takes_turn}
 use Rattle.script_run.specs.Casts.{cast_of, scene_of}
-use Rattle.script_run.proofs.CastLaws.{at_ok, put_kept, cast_put_kept}
-use Rattle.script_run.proofs.DeedLaws.{first_played, stepped_begins, turn_begins, not_played}
+use Rattle.script_run.proofs.CastLaws.{at_ok, length-cast, put_kept, cast_put_kept, waiting_put_kept}
+use Rattle.script_run.proofs.LineLaws.{answered_so, first_played, not_played, stepped_goes, turn_begins}
 use Rattle.script_run.proofs.casts.begin_session.Goals as goal
 
 pub returns-in-Err-clause-plays : goal.returns-in-Err-clause-plays
 returns-in-Err-clause-plays g c =
-    let scene = scene_of g.A.Actor.places (g.B.Backend.seen c.args.backend.now) c.args.cast.now.entries in
-    rw c.make_room.ensures.kept (not_played _ scene _ (turn_begins scene c.args.session (g.A.Actor.play.does g.A.Actor.play.opening c.args.text.now c.args.skip)))
+    let scene = scene_of g.A.Actor.places (g.B.Backend.state c.args.backend.now).history c.args.cast.now.entries in
+    let deed = g.A.Actor.play.does (g.A.Actor.play.opening (length scene.cast)) c.args.text.now c.args.skip in
+    inl (not_played (takes_turn scene c.args.session deed) (g.B.Backend.state c.args.backend.now) c.args.steps.now c.requires.going (turn_begins scene c.args.session deed))
 
 pub returns-clause-plays : goal.returns-clause-plays
 returns-clause-plays g c =
+    let places = g.A.Actor.places in
+    let entries = c.args.cast.now.entries in
     let inserted = at_ok c.insert.result c.unwrap.result _ c.unwrap.ensures c.insert.ensures.entries in
-    first_played g.A.Actor.play c.args.text.now c.args.skip g.B.Backend.alone (g.B.Backend.halted c.args.backend.now) c.requires.alone c.requires.going (g.B.Backend.seen c.args.backend.now)
-    (cast_of g.A.Actor.places c.args.cast.now.entries) (cast_of g.A.Actor.places c.insert.new.self.entries) (g.A.Actor.named c.begin-actor.result) c.args.session c.act-end.result
-    (g.B.Backend.seen c.act-end.new.backend) (g.B.Backend.halted c.act-end.new.backend) (g.A.Actor.places c.begin-actor.result) (g.A.Actor.places c.act-end.new.self)
-    c.begin-actor.ensures.name c.begin-actor.ensures.places c.act-end.ensures.stepped
-    (put_kept g.A.Actor.places c.args.session c.args.cast.now.entries c.make_room.new.cast.entries c.insert.new.self.entries c.in-Ok.key c.act-end.new.self
+    first_played g.A.Actor.play c.args.text.now c.args.skip _ (places c.begin-actor.result) g.B.Backend.alone c.requires.alone (g.B.Backend.state c.args.backend.now) c.requires.going
+    (cast_of places entries) (cast_of places c.insert.new.self.entries) (g.A.Actor.named c.begin-actor.result) c.args.session c.begin-actor.ensures.name
+    c.take_turn-end.result (g.B.Backend.state c.take_turn-end.new.backend) (places c.take_turn-end.new.actor) c.args.steps.now c.take_turn-end.new.steps c.requires.counts
+    c.begin-actor.ensures.places (omega (arith, length-cast places entries)) c.take_turn-end.ensures.stepped
+    (put_kept places c.args.session entries c.make_room.new.cast.entries c.insert.new.self.entries c.in-Ok.key c.take_turn-end.new.actor
     c.make_room.ensures.kept c.in-Ok.ensures.key inserted)
 
 pub returns-clause-cast : goal.returns-clause-cast
 returns-clause-cast g c =
+    let places = g.A.Actor.places in
+    let entries = c.args.cast.now.entries in
+    let actor = c.take_turn-end.new.actor in
+    let after = g.B.Backend.state c.take_turn-end.new.backend in
     let inserted = at_ok c.insert.result c.unwrap.result _ c.unwrap.ensures c.insert.ensures.entries in
-    let longer = stepped_begins g.B.Backend.alone (g.B.Backend.seen c.args.backend.now) (g.B.Backend.halted c.args.backend.now) _ _ c.act-end.result _ _ _ c.act-end.ensures.stepped in
-    cast_put_kept g.A.Actor.named g.A.Actor.holds g.met.A.Actor.holds_on _ _ longer c.args.cast.now.entries c.make_room.new.cast.entries c.insert.new.self.entries c.in-Ok.key c.act-end.new.self
-    c.make_room.ensures.kept inserted c.requires.cast (c.act-end.ensures.name ∙ c.begin-actor.ensures.name ∙ sym c.in-Ok.ensures.key) c.act-end.ensures.holds
+    let went = stepped_goes g.B.Backend.alone (g.B.Backend.state c.args.backend.now) _ _ c.take_turn-end.result after _ _ _ c.take_turn-end.ensures.stepped in
+    let number : g.A.Actor.numbered actor ≡ length entries = omega (arith, c.take_turn-end.ensures.number, c.begin-actor.ensures.number) in
+    let put = λ (has : g.A.Actor.holds actor after). cast_put_kept g.A.Actor.named g.A.Actor.numbered g.A.Actor.holds g.met.A.Actor.holds_on (g.B.Backend.state c.args.backend.now) after went
+    places c.args.session entries c.make_room.new.cast.entries c.insert.new.self.entries c.in-Ok.key actor c.make_room.ensures.kept c.in-Ok.ensures.key inserted
+    c.requires.cast c.requires.absent (c.take_turn-end.ensures.name ∙ c.begin-actor.ensures.name) number has in
+    answered_so c.take_turn-end.result (g.A.Actor.holds actor after) _ put c.take_turn-end.ensures.holds
+
+pub returns-clause-waiting : goal.returns-clause-waiting
+returns-clause-waiting g c =
+    let inserted = at_ok c.insert.result c.unwrap.result _ c.unwrap.ensures c.insert.ensures.entries in
+    waiting_put_kept g.A.Actor.waiting c.args.cast.now.entries c.make_room.new.cast.entries c.insert.new.self.entries c.in-Ok.key c.take_turn-end.new.actor _
+    c.make_room.ensures.kept inserted (omega (arith, c.take_turn-end.ensures.waiting, c.begin-actor.ensures.waiting))

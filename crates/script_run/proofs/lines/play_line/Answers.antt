@@ -1,9 +1,10 @@
 -- A line that no session answers leaves all as it was.
 use Rattle.std.proofs.Common.{refl, sym}
 use Rattle.stmt_reader.specs.declared.lines.LineKind.TheVariants.{Blank, NotAscii, NoSession}
+use Rattle.ts_sessions.specs.declared.replies.StepEnd.TheVariants.{Reply}
 use Rattle.ts_sessions.specs.Script.{plays_kind}
 use Rattle.script_run.specs.Casts.{scene_of}
-use Rattle.script_run.proofs.DeedLaws.{as_kind, same_played}
+use Rattle.script_run.proofs.LineLaws.{as_kind, refusal_played, same_answered}
 use Rattle.script_run.proofs.SpokenLaws.{spoken}
 use Rattle.script_run.proofs.lines.play_line.Goals as goal
 
@@ -12,18 +13,30 @@ play_statement-requires-clause-spoken g c κs within = spoken c.args.line.now c.
 
 pub returns-in-Blank-clause-plays : goal.returns-in-Blank-clause-plays
 returns-in-Blank-clause-plays g c =
-    let scene = scene_of g.A.Actor.places (g.B.Backend.seen c.args.backend.now) c.args.cast.now.entries in
-    as_kind g.A.Actor.play scene c.args.number c.args.line.now Blank c.silence.result _ scene _ c.requires.short c.in-Blank.ensures.kind
-    (same_played c.silence.result (plays_kind g.A.Actor.play scene c.args.number c.args.line.now Blank) scene _ c.silence.ensures refl c.requires.going)
+    let state = g.B.Backend.state c.args.backend.now in
+    let steps = c.args.steps.now in
+    let scene = scene_of g.A.Actor.places state.history c.args.cast.now.entries in
+    let line = c.args.line.now in
+    let told = plays_kind g.A.Actor.play scene c.args.number line Blank in
+    as_kind (Reply c.silence.result) state state scene steps steps g.A.Actor.play scene c.args.number line Blank c.requires.short c.in-Blank.ensures.kind
+    (same_answered told c.silence.result state scene steps c.requires.counts c.requires.going c.silence.ensures refl refl)
 
 pub returns-in-NotAscii-clause-plays : goal.returns-in-NotAscii-clause-plays
 returns-in-NotAscii-clause-plays g c =
-    let scene = scene_of g.A.Actor.places (g.B.Backend.seen c.args.backend.now) c.args.cast.now.entries in
-    as_kind g.A.Actor.play scene c.args.number c.args.line.now NotAscii c.refuse_line.result _ scene _ c.requires.short c.in-NotAscii.ensures.kind
-    (same_played c.refuse_line.result (plays_kind g.A.Actor.play scene c.args.number c.args.line.now NotAscii) scene _ c.refuse_line.ensures refl c.requires.going)
+    let state = g.B.Backend.state c.args.backend.now in
+    let steps = c.args.steps.now in
+    let scene = scene_of g.A.Actor.places state.history c.args.cast.now.entries in
+    let line = c.args.line.now in
+    let told = plays_kind g.A.Actor.play scene c.args.number line NotAscii in
+    as_kind c.ending.result state state scene steps steps g.A.Actor.play scene c.args.number line NotAscii c.requires.short c.in-NotAscii.ensures.kind
+    (rw c.ending.ensures (refusal_played c.refuse_line.result told state scene steps c.requires.counts c.requires.going c.refuse_line.ensures refl refl refl))
 
 pub returns-in-NoSession-clause-plays : goal.returns-in-NoSession-clause-plays
 returns-in-NoSession-clause-plays g c =
-    let scene = scene_of g.A.Actor.places (g.B.Backend.seen c.args.backend.now) c.args.cast.now.entries in
-    as_kind g.A.Actor.play scene c.args.number c.args.line.now NoSession c.refuse_line-in-NoSession.result _ scene _ c.requires.short c.in-NoSession.ensures.kind
-    (same_played c.refuse_line-in-NoSession.result (plays_kind g.A.Actor.play scene c.args.number c.args.line.now NoSession) scene _ c.refuse_line-in-NoSession.ensures refl c.requires.going)
+    let state = g.B.Backend.state c.args.backend.now in
+    let steps = c.args.steps.now in
+    let scene = scene_of g.A.Actor.places state.history c.args.cast.now.entries in
+    let line = c.args.line.now in
+    let told = plays_kind g.A.Actor.play scene c.args.number line NoSession in
+    as_kind c.ending-in-NoSession.result state state scene steps steps g.A.Actor.play scene c.args.number line NoSession c.requires.short c.in-NoSession.ensures.kind
+    (rw c.ending-in-NoSession.ensures (refusal_played c.refuse_line-in-NoSession.result told state scene steps c.requires.counts c.requires.going c.refuse_line-in-NoSession.ensures refl refl refl))

@@ -1,0 +1,24 @@
+-- How a store that is alone and goes on is left.
+use Rattle.std.specs.Prelude.{◌≡◌, Bool, Some}
+use Rattle.ts_io.specs.Faults.{Counted}
+use Rattle.ts_model.specs.declared.events.Event.{Event}
+use Rattle.ts_model.specs.History.{History, ◌▸◌, Begins}
+use Rattle.ts_model.specs.States.{State, stands_still}
+
+-- its disk failed or not: where it did, and only there, the count of faults rose and the store stands still
+pub record WentOn (failed : Bool) (old new : State) : Type 0 where
+  pub still : stands_still new ≡ failed
+  pub faults : Counted old.faults new.faults failed
+  pub origin : new.origin ≡ old.origin
+
+-- on the way from one history to another: the first of the events between them stand
+pub record IsBetween (from to : History) (s : State) : Type 0 where
+  pub began : Begins from s.history
+  pub within : Begins s.history to
+
+-- and the disk failed at the next one
+pub record FailedBetween (from to : History) (s : State) : Type 0 where
+  pub event : Event
+  pub failed : s.failed ≡ Some event
+  pub began : Begins from s.history
+  pub next : Begins (s.history ▸ event) to
