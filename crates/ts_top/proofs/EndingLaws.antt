@@ -1,15 +1,14 @@
 -- How the top call ends, by how its script did.
-use Rattle.std.proofs.Common.{◌≡◌, ◌≢◌, ℕ, Bool, true, false, List, ◌++◌, Option, Some, None, IfSome, refl, sym, ap, ◌∙◌}
+use Rattle.std.proofs.Common.{◌≡◌, ◌≢◌, ℕ, Bool, true, false, List, ◌∷◌, ◌++◌, Option, Some, None, IfSome, refl, sym, ap, ◌∙◌, subst}
 use Rattle.std.proofs.lemmas.Bool.{true≢false}
-use Rattle.ts_io.specs.Whole.{AppendsPart}
-use Rattle.ts_model.specs.History.{start}
-use Rattle.script_run.specs.Runs.{CutShort, Left, executed, output_of}
-use Rattle.script_run.specs.Runs.{Ran as RanScript, IfReadFault as IfReadFaultOf, IfWriteFault as IfWriteFaultOf}
+use Rattle.ts_sessions.specs.Script.{session_play}
+use Rattle.ts_model.specs.History.{History, start}
+use Rattle.script_run.specs.Runs.{Left, Ran as RanScript, StoppedAtEvent, StoppedBefore, StoppedWithin, StoppedWriting, executed, is_read_fault as is_read_fault_of, is_write_fault as is_write_fault_of}
 use Rattle.script_run.specs.declared.ends.RunEnd.{RunEnd}
 use Rattle.script_run.specs.declared.ends.RunEnd.TheVariants as ends
 use Rattle.ts_top.specs.declared.endings.Status.{Status}
 use Rattle.ts_top.specs.declared.endings.Status.TheVariants.{Done, Refused, BadWords, ReadFault, WriteFault, NoMemory, InputLong}
-use Rattle.ts_top.specs.Endings.{IfBadWords, IfReadFault, IfWriteFault, Ran, replies_to, session_play, status_of}
+use Rattle.ts_top.specs.Endings.{IfBadWords, Ran, WroteFirst, WrotePart, is_read_fault, is_write_fault, status_of}
 
 pub not_bad : (s : Status) (P : Type 0) → s ≢ BadWords → IfBadWords s P
 not_bad Done P h = tt
@@ -42,42 +41,45 @@ not_bad_status ends.InputLong = refl
 pub runs : (end : RunEnd) → status_of end ≢ BadWords
 runs end = λ e. true≢false (sym (ap is_bad e) ∙ not_bad_status end)
 
--- of a script that was cut short a prefix of the replies was written
-cut_part : (input : List ℕ) (left : Left) → CutShort session_play start (executed input) left → AppendsPart left.before left.after (replies_to input)
-cut_part input left c = record {
-  done = output_of session_play start c.done ++ c.part;
-  todo = c.todo;
-  split = c.text_split;
-  grew = c.wrote;
-}
+wrote_first : (input : List ℕ) (left : Left) → StoppedBefore session_play start (executed input) left → WroteFirst input left.written_before left.written
+wrote_first input left s = record { done = s.done; rest = s.rest; split = s.split; wrote = s.executed_first.wrote }
 
-ran_as : (end : RunEnd) (input : List ℕ) (rest : Option (List ℕ)) (left : Left) → RanScript end session_play start input rest left → Ran (status_of end) input rest left.before left.after
+wrote_at_event : (input : List ℕ) (left : Left) → StoppedAtEvent session_play start (executed input) left → WroteFirst input left.written_before left.written
+wrote_at_event input left s = record { done = s.done; rest = s.line ∷ s.rest; split = s.split; wrote = s.wrote }
+
+wrote_within : (input : List ℕ) (left : Left) → StoppedWithin session_play start (executed input) left → WroteFirst input left.written_before left.written
+wrote_within input left s = record { done = s.done; rest = s.rest; split = s.split; wrote = s.wrote }
+
+wrote_part : (input : List ℕ) (left : Left) → StoppedWriting session_play start (executed input) left → WrotePart input left.written_before left.written
+wrote_part input left s = record { done = s.done; line = s.line; rest = s.rest; part = s.part; todo = s.todo; split = s.split; reply = s.reply; wrote = s.wrote }
+
+ran_as : (end : RunEnd) (input : List ℕ) (rest : Option (List ℕ)) (left : Left) → RanScript end session_play start input rest left → Ran (status_of end) input rest left.written_before left.written
 ran_as ends.Done input rest left r = (r.0, r.2, r.1.wrote)
 ran_as ends.Refused input rest left r = (r.0, r.2, r.1.wrote)
-ran_as ends.ReadFault input rest left r = cut_part input left r
-ran_as ends.WriteFault input rest left r = cut_part input left r
-ran_as ends.DiskFault input rest left r = cut_part input left r
-ran_as ends.NoMemory input rest left r = cut_part input left r
+ran_as ends.ReadFault input rest left r = wrote_first input left r
+ran_as ends.WriteFault input rest left r = wrote_part input left r
+ran_as ends.DiskFault input rest left r = wrote_at_event input left r
+ran_as ends.NoMemory input rest left r = wrote_within input left r
 ran_as ends.InputLong input rest left r = (r.0, r.1.wrote)
 
-pub ran_told : (end : RunEnd) (told rest : Option (List ℕ)) (left : Left) → IfSome told (λ input. RanScript end session_play start input rest left) → IfSome told (λ input. Ran (status_of end) input rest left.before left.after)
-ran_told end None rest left r = tt
-ran_told end (Some input) rest left r = ran_as end input rest left r
+pub ran_told : (end : RunEnd) (told rest : Option (List ℕ)) (left : Left) (h : History) → h ≡ start → IfSome told (λ input. RanScript end session_play h input rest left) → IfSome told (λ input. Ran (status_of end) input rest left.written_before left.written)
+ran_told end None rest left h e r = tt
+ran_told end (Some input) rest left h e r = ran_as end input rest left (subst (λ x. RanScript end session_play x input rest left) e r)
 
-pub read_cause : (end : RunEnd) (P : Type 0) → IfReadFaultOf end P → IfReadFault (status_of end) P
-read_cause ends.Done P c = tt
-read_cause ends.Refused P c = tt
-read_cause ends.ReadFault P c = c
-read_cause ends.WriteFault P c = tt
-read_cause ends.DiskFault P c = tt
-read_cause ends.NoMemory P c = tt
-read_cause ends.InputLong P c = tt
+pub same_read_faults : (end : RunEnd) → is_read_fault_of end ≡ is_read_fault (status_of end)
+same_read_faults ends.Done = refl
+same_read_faults ends.Refused = refl
+same_read_faults ends.ReadFault = refl
+same_read_faults ends.WriteFault = refl
+same_read_faults ends.DiskFault = refl
+same_read_faults ends.NoMemory = refl
+same_read_faults ends.InputLong = refl
 
-pub write_cause : (end : RunEnd) (P : Type 0) → IfWriteFaultOf end P → IfWriteFault (status_of end) P
-write_cause ends.Done P c = tt
-write_cause ends.Refused P c = tt
-write_cause ends.ReadFault P c = tt
-write_cause ends.WriteFault P c = c
-write_cause ends.DiskFault P c = tt
-write_cause ends.NoMemory P c = tt
-write_cause ends.InputLong P c = tt
+pub same_write_faults : (end : RunEnd) → is_write_fault_of end ≡ is_write_fault (status_of end)
+same_write_faults ends.Done = refl
+same_write_faults ends.Refused = refl
+same_write_faults ends.ReadFault = refl
+same_write_faults ends.WriteFault = refl
+same_write_faults ends.DiskFault = refl
+same_write_faults ends.NoMemory = refl
+same_write_faults ends.InputLong = refl

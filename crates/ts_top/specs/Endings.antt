@@ -1,12 +1,10 @@
 -- How the top call ends, and what it has then read and written.
-use Rattle.std.specs.Prelude.{◌≡◌, ℕ, ◌<◌, Bool, true, false, ⊤, List, Option, length}
+use Rattle.std.specs.Prelude.{◌≡◌, ℕ, ◌<◌, Bool, true, false, ⊤, List, ◌∷◌, ◌++◌, Option, length}
 use Rattle.std.specs.Io.KnownBytes.{Appends}
-use Rattle.ts_io.specs.Whole.{AppendsPart}
-use Rattle.ts_io.specs.declared.whole.TheConstants.{INPUT_LIMIT}
+use Rattle.ts_io.specs.declared.limits.TheConstants.{INPUT_LIMIT}
 use Rattle.ts_model.specs.History.{start}
-use Rattle.ts_sessions.specs.Script.{Play}
-use Rattle.ts_sessions.specs.Step.{Places, no_places, step}
-use Rattle.script_run.specs.Runs.{ReadWhole, executed, has_fault, output_of}
+use Rattle.ts_sessions.specs.Script.{session_play}
+use Rattle.script_run.specs.Runs.{ReadWhole, executed, has_fault, output_of, played_after}
 use Rattle.script_run.specs.declared.ends.RunEnd.{RunEnd}
 use Rattle.script_run.specs.declared.ends.RunEnd.TheVariants as ends
 use Rattle.ts_top.specs.declared.endings.Status.{Status}
@@ -22,13 +20,17 @@ exit_status WriteFault = 4
 exit_status NoMemory = 7
 exit_status InputLong = 8
 
--- sessions play by their step, and begin in no block
-abbrev pub session_play : Play Places
-session_play = record { opening = no_places; does = step }
+-- the replies to lines, over the empty history
+abbrev pub replies_of : List (List ℕ) → List ℕ
+replies_of lines = output_of session_play start lines
 
--- what a script writes: the replies of its lines that end within the limit, over the empty history
+-- the reply to a line that follows these
+abbrev pub reply_after : List (List ℕ) → List ℕ → List ℕ
+reply_after lines line = (played_after session_play start lines line).text
+
+-- what a script writes: the replies of its lines that end within the limit
 abbrev pub replies_to : List ℕ → List ℕ
-replies_to input = output_of session_play start (executed input)
+replies_to input = replies_of (executed input)
 
 -- one of its replies is a FAULT
 abbrev pub is_faulted : List ℕ → Bool
@@ -44,35 +46,51 @@ status_of ends.DiskFault = NoMemory
 status_of ends.NoMemory = NoMemory
 status_of ends.InputLong = InputLong
 
--- what a run that ended so has read of a script, and written of its replies
+-- the replies to some first lines of a script were written, and nothing more
+pub record WroteFirst (input : List ℕ) (old new : Option (List ℕ)) : Type 0 where
+  pub done : List (List ℕ)
+  pub rest : List (List ℕ)
+  pub split : executed input ≡ done ++ rest
+  pub wrote : Appends old new (replies_of done)
+
+-- the replies to some first lines of a script were written, and a part of the next one's
+pub record WrotePart (input : List ℕ) (old new : Option (List ℕ)) : Type 0 where
+  pub done : List (List ℕ)
+  pub line : List ℕ
+  pub rest : List (List ℕ)
+  pub part : List ℕ
+  pub todo : List ℕ
+  pub split : executed input ≡ done ++ line ∷ rest
+  pub reply : reply_after done line ≡ part ++ todo
+  pub wrote : Appends old new (replies_of done ++ part)
+
+-- what a call that ended so has read of a script, and written of its replies
 abbrev pub Ran : Status → List ℕ → Option (List ℕ) → Option (List ℕ) → Option (List ℕ) → Type 0
 Ran Done input left old new = ReadWhole input left × (is_faulted input ≡ false) × Appends old new (replies_to input)
 Ran Refused input left old new = ReadWhole input left × (is_faulted input ≡ true) × Appends old new (replies_to input)
 Ran BadWords input left old new = ⊤
-Ran ReadFault input left old new = AppendsPart old new (replies_to input)
-Ran WriteFault input left old new = AppendsPart old new (replies_to input)
-Ran NoMemory input left old new = AppendsPart old new (replies_to input)
+Ran ReadFault input left old new = WroteFirst input old new
+Ran WriteFault input left old new = WrotePart input old new
+Ran NoMemory input left old new = WroteFirst input old new
 Ran InputLong input left old new = (INPUT_LIMIT < length input) × Appends old new (replies_to input)
 
--- P holds where the source failed
-abbrev pub IfReadFault : Status → Type 0 → Type 0
-IfReadFault Done P = ⊤
-IfReadFault Refused P = ⊤
-IfReadFault BadWords P = ⊤
-IfReadFault ReadFault P = P
-IfReadFault WriteFault P = ⊤
-IfReadFault NoMemory P = ⊤
-IfReadFault InputLong P = ⊤
+abbrev pub is_read_fault : Status → Bool
+is_read_fault Done = false
+is_read_fault Refused = false
+is_read_fault BadWords = false
+is_read_fault ReadFault = true
+is_read_fault WriteFault = false
+is_read_fault NoMemory = false
+is_read_fault InputLong = false
 
--- P holds where the sink failed
-abbrev pub IfWriteFault : Status → Type 0 → Type 0
-IfWriteFault Done P = ⊤
-IfWriteFault Refused P = ⊤
-IfWriteFault BadWords P = ⊤
-IfWriteFault ReadFault P = ⊤
-IfWriteFault WriteFault P = P
-IfWriteFault NoMemory P = ⊤
-IfWriteFault InputLong P = ⊤
+abbrev pub is_write_fault : Status → Bool
+is_write_fault Done = false
+is_write_fault Refused = false
+is_write_fault BadWords = false
+is_write_fault ReadFault = false
+is_write_fault WriteFault = true
+is_write_fault NoMemory = false
+is_write_fault InputLong = false
 
 -- P holds where the words ask for nothing
 abbrev pub IfBadWords : Status → Type 0 → Type 0

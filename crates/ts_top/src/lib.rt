@@ -3,17 +3,17 @@
 //!
 //! - `commands`: what words ask for.
 //! - `run`: the top call.
-//! - `speakers`: the sessions of its scripts, over the store that it keeps.
 //! - `endings`: how a call ended.
 #![tactic(auto)]
 
 mod commands;
 mod endings;
 mod run;
-mod speakers;
 
 pub use endings::Status;
 pub use run::run_words;
 
 #[cfg(test)]
 mod tests;
+#[cfg(test)]
+mod worked;

@@ -1,25 +1,26 @@
 //! The top call.
-ghost use Rattle.std.specs.Prelude.{◌≡◌, ◌≢◌, ◌≤◌, ◌↔◌, None, IfSome, map, string_bytes};
-ghost use Rattle.ts_schema.specs.Faults.{Rose};
+ghost use Rattle.std.specs.Prelude.{◌≡◌, ◌≢◌, ◌↔◌, false, None, IfSome, map, string_bytes};
+ghost use Rattle.std.specs.Thread.{IsSync};
+ghost use Rattle.ts_io.specs.Faults.{Counted};
 ghost use Rattle.ts_top.specs.Commands.{command_of};
-ghost use Rattle.ts_top.specs.Endings.{Ran, IfBadWords, IfReadFault, IfWriteFault, status_of as status_of_run};
+ghost use Rattle.ts_top.specs.Endings.{Ran, IfBadWords, is_read_fault, is_write_fault, status_of as status_of_run};
 
 use crate::commands::{Command, command_of};
 use crate::endings::Status;
-use crate::speakers::Speaker;
-use plain_store::PlainStore;
+use plain_store::{PlainShot, PlainStore};
 use script_run::RunEnd;
 use std::alloc::Global;
 use std::thread::Threads;
 use ts_io::{Sink, Source};
 use ts_schema::Steps;
+use ts_sessions::Session;
 
 /// What the program counts: the rows that its answers read.
 #[derive(Drop)]
 struct Reads;
 
 /// Does what the words ask for: `run`, with or without `--` before it, runs the lines of the source
-/// in order and writes their replies to the sink.
+/// in order and writes their replies to the sink. The source is one that hasn't told its end.
 #[tactic(auto, using(crate::proofs::EndingLaws::not_bad))]
 pub fn run_words<R: Threads + Sync, S: Source, K: Sink>(
     rt: &R,
@@ -28,13 +29,12 @@ pub fn run_words<R: Threads + Sync, S: Source, K: Sink>(
     source: &mut S,
     sink: &mut K,
 ) -> Status
+    requires untold { S.ended source.old ≡ false }
     ensures words { (result ≡ Status.BadWords) ↔ (command_of (map string_bytes words.now) ≡ None) }
     ensures untouched { IfBadWords result ((source.new ≡ source.old) × (sink.new ≡ sink.old)) }
     ensures ran { IfSome (S.left source.old) (λ input. Ran result input (S.left source.new) (K.written sink.old) (K.written sink.new)) }
-    ensures reads_on { S.faults source.old ≤ S.faults source.new }
-    ensures writes_on { K.faults sink.old ≤ K.faults sink.new }
-    ensures read_cause { IfReadFault result (Rose (S.faults source.old) (S.faults source.new)) }
-    ensures write_cause { IfWriteFault result (Rose (K.faults sink.old) (K.faults sink.new)) }
+    ensures reads { Counted (S.faults source.old) (S.faults source.new) (is_read_fault result) }
+    ensures writes { Counted (K.faults sink.old) (K.faults sink.new) (is_write_fault result) }
 {
     match command_of(words) {
         Some(Command::Run) => run(rt, alloc, source, sink),
@@ -43,23 +43,22 @@ pub fn run_words<R: Threads + Sync, S: Source, K: Sink>(
 }
 
 /// Runs the lines of the source in order, over a store in memory that is empty at first.
-#[tactic(auto, using(crate::proofs::EndingLaws::runs, crate::proofs::EndingLaws::ran_told, crate::proofs::EndingLaws::read_cause, crate::proofs::EndingLaws::write_cause))]
+#[tactic(auto, using(crate::proofs::EndingLaws::runs, crate::proofs::EndingLaws::same_read_faults, crate::proofs::EndingLaws::same_write_faults))]
 fn run<R: Threads + Sync, S: Source, K: Sink>(
     rt: &R,
     alloc: Global,
     source: &mut S,
     sink: &mut K,
 ) -> Status
+    requires untold { S.ended source.old ≡ false }
     ensures runs { result ≢ Status.BadWords }
     ensures ran { IfSome (S.left source.old) (λ input. Ran result input (S.left source.new) (K.written sink.old) (K.written sink.new)) }
-    ensures reads_on { S.faults source.old ≤ S.faults source.new }
-    ensures writes_on { K.faults sink.old ≤ K.faults sink.new }
-    ensures read_cause { IfReadFault result (Rose (S.faults source.old) (S.faults source.new)) }
-    ensures write_cause { IfWriteFault result (Rose (K.faults sink.old) (K.faults sink.new)) }
+    ensures reads { Counted (S.faults source.old) (S.faults source.new) (is_read_fault result) }
+    ensures writes { Counted (K.faults sink.old) (K.faults sink.new) (is_write_fault result) }
 {
     let mut store = PlainStore::new(alloc);
     let mut steps = Steps::new(Reads);
-    let end = script_run::run::<Speaker, R, PlainStore, S, K, Reads>(
+    let end = script_run::run::<Session<PlainShot>, R, PlainStore, S, K, Reads>(
         rt, alloc, &mut store, source, sink, &mut steps,
     );
     status_of(end)

@@ -28,7 +28,7 @@ fn run_on<R: Threads + Sync + AllocGlobal>(
 }
 
 /// Whether a script has this status and these replies.
-fn replies<R: Threads + Sync + AllocGlobal>(
+pub(crate) fn replies<R: Threads + Sync + AllocGlobal>(
     rt: &R,
     script: &[u8],
     status: Status,
@@ -49,19 +49,19 @@ fn after_base<R: Threads + Sync + AllocGlobal>(
     replies(rt, &script, Status::Refused, &text)
 }
 
-fn joined<R: AllocGlobal>(rt: &R, first: &[u8], second: &[u8]) -> Result<Vec<u8>, Fail> {
+pub(crate) fn joined<R: AllocGlobal>(rt: &R, first: &[u8], second: &[u8]) -> Result<Vec<u8>, Fail> {
     let mut bytes = first.to_vec(rt.alloc())?;
     bytes.extend_from_slice(second)?;
     Ok(bytes)
 }
 
 /// A hypertable and an aggregate over it.
-const BASE: &[u8] = b"a: CREATE TABLE m (time BIGINT NOT NULL, dev BIGINT, v BIGINT)
+pub(crate) const BASE: &[u8] = b"a: CREATE TABLE m (time BIGINT NOT NULL, dev BIGINT, v BIGINT)
 a: SELECT create_hypertable('m', 'time', chunk_time_interval => 100)
 a: CREATE MATERIALIZED VIEW c WITH (timescaledb.continuous, timescaledb.materialized_only = false) AS SELECT time_bucket(10, time) AS b, count(*) AS n, sum(v) AS s FROM m GROUP BY b WITH NO DATA
 ";
 
-const BASE_REPLIES: &[u8] = b"a: TABLE @1
+pub(crate) const BASE_REPLIES: &[u8] = b"a: TABLE @1
 a: HYPERTABLE @2
 a: VIEW @3
 ";
@@ -184,18 +184,6 @@ const REFUSALS: [(&[u8], &[u8]); 17] = [
     ),
 ];
 
-/// Statements that aren't built, which are refused as that before their names are looked at.
-const UNBUILT: [&[u8]; 8] = [
-    b"a: BEGIN\n",
-    b"a: CALL refresh_continuous_aggregate('z', 1, 2)\n",
-    b"a: REFRESH CUT 'c', 1, 2\n",
-    b"a: REFRESH SNAP 3\n",
-    b"a: REFRESH FINISH\n",
-    b"a: ALTER MATERIALIZED VIEW c SET (timescaledb.materialized_only = true)\n",
-    b"a: CREATE MATERIALIZED VIEW d WITH (timescaledb.continuous) AS SELECT time_bucket(10, time), count(*) FROM m GROUP BY 1 WITH NO DATA\n",
-    b"a: CREATE MATERIALIZED VIEW d WITH (timescaledb.continuous, timescaledb.materialized_only = false) AS SELECT time_bucket(10, time), count(*) FROM m GROUP BY 1\n",
-];
-
 #[test]
 fn an_empty_script_says_nothing(rt: HostRuntime) -> Result<(), Fail> {
     assert!(rt; replies(&rt, b"", Status::Done, b"")?);
@@ -227,14 +215,6 @@ fn queries_answer_with_null_wide_sums_and_fractions(rt: HostRuntime) -> Result<(
 fn each_refusal_has_its_reply(rt: HostRuntime) -> Result<(), Fail> {
     for (line, reply) in REFUSALS {
         assert!(rt; after_base(&rt, line, reply)?);
-    }
-    Ok(())
-}
-
-#[test]
-fn what_is_not_built_is_refused_as_that(rt: HostRuntime) -> Result<(), Fail> {
-    for line in UNBUILT {
-        assert!(rt; after_base(&rt, line, b"a: FAULT E00 not_built\n")?);
     }
     Ok(())
 }
