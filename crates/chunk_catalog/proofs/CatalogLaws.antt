@@ -7,11 +7,12 @@ use Rattle.std.proofs.lemmas.List.Sums.{length-filter}
 use Rattle.ts_bucket.specs.Spans.{SpanValue, in_span}
 use Rattle.ts_schema.specs.declared.conditions.Test.{Test}
 use Rattle.ts_schema.specs.Conditions.{passes_all}
-use Rattle.seg_rows.specs.Versions.{Version, visible_at, shown_at, rows_of, rows_at, is_taken, taken_at, after_kill, has_columns, TestsFit}
+use Rattle.seg_rows.specs.Versions.{Version, visible_at, shown_at, rows_of, rows_at, is_taken, taken_at, after_kill}
 use Rattle.seg_rows.proofs.VersionLaws.{and_first, and_second}
 use Rattle.chunk_catalog.specs.declared.reach.Reach.{Reach}
 use Rattle.chunk_catalog.specs.Reach.{in_reach}
-use Rattle.chunk_catalog.specs.Chunks.{IsInterval, chunk_start, chunk_meets, is_near, held_near, is_dropped, dropped_at, after_drop}
+use Rattle.chunk_catalog.specs.Chunks.{chunk_meets, is_near, held_near, is_dropped, dropped_at, after_drop}
+use Rattle.ts_bucket.specs.Chunks.{IsInterval, chunk_start}
 use Rattle.chunk_catalog.specs.Places.{Placed, place, versions_of, reached, after_kill_in, is_placed, ArePlaced}
 use Rattle.chunk_catalog.proofs.ReachLaws.{lies, start_low, false_unless, not_both}
 
@@ -147,10 +148,3 @@ module _ (interval n : ℤ) (r : Reach) (wide : IsInterval interval) (ended : (s
       (map (after_kill_in r p []) ps) (map (after_drop interval n p) (versions_of ps))
       (ended_is x (and_first (is_placed interval x) (list_all (is_placed interval) ps) placed))
       (dropped_killed p ps (and_second (is_placed interval x) (list_all (is_placed interval) ps) placed))
-
--- no test fits every version
-pub no_tests_fit : (tests : List Test) (vs : List Version) → tests ≡ [] → TestsFit tests vs
-no_tests_fit tests [] e = refl
-no_tests_fit tests (v ∷ vs) e =
-    let here : has_columns tests v ≡ true = rw e refl in
-    rw here (no_tests_fit tests vs e)

@@ -1,4 +1,6 @@
 pub mod CatalogLaws
+pub mod Counting
+pub mod LevelLaws
 pub mod PartLaws
 pub mod PlaceLaws
 pub mod ReachLaws

@@ -9,7 +9,8 @@ use Rattle.ts_schema.specs.declared.rows.Row.{Row}
 use Rattle.ts_bucket.specs.Bucket.{is_time}
 use Rattle.seg_rows.specs.Versions.{AsOften, newborn}
 use Rattle.seg_rows.proofs.VersionLaws.{and_first, and_second}
-use Rattle.chunk_catalog.specs.Chunks.{HaveTimes, chunk_start}
+use Rattle.chunk_catalog.specs.Chunks.{HaveTimes}
+use Rattle.ts_bucket.specs.Chunks.{chunk_start}
 use Rattle.chunk_catalog.specs.Places.{Placed, in_chunk, versions_of, is_placed, ArePlaced}
 use Rattle.chunk_catalog.specs.Parts.{AreIn, placed_row, placed_rows}
 

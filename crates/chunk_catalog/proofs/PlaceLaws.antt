@@ -13,7 +13,7 @@ use Rattle.seg_rows.proofs.HullLaws.{later_time-assoc, later_time-comm, later_ti
 use Rattle.seg_rows.proofs.VersionLaws.{picked-append, taken_at-append, after_kill-nothing, and_first, and_second}
 use Rattle.chunk_catalog.specs.declared.reach.Reach.{Reach}
 use Rattle.chunk_catalog.specs.Reach.{in_reach}
-use Rattle.chunk_catalog.specs.Chunks.{IsInterval}
+use Rattle.ts_bucket.specs.Chunks.{IsInterval}
 use Rattle.chunk_catalog.specs.Places.{Placed, place, in_chunk, versions_of, reached, after_kill_in, StartsIn, AreOut, is_placed, ArePlaced}
 use Rattle.chunk_catalog.proofs.ReachLaws.{lies}
 
@@ -43,6 +43,11 @@ versions_of-append xs ys = map-append (λ (x : Placed). x.version) xs ys
 
 pub reached-append : (r : Reach) (xs ys : List Placed) → reached r (xs ++ ys) ≡ reached r xs ++ reached r ys
 reached-append r xs ys = picked-append (λ x. x.version) (λ x. in_reach r x.start) xs ys
+
+-- how many versions of a chunk and two trees are reached
+pub length_reached : (r : Reach) (xs ys zs : List Placed) → length (reached r (xs ++ ys ++ zs)) ≡ length (reached r xs) + length (reached r ys) + length (reached r zs)
+length_reached r xs ys zs =
+    omega (arith, ap length (reached-append r (xs ++ ys) zs), length-append (reached r (xs ++ ys)) (reached r zs), ap length (reached-append r xs ys), length-append (reached r xs) (reached r ys))
 
 -- what holds of parts holds of the whole
 pub ruleset places = (versions_of-in_chunk, versions_of-append, reached-append)

@@ -9,7 +9,7 @@ use Rattle.ts_bucket.proofs.Remainders.{remainder_bounds}
 use Rattle.seg_rows.proofs.VersionLaws.{and_first, and_second}
 use Rattle.chunk_catalog.specs.declared.reach.Reach.{Reach}
 use Rattle.chunk_catalog.specs.Reach.{in_reach}
-use Rattle.chunk_catalog.specs.Chunks.{IsInterval, chunk_start}
+use Rattle.ts_bucket.specs.Chunks.{IsInterval, chunk_start}
 use Rattle.chunk_catalog.specs.Places.{Placed, is_placed}
 
 -- the starts from the first on that meets the span, and before its end

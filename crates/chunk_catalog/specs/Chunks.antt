@@ -1,24 +1,23 @@
 -- Chunks of a table: what contracts see of them, which chunk holds a time, and which chunks meet a span.
-use Rattle.std.specs.Prelude.{◌≡◌, ℕ, ◌^◌, Bool, true, cond, ◌&&◌, List, filter, count_by, ℤ, pos, ◌+ℤ◌, ◌-ℤ◌, ◌≤ℤ◌, int_le, int_lt, Some}
-use Rattle.std.specs.Int.{int_rem_euclid}
+use Rattle.std.specs.Prelude.{◌≡◌, ℕ, ◌+◌, ◌*◌, ◌^◌, ◌≤◌, Bool, true, cond, ◌&&◌, List, filter, count_by, ℤ, ◌+ℤ◌, int_le, int_lt, Some}
 use Rattle.std.specs.List.{list_all}
 use Rattle.ts_bucket.specs.Bucket.{is_time}
+use Rattle.ts_bucket.specs.Chunks.{chunk_start}
 use Rattle.ts_bucket.specs.Spans.{SpanValue}
 use Rattle.ts_schema.specs.declared.rows.Row.{Row}
 use Rattle.seg_rows.specs.Versions.{Version, visible_at, rows_of}
 
--- what contracts see of `Chunks`: how long a chunk is, and every version that was ever put there
+-- what contracts see of `Chunks`: how long a chunk is, every version that was ever put there, and how many levels of chunks and
+-- of segments a look at a version goes through at most. A scan gives versions in the order of this list. No clause tells the order
+-- of what was put there, which is free: `put` tells which versions there are, each as often
 pub record ChunksValue : Type 0 where
   pub interval : ℤ
   pub versions : List Version
+  pub levels : ℕ
 
--- an interval is from 1 to 2 ^ 50
-abbrev pub IsInterval : ℤ → Type 0
-IsInterval interval = (pos 1 ≤ℤ interval) × (interval ≤ℤ pos (2 ^ 50))
-
--- the start of the chunk that holds t: the last whole multiple of the interval at or below t
-abbrev pub chunk_start : ℤ → ℤ → ℤ
-chunk_start interval t = t -ℤ int_rem_euclid t interval
+-- levels that grow with the logarithm of so many versions: every fourth level doubles the least number of versions
+abbrev pub AreLow : ℕ → ℕ → Type 0
+AreLow levels count = (k : ℕ) → 4 * k ≤ levels → 2 ^ k ≤ 2 * count + 1
 
 -- the chunk with this start and the span have a number in common
 abbrev pub chunk_meets : ℤ → SpanValue → ℤ → Bool

@@ -1,6 +1,6 @@
 -- What holds of chunks: each version is in its chunk, and the count is right.
 use Rattle.std.specs.Prelude.{◌≡◌, ℕ, ◌≤◌, ◌^◌, List, length, ℤ}
-use Rattle.chunk_catalog.specs.Chunks.{IsInterval}
+use Rattle.ts_bucket.specs.Chunks.{IsInterval}
 use Rattle.chunk_catalog.specs.Places.{Placed, ArePlaced}
 
 -- every version is kept by the chunk that holds its time, and they are so many, which can be counted

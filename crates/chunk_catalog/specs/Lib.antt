@@ -1,5 +1,6 @@
 pub mod Chunks
 pub mod Kept
+pub mod Levels
 pub mod Parts
 pub mod Piles
 pub mod Places

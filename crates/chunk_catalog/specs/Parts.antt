@@ -4,7 +4,7 @@ use Rattle.std.specs.List.{list_all}
 use Rattle.std.specs.Ordering.{int_eq}
 use Rattle.ts_schema.specs.declared.rows.Row.{Row}
 use Rattle.seg_rows.specs.Versions.{newborn}
-use Rattle.chunk_catalog.specs.Chunks.{chunk_start}
+use Rattle.ts_bucket.specs.Chunks.{chunk_start}
 use Rattle.chunk_catalog.specs.Places.{Placed, place}
 
 -- rows born at p, each in the chunk that holds its time

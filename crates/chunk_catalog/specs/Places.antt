@@ -6,14 +6,15 @@ use Rattle.ts_bucket.specs.Bucket.{is_time}
 use Rattle.ts_bucket.specs.Spans.{HullValue, in_hull}
 use Rattle.ts_schema.specs.declared.conditions.Test.{Test}
 use Rattle.seg_rows.specs.Versions.{Version, after_kill}
-use Rattle.chunk_catalog.specs.Chunks.{chunk_start}
+use Rattle.ts_bucket.specs.Chunks.{chunk_start}
 use Rattle.chunk_catalog.specs.Reach.{in_reach}
 use Rattle.chunk_catalog.specs.declared.reach.Reach.{Reach}
 
--- a chunk: its start, and the versions that it keeps
+-- a chunk: its start, the versions that it keeps, and how many levels of segments there are
 pub record Kept : Type 0 where
   pub start : ℤ
   pub versions : List Version
+  pub levels : ℕ
 
 -- a version, with the start of the chunk that keeps it
 pub record Placed : Type 0 where

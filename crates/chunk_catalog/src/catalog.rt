@@ -1,9 +1,10 @@
 //! Chunks of a table.
 ghost use Rattle.std.specs.Prelude.{◌≡◌, ◌≤◌, ◌++◌, [], length, map, IfOk, OnOk, OnErr};
 ghost use Rattle.seg_rows.specs.Hulls.{hull_of};
-ghost use Rattle.seg_rows.specs.Versions.{AsOften, after_kill, latest_at, newborn, rows_at, taken_at, TestsFit};
-ghost use Rattle.ts_schema.specs.Counts.{raised_by};
-ghost use Rattle.chunk_catalog.specs.Chunks.{IsInterval, HaveTimes, after_drop, dropped_at, held_near};
+ghost use Rattle.seg_rows.specs.Versions.{AsOften, after_kill, latest_at, newborn, rows_at, taken_at};
+ghost use Rattle.ts_schema.specs.Counts.{raised_by, RaisedUpTo};
+ghost use Rattle.chunk_catalog.specs.Chunks.{AreLow, HaveTimes, after_drop, dropped_at, held_near};
+ghost use Rattle.ts_bucket.specs.Chunks.{IsInterval};
 
 use crate::parts::put_rows;
 use crate::reach::{drop_reach, span_reach, test_reach};
@@ -27,13 +28,14 @@ pub struct Chunks {
 }
 
 impl Model for Chunks {
+    ghost use Rattle.std.specs.Prelude.{◌+◌};
     ghost use Rattle.chunk_catalog.specs.Chunks.{ChunksValue};
     ghost use Rattle.chunk_catalog.specs.Places.{versions_of};
     ghost use Rattle.chunk_catalog.specs.Kept.{IsKept};
 
     ghost Value = { ChunksValue };
 
-    ghost view = { λ c. record { interval = c.interval; versions = versions_of c.tree.0 } };
+    ghost view = { λ c. record { interval = c.interval; versions = versions_of c.tree.0; levels = c.tree.1.chunks + c.tree.1.segments } };
 
     ghost invariant = { λ c. IsKept c.interval c.tree.0 c.count };
 }
@@ -76,6 +78,14 @@ impl Chunks {
         })
     }
 
+    /// What holds of all chunks, however they came to be: the trees in which they and their segments
+    /// hang have no more levels than the logarithm of the versions allows. Calls go down these trees.
+    pub fn levels_are_low(&self)
+        ensures low { AreLow self.now.levels (length self.now.versions) }
+    {
+        let _few = self.tree.height();
+    }
+
     /// The chunks with rows that are born at a position, which is at least those of the earlier
     /// changes.
     pub fn put(&self, rows: Seq<Row>, pos: u64) -> Result<Chunks, NoMemory>
@@ -99,7 +109,6 @@ impl Chunks {
     /// visible there and pass every test die there. Chunks that can't hold such a row aren't looked
     /// at.
     pub fn kill(&self, tests: &Seq<Test>, pos: u64) -> Result<KilledChunks, NoMemory>
-        requires fit { TestsFit tests.now self.now.versions }
         ensures interval { IfOk result (λ k. k.chunks.interval ≡ self.now.interval) }
         ensures after { IfOk result (λ k. k.chunks.versions ≡ map (after_kill pos tests.now) self.now.versions) }
         ensures removed { IfOk result (λ k. k.removed ≡ length (taken_at pos tests.now self.now.versions)) }
@@ -149,7 +158,7 @@ impl Chunks {
         ensures rows { IfOk result (λ rows. rows ≡ rows_at pos span self.now.versions) }
         ensures wide { IsInterval self.now.interval }
         ensures ticks { OnOk result (steps.new ≡ raised_by (held_near self.now.interval span self.now.versions) steps.old) }
-        ensures at_most { OnErr result (steps.new ≤ raised_by (held_near self.now.interval span self.now.versions) steps.old) }
+        ensures at_most { OnErr result (RaisedUpTo (held_near self.now.interval span self.now.versions) steps.old steps.new) }
     {
         let reach = span_reach(self.interval, span);
         let mut rows = Seq::new(self.alloc);

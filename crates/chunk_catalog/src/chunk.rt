@@ -1,36 +1,33 @@
 //! One chunk.
-ghost use Rattle.std.specs.Prelude.{◌≡◌, ◌≤◌, ◌<◌, ◌+◌, ◌^◌, ◌++◌, length, map, IfOk, OnOk, OnErr};
+ghost use Rattle.std.specs.Prelude.{◌≡◌, ◌≤◌, ◌<◌, ◌+◌, ◌*◌, ◌^◌, ◌++◌, length, map, IfOk, OnOk, OnErr};
 ghost use Rattle.seg_rows.specs.Hulls.{hull_of};
-ghost use Rattle.seg_rows.specs.Versions.{after_kill, latest_at, later_time, rows_at, taken_at, TestsFit};
-ghost use Rattle.chunk_catalog.specs.Chunks.{IsInterval};
+ghost use Rattle.seg_rows.specs.Versions.{after_kill, latest_at, later_time, rows_at, taken_at};
+ghost use Rattle.ts_bucket.specs.Chunks.{IsInterval};
+ghost use Rattle.chunk_catalog.specs.Levels.{AreFew};
 ghost use Rattle.chunk_catalog.specs.Places.{ArePlaced, after_kill_in, in_chunk, reached};
-ghost use Rattle.ts_schema.specs.Counts.{raised_by};
+ghost use Rattle.ts_schema.specs.Counts.{raised_by, RaisedUpTo};
 
 use crate::piles::Pile;
 use crate::reach::{Reach, is_past};
-use seg_rows::{Segment, later};
+use seg_rows::Segment;
 use std::alloc::Global;
 use std::marker::Model;
 use ts_bucket::{Hull, Span};
 use ts_schema::{NoMemory, Row, Seq, Steps, Test};
 
-/// The versions of a chunk, with its start.
+/// The versions of a chunk, of which there is one at least, with its start.
 #[derive(Drop)]
 pub struct Chunk {
     start: i64,
     pile: Pile,
-    count: u64,
 }
 
 impl Model for Chunk {
-    ghost use Rattle.std.specs.Prelude.{◌≡◌, length};
     ghost use Rattle.chunk_catalog.specs.Places.{Kept};
 
     ghost Value = { Kept };
 
-    ghost view = { λ c. record { start = c.start; versions = c.pile.0 } };
-
-    ghost invariant = { λ c. c.count ≡ length c.pile.0 };
+    ghost view = { λ c. record { start = c.start; versions = c.pile.0; levels = c.pile.1 } };
 }
 
 /// What a delete made of a chunk.
@@ -42,16 +39,16 @@ pub struct KilledChunk {
 }
 
 impl Chunk {
-    ghost use Rattle.std.specs.Prelude.{◌≡◌, ◌≤◌, ◌<◌, ◌+◌, ◌^◌, ◌++◌, length, map, IfOk, OnOk, OnErr};
+    ghost use Rattle.std.specs.Prelude.{◌≡◌, ◌≤◌, ◌<◌, ◌+◌, ◌*◌, ◌^◌, ◌++◌, length, map, IfOk, OnOk, OnErr};
 
-    /// The chunk of one segment.
+    /// The chunk of one segment, which has a version.
     pub fn of(start: i64, segment: Segment) -> Chunk
+        requires some { 0 < length segment }
         ensures start { result.start ≡ start }
         ensures versions { result.versions ≡ segment }
     {
         Chunk {
             start,
-            count: segment.count(),
             pile: Pile::of(segment),
         }
     }
@@ -66,8 +63,10 @@ impl Chunk {
     /// How many versions there are.
     pub fn count(&self) -> u64
         ensures count { result ≡ length self.now.versions }
+        ensures some { 0 < result }
+        ensures few { AreFew self.now.levels (2 * result) }
     {
-        self.count
+        self.pile.count()
     }
 
     /// The same chunk again.
@@ -77,39 +76,36 @@ impl Chunk {
         Ok(Chunk {
             start: self.start,
             pile: self.pile.copy()?,
-            count: self.count,
         })
     }
 
-    /// The chunk with the versions of one more segment.
+    /// The chunk with the versions of one more segment, which has a version.
     pub fn append(&self, alloc: Global, segment: Segment) -> Result<Chunk, NoMemory>
+        requires some { 0 < length segment }
         requires countable { length self.now.versions + length segment < 2 ^ 64 }
         ensures start { IfOk result (λ chunk. chunk.start ≡ self.now.start) }
         ensures versions { IfOk result (λ chunk. chunk.versions ≡ self.now.versions ++ segment) }
     {
-        let count = self.count + segment.count();
         Ok(Chunk {
             start: self.start,
             pile: self.pile.append(alloc, segment)?,
-            count,
         })
     }
 
     /// A delete at a position.
     pub fn kill(&self, alloc: Global, tests: &Seq<Test>, pos: u64) -> Result<KilledChunk, NoMemory>
-        requires fit { TestsFit tests.now self.now.versions }
+        requires countable { length self.now.versions < 2 ^ 64 }
         ensures start { IfOk result (λ k. k.chunk.start ≡ self.now.start) }
+        ensures levels { IfOk result (λ k. k.chunk.levels ≡ self.now.levels) }
         ensures after { IfOk result (λ k. k.chunk.versions ≡ map (after_kill pos tests.now) self.now.versions) }
         ensures removed { IfOk result (λ k. k.removed ≡ length (taken_at pos tests.now self.now.versions)) }
         ensures hull { IfOk result (λ k. k.hull ≡ hull_of (taken_at pos tests.now self.now.versions)) }
     {
-        let count = self.count();
         let killed = self.pile.kill(alloc, tests, pos)?;
         Ok(KilledChunk {
             chunk: Chunk {
                 start: self.start,
                 pile: killed.pile,
-                count,
             },
             removed: killed.removed,
             hull: killed.hull,
@@ -126,17 +122,11 @@ impl Chunk {
     ) -> Result<(), NoMemory>
         ensures rows { OnOk result (out.new ≡ out.old ++ rows_at pos span self.now.versions) }
         ensures ticks { OnOk result (steps.new ≡ raised_by (length self.now.versions) steps.old) }
-        ensures at_most { OnErr result (steps.new ≤ raised_by (length self.now.versions) steps.old) }
+        ensures at_most { OnErr result (RaisedUpTo (length self.now.versions) steps.old steps.new) }
     {
         self.pile.scan(pos, span, out, steps)
     }
 
-    /// The greatest time that is visible at a position.
-    pub fn last(&self, pos: u64) -> Option<i64>
-        ensures last { result ≡ latest_at pos self.now.versions }
-    {
-        self.pile.last(pos)
-    }
     /// A delete at a position, where the start lies in a range.
     #[tactic(auto, using(crate::proofs::PlaceLaws::reached_in, crate::proofs::PlaceLaws::reached_out, crate::proofs::PlaceLaws::killed_in, crate::proofs::PlaceLaws::killed_out, seg_rows::proofs::VersionLaws::parts))]
     pub fn kill_in(
@@ -146,7 +136,8 @@ impl Chunk {
         tests: &Seq<Test>,
         pos: u64,
     ) -> Result<KilledChunk, NoMemory>
-        requires fit { TestsFit tests.now self.now.versions }
+        requires countable { length self.now.versions < 2 ^ 64 }
+        ensures levels { IfOk result (λ k. k.chunk.levels ≡ self.now.levels) }
         ensures after { IfOk result (λ k. in_chunk k.chunk.start k.chunk.versions ≡ map (after_kill_in reach pos tests.now) (in_chunk self.now.start self.now.versions)) }
         ensures removed { IfOk result (λ k. k.removed ≡ length (taken_at pos tests.now (reached reach (in_chunk self.now.start self.now.versions)))) }
         ensures hull { IfOk result (λ k. k.hull ≡ hull_of (taken_at pos tests.now (reached reach (in_chunk self.now.start self.now.versions)))) }
@@ -173,7 +164,7 @@ impl Chunk {
     ) -> Result<(), NoMemory>
         ensures rows { OnOk result (out.new ≡ out.old ++ rows_at pos span (reached reach (in_chunk self.now.start self.now.versions))) }
         ensures ticks { OnOk result (steps.new ≡ raised_by (length (reached reach (in_chunk self.now.start self.now.versions))) steps.old) }
-        ensures at_most { OnErr result (steps.new ≤ raised_by (length (reached reach (in_chunk self.now.start self.now.versions))) steps.old) }
+        ensures at_most { OnErr result (RaisedUpTo (length (reached reach (in_chunk self.now.start self.now.versions))) steps.old steps.new) }
     {
         if reach.holds(self.start) {
             self.scan(pos, span, out, steps)
@@ -205,7 +196,7 @@ impl Chunk {
         if is_past(interval, self.start, best) {
             best
         } else {
-            later(best, self.last(pos))
+            self.pile.last_of(pos, best)
         }
     }
 }

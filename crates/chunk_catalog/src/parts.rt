@@ -3,7 +3,8 @@ ghost use Rattle.std.specs.Prelude.{◌≡◌, ◌<◌, ◌+◌, ◌-◌, ◌^�
 ghost use Rattle.ts_bucket.specs.Bucket.{is_time};
 ghost use Rattle.ts_schema.specs.declared.rows.Row.{Row};
 ghost use Rattle.seg_rows.specs.Versions.{newborn};
-ghost use Rattle.chunk_catalog.specs.Chunks.{IsInterval, HaveTimes, chunk_start};
+ghost use Rattle.chunk_catalog.specs.Chunks.{HaveTimes};
+ghost use Rattle.ts_bucket.specs.Chunks.{IsInterval, chunk_start};
 ghost use Rattle.chunk_catalog.specs.Places.{Placed, in_chunk};
 ghost use Rattle.chunk_catalog.specs.Parts.{AreIn, placed_rows};
 
@@ -52,6 +53,7 @@ fn sorted_rows(rows: Seq<Row>) -> Result<Vec<Row>, NoMemory>
 
 /// A tree with the rows of one chunk, born at a position.
 fn put_part(alloc: Global, tree: &Tree, part: Part, pos: u64) -> Result<Tree, NoMemory>
+    requires some { 0 < length part.rows.items }
     requires countable { length tree.now.0 + length part.rows.items < 2 ^ 64 }
     ensures versions { IfOk result (λ new. (test : Placed → Bool) → count_by test new.0 ≡ count_by test tree.now.0 + count_by test (in_chunk part.start (map (newborn pos) part.rows.items))) }
 {
@@ -99,5 +101,5 @@ fn chunk_of(interval: i64, row: &Row) -> i64
     requires time { is_time row.now.at ≡ true }
     ensures start { result ≡ chunk_start interval row.now.at }
 {
-    row.at - row.at.rem_euclid(interval)
+    ts_bucket::chunk_start(interval, row.at)
 }

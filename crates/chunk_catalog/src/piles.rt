@@ -3,13 +3,15 @@
 //! Small segments are joined as they gather, as in a binary counter: a row is copied about once for
 //! each doubling of the segment that holds it, up to the limit. Beyond it segments hang in a tree
 //! whose right side is no larger than its left, so that a new segment changes one path.
-ghost use Rattle.std.specs.Prelude.{◌≡◌, ◌≤◌, ◌<◌, ◌^◌, ◌++◌, length, map, IfOk, IfSome, OnOk, OnErr};
+ghost use Rattle.std.specs.Prelude.{◌≡◌, ◌≤◌, ◌<◌, ◌+◌, ◌*◌, ◌^◌, ◌++◌, length, map, IfOk, IfSome, OnOk, OnErr};
 ghost use Rattle.std.specs.Arc.{arc_value};
 ghost use Rattle.seg_rows.specs.Hulls.{hull_of};
-ghost use Rattle.seg_rows.specs.Versions.{after_kill, latest_at, rows_at, taken_at, TestsFit};
-ghost use Rattle.ts_schema.specs.Counts.{raised_by};
+ghost use Rattle.seg_rows.specs.Versions.{after_kill, later_time, latest_at, latest_of, rows_at, rows_of, taken_at};
+ghost use Rattle.ts_schema.specs.Counts.{raised_by, RaisedUpTo};
+ghost use Rattle.chunk_catalog.specs.Levels.{AreFew};
+ghost use Rattle.chunk_catalog.specs.Piles.{AreEven};
 
-use seg_rows::{Segment, join_hulls, later};
+use seg_rows::{Segment, is_no_later, join_hulls, later};
 use std::alloc::Global;
 use std::marker::Model;
 use std::sync::Arc;
@@ -22,7 +24,7 @@ const FEW: u64 = 16;
 /// No joined segment has more versions.
 const MANY: u64 = 1024;
 
-/// Segments in order.
+/// Segments in order. Contracts see their versions, and how many levels there are.
 #[cycle(pile)]
 #[derive(Drop)]
 pub struct Pile {
@@ -33,8 +35,9 @@ pub struct Pile {
 #[derive(Drop)]
 enum Shape {
     Leaf(Segment),
-    /// The earlier segments, the later ones, and about how many versions there are.
-    Fork(Arc<Pile>, Arc<Pile>, u64),
+    /// The earlier segments, the later ones, how many versions there are, and the greatest of their
+    /// times.
+    Fork(Arc<Pile>, Arc<Pile>, u64, Option<i64>),
 }
 
 impl Model for Pile {
@@ -43,9 +46,11 @@ impl Model for Pile {
 
     ghost Value = { List Version × ℕ };
 
-    ghost use Rattle.chunk_catalog.specs.Piles.{pile_view};
+    ghost use Rattle.chunk_catalog.specs.Piles.{pile_view, IsPile};
 
     ghost view = { λ p. pile_view p.shape };
+
+    ghost invariant = { λ p. IsPile p.shape };
 
     ghost size = { λ d. d.1 };
 
@@ -63,20 +68,36 @@ pub struct KilledPile {
 }
 
 impl Pile {
-    /// The pile of one segment.
+    /// The pile of one segment, which has a version.
     pub fn of(segment: Segment) -> Pile
+        requires some { 0 < length segment }
         ensures versions { result.0 ≡ segment }
+        ensures levels { result.1 ≡ 0 }
     {
         Pile {
             shape: Shape::Leaf(segment),
         }
     }
 
-    /// About how many versions there are.
-    fn size(&self) -> u64 {
+    /// How many versions there are.
+    pub fn count(&self) -> u64
+        ensures count { result ≡ length self.now.0 }
+        ensures some { 0 < result }
+        ensures few { AreFew self.now.1 (2 * result) }
+    {
         match &self.shape {
             Shape::Leaf(segment) => segment.count(),
-            Shape::Fork(_, _, size) => *size,
+            Shape::Fork(_, _, count, _) => *count,
+        }
+    }
+
+    /// The greatest time of all versions, visible or not.
+    fn latest(&self) -> Option<i64>
+        ensures latest { result ≡ latest_of (rows_of self.now.0) }
+    {
+        match &self.shape {
+            Shape::Leaf(segment) => segment.latest(),
+            Shape::Fork(_, _, _, latest) => *latest,
         }
     }
 
@@ -88,23 +109,31 @@ impl Pile {
             Shape::Leaf(segment) => Ok(Pile {
                 shape: Shape::Leaf(segment.copy()?),
             }),
-            Shape::Fork(left, right, size) => Ok(Pile {
-                shape: Shape::Fork(Arc::try_clone(left)?, Arc::try_clone(right)?, *size),
+            Shape::Fork(left, right, count, latest) => Ok(Pile {
+                shape: Shape::Fork(
+                    Arc::try_clone(left)?,
+                    Arc::try_clone(right)?,
+                    *count,
+                    *latest,
+                ),
             }),
         }
     }
 
-    /// The pile with one more segment at its end.
+    /// The pile with one more segment at its end, which has a version.
     pub fn append(&self, alloc: Global, segment: Segment) -> Result<Pile, NoMemory>
+        requires some { 0 < length segment }
+        requires countable { length self.now.0 + length segment < 2 ^ 64 }
         ensures versions { IfOk result (λ pile. pile.0 ≡ self.now.0 ++ segment) }
     {
         match &self.shape {
             Shape::Leaf(_) => beside(alloc, self.copy()?, Pile::of(segment)),
-            Shape::Fork(left, right, _) => {
-                if right.size().saturating_add(segment.count()) > left.size() {
+            Shape::Fork(left, right, _, _) => {
+                if right.count() + segment.count() > left.count() {
                     return beside(alloc, self.copy()?, Pile::of(segment));
                 }
                 let right = right.append(alloc, segment)?;
+                let _few = right.count();
                 beside(alloc, left.copy()?, right)
             }
         }
@@ -116,7 +145,7 @@ impl Pile {
     {
         match &self.shape {
             Shape::Leaf(segment) => other.joined_after(segment),
-            Shape::Fork(_, _, _) => Ok(None),
+            Shape::Fork(_, _, _, _) => Ok(None),
         }
     }
 
@@ -126,16 +155,16 @@ impl Pile {
     {
         match &self.shape {
             Shape::Leaf(second) => joined_if_small(first, second),
-            Shape::Fork(_, _, _) => Ok(None),
+            Shape::Fork(_, _, _, _) => Ok(None),
         }
     }
 
     /// A delete at a position.
     #[tactic(auto, using(seg_rows::proofs::VersionLaws::parts, seg_rows::proofs::VersionLaws::kill_nothing, seg_rows::proofs::VersionLaws::and_first, seg_rows::proofs::VersionLaws::and_second, seg_rows::proofs::VersionLaws::taken_few))]
     pub fn kill(&self, alloc: Global, tests: &Seq<Test>, pos: u64) -> Result<KilledPile, NoMemory>
-        requires fit { TestsFit tests.now self.now.0 }
         requires countable { length self.now.0 < 2 ^ 64 }
         ensures after { IfOk result (λ k. k.pile.0 ≡ map (after_kill pos tests.now) self.now.0) }
+        ensures levels { IfOk result (λ k. k.pile.1 ≡ self.now.1) }
         ensures removed { IfOk result (λ k. k.removed ≡ length (taken_at pos tests.now self.now.0)) }
         ensures hull { IfOk result (λ k. k.hull ≡ hull_of (taken_at pos tests.now self.now.0)) }
     {
@@ -148,14 +177,14 @@ impl Pile {
                     hull: killed.hull,
                 })
             }
-            Shape::Fork(left, right, size) => {
+            Shape::Fork(left, right, count, latest) => {
                 let first = left.kill(alloc, tests, pos)?;
                 let second = right.kill(alloc, tests, pos)?;
                 let left = changed(alloc, left, first.pile, first.removed)?;
                 let right = changed(alloc, right, second.pile, second.removed)?;
                 Ok(KilledPile {
                     pile: Pile {
-                        shape: Shape::Fork(left, right, *size),
+                        shape: Shape::Fork(left, right, *count, *latest),
                     },
                     removed: first.removed + second.removed,
                     hull: join_hulls(first.hull, second.hull),
@@ -174,44 +203,60 @@ impl Pile {
     ) -> Result<(), NoMemory>
         ensures rows { OnOk result (out.new ≡ out.old ++ rows_at pos span self.now.0) }
         ensures ticks { OnOk result (steps.new ≡ raised_by (length self.now.0) steps.old) }
-        ensures at_most { OnErr result (steps.new ≤ raised_by (length self.now.0) steps.old) }
+        ensures at_most { OnErr result (RaisedUpTo (length self.now.0) steps.old steps.new) }
     {
+        let _so_far = steps.count();
         match &self.shape {
             Shape::Leaf(segment) => segment.scan(pos, span, out, steps),
-            Shape::Fork(left, right, _) => {
+            Shape::Fork(left, right, _, _) => {
                 left.scan(pos, span, out, steps)?;
                 right.scan(pos, span, out, steps)
             }
         }
     }
 
-    /// The greatest time that is visible at a position.
+    /// The greatest of a time and the times that are visible at a position. The later segments come
+    /// first, and those that hold no later time aren't looked at.
     #[tactic(auto, using(seg_rows::proofs::VersionLaws::parts))]
-    pub fn last(&self, pos: u64) -> Option<i64>
-        ensures last { result ≡ latest_at pos self.now.0 }
+    pub fn last_of(&self, pos: u64, best: Option<i64>) -> Option<i64>
+        ensures last { result ≡ later_time best (latest_at pos self.now.0) }
     {
+        if is_no_later(self.latest(), best) {
+            return best;
+        }
         match &self.shape {
-            Shape::Leaf(segment) => segment.last(pos),
-            Shape::Fork(left, right, _) => later(left.last(pos), right.last(pos)),
+            Shape::Leaf(segment) => segment.last_of(pos, best),
+            Shape::Fork(left, right, _, _) => left.last_of(pos, right.last_of(pos, best)),
         }
     }
 }
 
 /// One pile after another: as one segment where both are small ones.
 fn beside(alloc: Global, left: Pile, right: Pile) -> Result<Pile, NoMemory>
+    requires even { AreEven left right }
+    requires countable { length left.0 + length right.0 < 2 ^ 64 }
     ensures versions { IfOk result (λ pile. pile.0 ≡ left.0 ++ right.0) }
 {
+    let _some = left.count();
     match left.joined(&right)? {
         Some(segment) => Ok(Pile::of(segment)),
-        None => {
-            let size = left.size().saturating_add(right.size());
-            let left = Arc::new(alloc, left)?;
-            let right = Arc::new(alloc, right)?;
-            Ok(Pile {
-                shape: Shape::Fork(left, right, size),
-            })
-        }
+        None => fork(alloc, left, right),
     }
+}
+
+/// Two piles side by side.
+fn fork(alloc: Global, left: Pile, right: Pile) -> Result<Pile, NoMemory>
+    requires even { AreEven left right }
+    requires countable { length left.0 + length right.0 < 2 ^ 64 }
+    ensures versions { IfOk result (λ pile. pile.0 ≡ left.0 ++ right.0) }
+{
+    let count = left.count() + right.count();
+    let latest = later(left.latest(), right.latest());
+    let left = Arc::new(alloc, left)?;
+    let right = Arc::new(alloc, right)?;
+    Ok(Pile {
+        shape: Shape::Fork(left, right, count, latest),
+    })
 }
 
 /// Two segments as one, where they are few, or where the first isn't much the larger and the limit
@@ -235,7 +280,9 @@ fn is_joined(first: u64, second: u64) -> bool {
 /// A pile as it became, or the old one where nothing was removed.
 fn changed(alloc: Global, old: &Arc<Pile>, new: Pile, removed: u64) -> Result<Arc<Pile>, NoMemory>
     requires same { removed ≡ 0 → new.0 ≡ (arc_value old.now).0 }
+    requires levels { new.1 ≡ (arc_value old.now).1 }
     ensures versions { IfOk result (λ pile. (arc_value pile).0 ≡ new.0) }
+    ensures levels { IfOk result (λ pile. (arc_value pile).1 ≡ new.1) }
 {
     if removed == 0 {
         Ok(Arc::try_clone(old)?)

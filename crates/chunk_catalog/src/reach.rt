@@ -4,7 +4,8 @@ ghost use Rattle.std.specs.Int.{w64};
 ghost use Rattle.ts_schema.specs.declared.rows.Row.{Row};
 ghost use Rattle.ts_schema.specs.Conditions.{compares, passes_all, passes_one};
 ghost use Rattle.seg_rows.specs.Versions.{later_time};
-ghost use Rattle.chunk_catalog.specs.Chunks.{IsInterval, chunk_meets};
+ghost use Rattle.chunk_catalog.specs.Chunks.{chunk_meets};
+ghost use Rattle.ts_bucket.specs.Chunks.{IsInterval};
 ghost use Rattle.chunk_catalog.specs.Reach.{in_reach};
 ghost use Rattle.chunk_catalog.specs.Places.{Placed, is_placed};
 

@@ -1,6 +1,5 @@
 //! Chunks beside plain lists of versions.
 ghost use Rattle.std.specs.Prelude.{◌≡◌, ◌≤ℤ◌, true, List, IfOk};
-ghost use Rattle.seg_rows.specs.Versions.{Version, TestsFit};
 ghost use Rattle.ts_bucket.specs.Bucket.{is_time};
 ghost use Rattle.chunk_catalog.specs.Chunks.{HaveTimes};
 
@@ -34,9 +33,7 @@ fn rows(alloc: Global, times: &[i64]) -> Result<Seq<Row>, NoMemory>
 }
 
 /// The one test that a row's time is `cmp` a number.
-fn on_time(alloc: Global, cmp: Cmp, num: i64) -> Result<Seq<Test>, NoMemory>
-    ensures fit { IfOk result (λ tests. (versions : List Version) → TestsFit tests versions) }
-{
+fn on_time(alloc: Global, cmp: Cmp, num: i64) -> Result<Seq<Test>, NoMemory> {
     let mut tests = Seq::new(alloc);
     tests.push(Test { col: 0, cmp, num })?;
     Ok(tests)

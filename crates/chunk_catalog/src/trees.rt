@@ -1,10 +1,11 @@
 //! Chunks in the order of their starts, in a balanced tree of which a change copies one path.
-ghost use Rattle.std.specs.Prelude.{◌≡◌, ◌≤◌, ◌<◌, ◌+◌, ◌^◌, ◌++◌, [], ℕ, true, Bool, length, map, count_by, IfOk, OnOk, OnErr};
+ghost use Rattle.std.specs.Prelude.{◌≡◌, ◌≤◌, ◌<◌, ◌+◌, ◌^◌, ◌++◌, ℕ, suc, max, true, Bool, length, map, count_by, IfOk, OnOk, OnErr};
 ghost use Rattle.std.specs.Arc.{arc_value};
 ghost use Rattle.seg_rows.specs.Hulls.{hull_at, hull_of, joined_hull};
-ghost use Rattle.seg_rows.specs.Versions.{latest_at, later_time, rows_at, taken_at, TestsFit};
-ghost use Rattle.ts_schema.specs.Counts.{raised_by};
-ghost use Rattle.chunk_catalog.specs.Chunks.{IsInterval};
+ghost use Rattle.seg_rows.specs.Versions.{latest_at, later_time, rows_at, taken_at};
+ghost use Rattle.ts_schema.specs.Counts.{raised_by, RaisedUpTo};
+ghost use Rattle.ts_bucket.specs.Chunks.{IsInterval};
+ghost use Rattle.chunk_catalog.specs.Levels.{AreLevel, AreNear, Balances, FewLevels, Grows, no_tree, tree_over};
 ghost use Rattle.chunk_catalog.specs.Places.{Placed, AreOut, after_kill_in, in_chunk, reached, versions_of, ArePlaced, StartsIn};
 
 use crate::chunk::Chunk;
@@ -16,7 +17,7 @@ use std::sync::Arc;
 use ts_bucket::{Hull, Span};
 use ts_schema::{NoMemory, Row, Seq, Steps, Test};
 
-/// Chunks in order. Contracts see their versions, and a number above that of each part.
+/// Chunks in order. Contracts see their versions, and how many levels there are.
 #[cycle(tree)]
 #[derive(Drop)]
 pub struct Tree {
@@ -33,19 +34,17 @@ enum Node {
 }
 
 impl Model for Tree {
-    ghost use Rattle.std.specs.Prelude.{List, ℕ};
-    ghost use Rattle.chunk_catalog.specs.Chunks.{IsInterval};
-    ghost use Rattle.chunk_catalog.specs.Places.{Placed};
+    ghost use Rattle.chunk_catalog.specs.Levels.{TreeValue};
 
-    ghost Value = { List Placed × ℕ };
+    ghost Value = { TreeValue };
 
-    ghost use Rattle.chunk_catalog.specs.Trees.{tree_view, HasStarts};
+    ghost use Rattle.chunk_catalog.specs.Trees.{tree_view, IsTree};
 
     ghost view = { λ t. tree_view t.node };
 
-    ghost invariant = { λ t. HasStarts t.node };
+    ghost invariant = { λ t. IsTree t.node };
 
-    ghost size = { λ d. d.1 };
+    ghost size = { λ d. d.1.chunks };
 
     ghost use Rattle.std.proofs.Common.{arith};
 
@@ -63,13 +62,16 @@ pub struct KilledTree {
 impl Tree {
     /// No chunk.
     pub fn new() -> Tree
-        ensures none { result.0 ≡ [] }
+        ensures none { result ≡ no_tree }
     {
         Tree { node: Node::Empty }
     }
 
-    /// How many levels there are.
-    fn height(&self) -> u64 {
+    /// How many levels of chunks there are.
+    pub fn height(&self) -> u64
+        ensures height { result ≡ self.now.1.chunks }
+        ensures few { FewLevels self.now.1 (length self.now.0) }
+    {
         match &self.node {
             Node::Empty => 0,
             Node::Fork(_, _, _, _, height) => *height,
@@ -126,10 +128,12 @@ impl Tree {
         }
     }
 
-    /// The chunks with one more segment in the chunk with this start.
+    /// The chunks with one more segment, which has a version, in the chunk with this start.
     pub fn with(&self, alloc: Global, start: i64, segment: Segment) -> Result<Tree, NoMemory>
+        requires some { 0 < length segment }
         requires countable { length self.now.0 + length segment < 2 ^ 64 }
         ensures versions { IfOk result (λ tree. (test : Placed → Bool) → count_by test tree.0 ≡ count_by test self.now.0 + count_by test (in_chunk start segment)) }
+        ensures grows { IfOk result (λ tree. Grows self.now.1 tree.1) }
     {
         match &self.node {
             Node::Empty => {
@@ -164,9 +168,9 @@ impl Tree {
         tests: &Seq<Test>,
         pos: u64,
     ) -> Result<KilledTree, NoMemory>
-        requires fit { TestsFit tests.now (versions_of self.now.0) }
         requires countable { length self.now.0 < 2 ^ 64 }
         ensures after { IfOk result (λ k. k.tree.0 ≡ map (after_kill_in reach pos tests.now) self.now.0) }
+        ensures levels { IfOk result (λ k. k.tree.1 ≡ self.now.1) }
         ensures removed { IfOk result (λ k. k.removed ≡ length (taken_at pos tests.now (reached reach self.now.0))) }
         ensures hull { IfOk result (λ k. k.hull ≡ hull_of (taken_at pos tests.now (reached reach self.now.0))) }
     {
@@ -203,7 +207,7 @@ impl Tree {
     ) -> Result<(), NoMemory>
         ensures rows { OnOk result (out.new ≡ out.old ++ rows_at pos span (reached reach self.now.0)) }
         ensures ticks { OnOk result (steps.new ≡ raised_by (length (reached reach self.now.0)) steps.old) }
-        ensures at_most { OnErr result (steps.new ≤ raised_by (length (reached reach self.now.0)) steps.old) }
+        ensures at_most { OnErr result (RaisedUpTo (length (reached reach self.now.0)) steps.old steps.new) }
     {
         let _so_far = steps.count();
         if self.misses(reach) {
@@ -274,7 +278,8 @@ fn untouched(tree: Tree) -> KilledTree
 /// A tree as it became, or the old one where nothing was removed.
 fn changed(alloc: Global, old: &Arc<Tree>, new: Tree, removed: u64) -> Result<Arc<Tree>, NoMemory>
     requires same { removed ≡ 0 → new.0 ≡ (arc_value old.now).0 }
-    ensures versions { IfOk result (λ tree. (arc_value tree).0 ≡ new.0) }
+    requires levels { new.1 ≡ (arc_value old.now).1 }
+    ensures tree { IfOk result (λ tree. arc_value tree ≡ new) }
 {
     if removed == 0 {
         Ok(Arc::try_clone(old)?)
@@ -285,10 +290,13 @@ fn changed(alloc: Global, old: &Arc<Tree>, new: Tree, removed: u64) -> Result<Ar
 
 /// The chunks of one tree, one more chunk, and those of another tree.
 fn fork(left: Arc<Tree>, chunk: Chunk, right: Arc<Tree>) -> Tree
-    ensures versions { result.0 ≡ (arc_value left).0 ++ in_chunk chunk.start chunk.versions ++ (arc_value right).0 }
+    requires even { AreLevel (arc_value left).1 (arc_value right).1 }
+    requires countable { length (tree_over (arc_value left) chunk (arc_value right)).0 < 2 ^ 64 }
+    ensures tree { result ≡ tree_over (arc_value left) chunk (arc_value right) }
 {
+    let _some = chunk.count();
     let starts = hull_with(&chunk, join_hulls(left.starts(), right.starts()));
-    let height = left.height().max(right.height()).saturating_add(1);
+    let height = left.height().max(right.height()) + 1;
     Tree {
         node: Node::Fork(left, chunk, right, starts, height),
     }
@@ -318,11 +326,14 @@ fn balanced(
     chunk: Chunk,
     right: Arc<Tree>,
 ) -> Result<Tree, NoMemory>
-    ensures versions { IfOk result (λ tree. tree.0 ≡ (arc_value left).0 ++ in_chunk chunk.start chunk.versions ++ (arc_value right).0) }
+    requires near { AreNear (arc_value left).1 (arc_value right).1 }
+    requires countable { length (tree_over (arc_value left) chunk (arc_value right)).0 < 2 ^ 64 }
+    ensures versions { IfOk result (λ tree. tree.0 ≡ (tree_over (arc_value left) chunk (arc_value right)).0) }
+    ensures levels { IfOk result (λ tree. Balances (arc_value left).1 (arc_value right).1 tree.1) }
 {
-    if left.height() > right.height().saturating_add(1) {
+    if left.height().saturating_sub(right.height()) > 1 {
         lean_right(alloc, left, chunk, right)
-    } else if right.height() > left.height().saturating_add(1) {
+    } else if right.height().saturating_sub(left.height()) > 1 {
         lean_left(alloc, left, chunk, right)
     } else {
         Ok(fork(left, chunk, right))
@@ -336,7 +347,10 @@ fn lean_right(
     chunk: Chunk,
     right: Arc<Tree>,
 ) -> Result<Tree, NoMemory>
-    ensures versions { IfOk result (λ tree. tree.0 ≡ (arc_value left).0 ++ in_chunk chunk.start chunk.versions ++ (arc_value right).0) }
+    requires higher { (arc_value left).1.chunks ≡ suc (suc (arc_value right).1.chunks) }
+    requires countable { length (tree_over (arc_value left) chunk (arc_value right)).0 < 2 ^ 64 }
+    ensures versions { IfOk result (λ tree. tree.0 ≡ (tree_over (arc_value left) chunk (arc_value right)).0) }
+    ensures levels { IfOk result (λ tree. Balances (arc_value left).1 (arc_value right).1 tree.1) }
 {
     match &left.node {
         Node::Empty => Ok(fork(left, chunk, right)),
@@ -360,7 +374,11 @@ fn spread_left(
     chunk: Chunk,
     third: Arc<Tree>,
 ) -> Result<Tree, NoMemory>
-    ensures versions { IfOk result (λ tree. tree.0 ≡ (arc_value first.now).0 ++ in_chunk before.now.start before.now.versions ++ (arc_value second.now).0 ++ in_chunk chunk.start chunk.versions ++ (arc_value third).0) }
+    requires lower { (arc_value first.now).1.chunks ≡ (arc_value third).1.chunks }
+    requires higher { (arc_value second.now).1.chunks ≡ suc (arc_value third).1.chunks }
+    requires countable { length (tree_over (tree_over (arc_value first.now) before.now (arc_value second.now)) chunk (arc_value third)).0 < 2 ^ 64 }
+    ensures versions { IfOk result (λ tree. tree.0 ≡ (tree_over (tree_over (arc_value first.now) before.now (arc_value second.now)) chunk (arc_value third)).0) }
+    ensures levels { IfOk result (λ tree. tree.1.chunks ≡ suc (suc (arc_value third).1.chunks)) }
 {
     match &second.node {
         Node::Empty => {
@@ -389,7 +407,10 @@ fn lean_left(
     chunk: Chunk,
     right: Arc<Tree>,
 ) -> Result<Tree, NoMemory>
-    ensures versions { IfOk result (λ tree. tree.0 ≡ (arc_value left).0 ++ in_chunk chunk.start chunk.versions ++ (arc_value right).0) }
+    requires higher { (arc_value right).1.chunks ≡ suc (suc (arc_value left).1.chunks) }
+    requires countable { length (tree_over (arc_value left) chunk (arc_value right)).0 < 2 ^ 64 }
+    ensures versions { IfOk result (λ tree. tree.0 ≡ (tree_over (arc_value left) chunk (arc_value right)).0) }
+    ensures levels { IfOk result (λ tree. Balances (arc_value left).1 (arc_value right).1 tree.1) }
 {
     match &right.node {
         Node::Empty => Ok(fork(left, chunk, right)),
@@ -413,7 +434,11 @@ fn spread_right(
     after: &Chunk,
     third: &Arc<Tree>,
 ) -> Result<Tree, NoMemory>
-    ensures versions { IfOk result (λ tree. tree.0 ≡ (arc_value first).0 ++ in_chunk chunk.start chunk.versions ++ ((arc_value second.now).0 ++ in_chunk after.now.start after.now.versions ++ (arc_value third.now).0)) }
+    requires lower { (arc_value third.now).1.chunks ≡ (arc_value first).1.chunks }
+    requires higher { (arc_value second.now).1.chunks ≡ suc (arc_value first).1.chunks }
+    requires countable { length (tree_over (arc_value first) chunk (tree_over (arc_value second.now) after.now (arc_value third.now))).0 < 2 ^ 64 }
+    ensures versions { IfOk result (λ tree. tree.0 ≡ (tree_over (arc_value first) chunk (tree_over (arc_value second.now) after.now (arc_value third.now))).0) }
+    ensures levels { IfOk result (λ tree. tree.1.chunks ≡ suc (suc (arc_value first).1.chunks)) }
 {
     match &second.node {
         Node::Empty => {

@@ -1,4 +1,4 @@
--- The order of rows plays no part in their groups.
+-- What commuting steps gather from a list, whatever the order of the list: the groups of rows, and groups put in order.
 use Rattle.std.proofs.Common.{◌≡◌, ℕ, zero, suc, ◌<◌, List, [], ◌∷◌, length, get_or, set, sym, refl, ap, ◌∙◌, arith}
 use Rattle.std.specs.List.{swap, remove}
 use Rattle.std.specs.List.Sorted.{IsPermutation}
@@ -6,44 +6,61 @@ use Rattle.std.proofs.lemmas.List.Sorted.{IsPermutation-keeps}
 use Rattle.ts_schema.specs.declared.rows.Row.{Row}
 use Rattle.ts_bucket.specs.Bucket.{IsWidth}
 use Rattle.ts_model.specs.declared.views.Fold.{Fold}
-use Rattle.group_fold.specs.Grouping.{groups_of}
-use Rattle.group_fold.specs.Merging.{taken}
-use Rattle.group_fold.proofs.Laws.{groups_of-more, taken-commutes}
+use Rattle.ts_model.specs.Groups.{groups_of}
+use Rattle.partial_agg.specs.declared.groups.Group.{Group}
+use Rattle.group_fold.specs.Merging.{taken, with_group}
+use Rattle.group_fold.specs.Gathering.{ordered}
+use Rattle.group_fold.proofs.Insertions.{with_group-commutes}
+use Rattle.group_fold.proofs.RowGroups.{groups_of-more, taken-commutes}
 
-module _ (fold : Fold) (wide : IsWidth fold.width) where
-  -- the row at a place may be taken in last
-  pulled : (rows : List Row) (i : ℕ) (d : Row) → i < length rows → groups_of fold rows ≡ taken fold (get_or rows i d) (groups_of fold (remove rows i))
+module _ {X S : Type 0} (step : X → S → S) (none : S) (commutes : (x y : X) (s : S) → step x (step y s) ≡ step y (step x s)) where
+  abbrev pub gathered : List X → S
+  gathered [] = none
+  gathered (x ∷ xs) = step x (gathered xs)
+
+  -- the item at a place may be taken in last
+  pulled : (xs : List X) (i : ℕ) (d : X) → i < length xs → gathered xs ≡ step (get_or xs i d) (gathered (remove xs i))
   pulled [] i d h = absurd (omega arith)
-  pulled (x ∷ rows) zero d h = groups_of-more fold wide x rows
-  pulled (x ∷ rows) (suc i) d h =
-      groups_of-more fold wide x rows ∙ ap (taken fold x) (pulled rows i d (omega arith)) ∙ taken-commutes fold wide x (get_or rows i d) (groups_of fold (remove rows i))
-      ∙ ap (taken fold (get_or rows i d)) (sym (groups_of-more fold wide x (remove rows i)))
+  pulled (x ∷ xs) zero d h = refl
+  pulled (x ∷ xs) (suc i) d h = ap (step x) (pulled xs i d (omega arith)) ∙ commutes x (get_or xs i d) (gathered (remove xs i))
 
-  pulled_set : (rows : List Row) (i : ℕ) (v : Row) → i < length rows → groups_of fold (set rows i v) ≡ taken fold v (groups_of fold (remove rows i))
+  pulled_set : (xs : List X) (i : ℕ) (v : X) → i < length xs → gathered (set xs i v) ≡ step v (gathered (remove xs i))
   pulled_set [] i v h = absurd (omega arith)
-  pulled_set (x ∷ rows) zero v h = groups_of-more fold wide v rows
-  pulled_set (x ∷ rows) (suc i) v h =
-      groups_of-more fold wide x (set rows i v) ∙ ap (taken fold x) (pulled_set rows i v (omega arith)) ∙ taken-commutes fold wide x v (groups_of fold (remove rows i))
-      ∙ ap (taken fold v) (sym (groups_of-more fold wide x (remove rows i)))
+  pulled_set (x ∷ xs) zero v h = refl
+  pulled_set (x ∷ xs) (suc i) v h = ap (step x) (pulled_set xs i v (omega arith)) ∙ commutes x v (gathered (remove xs i))
 
-  -- a row in front and one behind it in each other's place
-  front_swapped : (x : Row) (rows : List Row) (i : ℕ) (d : Row) → i < length rows → groups_of fold (get_or rows i d ∷ set rows i x) ≡ groups_of fold (x ∷ rows)
-  front_swapped x rows i d h =
-      groups_of-more fold wide (get_or rows i d) (set rows i x) ∙ ap (taken fold (get_or rows i d)) (pulled_set rows i x h) ∙ taken-commutes fold wide (get_or rows i d) x (groups_of fold (remove rows i))
-      ∙ ap (taken fold x) (sym (pulled rows i d h)) ∙ sym (groups_of-more fold wide x rows)
+  -- an item in front and one behind it in each other's place
+  front_swapped : (x : X) (xs : List X) (i : ℕ) (d : X) → i < length xs → gathered (get_or xs i d ∷ set xs i x) ≡ gathered (x ∷ xs)
+  front_swapped x xs i d h =
+      ap (step (get_or xs i d)) (pulled_set xs i x h) ∙ commutes (get_or xs i d) x (gathered (remove xs i)) ∙ ap (step x) (sym (pulled xs i d h))
 
-  exchanged : (rows : List Row) (i j : ℕ) (d : Row) → i < length rows → j < length rows → groups_of fold (set (set rows i (get_or rows j d)) j (get_or rows i d)) ≡ groups_of fold rows
+  exchanged : (xs : List X) (i j : ℕ) (d : X) → i < length xs → j < length xs → gathered (set (set xs i (get_or xs j d)) j (get_or xs i d)) ≡ gathered xs
   exchanged [] i j d h k = absurd (omega arith)
-  exchanged (x ∷ rows) zero zero d h k = refl
-  exchanged (x ∷ rows) zero (suc j) d h k = front_swapped x rows j d (omega arith)
-  exchanged (x ∷ rows) (suc i) zero d h k = front_swapped x rows i d (omega arith)
-  exchanged (x ∷ rows) (suc i) (suc j) d h k =
-      groups_of-more fold wide x (set (set rows i (get_or rows j d)) j (get_or rows i d)) ∙ ap (taken fold x) (exchanged rows i j d (omega arith) (omega arith)) ∙ sym (groups_of-more fold wide x rows)
+  exchanged (x ∷ xs) zero zero d h k = refl
+  exchanged (x ∷ xs) zero (suc j) d h k = front_swapped x xs j d (omega arith)
+  exchanged (x ∷ xs) (suc i) zero d h k = front_swapped x xs i d (omega arith)
+  exchanged (x ∷ xs) (suc i) (suc j) d h k = ap (step x) (exchanged xs i j d (omega arith) (omega arith))
 
-  swapped : (rows : List Row) (i j : ℕ) → i < length rows → j < length rows → groups_of fold (swap rows i j) ≡ groups_of fold rows
+  swapped : (xs : List X) (i j : ℕ) → i < length xs → j < length xs → gathered (swap xs i j) ≡ gathered xs
   swapped [] i j h k = refl
-  swapped (x ∷ rows) i j h k = exchanged (x ∷ rows) i j x h k
+  swapped (x ∷ xs) i j h k = exchanged (x ∷ xs) i j x h k
 
-  pub groups_of-permuted : (rows others : List Row) → IsPermutation rows others → groups_of fold rows ≡ groups_of fold others
-  groups_of-permuted rows others p =
-      IsPermutation-keeps rows (λ xs. groups_of fold rows ≡ groups_of fold xs) refl (λ xs i j h k e. e ∙ sym (swapped xs i j h k)) others p
+  pub gathered-permuted : (xs ys : List X) → IsPermutation xs ys → gathered xs ≡ gathered ys
+  gathered-permuted xs ys p =
+      IsPermutation-keeps xs (λ zs. gathered xs ≡ gathered zs) refl (λ zs i j h k e. e ∙ sym (swapped zs i j h k)) ys p
+
+groups_gathered : (fold : Fold) (wide : IsWidth fold.width) (rows : List Row) → groups_of fold rows ≡ gathered (taken fold) [] (taken-commutes fold wide) rows
+groups_gathered fold wide [] = refl
+groups_gathered fold wide (row ∷ rows) = groups_of-more fold wide row rows ∙ ap (taken fold row) (groups_gathered fold wide rows)
+
+pub groups_of-permuted : (fold : Fold) → IsWidth fold.width → (rows others : List Row) → IsPermutation rows others → groups_of fold rows ≡ groups_of fold others
+groups_of-permuted fold wide rows others p =
+    groups_gathered fold wide rows ∙ (gathered-permuted (taken fold) [] (taken-commutes fold wide) rows others p ∙ sym (groups_gathered fold wide others))
+
+ordered_gathered : (groups : List Group) → ordered groups ≡ gathered with_group [] with_group-commutes groups
+ordered_gathered [] = refl
+ordered_gathered (g ∷ gs) = ap (with_group g) (ordered_gathered gs)
+
+pub ordered-permuted : (groups others : List Group) → IsPermutation groups others → ordered groups ≡ ordered others
+ordered-permuted groups others p =
+    ordered_gathered groups ∙ (gathered-permuted with_group [] with_group-commutes groups others p ∙ sym (ordered_gathered others))

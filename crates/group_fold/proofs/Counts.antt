@@ -13,8 +13,10 @@ use Rattle.ts_model.specs.Scratch.{keys_of, bucket_rows, with_keys, key_lists, o
 use Rattle.partial_agg.specs.declared.groups.Group.{Group}
 use Rattle.partial_agg.specs.Groups.{group_cmp}
 use Rattle.partial_agg.specs.Summaries.{Summary, summary}
-use Rattle.group_fold.specs.Grouping.{column, group_at, groups_in, groups_of, row_parts}
-use Rattle.group_fold.specs.Merging.{IsBelow, PartsFit, FitTogether}
+use Rattle.group_fold.specs.Grouping.{row_parts}
+use Rattle.ts_model.specs.Groups.{column, group_at, groups_in, groups_of}
+use Rattle.group_fold.specs.Gathering.{IsBelow}
+use Rattle.group_fold.specs.Merging.{PartsFit, FitTogether}
 use Rattle.group_fold.proofs.Occurring.{all_weaker, all-map, all-flat_map}
 
 length-filter : {X : Type 0} (test : X → Bool) (xs : List X) → length (filter test xs) ≤ length xs

@@ -1,22 +1,31 @@
 -- Rows that come in pieces.
 use Rattle.std.proofs.Common.{◌≡◌, ℕ, zero, suc, ◌+◌, ◌<◌, ◌^◌, List, [], ◌∷◌, ◌++◌, length, get_or, take, drop, sym, refl, ap, ◌∙◌, subst, arith, append_assoc, length-append}
 use Rattle.std.specs.List.{AllByRecursion}
-use Rattle.std.proofs.lemmas.List.{take_more}
+use Rattle.std.proofs.lemmas.List.{append-nil, take_more}
 use Rattle.ts_schema.specs.declared.rows.Row.{Row}
 use Rattle.ts_bucket.specs.Bucket.{IsWidth}
 use Rattle.ts_model.specs.declared.views.Fold.{Fold}
 use Rattle.partial_agg.specs.declared.groups.Group.{Group}
-use Rattle.group_fold.specs.Grouping.{all_rows, groups_of, RowsFit, PiecesFit}
+use Rattle.group_fold.specs.Grouping.{all_rows, AreTimes, PiecesAreTimes}
+use Rattle.ts_model.specs.Groups.{groups_of}
 use Rattle.group_fold.specs.Merging.{CanJoin, with_groups}
-use Rattle.group_fold.proofs.Laws.{groups_of-append}
+use Rattle.group_fold.proofs.RowGroups.{groups_of-append}
 use Rattle.group_fold.proofs.Merges.{can_join_groups}
-use Rattle.group_fold.proofs.Places.{take_drop}
 
-all_rows-append : (ps qs : List (List Row)) → all_rows (ps ++ qs) ≡ all_rows ps ++ all_rows qs
+pub all_rows-append : (ps qs : List (List Row)) → all_rows (ps ++ qs) ≡ all_rows ps ++ all_rows qs
 all_rows-append [] qs = refl
 all_rows-append (p ∷ ps) qs = ap (λ rows. p ++ rows) (all_rows-append ps qs) ∙ sym (append_assoc p (all_rows ps) (all_rows qs))
 
+pub take_drop : {X : Type 0} (k : ℕ) (xs : List X) → take k xs ++ drop k xs ≡ xs
+take_drop zero xs = refl
+take_drop (suc k) [] = refl
+take_drop (suc k) (x ∷ xs) = ap (λ ys. x ∷ ys) (take_drop k xs)
+
 -- one piece more
+pub all_rows-more : (pieces : List (List Row)) (i : ℕ) (piece : List Row) → i < length pieces → piece ≡ get_or pieces i piece → all_rows (take (i + 1) pieces) ≡ all_rows (take i pieces) ++ piece
+all_rows-more pieces i piece h is =
+    ap all_rows (take_more pieces i piece h) ∙ (all_rows-append (take i pieces) (get_or pieces i piece ∷ []) ∙ ap (λ rows. all_rows (take i pieces) ++ rows) (append-nil (get_or pieces i piece) ∙ sym is))
+
 pub length-more : (pieces : List (List Row)) (i : ℕ) (piece : List Row) → i < length pieces → piece ≡ get_or pieces i piece → length (all_rows (take (i + 1) pieces)) ≡ length (all_rows (take i pieces)) + length piece
 length-more pieces i piece h is =
     let more : take (i + 1) pieces ≡ take i pieces ++ piece ∷ [] = take_more pieces i piece h ∙ ap (λ p. take i pieces ++ p ∷ []) (sym is) in
@@ -52,8 +61,8 @@ all-drop P zero xs h = h
 all-drop P (suc m) [] h = tt
 all-drop P (suc m) (x ∷ xs) h = all-drop P m xs h.1
 
-pub front_fits : (fold : Fold) (pieces front : List (List Row)) (m : ℕ) → front ≡ take m pieces → PiecesFit fold pieces → PiecesFit fold front
-front_fits fold pieces front m p h = subst (PiecesFit fold) (sym p) (all-take (RowsFit fold) m pieces h)
+pub front_fits : (pieces front : List (List Row)) (m : ℕ) → front ≡ take m pieces → PiecesAreTimes pieces → PiecesAreTimes front
+front_fits pieces front m p h = subst PiecesAreTimes (sym p) (all-take AreTimes m pieces h)
 
-pub back_fits : (fold : Fold) (pieces back : List (List Row)) (m : ℕ) → back ≡ drop m pieces → PiecesFit fold pieces → PiecesFit fold back
-back_fits fold pieces back m q h = subst (PiecesFit fold) (sym q) (all-drop (RowsFit fold) m pieces h)
+pub back_fits : (pieces back : List (List Row)) (m : ℕ) → back ≡ drop m pieces → PiecesAreTimes pieces → PiecesAreTimes back
+back_fits pieces back m q h = subst PiecesAreTimes (sym q) (all-drop AreTimes m pieces h)

@@ -1,11 +1,12 @@
 pub mod AnyOrder
+pub mod BucketGroups
 pub mod Counts
 pub mod CutRows
+pub mod Gathers
 pub mod Insertions
-pub mod Laws
 pub mod Merges
 pub mod Occurring
 pub mod Parts
-pub mod Places
+pub mod RowGroups
 pub mod Scratches
 pub mod Steps

@@ -7,7 +7,7 @@ use Rattle.std.specs.declared.cmp.Ordering.TheVariants.{Less, Equal, Greater}
 use Rattle.ts_schema.specs.declared.rows.Row.{Row}
 use Rattle.ts_bucket.specs.Bucket.{IsWidth}
 use Rattle.ts_model.specs.declared.views.Fold.{Fold}
-use Rattle.group_fold.specs.Grouping.{groups_of}
+use Rattle.ts_model.specs.Groups.{groups_of}
 use Rattle.partial_agg.specs.declared.groups.Group.{Group}
 use Rattle.partial_agg.specs.Summaries.{Summary}
 use Rattle.partial_agg.specs.Groups.{group_cmp}
@@ -16,7 +16,7 @@ use Rattle.group_fold.specs.declared.joins.Next.TheVariants.{Mine, Theirs, Both}
 use Rattle.group_fold.specs.Merging.{AreGroupsOfBoth, CanJoin, PartsFit, joined_parts, merged, next_of_lists, with_group, with_groups}
 use Rattle.group_fold.proofs.Insertions.{by_order, less_back, greater_back, equal_back, at_equal, at_greater, with_group-front}
 use Rattle.group_fold.proofs.Occurring.{all_weaker, all_above, all_above_tied}
-use Rattle.group_fold.proofs.Laws.{all-with_groups, sorted-groups_of, groups_of-append}
+use Rattle.group_fold.proofs.RowGroups.{all-with_groups, sorted-groups_of, groups_of-append}
 use Rattle.group_fold.proofs.Counts.{counts_below, fit_together}
 
 -- ---- what is left can be put together too

@@ -17,25 +17,15 @@ use Rattle.ts_model.specs.declared.views.Agg.{Agg}
 use Rattle.ts_model.specs.declared.views.Fold.{Fold}
 use Rattle.ts_model.specs.Scratch.{cell, bucket_rows, key_lists, with_keys, result_row, scratch_of, occurring_buckets}
 use Rattle.partial_agg.specs.Summaries.{summary}
-use Rattle.partial_agg.proofs.Joined.{shown-summary}
-use Rattle.group_fold.specs.Grouping.{column, group_at, bucket_groups, groups_in, groups_of, cells_of, shown_each, ShowScratch}
+use Rattle.ts_model.proofs.GroupLaws.{bucket_cells}
+use Rattle.group_fold.specs.Grouping.{ShowScratch}
+use Rattle.ts_model.specs.Groups.{column, group_at, bucket_groups, groups_in, groups_of, cells_of, shown_each}
 use Rattle.group_fold.proofs.Insertions.{by_order}
 use Rattle.group_fold.proofs.Occurring.{all-map, all-flat_map, none_from_all, not_eq-less, not_eq-greater, all_above, all_above_tied, all_untied, sorted-once, any-once}
 use Rattle.group_fold.proofs.Steps.{untied_number}
-use Rattle.group_fold.proofs.Laws.{no_bucket_rows}
+use Rattle.group_fold.proofs.RowGroups.{no_bucket_rows}
 
 -- ---- what groups show
-
-shown_each-summaries : (rows : List Row) (aggs : List Agg) → shown_each aggs (map (λ agg. summary (column rows agg)) aggs) ≡ map (cell rows) aggs
-shown_each-summaries rows [] = refl
-shown_each-summaries rows (agg ∷ aggs) =
-    ap (λ d. d ∷ shown_each aggs (map (λ agg. summary (column rows agg)) aggs)) (shown-summary agg.fun (column rows agg)) ∙ ap (λ ds. cell rows agg ∷ ds) (shown_each-summaries rows aggs)
-
-bucket_cells : (fold : Fold) (b : ℤ) (found : List Row) (qs : List (List (Option ℤ))) → map (cells_of fold) (map (group_at fold b found) qs) ≡ map (λ keys. result_row fold b keys (with_keys fold keys found)) qs
-bucket_cells fold b found [] = refl
-bucket_cells fold b found (q ∷ qs) =
-    let one : cells_of fold (group_at fold b found q) ≡ result_row fold b q (with_keys fold q found) = ap (λ ds. Int b ∷ (map shown_or_null q ++ ds)) (shown_each-summaries (with_keys fold q found) fold.aggs) in
-    ap (λ d. d ∷ map (cells_of fold) (map (group_at fold b found) qs)) one ∙ ap (λ ds. result_row fold b q (with_keys fold q found) ∷ ds) (bucket_cells fold b found qs)
 
 map-append : {X Y : Type 0} (f : X → Y) (xs ys : List X) → map f (xs ++ ys) ≡ map f xs ++ map f ys
 map-append f [] ys = refl
@@ -50,11 +40,11 @@ all_cells fold rows (b ∷ bs) =
 
 -- ---- the groups of one bucket
 
-filter-none : {X : Type 0} (test : X → Bool) (xs : List X) → AllByRecursion (λ x. test x ≡ false) xs → filter test xs ≡ []
+pub filter-none : {X : Type 0} (test : X → Bool) (xs : List X) → AllByRecursion (λ x. test x ≡ false) xs → filter test xs ≡ []
 filter-none test [] h = refl
 filter-none test (x ∷ xs) h = rw h.0 (filter-none test xs h.1)
 
-filter-all : {X : Type 0} (test : X → Bool) (xs : List X) → AllByRecursion (λ x. test x ≡ true) xs → filter test xs ≡ xs
+pub filter-all : {X : Type 0} (test : X → Bool) (xs : List X) → AllByRecursion (λ x. test x ≡ true) xs → filter test xs ≡ xs
 filter-all test [] h = refl
 filter-all test (x ∷ xs) h = rw h.0 (ap (λ ys. x ∷ ys) (filter-all test xs h.1))
 

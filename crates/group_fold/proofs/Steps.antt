@@ -21,7 +21,8 @@ use Rattle.partial_agg.specs.declared.groups.Group.{Group}
 use Rattle.partial_agg.specs.Summaries.{Summary, summary, joined}
 use Rattle.partial_agg.specs.Groups.{group_cmp}
 use Rattle.partial_agg.proofs.Joined.{summary-append}
-use Rattle.group_fold.specs.Grouping.{column, group_at, bucket_groups, groups_in, row_at, row_group}
+use Rattle.group_fold.specs.Grouping.{row_at, row_group}
+use Rattle.ts_model.specs.Groups.{column, group_at, bucket_groups, groups_in}
 use Rattle.group_fold.specs.Merging.{joined_parts, merged, with_group}
 use Rattle.group_fold.proofs.Insertions.{by_order, at_less, at_equal, at_greater, with_group-front, with_group-low, with_group-past}
 use Rattle.group_fold.proofs.Occurring.{all_weaker, all-map, all-flat_map, map-same, flat_map-same, none_from_all, not_eq-less, not_eq-greater, is_eq-swap, all_above, all_above_tied, all_untied, sorted-once, any-once, key_less, key_equal, key_greater}

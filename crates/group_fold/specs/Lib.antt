@@ -1,2 +1,4 @@
+pub mod Gathering
 pub mod Grouping
+pub mod Laws
 pub mod Merging

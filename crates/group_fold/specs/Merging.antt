@@ -1,5 +1,5 @@
 -- Lists of groups put together.
-use Rattle.std.specs.Prelude.{◌≡◌, ◌+◌, ◌^◌, ◌<◌, ◌≤◌, ℕ, cond, length, slice_index_or, slice_set, insert, Result, Ok, Err, List, [], ◌∷◌, ◌++◌}
+use Rattle.std.specs.Prelude.{◌≡◌, ◌+◌, ◌^◌, ◌<◌, cond, List, [], ◌∷◌, ◌++◌}
 use Rattle.std.specs.List.{AllByRecursion, AllZip}
 use Rattle.std.specs.List.Sorted.{IsStrictlySortedBy}
 use Rattle.std.specs.Ordering.{match_ordering}
@@ -8,7 +8,8 @@ use Rattle.ts_schema.specs.declared.rows.Row.{Row}
 use Rattle.ts_schema.specs.Conditions.{passes_all}
 use Rattle.ts_bucket.specs.Bucket.{IsWidth}
 use Rattle.ts_model.specs.declared.views.Fold.{Fold}
-use Rattle.group_fold.specs.Grouping.{row_group, groups_of}
+use Rattle.group_fold.specs.Grouping.{row_group}
+use Rattle.ts_model.specs.Groups.{groups_of}
 use Rattle.group_fold.specs.declared.joins.Next.{Next}
 use Rattle.group_fold.specs.declared.joins.Next.TheVariants.{Neither, Mine, Theirs, Both}
 use Rattle.partial_agg.specs.declared.groups.Group.{Group}
@@ -57,10 +58,6 @@ pub record CanJoin (gs hs : List Group) : Type 0 where
 abbrev pub AreGroupsOfBoth : List Group → List Group → List Group → Type 0
 AreGroupsOfBoth gs hs both = (fold : Fold) (xs ys : List Row) → IsWidth fold.width → gs ≡ groups_of fold xs → hs ≡ groups_of fold ys → both ≡ groups_of fold (xs ++ ys)
 
--- a group has one part for each aggregate, and its counts are below a bound
-abbrev pub IsBelow : ℕ → Fold → Group → Type 0
-IsBelow bound fold g = (length g.parts ≡ length fold.aggs) × AllByRecursion (λ p. p.count < bound) g.parts
-
 -- where the next group of two lists in order comes from
 abbrev pub next_of_lists : List Group → List Group → Next
 next_of_lists [] [] = Neither
@@ -71,8 +68,3 @@ next_of_lists (g ∷ gs) (h ∷ hs) = match_ordering (group_cmp g h) Mine Both T
 -- groups that have taken in one more row, where it passes every test
 abbrev pub taken : Fold → Row → List Group → List Group
 taken fold row groups = cond (passes_all row fold.tests) (with_group (row_group fold row) groups) groups
-
--- where a group is merged in, or where it is put in
-abbrev pub IsPlaceOf : Group → List Group → Result ℕ ℕ → Type 0
-IsPlaceOf g groups (Ok at) = (at < length groups) × ((d : Group) → group_cmp (slice_index_or groups at d) g ≡ Equal) × ((d : Group) → with_group g groups ≡ slice_set groups at (merged g (slice_index_or groups at d)))
-IsPlaceOf g groups (Err at) = (at ≤ length groups) × (with_group g groups ≡ insert groups at g)

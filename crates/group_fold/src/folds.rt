@@ -3,22 +3,20 @@ ghost use Rattle.std.specs.Prelude.{◌≡◌, IfOk, List};
 ghost use Rattle.std.specs.List.Sorted.{IsPermutation};
 ghost use Rattle.ts_schema.specs.declared.rows.Row.{Row};
 ghost use Rattle.ts_bucket.specs.Bucket.{IsWidth};
-ghost use Rattle.group_fold.specs.Grouping.{RowsFit, ShowScratch, groups_of};
+ghost use Rattle.group_fold.specs.Grouping.{AreTimes, ShowScratch};
+ghost use Rattle.ts_model.specs.Groups.{groups_of};
 
-use crate::blocks::fold_block;
-use crate::joins::join_lists;
+use crate::gathered::Gathered;
+use crate::orders::in_order;
 use partial_agg::Group;
 use std::alloc::Global;
 use ts_model::Fold;
 use ts_schema::{NoMemory, Row, Seq};
 
-/// Up to so many rows are grouped one by one. Longer lists are cut in two.
-const BLOCK: usize = 256;
-
 /// The groups of the rows that pass every test, in order by bucket and keys, with one partial
 /// aggregate for each aggregate of the plan. The order of the rows plays no part.
 pub fn fold(alloc: Global, plan: &Fold, rows: &Seq<Row>) -> Result<Seq<Group>, NoMemory>
-    requires { RowsFit plan.now rows.now }
+    requires { AreTimes rows.now }
     ensures groups { IfOk result (λ groups. groups ≡ groups_of plan.now rows.now) }
     ensures scratch { IfOk result (λ groups. ShowScratch plan.now rows.now groups) }
     ensures any_order { IfOk result (λ groups. (others : List Row) → IsPermutation rows.now others → groups ≡ groups_of plan.now others) }
@@ -28,16 +26,12 @@ pub fn fold(alloc: Global, plan: &Fold, rows: &Seq<Row>) -> Result<Seq<Group>, N
     Ok(Seq::of(fold_rows(alloc, plan, rows.items())?))
 }
 
-pub(crate) fn fold_rows(alloc: Global, plan: &Fold, rows: &[Row]) -> Result<Vec<Group>, NoMemory>
-    requires fits { RowsFit plan.now rows.now }
+fn fold_rows(alloc: Global, plan: &Fold, rows: &[Row]) -> Result<Vec<Group>, NoMemory>
+    requires times { AreTimes rows.now }
     requires width { IsWidth plan.now.width }
     ensures { IfOk result (λ groups. groups.items ≡ groups_of plan.now rows.now) }
 {
-    if rows.len() <= BLOCK {
-        return fold_block(alloc, plan, rows);
-    }
-    let (front, back) = rows.split_at(rows.len() / 2);
-    let mine = fold_rows(alloc, plan, front)?;
-    let theirs = fold_rows(alloc, plan, back)?;
-    join_lists(alloc, mine, theirs)
+    let mut gathered = Gathered::new(alloc);
+    gathered.take_rows(alloc, plan, rows)?;
+    in_order(alloc, gathered.groups)
 }

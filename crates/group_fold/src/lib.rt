@@ -2,22 +2,28 @@
 //! in many.
 //!
 //! - `folds`: the groups of a list of rows.
-//! - `blocks`: the groups of a few rows, row by row.
+//! - `gathered`: groups as rows are taken in, in the order in which they came up.
+//! - `members`: one row beside the groups: which is its own, and what it adds to it.
+//! - `orders`: groups put in order.
 //! - `joins`: two lists of groups put together.
 //! - `pieces`: the groups of many lists of rows, in as many threads as serve.
 //! - `results`: what a group shows.
+//! - `laws`: groups of some of the rows, and of some of the buckets.
 #![tactic(auto)]
 
-mod blocks;
 mod folds;
+mod gathered;
 mod joins;
+pub mod laws;
+mod members;
+mod orders;
 mod pieces;
 mod results;
 
 pub use folds::fold;
 pub use joins::join_parts;
 pub use pieces::fold_pieces;
-pub use results::cells;
+pub use results::{cells, put_values};
 
 #[cfg(test)]
 mod tests;

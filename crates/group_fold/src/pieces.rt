@@ -3,11 +3,13 @@ ghost use Rattle.std.specs.Prelude.{◌≡◌, ◌+◌, ◌-◌, ◌*◌, ◌^�
 ghost use Rattle.std.specs.List.Sorted.{IsPermutation};
 ghost use Rattle.ts_schema.specs.declared.rows.Row.{Row};
 ghost use Rattle.ts_bucket.specs.Bucket.{IsWidth};
-ghost use Rattle.group_fold.specs.Grouping.{PiecesFit, ShowScratch, all_rows, groups_of};
+ghost use Rattle.group_fold.specs.Grouping.{PiecesAreTimes, ShowScratch, all_rows};
+ghost use Rattle.ts_model.specs.Groups.{groups_of};
 ghost use denote.Param.Send.{IsSync};
 
-use crate::folds::fold_rows;
+use crate::gathered::Gathered;
 use crate::joins::join_lists;
+use crate::orders::in_order;
 use partial_agg::Group;
 use rayon::{current_num_threads, join};
 use std::alloc::Global;
@@ -27,7 +29,7 @@ pub fn fold_pieces<R: Threads + Sync>(
     plan: &Fold,
     pieces: &Seq<Seq<Row>>,
 ) -> Result<Seq<Group>, NoMemory>
-    requires { PiecesFit plan.now pieces.now }
+    requires { PiecesAreTimes pieces.now }
     ensures groups { IfOk result (λ groups. groups ≡ groups_of plan.now (all_rows pieces.now)) }
     ensures scratch { IfOk result (λ groups. ShowScratch plan.now (all_rows pieces.now) groups) }
     ensures any_order { IfOk result (λ groups. (others : List Row) → IsPermutation (all_rows pieces.now) others → groups ≡ groups_of plan.now others) }
@@ -37,7 +39,7 @@ pub fn fold_pieces<R: Threads + Sync>(
     if count_rows(pieces.items()) >= MOST_ROWS {
         return Err(NoMemory);
     }
-    let halvings = current_num_threads(rt).ilog2() + 1;
+    let halvings = current_num_threads(rt).ilog2();
     Ok(Seq::of(fold_in_threads(rt, alloc, plan, pieces.items(), halvings)?))
 }
 
@@ -61,7 +63,7 @@ fn fold_in_threads<R: Threads + Sync>(
     pieces: &[Seq<Row>],
     halvings: u32,
 ) -> Result<Vec<Group>, NoMemory>
-    requires fits { PiecesFit plan.now pieces.now }
+    requires times { PiecesAreTimes pieces.now }
     requires width { IsWidth plan.now.width }
     requires few { length (all_rows pieces.now) < 2 ^ 62 }
     ensures { IfOk result (λ groups. groups.items ≡ groups_of plan.now (all_rows pieces.now)) }
@@ -71,11 +73,11 @@ fn fold_in_threads<R: Threads + Sync>(
     }
     let (front, back) = pieces.split_at(pieces.len() / 2);
     let left = move || -> Result<Vec<Group>, NoMemory>
-        requires { IsSync R.row × (0 < halvings) × PiecesFit plan.now front.now × IsWidth plan.now.width × (length (all_rows front.now) < 2 ^ 62) }
+        requires { IsSync R.row × (0 < halvings) × PiecesAreTimes front.now × IsWidth plan.now.width × (length (all_rows front.now) < 2 ^ 62) }
         ensures { IfOk result (λ groups. groups.items ≡ groups_of plan.entry.now (all_rows front.entry.now)) }
     { fold_in_threads(rt, alloc, plan, front, halvings - 1) };
     let right = move || -> Result<Vec<Group>, NoMemory>
-        requires { IsSync R.row × (0 < halvings) × PiecesFit plan.now back.now × IsWidth plan.now.width × (length (all_rows back.now) < 2 ^ 62) }
+        requires { IsSync R.row × (0 < halvings) × PiecesAreTimes back.now × IsWidth plan.now.width × (length (all_rows back.now) < 2 ^ 62) }
         ensures { IfOk result (λ groups. groups.items ≡ groups_of plan.entry.now (all_rows back.entry.now)) }
     { fold_in_threads(rt, alloc, plan, back, halvings - 1) };
     let (mine, theirs) = join(rt, left, right);
@@ -84,19 +86,14 @@ fn fold_in_threads<R: Threads + Sync>(
 
 /// The groups of some pieces, in one thread.
 fn fold_each(alloc: Global, plan: &Fold, pieces: &[Seq<Row>]) -> Result<Vec<Group>, NoMemory>
-    requires fits { PiecesFit plan.now pieces.now }
+    requires times { PiecesAreTimes pieces.now }
     requires width { IsWidth plan.now.width }
     requires few { length (all_rows pieces.now) < 2 ^ 62 }
     ensures { IfOk result (λ groups. groups.items ≡ groups_of plan.now (all_rows pieces.now)) }
 {
-    match pieces {
-        [] => Ok(Vec::new(alloc)),
-        [piece] => fold_rows(alloc, plan, piece.items()),
-        _ => {
-            let (front, back) = pieces.split_at(pieces.len() / 2);
-            let mine = fold_each(alloc, plan, front)?;
-            let theirs = fold_each(alloc, plan, back)?;
-            join_lists(alloc, mine, theirs)
-        }
+    let mut gathered = Gathered::new(alloc);
+    for piece in pieces {
+        gathered.take_rows(alloc, plan, piece.items())?;
     }
+    in_order(alloc, gathered.groups)
 }

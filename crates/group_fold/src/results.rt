@@ -1,7 +1,7 @@
 //! What a group shows.
 ghost use Rattle.std.specs.Prelude.{◌≡◌, IfOk, map, ◌++◌};
 ghost use Rattle.ts_num.specs.Aggregates.{shown_or_null};
-ghost use Rattle.group_fold.specs.Grouping.{cells_of, shown_each};
+ghost use Rattle.ts_model.specs.Groups.{cells_of, shown_each};
 
 use partial_agg::{Group, Partial};
 use std::alloc::Global;
@@ -15,27 +15,28 @@ pub fn cells(alloc: Global, plan: &Fold, group: &Group) -> Result<Seq<Datum>, No
 {
     let mut cells = Vec::new(alloc);
     cells.push(Datum::Int(i128::from(group.start)))?;
-    put_keys(group.keys.items(), &mut cells)?;
+    put_values(group.keys.items(), &mut cells)?;
     put_parts(plan.aggs.items(), group.parts.items(), &mut cells)?;
     Ok(Seq::of(cells))
 }
 
-fn put_keys(keys: &[Option<i64>], cells: &mut Vec<Datum>) -> Result<(), NoMemory>
-    ensures { IfOk result (λ _. cells.new.items ≡ cells.old.items ++ map shown_or_null keys.now) }
+/// Appends values as they are shown: numbers, or NULL.
+pub fn put_values(values: &[Option<i64>], cells: &mut Vec<Datum>) -> Result<(), NoMemory>
+    ensures appended { IfOk result (λ _. cells.new.items ≡ cells.old.items ++ map shown_or_null values.now) }
 {
-    for key in keys {
-        cells.push(shown(*key))?;
+    for value in values {
+        cells.push(shown(*value))?;
     }
     Ok(())
 }
 
-/// A key, or NULL.
-fn shown(key: Option<i64>) -> Datum
-    ensures { result ≡ shown_or_null key }
+/// A number, or NULL.
+fn shown(value: Option<i64>) -> Datum
+    ensures { result ≡ shown_or_null value }
 {
-    match key {
+    match value {
         None => Datum::Null,
-        Some(key) => Datum::Int(i128::from(key)),
+        Some(value) => Datum::Int(i128::from(value)),
     }
 }
 

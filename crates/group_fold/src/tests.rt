@@ -1,8 +1,7 @@
 //! Worked examples, and a table of cuts into pieces against the whole.
-ghost use Rattle.std.specs.Prelude.{◌≡◌, ◌≤◌, ◌<◌, IsTrue, IfOk, length};
-ghost use Rattle.std.specs.List.{AllByRecursion};
-ghost use Rattle.ts_schema.specs.Conditions.{ColumnsAreThere};
-ghost use Rattle.group_fold.specs.Grouping.{RowFits, RowsFit, PiecesFit};
+ghost use Rattle.std.specs.Prelude.{◌<◌, IsTrue, length};
+ghost use Rattle.ts_bucket.specs.Bucket.{is_time};
+ghost use Rattle.group_fold.specs.Grouping.{AreTimes, PiecesAreTimes};
 
 use crate::{cells, fold, fold_pieces, join_parts};
 use partial_agg::Group;
@@ -18,60 +17,28 @@ const NULL: Datum = Datum::Null;
 
 const MOST: i64 = 9223372036854775807;
 
-/// Whether rows have what a plan reads, as `fold` asks.
-fn rows_fit(plan: &Fold, rows: &[Row]) -> bool
-    ensures { IsTrue result → RowsFit plan.now rows.now }
+/// Whether rows have times, as `fold` asks.
+fn are_times(rows: &[Row]) -> bool
+    ensures { IsTrue result → AreTimes rows.now }
 {
     match rows {
         [] => true,
-        [row, more @ ..] => row_fits(plan, row) && rows_fit(plan, more),
+        [row, more @ ..] => is_time(row.at) && are_times(more),
     }
 }
 
-fn row_fits(plan: &Fold, row: &Row) -> bool
-    ensures { IsTrue result → RowFits plan.now row.now }
+fn is_time(t: i64) -> bool
+    ensures { IsTrue result → IsTrue (is_time t) }
 {
-    let many = row.vals.len();
-    let time = MIN_TIME <= row.at && row.at <= MAX_TIME;
-    let keys = cols_fit(plan.keys.items(), many);
-    let aggs = aggs_fit(plan.aggs.items(), many);
-    let tests = tests_fit(plan.tests.items(), many);
-    time && keys && aggs && tests
+    MIN_TIME <= t && t <= MAX_TIME
 }
 
-fn cols_fit(cols: &[u32], many: usize) -> bool
-    ensures { IsTrue result → AllByRecursion (λ k. k ≤ many) cols.now }
-{
-    match cols {
-        [] => true,
-        [col, more @ ..] => *col as usize <= many && cols_fit(more, many),
-    }
-}
-
-fn aggs_fit(aggs: &[Agg], many: usize) -> bool
-    ensures { IsTrue result → AllByRecursion (λ agg. agg.col ≤ many) aggs.now }
-{
-    match aggs {
-        [] => true,
-        [agg, more @ ..] => agg.col as usize <= many && aggs_fit(more, many),
-    }
-}
-
-fn tests_fit(tests: &[Test], many: usize) -> bool
-    ensures { IsTrue result → ColumnsAreThere many tests.now }
-{
-    match tests {
-        [] => true,
-        [test, more @ ..] => test.col as usize <= many && tests_fit(more, many),
-    }
-}
-
-fn pieces_fit(plan: &Fold, pieces: &[Seq<Row>]) -> bool
-    ensures { IsTrue result → PiecesFit plan.now pieces.now }
+fn pieces_are_times(pieces: &[Seq<Row>]) -> bool
+    ensures { IsTrue result → PiecesAreTimes pieces.now }
 {
     match pieces {
         [] => true,
-        [piece, more @ ..] => rows_fit(plan, piece.items()) && pieces_fit(plan, more),
+        [piece, more @ ..] => are_times(piece.items()) && pieces_are_times(more),
     }
 }
 
@@ -108,7 +75,7 @@ fn ratio(num: i128, den: u64) -> Datum {
 
 /// The result rows of these rows, one after the other.
 fn shown(rt: &impl Abort, alloc: Global, plan: &Fold, rows: &Seq<Row>) -> Result<Vec<Datum>, Fail> {
-    assert!(rt; rows_fit(plan, rows.items()));
+    assert!(rt; are_times(rows.items()));
     let groups = fold(alloc, plan, rows)?;
     let mut all = Vec::new(alloc);
     for group in groups.items() {
@@ -233,8 +200,8 @@ fn some_rows(alloc: Global, from: i64, to: i64) -> Result<Seq<Row>, Fail> {
 
 /// The groups of rows in two halves, put together.
 fn joined(alloc: Global, plan: &Fold, xs: &Seq<Row>, ys: &Seq<Row>) -> Result<Seq<Group>, NoMemory>
-    requires mine { RowsFit plan.now xs.now }
-    requires theirs { RowsFit plan.now ys.now }
+    requires mine { AreTimes xs.now }
+    requires theirs { AreTimes ys.now }
     requires few { length xs.now < 100000 }
     requires less { length ys.now < 100000 }
 {
@@ -267,7 +234,7 @@ fn pieces_and_halves_are_folded_as_the_whole(rt: HostRuntime) -> Result<(), Fail
         &[0, 333, 334, 667, 1000],
     ];
     let whole_rows = some_rows(rt.alloc(), 0, 1000)?;
-    assert!(rt; rows_fit(&plan, whole_rows.items()));
+    assert!(rt; are_times(whole_rows.items()));
     let whole = fold(rt.alloc(), &plan, &whole_rows)?;
     assert_eq!(rt; whole.len(), 120);
     for cut in cuts {
@@ -276,14 +243,14 @@ fn pieces_and_halves_are_folded_as_the_whole(rt: HostRuntime) -> Result<(), Fail
             assert_eq!(rt; ends.len(), 2);
             pieces.push(some_rows(rt.alloc(), ends[0], ends[1])?)?;
         }
-        assert!(rt; pieces_fit(&plan, pieces.items()));
+        assert!(rt; pieces_are_times(pieces.items()));
         assert!(rt; fold_pieces(&rt, rt.alloc(), &plan, &pieces)? == whole);
     }
     for at in [0, 1, 500, 999, 1000] {
         let front = some_rows(rt.alloc(), 0, at)?;
         let back = some_rows(rt.alloc(), at, 1000)?;
-        assert!(rt; rows_fit(&plan, front.items()) && front.len() < 100000);
-        assert!(rt; rows_fit(&plan, back.items()) && back.len() < 100000);
+        assert!(rt; are_times(front.items()) && front.len() < 100000);
+        assert!(rt; are_times(back.items()) && back.len() < 100000);
         assert!(rt; joined(rt.alloc(), &plan, &front, &back)? == whole);
     }
     Ok(())
@@ -293,10 +260,10 @@ fn pieces_and_halves_are_folded_as_the_whole(rt: HostRuntime) -> Result<(), Fail
 fn no_rows_and_no_pieces_have_no_groups(rt: HostRuntime) -> Result<(), Fail> {
     let plan = plan_of(rt.alloc(), &[], &[(Fun::CountAll, 0)], &[])?;
     let rows = Seq::new(rt.alloc());
-    assert!(rt; rows_fit(&plan, rows.items()));
+    assert!(rt; are_times(rows.items()));
     assert_eq!(rt; fold(rt.alloc(), &plan, &rows)?.len(), 0);
     let pieces = Seq::new(rt.alloc());
-    assert!(rt; pieces_fit(&plan, pieces.items()));
+    assert!(rt; pieces_are_times(pieces.items()));
     assert_eq!(rt; fold_pieces(&rt, rt.alloc(), &plan, &pieces)?.len(), 0);
     Ok(())
 }

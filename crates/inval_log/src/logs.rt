@@ -5,27 +5,27 @@ ghost use Rattle.std.specs.Int.{int_max};
 ghost use Rattle.inval_log.specs.Logs.{lowest, begins_below, entries_noted};
 
 use crate::entries::Entry;
+use block_list::BlockList;
 use std::alloc::Global;
 use std::marker::Model;
 use std::mem;
 use ts_bucket::Hull;
-use ts_schema::{NoMemory, Seq};
+use ts_schema::NoMemory;
 
 /// A threshold, and the hulls that were noted since the log was last emptied and that begin below
 /// it.
 #[derive(Drop, Debug)]
 pub struct InvalLog {
     threshold: i64,
-    entries: Vec<Entry>,
+    entries: BlockList<Entry>,
 }
 
 impl Model for InvalLog {
-    ghost use Rattle.std.specs.Prelude.{◌-◌, vec_len, vec_capacity};
     ghost use Rattle.inval_log.specs.Logs.{LogValue};
 
     ghost Value = { LogValue };
 
-    ghost view = { λ log. record { threshold = log.threshold; entries = log.entries.items; room = vec_capacity log.entries - vec_len log.entries } };
+    ghost view = { λ log. record { threshold = log.threshold; entries = log.entries.items; room = log.entries.room } };
 }
 
 impl InvalLog {
@@ -36,7 +36,7 @@ impl InvalLog {
     {
         InvalLog {
             threshold: i64::MIN,
-            entries: Vec::new(alloc),
+            entries: BlockList::new(alloc),
         }
     }
 
@@ -48,20 +48,33 @@ impl InvalLog {
     }
 
     /// The entries, in the order in which they were noted.
-    pub fn entries(&self) -> &[Entry]
-        ensures entries { result.now ≡ self.now.entries }
+    pub fn entries(&self) -> &BlockList<Entry>
+        ensures entries { result.now.items ≡ self.now.entries }
     {
         &self.entries
     }
 
-    /// The same log again. Its room may differ.
+    /// The same log again. It is a count, but for the entries that were noted since the log was last
+    /// `shared`. Its room may differ.
     pub fn copy(&self) -> Result<InvalLog, NoMemory>
         ensures threshold { IfOk result (λ copy. copy.threshold ≡ self.now.threshold) }
         ensures entries { IfOk result (λ copy. copy.entries ≡ self.now.entries) }
     {
         Ok(InvalLog {
             threshold: self.threshold,
-            entries: self.entries.clone()?,
+            entries: self.entries.copy()?,
+        })
+    }
+
+    /// The same log, all of whose entries are shared from here on, so that a copy of it is a count.
+    /// It costs a block.
+    pub fn shared(&self) -> Result<InvalLog, NoMemory>
+        ensures threshold { IfOk result (λ shared. shared.threshold ≡ self.now.threshold) }
+        ensures entries { IfOk result (λ shared. shared.entries ≡ self.now.entries) }
+    {
+        Ok(InvalLog {
+            threshold: self.threshold,
+            entries: self.entries.shared()?,
         })
     }
 
@@ -71,8 +84,7 @@ impl InvalLog {
         ensures threshold { self.new.threshold ≡ self.old.threshold }
         ensures entries { self.new.entries ≡ self.old.entries }
     {
-        self.entries.reserve(1)?;
-        Ok(())
+        self.entries.reserve()
     }
 
     /// Logs the hull of the commit at this position where it begins below the threshold, and says
@@ -100,12 +112,12 @@ impl InvalLog {
     }
 
     /// Empties the log, and gives the entries that it had.
-    pub fn drain(&mut self) -> Seq<Entry>
-        ensures drained { result ≡ self.old.entries }
+    pub fn drain(&mut self) -> BlockList<Entry>
+        ensures drained { result.items ≡ self.old.entries }
         ensures entries { self.new.entries ≡ [] }
         ensures threshold { self.new.threshold ≡ self.old.threshold }
     {
-        let empty = Vec::new(*self.entries.allocator());
-        Seq::of(mem::replace(&mut self.entries, empty))
+        let empty = BlockList::new(self.entries.allocator());
+        mem::replace(&mut self.entries, empty)
     }
 }

@@ -1,4 +1,4 @@
-mod Computed
-mod SpanLaws
+mod BelowLaws
 pub mod StepLaws
 pub mod RangeLaws
+pub mod FeedLaws

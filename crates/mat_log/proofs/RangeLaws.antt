@@ -1,20 +1,40 @@
 -- Laws of ranges: pieces joined where they touch are ranges of whole buckets, as long as can be.
-use Rattle.std.proofs.Common.{◌≡◌, ℕ, Bool, true, false, cond, ◌&&◌, ◌||◌, ℤ, pos, ◌+ℤ◌, ◌-ℤ◌, ◌≤ℤ◌, ◌<ℤ◌, int_le, int_lt, List, [], ◌∷◌, ◌++◌, Option, Some, None, is_some, is_none, Result, Ok, Err, IfOk, refl, sym, ap, ◌∙◌, subst, arith, true≢false}
+use Rattle.std.proofs.Common.{◌≡◌, ℕ, Bool, true, false, not, cond, nat_le, nat_lt, ◌&&◌, ◌||◌, ℤ, pos, ◌+ℤ◌, ◌-ℤ◌, ◌≤ℤ◌, ◌<ℤ◌, int_le, int_lt, List, [], ◌∷◌, ◌++◌, filter, Option, Some, None, is_some, is_none, Result, IfOk, refl, sym, ap, ◌∙◌, subst, arith, true≢false}
 use Rattle.std.specs.Ordering.{int_eq}
+use Rattle.std.specs.List.{AllByRecursion}
+use Rattle.std.proofs.lemmas.Result.{IfOk-weaker}
 use Rattle.std.proofs.lemmas.Int.{ints, by_lt_z}
 use Rattle.std.proofs.lemmas.Bool.{false≢true}
-use Rattle.std.proofs.lemmas.Bool.Decides.{Decides-int_eq, same_from_decides}
+use Rattle.std.proofs.lemmas.Bool.Decides.{Decides-int_eq, nat_tests}
 use Rattle.ts_bucket.specs.Bucket.{WidthValue, IsWidth, is_bucket, bucket_of, first_of}
-use Rattle.ts_bucket.specs.Spans.{SpanValue, in_span}
+use Rattle.ts_bucket.specs.Spans.{SpanValue, in_span, overlaps}
 use Rattle.ts_bucket.proofs.BucketLaws.{bucket_of_meets, bucket_of-last, holds-one, holds-from_parts, is_bucket-bucket_of}
 use Rattle.ts_bucket.proofs.SpanLaws.{in_span-ends, in_span-from_ends}
 use Rattle.span_map.specs.declared.pieces.Piece.{Piece}
 use Rattle.span_map.specs.Pieces.{piece_at, ArePieces}
-use Rattle.mat_log.specs.Spans.{IsWholeSpan, whole_span, greatest}
-use Rattle.mat_log.specs.Logs.{IsInStep}
-use Rattle.mat_log.specs.Ranges.{in_ranges, IsBeforeRanges, AreApart, AreWhole, AreRanges}
+use Rattle.ts_bucket.specs.Positions.{above, is_above}
+use Rattle.ts_bucket.specs.Ranges.{lies_in, is_asked, IsWholeRange, RiseApart, AreRanges}
+use Rattle.ts_bucket.specs.WholeSpans.{IsWholeSpan, whole_span, greatest, is_below}
+use Rattle.ts_bucket.proofs.RangeLaws.{AreRanges-same}
+use Rattle.ts_bucket.proofs.WholeSpanLaws.{in_span-bucket}
+use Rattle.inval_log.specs.declared.entries.Entry.{Entry}
+use Rattle.mat_log.specs.Logs.{LogValue, IsInStep, pending_at, last_at}
+use Rattle.span_map.specs.Combined.{combined_by}
+use Rattle.span_map.specs.declared.rules.Rule.TheVariants.{NotBelow, Where}
+use Rattle.mat_log.specs.Feeding.{is_dirty_with, is_changed_with}
+use Rattle.mat_log.specs.Touching.{pending_or_fresh}
+use Rattle.mat_log.proofs.FeedLaws.{in_step-with, near_some, cond_twice}
 use Rattle.mat_log.specs.Joined.{open_after, closed_by, still_open, joined}
-use Rattle.mat_log.proofs.SpanLaws.{in_span-bucket}
+
+-- x is below the first of the ranges
+abbrev IsBeforeRanges : ℤ → List SpanValue → Type 0
+IsBeforeRanges x [] = Unit {0}
+IsBeforeRanges x (s ∷ ss) = x <ℤ s.lo
+
+-- none of the ranges is empty, and each ends below the next one's start
+abbrev AreApart : List SpanValue → Type 0
+AreApart [] = Unit {0}
+AreApart (s ∷ ss) = (s.lo <ℤ s.hi) × IsBeforeRanges s.hi ss × AreApart ss
 
 out_below : (s : SpanValue) (t : ℤ) → t <ℤ s.lo → in_span s t ≡ false
 out_below s t l = grind (arith, ints)
@@ -47,7 +67,7 @@ one_span s p t l g e = by_lt_z t s.hi
     (λ below. grind (arith, ints))
     (λ above. grind (arith, ints))
 
-touch_step : (s : SpanValue) (p : Piece) (ps : List Piece) (t : ℤ) (touching : Bool) → int_eq s.hi p.span.lo ≡ touching → s.lo <ℤ s.hi → p.span.lo <ℤ p.span.hi → ((o : SpanValue) → o.lo <ℤ o.hi → o.hi ≡ p.span.hi → in_ranges (joined (Some o) ps) t ≡ (in_span o t || is_some (piece_at ps t))) → in_ranges (cond touching [] (s ∷ []) ++ joined (Some (cond touching (record { lo = s.lo; hi = p.span.hi }) p.span)) ps) t ≡ (in_span s t || (in_span p.span t || is_some (piece_at ps t)))
+touch_step : (s : SpanValue) (p : Piece) (ps : List Piece) (t : ℤ) (touching : Bool) → int_eq s.hi p.span.lo ≡ touching → s.lo <ℤ s.hi → p.span.lo <ℤ p.span.hi → ((o : SpanValue) → o.lo <ℤ o.hi → o.hi ≡ p.span.hi → lies_in (joined (Some o) ps) t ≡ (in_span o t || is_some (piece_at ps t))) → lies_in (cond touching [] (s ∷ []) ++ joined (Some (cond touching (record { lo = s.lo; hi = p.span.hi }) p.span)) ps) t ≡ (in_span s t || (in_span p.span t || is_some (piece_at ps t)))
 touch_step s p ps t true e l g rest =
     let same : s.hi ≡ p.span.lo = (Decides-int_eq s.hi p.span.lo).0 e in
     rest (record { lo = s.lo; hi = p.span.hi }) (omega (arith, ints)) refl
@@ -56,13 +76,13 @@ touch_step s p ps t true e l g rest =
 touch_step s p ps t false e l g rest = ap (λ b. in_span s t || b) (rest p.span g refl)
 
 -- the ranges have the numbers of the open range and of the pieces
-in_ranges-joined : (range : Option SpanValue) (lo hi : ℤ) (ps : List Piece) (t : ℤ) → ArePieces lo hi ps → OpenFits range lo → in_ranges (joined range ps) t ≡ (in_open range t || is_some (piece_at ps t))
-in_ranges-joined None lo hi [] t a f = refl
-in_ranges-joined (Some s) lo hi [] t a f = refl
-in_ranges-joined None lo hi (p ∷ ps) t a f =
-    in_ranges-joined (Some p.span) p.span.hi hi ps t a.3 (a.1, omega (arith, ints)) ∙ sym (some_piece (in_span p.span t) p.pos (piece_at ps t))
-in_ranges-joined (Some s) lo hi (p ∷ ps) t a f =
-    touch_step s p ps t (int_eq s.hi p.span.lo) refl f.0 a.1 (λ o l e. in_ranges-joined (Some o) p.span.hi hi ps t a.3 (l, omega (arith, ints)))
+lies_in-joined : (range : Option SpanValue) (lo hi : ℤ) (ps : List Piece) (t : ℤ) → ArePieces lo hi ps → OpenFits range lo → lies_in (joined range ps) t ≡ (in_open range t || is_some (piece_at ps t))
+lies_in-joined None lo hi [] t a f = refl
+lies_in-joined (Some s) lo hi [] t a f = refl
+lies_in-joined None lo hi (p ∷ ps) t a f =
+    lies_in-joined (Some p.span) p.span.hi hi ps t a.3 (a.1, omega (arith, ints)) ∙ sym (some_piece (in_span p.span t) p.pos (piece_at ps t))
+lies_in-joined (Some s) lo hi (p ∷ ps) t a f =
+    touch_step s p ps t (int_eq s.hi p.span.lo) refl f.0 a.1 (λ o l e. lies_in-joined (Some o) p.span.hi hi ps t a.3 (l, omega (arith, ints)))
     ∙ ap (λ b. in_span s t || b) (sym (some_piece (in_span p.span t) p.pos (piece_at ps t)))
 
 before_step : (x : ℤ) (s : SpanValue) (p : Piece) (ps : List Piece) (touching : Bool) → x <ℤ s.lo → ((o : SpanValue) → x <ℤ o.lo → IsBeforeRanges x (joined (Some o) ps)) → IsBeforeRanges x (cond touching [] (s ∷ []) ++ joined (Some (cond touching (record { lo = s.lo; hi = p.span.hi }) p.span)) ps)
@@ -92,12 +112,12 @@ apart-joined (Some s) lo hi (p ∷ ps) a f =
 -- ---- whole buckets
 
 -- no number below the first range, or at its end before the next, is in a range
-pub before_none : (x t : ℤ) (ss : List SpanValue) → IsBeforeRanges x ss → AreApart ss → t ≤ℤ x → in_ranges ss t ≡ false
+pub before_none : (x t : ℤ) (ss : List SpanValue) → IsBeforeRanges x ss → AreApart ss → t ≤ℤ x → lies_in ss t ≡ false
 before_none x t [] b a l = refl
 before_none x t (s ∷ ss) b a l =
     let start : x <ℤ s.lo = b in
     let size : s.lo <ℤ s.hi = a.0 in
-    ap (λ c. c || in_ranges ss t) (out_below s t (omega (arith, ints))) ∙ before_none s.hi t ss a.1 a.2 (omega (arith, ints))
+    ap (λ c. c || lies_in ss t) (out_below s t (omega (arith, ints))) ∙ before_none s.hi t ss a.1 a.2 (omega (arith, ints))
 
 -- where a test that has one answer for a whole bucket changes, a bucket starts
 changes_at_bucket : (w : WidthValue) (test : ℤ → Bool) (x : ℤ) → IsWidth w → ((t : ℤ) → test t ≡ test (bucket_of w t)) → (test (x -ℤ pos 1) ≡ test x → ⊥) → is_bucket w x ≡ true
@@ -120,78 +140,247 @@ or_left : (a b : Bool) → a ≡ true → (a || b) ≡ true
 or_left a b e = ap (λ c. c || b) e
 
 -- ranges of such a test start and end where buckets do
-whole_from : (w : WidthValue) (test : ℤ → Bool) (x : ℤ) (ss : List SpanValue) → IsWidth w → ((t : ℤ) → test t ≡ test (bucket_of w t)) → AreApart ss → IsBeforeRanges x ss → ((t : ℤ) → x ≤ℤ t → in_ranges ss t ≡ test t) → AreWhole w ss
+whole_from : (w : WidthValue) (test : ℤ → Bool) (x : ℤ) (ss : List SpanValue) → IsWidth w → ((t : ℤ) → test t ≡ test (bucket_of w t)) → AreApart ss → IsBeforeRanges x ss → ((t : ℤ) → x ≤ℤ t → lies_in ss t ≡ test t) → AllByRecursion (IsWholeRange w) ss
 whole_from w test x [] h one a b is = tt
 whole_from w test x (s ∷ ss) h one a b is =
     let start : x <ℤ s.lo = b in
     let size : s.lo <ℤ s.hi = a.0 in
-    let before : in_ranges (s ∷ ss) (s.lo -ℤ pos 1) ≡ false = ap (λ c. c || in_ranges ss (s.lo -ℤ pos 1)) (out_below s (s.lo -ℤ pos 1) (omega (arith, ints))) ∙ before_none s.hi (s.lo -ℤ pos 1) ss a.1 a.2 (omega (arith, ints)) in
-    let at_start : in_ranges (s ∷ ss) s.lo ≡ true = or_left (in_span s s.lo) (in_ranges ss s.lo) (in_span-from_ends s s.lo (omega (arith, ints)) size) in
-    let at_last : in_ranges (s ∷ ss) (s.hi -ℤ pos 1) ≡ true = or_left (in_span s (s.hi -ℤ pos 1)) (in_ranges ss (s.hi -ℤ pos 1)) (in_span-from_ends s (s.hi -ℤ pos 1) (omega (arith, ints)) (omega (arith, ints))) in
-    let at_end : in_ranges (s ∷ ss) s.hi ≡ false = ap (λ c. c || in_ranges ss s.hi) (out_above s s.hi (omega (arith, ints))) ∙ before_none s.hi s.hi ss a.1 a.2 (omega (arith, ints)) in (
-      changes_at_bucket w test s.lo h one (differ (test (s.lo -ℤ pos 1)) (test s.lo) (sym (is (s.lo -ℤ pos 1) (omega (arith, ints))) ∙ before) (sym (is s.lo (omega (arith, ints))) ∙ at_start)),
-      changes_at_bucket w test s.hi h one (differ' (test (s.hi -ℤ pos 1)) (test s.hi) (sym (is (s.hi -ℤ pos 1) (omega (arith, ints))) ∙ at_last) (sym (is s.hi (omega (arith, ints))) ∙ at_end)),
-      whole_from w test s.hi ss h one a.2 a.1 (λ t l. ap (λ c. c || in_ranges ss t) (sym (out_above s t l)) ∙ is t (omega (arith, ints))),
+    let before : lies_in (s ∷ ss) (s.lo -ℤ pos 1) ≡ false = ap (λ c. c || lies_in ss (s.lo -ℤ pos 1)) (out_below s (s.lo -ℤ pos 1) (omega (arith, ints))) ∙ before_none s.hi (s.lo -ℤ pos 1) ss a.1 a.2 (omega (arith, ints)) in
+    let at_start : lies_in (s ∷ ss) s.lo ≡ true = or_left (in_span s s.lo) (lies_in ss s.lo) (in_span-from_ends s s.lo (omega (arith, ints)) size) in
+    let at_last : lies_in (s ∷ ss) (s.hi -ℤ pos 1) ≡ true = or_left (in_span s (s.hi -ℤ pos 1)) (lies_in ss (s.hi -ℤ pos 1)) (in_span-from_ends s (s.hi -ℤ pos 1) (omega (arith, ints)) (omega (arith, ints))) in
+    let at_end : lies_in (s ∷ ss) s.hi ≡ false = ap (λ c. c || lies_in ss s.hi) (out_above s s.hi (omega (arith, ints))) ∙ before_none s.hi s.hi ss a.1 a.2 (omega (arith, ints)) in (
+      record {
+        starts = changes_at_bucket w test s.lo h one (differ (test (s.lo -ℤ pos 1)) (test s.lo) (sym (is (s.lo -ℤ pos 1) (omega (arith, ints))) ∙ before) (sym (is s.lo (omega (arith, ints))) ∙ at_start));
+        ends = changes_at_bucket w test s.hi h one (differ' (test (s.hi -ℤ pos 1)) (test s.hi) (sym (is (s.hi -ℤ pos 1) (omega (arith, ints))) ∙ at_last) (sym (is s.hi (omega (arith, ints))) ∙ at_end));
+        some = size;
+      },
+      whole_from w test s.hi ss h one a.2 a.1 (λ t l. ap (λ c. c || lies_in ss t) (sym (out_above s t l)) ∙ is t (omega (arith, ints))),
     )
 
 some_start : (lo : ℤ) (ss : List SpanValue) → (x : ℤ) × IsBeforeRanges x ss
 some_start lo [] = (lo, tt)
 some_start lo (s ∷ ss) = (s.lo -ℤ pos 1, omega (arith, ints))
 
--- ---- dirty buckets
+apart_rise : (ss : List SpanValue) → AreApart ss → RiseApart ss
+apart_rise [] a = tt
+apart_rise (s ∷ []) a = tt
+apart_rise (s ∷ t ∷ ss) a = (a.1, apart_rise (t ∷ ss) a.2)
+
+-- ---- the buckets at which a function has a value
 
 and_some : (b : Bool) (v : Option ℕ) → is_some (cond b v None) ≡ (b && is_some v)
 and_some true v = refl
 and_some false v = refl
 
--- the joined pieces of what is pending within a span of whole buckets are the ranges of its dirty buckets
-pub dirty_ranges : (w : WidthValue) (p r : ℤ → Option ℕ) (s : SpanValue) (pieces : List Piece) → IsInStep w p r → IsWholeSpan w s → s.hi ≤ℤ greatest → ((t : ℤ) → piece_at pieces t ≡ cond (in_span s t) (p t) None) → ArePieces s.lo s.hi pieces → AreRanges w s (λ b. is_none (r b) || is_some (p b)) (joined None pieces)
-dirty_ranges w p r s pieces h whole end values rising =
-    let is : (t : ℤ) → in_ranges (joined None pieces) t ≡ (in_span s t && is_some (p t)) = λ t. in_ranges-joined None s.lo s.hi pieces t rising tt ∙ ap is_some (values t) ∙ and_some (in_span s t) (p t) in
-    let one : (t : ℤ) → (in_span s t && is_some (p t)) ≡ (in_span s (bucket_of w t) && is_some (p (bucket_of w t))) = λ t. ap (λ b. b && is_some (p t)) (in_span-bucket w s t h.bounds whole.starts whole.ends) ∙ ap (λ v. in_span s (bucket_of w t) && is_some v) (h.one_pending t) in
+-- a bucket of a span of whole buckets is asked for
+asked : (w : WidthValue) (s : SpanValue) (b : ℤ) → IsWholeSpan w s → is_bucket w b ≡ true → is_asked w s b ≡ in_span s b
+asked w s b whole bucket = by (in_span s b) refl
+  where
+    by : (c : Bool) → in_span s b ≡ c → (c && (is_bucket w b && int_le (first_of w) b)) ≡ c
+    by false e = refl
+    by true e =
+        let first : first_of w ≤ℤ s.lo = whole.from_first in
+        let low : s.lo ≤ℤ b = (in_span-ends s b e).0 in
+        let above : int_le (first_of w) b ≡ true = grind (arith, ints) in
+        ap (λ x. x && int_le (first_of w) b) bucket ∙ above
+
+-- the joined pieces within a span of whole buckets of a function that has one value for a whole bucket are the ranges of the buckets at which it has one
+pub some_ranges : (w : WidthValue) (f : ℤ → Option ℕ) (s : SpanValue) (pieces : List Piece) → IsWidth w → ((t : ℤ) → f t ≡ f (bucket_of w t)) → IsWholeSpan w s → ((t : ℤ) → piece_at pieces t ≡ cond (in_span s t) (f t) None) → ArePieces s.lo s.hi pieces → AreRanges w s (λ b. is_some (f b)) (joined None pieces)
+some_ranges w f s pieces h one whole values rising =
+    let is : (t : ℤ) → lies_in (joined None pieces) t ≡ (in_span s t && is_some (f t)) = λ t. lies_in-joined None s.lo s.hi pieces t rising tt ∙ ap is_some (values t) ∙ and_some (in_span s t) (f t) in
+    let both : (t : ℤ) → (in_span s t && is_some (f t)) ≡ (in_span s (bucket_of w t) && is_some (f (bucket_of w t))) = λ t. ap (λ b. b && is_some (f t)) (in_span-bucket w s t h whole.starts whole.ends) ∙ ap (λ v. in_span s (bucket_of w t) && is_some v) (one t) in
     let apart : AreApart (joined None pieces) = apart-joined None s.lo s.hi pieces rising tt in
     let start = some_start s.lo (joined None pieces) in
     record {
-      apart = apart;
-      whole = whole_from w (λ t. in_span s t && is_some (p t)) start.0 (joined None pieces) h.bounds one apart start.1 (λ t l. is t);
-      exact = λ b q. is b ∙ by b (in_span s b) refl;
+      whole = whole_from w (λ t. in_span s t && is_some (f t)) start.0 (joined None pieces) h both apart start.1 (λ t l. is t);
+      rising = apart_rise (joined None pieces) apart;
+      exact = λ b q. is b ∙ ap (λ c. c && is_some (f b)) (sym (asked w s b whole q));
     }
-  where
-    none : (a : Bool) (c : Bool) → false ≡ (a && false && c)
-    none true c = refl
-    none false c = refl
 
+-- ---- dirty buckets
+
+-- where something is pending in each bucket without a last refresh, the buckets with something pending are the dirty ones
+pub dirty_ranges : (w : WidthValue) (p r : ℤ → Option ℕ) (s : SpanValue) (pieces : List Piece) → IsInStep w p r → IsWholeSpan w s → s.hi ≤ℤ greatest → ((t : ℤ) → piece_at pieces t ≡ cond (in_span s t) (p t) None) → ArePieces s.lo s.hi pieces → AreRanges w s (λ b. is_none (r b) || is_some (p b)) (joined None pieces)
+dirty_ranges w p r s pieces h whole end values rising =
+    AreRanges-same w s s (λ b. is_some (p b)) (λ b. is_none (r b) || is_some (p b)) (joined None pieces)
+    (λ b q. ap (λ c. c && is_some (p b)) (asked w s b whole q) ∙ by b (in_span s b) refl ∙ ap (λ c. c && (is_none (r b) || is_some (p b))) (sym (asked w s b whole q)))
+    (some_ranges w p s pieces h.bounds h.one_pending whole values rising)
+  where
     pending_is : (v u : Option ℕ) → (is_some u || is_some v) ≡ true → is_some v ≡ (is_none u || is_some v)
     pending_is v None m = m
     pending_is v (Some x) m = refl
 
-    by : (b : ℤ) (c : Bool) → in_span s b ≡ c → (c && is_some (p b)) ≡ (int_le (first_of w) b && c && (is_none (r b) || is_some (p b)))
-    by b false e = none (int_le (first_of w) b) (is_none (r b) || is_some (p b))
+    by : (b : ℤ) (c : Bool) → in_span s b ≡ c → (c && is_some (p b)) ≡ (c && (is_none (r b) || is_some (p b)))
+    by b false e = refl
     by b true e =
         let ends = in_span-ends s b e in
         let first : first_of w ≤ℤ s.lo = whole.from_first in
         let low : s.lo ≤ℤ b = ends.0 in
         let high : b <ℤ s.hi = ends.1 in
         let last : s.hi ≤ℤ bucket_of w greatest = bucket_of-last w s.hi greatest h.bounds whole.ends end in
-        let above : int_le (first_of w) b ≡ true = grind (arith, ints) in
         let inside : in_span (whole_span w) b ≡ true = in_span-from_ends (whole_span w) b (omega (arith, ints)) (omega (arith, ints)) in
-        pending_is (p b) (r b) (h.marked b inside) ∙ sym (ap (λ c. c && true && (is_none (r b) || is_some (p b))) above)
+        pending_is (p b) (r b) (h.marked b inside)
 
--- ranges by a test that says the same
-pub AreRanges-same : (w : WidthValue) (s s' : SpanValue) (test test' : ℤ → Bool) (ranges : List SpanValue) → ((b : ℤ) → is_bucket w b ≡ true → first_of w ≤ℤ b → (in_span s b && test b) ≡ (in_span s' b && test' b)) → AreRanges w s test ranges → AreRanges w s' test' ranges
-AreRanges-same w s s' test test' ranges same h = record {
-  apart = h.apart;
-  whole = h.whole;
-  exact = λ b q. h.exact b q ∙ by_lt_z b (first_of w)
-      (λ below. let out : int_le (first_of w) b ≡ false = grind (arith, ints) in ap (λ c. c && in_span s b && test b) out ∙ sym (ap (λ c. c && in_span s' b && test' b) out))
-      (λ above. let from : int_le (first_of w) b ≡ true = grind (arith, ints) in ap (λ c. c && in_span s b && test b) from ∙ same b q above ∙ sym (ap (λ c. c && in_span s' b && test' b) from));
-}
+-- the same as if entries had been fed, where the pieces are those of what is pending then near a span
+pub dirty_with_as : {E : Type 0} (log : LogValue) (es : List Entry) (s : SpanValue) (f : ℤ → Option ℕ) (pieces : List Piece) (found : Result (List SpanValue) E) → IsInStep log.width (pending_at log) (last_at log) → IsWholeSpan log.width s → s.hi ≤ℤ greatest → ((t : ℤ) → f t ≡ cond (in_span s t) (pending_or_fresh log (filter (λ e. overlaps e.hull s) es) t) None) → ((t : ℤ) → piece_at pieces t ≡ cond (in_span s t) (f t) None) → ArePieces s.lo s.hi pieces → IfOk found (λ ranges. ranges ≡ joined None pieces) → IfOk found (AreRanges log.width s (is_dirty_with log es))
+dirty_with_as log es s f pieces found h whole end is values rising =
+    IfOk-weaker found _ _ (λ ranges e. subst (AreRanges w s (is_dirty_with log es)) (sym e)
+    (AreRanges-same w s s (λ b. is_none (last_at log b) || is_some (p b)) (is_dirty_with log es) (joined None pieces) same
+    (dirty_ranges w p (last_at log) s pieces (in_step-with w (pending_at log) (last_at log) p near h (λ t. refl)) whole end (λ t. values t ∙ ap (λ v. cond (in_span s t) v None) (is t) ∙ cond_twice (in_span s t) (p t)) rising)))
+  where
+    w : WidthValue
+    w = log.width
+
+    near : List Entry
+    near = filter (λ e. overlaps e.hull s) es
+
+    p : ℤ → Option ℕ
+    p t = pending_or_fresh log near t
+
+    by : (b : ℤ) (c : Bool) → is_bucket w b ≡ true → in_span s b ≡ c → (c && (is_none (last_at log b) || is_some (p b))) ≡ (c && is_dirty_with log es b)
+    by b false q e = refl
+    by b true q e = ap (λ c. is_none (last_at log b) || c) (near_some w s b (last_at log b) es (pending_at log b) h.bounds whole q e)
+
+    same : (b : ℤ) → is_bucket w b ≡ true → (is_asked w s b && (is_none (last_at log b) || is_some (p b))) ≡ (is_asked w s b && is_dirty_with log es b)
+    same b q = ap (λ c. c && (is_none (last_at log b) || is_some (p b))) (asked w s b whole q) ∙ by b (in_span s b) q refl ∙ ap (λ c. c && is_dirty_with log es b) (sym (asked w s b whole q))
 
 -- the same of results
 pub dirty_as : {E : Type 0} (w : WidthValue) (p r : ℤ → Option ℕ) (s : SpanValue) (pieces : List Piece) (found : Result (List SpanValue) E) → IsInStep w p r → IsWholeSpan w s → s.hi ≤ℤ greatest → ((t : ℤ) → piece_at pieces t ≡ cond (in_span s t) (p t) None) → ArePieces s.lo s.hi pieces → IfOk found (λ ranges. ranges ≡ joined None pieces) → IfOk found (AreRanges w s (λ b. is_none (r b) || is_some (p b)))
-dirty_as w p r s pieces (Ok ranges) h whole end values rising e = subst (AreRanges w s (λ b. is_none (r b) || is_some (p b))) (sym e) (dirty_ranges w p r s pieces h whole end values rising)
-dirty_as w p r s pieces (Err x) h whole end values rising e = tt
+dirty_as w p r s pieces found h whole end values rising = IfOk-weaker found _ _ (λ ranges e. subst (AreRanges w s (λ b. is_none (r b) || is_some (p b))) (sym e) (dirty_ranges w p r s pieces h whole end values rising))
 
-pub same_as : {E : Type 0} (w : WidthValue) (s s' : SpanValue) (test test' : ℤ → Bool) (found : Result (List SpanValue) E) → ((b : ℤ) → is_bucket w b ≡ true → first_of w ≤ℤ b → (in_span s b && test b) ≡ (in_span s' b && test' b)) → IfOk found (AreRanges w s test) → IfOk found (AreRanges w s' test')
-same_as w s s' test test' (Ok ranges) same h = AreRanges-same w s s' test test' ranges same h
-same_as w s s' test test' (Err x) same h = tt
+pub some_as : {E : Type 0} (w : WidthValue) (f : ℤ → Option ℕ) (s : SpanValue) (pieces : List Piece) (found : Result (List SpanValue) E) → IsWidth w → ((t : ℤ) → f t ≡ f (bucket_of w t)) → IsWholeSpan w s → ((t : ℤ) → piece_at pieces t ≡ cond (in_span s t) (f t) None) → ArePieces s.lo s.hi pieces → IfOk found (λ ranges. ranges ≡ joined None pieces) → IfOk found (AreRanges w s (λ b. is_some (f b)))
+some_as w f s pieces found h one whole values rising = IfOk-weaker found _ _ (λ ranges e. subst (AreRanges w s (λ b. is_some (f b))) (sym e) (some_ranges w f s pieces h one whole values rising))
+
+pub same_as : {E : Type 0} (w : WidthValue) (s s' : SpanValue) (test test' : ℤ → Bool) (found : Result (List SpanValue) E) → ((b : ℤ) → is_bucket w b ≡ true → (is_asked w s b && test b) ≡ (is_asked w s' b && test' b)) → IfOk found (AreRanges w s test) → IfOk found (AreRanges w s' test')
+same_as w s s' test test' found same = IfOk-weaker found _ _ (λ ranges h. AreRanges-same w s s' test test' ranges same h)
+
+-- buckets below a mark that are asked for within a span, and that pass a test
+pub stale_same : (w : WidthValue) (s starts : SpanValue) (mark : Option ℤ) (test : ℤ → Bool) (b : ℤ) → is_bucket w b ≡ true → (first_of w ≤ℤ b → in_span s b ≡ (in_span starts b && is_below b mark)) → (is_asked w s b && test b) ≡ (is_asked w starts b && (is_below b mark && test b))
+stale_same w s starts mark test b bucket exact = by_lt_z b (first_of w)
+    (λ below.
+    let out : int_le (first_of w) b ≡ false = grind (arith, ints) in
+    not_asked s (test b) out ∙ sym (not_asked starts (is_below b mark && test b) out))
+    (λ above.
+    let from : int_le (first_of w) b ≡ true = grind (arith, ints) in
+    is_first s (test b) from ∙ ap (λ x. x && test b) (exact above) ∙ and_assoc (in_span starts b) (is_below b mark) (test b) ∙ sym (is_first starts (is_below b mark && test b) from))
+  where
+    and_assoc : (x y z : Bool) → ((x && y) && z) ≡ (x && (y && z))
+    and_assoc true y z = refl
+    and_assoc false y z = refl
+
+    and_true : (x : Bool) → (x && true) ≡ x
+    and_true true = refl
+    and_true false = refl
+
+    none : (x y z : Bool) → ((x && (y && false)) && z) ≡ false
+    none true true z = refl
+    none true false z = refl
+    none false y z = refl
+
+    not_asked : (t : SpanValue) (z : Bool) → int_le (first_of w) b ≡ false → (is_asked w t b && z) ≡ false
+    not_asked t z e = ap (λ x. (in_span t b && (is_bucket w b && x)) && z) e ∙ none (in_span t b) (is_bucket w b) z
+
+    is_first : (t : SpanValue) (z : Bool) → int_le (first_of w) b ≡ true → (is_asked w t b && z) ≡ (in_span t b && z)
+    is_first t z e =
+        ap (λ x. (in_span t b && (is_bucket w b && x)) && z) e
+        ∙ ap (λ x. (in_span t b && (x && true)) && z) bucket
+        ∙ ap (λ x. x && z) (and_true (in_span t b))
+
+-- the ranges of the buckets with a last refresh and something pending, where the pieces are those of what is pending then near a span
+pub changed_with_as : {E : Type 0} (log : LogValue) (es : List Entry) (s : SpanValue) (f q r : ℤ → Option ℕ) (pieces : List Piece) (found : Result (List SpanValue) E) → IsInStep log.width (pending_at log) (last_at log) → IsWholeSpan log.width s → ((t : ℤ) → q t ≡ cond (in_span s t) (pending_or_fresh log (filter (λ e. overlaps e.hull s) es) t) None) → ((t : ℤ) → r t ≡ cond (in_span s t) (last_at log t) None) → ((t : ℤ) → f t ≡ combined_by Where (r t) (q t)) → ((t : ℤ) → piece_at pieces t ≡ cond (in_span s t) (f t) None) → ArePieces s.lo s.hi pieces → IfOk found (λ ranges. ranges ≡ joined None pieces) → IfOk found (AreRanges log.width s (is_changed_with log es))
+changed_with_as log es s f q r pieces found h whole qs rs fs values rising =
+    IfOk-weaker found _ _ (λ ranges e. subst (AreRanges w s (is_changed_with log es)) (sym e)
+    (AreRanges-same w s s (λ b. is_some (g b)) (is_changed_with log es) (joined None pieces) same
+    (some_ranges w g s pieces h.bounds one whole (λ t. values t ∙ ap (λ v. cond (in_span s t) v None) (fs t ∙ ap (λ v. combined_by Where v (q t)) (rs t) ∙ ap (combined_by Where (cond (in_span s t) (last_at log t) None)) (qs t)) ∙ inside (in_span s t) (last_at log t) (p t)) rising)))
+  where
+    w : WidthValue
+    w = log.width
+
+    near : List Entry
+    near = filter (λ e. overlaps e.hull s) es
+
+    p : ℤ → Option ℕ
+    p t = pending_or_fresh log near t
+
+    g : ℤ → Option ℕ
+    g t = combined_by Where (last_at log t) (p t)
+
+    inside : (i : Bool) (v u : Option ℕ) → cond i (combined_by Where (cond i v None) (cond i u None)) None ≡ cond i (combined_by Where v u) None
+    inside true v u = refl
+    inside false v u = refl
+
+    step : IsInStep w p (last_at log)
+    step = in_step-with w (pending_at log) (last_at log) p near h (λ t. refl)
+
+    one : (t : ℤ) → g t ≡ g (bucket_of w t)
+    one t = ap (λ v. combined_by Where v (p t)) (step.one_refreshed t) ∙ ap (combined_by Where (last_at log (bucket_of w t))) (step.one_pending t)
+
+    some_where : (v u : Option ℕ) → is_some (combined_by Where v u) ≡ (is_some v && is_some u)
+    some_where None u = refl
+    some_where (Some x) u = refl
+
+    by : (b : ℤ) (c : Bool) → is_bucket w b ≡ true → in_span s b ≡ c → (c && is_some (g b)) ≡ (c && is_changed_with log es b)
+    by b false q e = refl
+    by b true q e = some_where (last_at log b) (p b) ∙ ap (λ c. is_some (last_at log b) && c) (near_some w s b (last_at log b) es (pending_at log b) h.bounds whole q e)
+
+    same : (b : ℤ) → is_bucket w b ≡ true → (is_asked w s b && is_some (g b)) ≡ (is_asked w s b && is_changed_with log es b)
+    same b q = ap (λ c. c && is_some (g b)) (asked w s b whole q) ∙ by b (in_span s b) q refl ∙ ap (λ c. c && is_changed_with log es b) (sym (asked w s b whole q))
+
+-- ---- refreshes against a snapshot
+
+-- ranges of the buckets that a rule of the last refresh gives a value
+pub by_last_as : {E : Type 0} (log : LogValue) (s : SpanValue) (rule : Option ℕ → Option ℕ) (test : Option ℕ → Bool) (f : ℤ → Option ℕ) (pieces : List Piece) (found : Result (List SpanValue) E) → IsInStep log.width (pending_at log) (last_at log) → IsWholeSpan log.width s → ((v : Option ℕ) → is_some (rule v) ≡ test v) → ((t : ℤ) → cond (in_span s t) (f t) None ≡ cond (in_span s t) (rule (last_at log t)) None) → ((t : ℤ) → piece_at pieces t ≡ cond (in_span s t) (f t) None) → ArePieces s.lo s.hi pieces → IfOk found (λ ranges. ranges ≡ joined None pieces) → IfOk found (AreRanges log.width s (λ b. test (last_at log b)))
+by_last_as log s rule test f pieces found h whole says is values rising =
+    IfOk-weaker found _ _ (λ ranges e. subst (AreRanges w s (λ b. test (last_at log b))) (sym e)
+    (AreRanges-same w s s (λ b. is_some (rule (last_at log b))) (λ b. test (last_at log b)) (joined None pieces) (λ b q. ap (λ c. is_asked w s b && c) (says (last_at log b)))
+    (some_ranges w (λ t. rule (last_at log t)) s pieces h.bounds (λ t. ap rule (h.one_refreshed t)) whole (λ t. values t ∙ is t) rising)))
+  where
+    w : WidthValue
+    w = log.width
+
+-- what is left of a value within a span, above a snapshot
+pub above_within : (i : Bool) (snap : ℕ) (v : Option ℕ) → cond i (cond i (above snap (cond i v None)) (cond i v None)) None ≡ cond i (above snap v) None
+above_within true snap v = refl
+above_within false snap v = refl
+
+some_not_below : (snap : ℕ) (v : Option ℕ) → is_some (combined_by NotBelow v (Some snap)) ≡ not (is_above snap v)
+some_not_below snap None = refl
+some_not_below snap (Some p) = by (nat_le p snap) (nat_lt snap p) refl refl
+  where
+    by : (a b : Bool) → nat_le p snap ≡ a → nat_lt snap p ≡ b → is_some (cond a (Some snap) None) ≡ not b
+    by true true e f = absurd (grind (arith, nat_tests))
+    by true false e f = refl
+    by false true e f = refl
+    by false false e f = absurd (grind (arith, nat_tests))
+
+-- ranges of whole buckets have the whole of a bucket or nothing of it
+lies_in-bucket : (w : WidthValue) (ranges : List SpanValue) (t : ℤ) → IsWidth w → AllByRecursion (IsWholeRange w) ranges → lies_in ranges t ≡ lies_in ranges (bucket_of w t)
+lies_in-bucket w [] t h whole = refl
+lies_in-bucket w (s ∷ ss) t h whole =
+    let first : IsWholeRange w s = whole.0 in
+    ap (λ b. b || lies_in ss t) (in_span-bucket w s t h first.starts first.ends) ∙ ap (λ b. in_span s (bucket_of w t) || b) (lies_in-bucket w ss t h whole.1)
+
+-- the buckets of ranges whose last refresh isn't above a snapshot
+pub renewed_as : {E : Type 0} (log : LogValue) (s : SpanValue) (ranges : List SpanValue) (snap : ℕ) (f : ℤ → Option ℕ) (pieces : List Piece) (found : Result (List SpanValue) E) → IsInStep log.width (pending_at log) (last_at log) → IsWholeSpan log.width s → AllByRecursion (IsWholeRange log.width) ranges → ((t : ℤ) → f t ≡ combined_by NotBelow (cond (in_span s t) (last_at log t) None) (cond (lies_in ranges t) (Some snap) None)) → ((t : ℤ) → piece_at pieces t ≡ cond (in_span s t) (f t) None) → ArePieces s.lo s.hi pieces → IfOk found (λ rs. rs ≡ joined None pieces) → IfOk found (AreRanges log.width s (λ b. lies_in ranges b && not (is_above snap (last_at log b))))
+renewed_as log s ranges snap f pieces found h whole parts is values rising =
+    IfOk-weaker found _ _ (λ rs e. subst (AreRanges w s (λ b. lies_in ranges b && not (is_above snap (last_at log b)))) (sym e)
+    (AreRanges-same w s s (λ b. is_some (g b)) (λ b. lies_in ranges b && not (is_above snap (last_at log b))) (joined None pieces) (λ b q. ap (λ c. is_asked w s b && c) (says (lies_in ranges b) (last_at log b)))
+    (some_ranges w g s pieces h.bounds one whole (λ t. values t ∙ ap (λ v. cond (in_span s t) v None) (is t) ∙ inside (in_span s t) (last_at log t) (cond (lies_in ranges t) (Some snap) None)) rising)))
+  where
+    w : WidthValue
+    w = log.width
+
+    g : ℤ → Option ℕ
+    g t = combined_by NotBelow (last_at log t) (cond (lies_in ranges t) (Some snap) None)
+
+    one : (t : ℤ) → g t ≡ g (bucket_of w t)
+    one t = ap (λ v. combined_by NotBelow v (cond (lies_in ranges t) (Some snap) None)) (h.one_refreshed t) ∙ ap (λ b. combined_by NotBelow (last_at log (bucket_of w t)) (cond b (Some snap) None)) (lies_in-bucket w ranges t h.bounds parts)
+
+    says : (b : Bool) (v : Option ℕ) → is_some (combined_by NotBelow v (cond b (Some snap) None)) ≡ (b && not (is_above snap v))
+    says true v = some_not_below snap v
+    says false None = refl
+    says false (Some p) = refl
+
+    inside : (i : Bool) (v u : Option ℕ) → cond i (combined_by NotBelow (cond i v None) u) None ≡ cond i (combined_by NotBelow v u) None
+    inside true v u = refl
+    inside false v u = refl

@@ -5,9 +5,9 @@ use Rattle.ts_bucket.specs.Bucket.{WidthValue, IsWidth, is_bucket, bucket_of, fi
 use Rattle.ts_bucket.specs.Positions.{later, above, is_before}
 use Rattle.ts_bucket.specs.Spans.{SpanValue, in_span}
 use Rattle.ts_bucket.proofs.BucketLaws.{is_bucket-bucket_of, is_bucket-first}
-use Rattle.mat_log.specs.Spans.{whole_span, greatest}
+use Rattle.ts_bucket.specs.WholeSpans.{whole_span, greatest}
 use Rattle.mat_log.specs.Logs.{IsInStep}
-use Rattle.mat_log.proofs.SpanLaws.{in_span-bucket}
+use Rattle.ts_bucket.proofs.WholeSpanLaws.{in_span-bucket}
 
 -- a function that has one value for a whole bucket still has after each of its values was changed by a rule for the whole bucket
 one_after : (w : WidthValue) (f g : ℤ → Option ℕ) (rule : ℤ → Option ℕ → Option ℕ) → ((t : ℤ) → g t ≡ rule t (f t)) → ((t : ℤ) → f t ≡ f (bucket_of w t)) → ((t : ℤ) (v : Option ℕ) → rule t v ≡ rule (bucket_of w t) v) → (t : ℤ) → g t ≡ g (bucket_of w t)

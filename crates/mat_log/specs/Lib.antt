@@ -1,4 +1,5 @@
 pub mod Logs
-pub mod Ranges
-pub mod Spans
+pub mod Held
 pub mod Joined
+pub mod Feeding
+pub mod Touching

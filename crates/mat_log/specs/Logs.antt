@@ -1,9 +1,10 @@
 -- What is pending of an aggregate and what was refreshed, as two partial functions of its buckets.
-use Rattle.std.specs.Prelude.{◌≡◌, ℕ, ◌+◌, ◌*◌, ◌≤◌, Bool, true, false, ◌||◌, ◌&&◌, ℤ, int_lt, Option, Some, None, is_some, is_none}
+use Rattle.std.specs.Prelude.{◌≡◌, ℕ, ◌+◌, ◌*◌, ◌≤◌, Bool, true, not, ◌||◌, ◌&&◌, ℤ, Option, is_some, is_none}
 use Rattle.ts_bucket.specs.Bucket.{WidthValue, IsWidth, bucket_of}
+use Rattle.ts_bucket.specs.Positions.{is_above}
 use Rattle.ts_bucket.specs.Spans.{in_span}
 use Rattle.span_map.specs.Maps.{MapValue, at, piece_count_of}
-use Rattle.mat_log.specs.Spans.{whole_span}
+use Rattle.ts_bucket.specs.WholeSpans.{whole_span, is_below}
 
 -- what contracts see of a `MatLog`: the width of its buckets, and its two maps
 pub record LogValue : Type 0 where
@@ -23,14 +24,17 @@ last_at log b = at log.refreshed b
 abbrev pub is_dirty : LogValue → ℤ → Bool
 is_dirty log b = is_none (last_at log b) || is_some (pending_at log b)
 
--- there is a mark, and b is below it
-abbrev pub is_under : Option ℤ → ℤ → Bool
-is_under None b = false
-is_under (Some mark) b = int_lt b mark
-
 -- the bucket that starts at b is dirty and below the mark
 abbrev pub is_stale : LogValue → Option ℤ → ℤ → Bool
-is_stale log mark b = is_under mark b && is_dirty log b
+is_stale log mark b = is_below b mark && is_dirty log b
+
+-- the last refresh of the bucket that starts at b is above a snapshot
+abbrev pub is_refreshed_after : LogValue → ℕ → ℤ → Bool
+is_refreshed_after log snap b = is_above snap (last_at log b)
+
+-- a refresh with this snapshot renews the bucket that starts at b: its last refresh, if there is one, isn't above the snapshot
+abbrev pub is_renewed : LogValue → ℕ → ℤ → Bool
+is_renewed log snap b = not (is_above snap (last_at log b))
 
 -- there is room for one entry to be fed, or one refresh to be settled
 pub record HasRoom (log : LogValue) : Type 0 where

@@ -1,30 +1,38 @@
 //! The log of an aggregate.
 
-ghost use Rattle.std.specs.Prelude.{◌≡◌, ℤ, cond, ◌&&◌, IfOk, OnOk, true};
+ghost use Rattle.std.specs.Prelude.{◌≡◌, ℤ, cond, ◌&&◌, IfOk, OnOk, true, filter};
+ghost use Rattle.std.specs.List.{AllByRecursion};
 ghost use Rattle.std.specs.Option.{ForSome};
 ghost use Rattle.ts_bucket.specs.Bucket.{is_bucket};
 ghost use Rattle.ts_bucket.specs.Positions.{later, above, is_before};
-ghost use Rattle.ts_bucket.specs.Spans.{in_span, meets};
-ghost use Rattle.mat_log.specs.Spans.{IsWholeSpan, IsWithin, IsMark, whole_span};
-ghost use Rattle.mat_log.specs.Logs.{pending_at, last_at, is_dirty, is_stale, HasRoom, IsSame};
-ghost use Rattle.mat_log.specs.Ranges.{AreRanges};
+ghost use Rattle.ts_bucket.specs.Spans.{in_span, meets, overlaps};
+ghost use Rattle.span_map.specs.Maps.{at};
+ghost use Rattle.ts_bucket.specs.Ranges.{AreRanges, IsWholeRange, lies_in};
+ghost use Rattle.ts_bucket.specs.WholeSpans.{IsWholeSpan, IsWithin, IsMark, whole_span};
+ghost use Rattle.mat_log.specs.Feeding.{AreWithin, IsFed, are_rising, is_changed_with, is_dirty_with, is_stale_with};
+ghost use Rattle.mat_log.specs.Touching.{pending_or_fresh};
+ghost use Rattle.mat_log.specs.Logs.{pending_at, last_at, is_dirty, is_refreshed_after, is_renewed, is_stale, HasRoom, IsSame};
 
+use crate::held::HeldMap;
 use crate::ranges::join_pieces;
-use crate::spans::{all_buckets, buckets_below, touched};
+use crate::spans::{buckets_below, marked};
+use crate::touches::{all_entries, do_rise, entries_near, latest};
+use block_list::BlockList;
 use inval_log::Entry;
-use span_map::SpanMap;
+use span_map::{Rule, SpanMap};
 use std::alloc::Global;
 use std::marker::Model;
-use ts_bucket::{Span, Width};
+use ts_bucket::{Span, Width, all_buckets, touched};
 use ts_schema::{NoMemory, Seq};
 
 /// For each bucket of an aggregate, the position that is pending there, if there is one, and the
 /// position of its last refresh, if there is one.
 #[derive(Drop, Debug)]
 pub struct MatLog {
+    alloc: Global,
     width: Width,
-    pending: SpanMap,
-    refreshed: SpanMap,
+    pending: HeldMap,
+    refreshed: HeldMap,
 }
 
 impl Model for MatLog {
@@ -49,31 +57,45 @@ impl MatLog {
         let mut pending = SpanMap::new(alloc);
         pending.reserve(2)?;
         pending.assign(all_buckets(w), made);
-        let refreshed = SpanMap::new(alloc);
         Ok(MatLog {
+            alloc,
             width: w,
-            pending,
-            refreshed,
+            pending: HeldMap::own(pending),
+            refreshed: HeldMap::own(SpanMap::new(alloc)),
         })
     }
 
-    /// The same log again. Its room may differ.
+    /// The same log again. It is a count, where the log is shared. Its room may differ.
     pub fn copy(&self) -> Result<MatLog, NoMemory>
         ensures same { IfOk result (λ copy. IsSame self.now copy) }
     {
         Ok(MatLog {
+            alloc: self.alloc,
             width: self.width,
             pending: self.pending.copy()?,
             refreshed: self.refreshed.copy()?,
         })
     }
 
-    /// Makes room for one entry to be fed, or one refresh to be settled.
+    /// The same log, shared from here on, so that a copy of it is a count.
+    pub fn shared(self) -> Result<MatLog, NoMemory>
+        ensures same { IfOk result (IsSame self) }
+    {
+        Ok(MatLog {
+            alloc: self.alloc,
+            width: self.width,
+            pending: self.pending.shared()?,
+            refreshed: self.refreshed.shared()?,
+        })
+    }
+
+    /// Makes the log its owner's alone, with room for one entry to be fed, or one refresh to be
+    /// settled.
     pub fn reserve(&mut self) -> Result<(), NoMemory>
         ensures room { OnOk result (HasRoom self.new) }
         ensures same { IsSame self.old self.new }
     {
-        let pieces = self.refreshed.len();
+        let pieces = self.refreshed.map().len();
         self.pending
             .reserve(pieces.saturating_add(1).saturating_mul(3))?;
         self.refreshed.reserve(pieces + 3)?;
@@ -90,7 +112,8 @@ impl MatLog {
         ensures width { self.new.width ≡ self.old.width }
     {
         let span = touched(self.width, entry.hull);
-        self.pending.assign_above(span, entry.pos, &self.refreshed);
+        self.pending
+            .assign_above(span, entry.pos, self.refreshed.map());
     }
 
     /// Settles a refresh of a span of whole buckets whose snapshot was taken at this position: what
@@ -110,7 +133,7 @@ impl MatLog {
     pub fn last(&self, b: i64) -> Option<u64>
         ensures last { result ≡ last_at self.now b }
     {
-        self.refreshed.at(b)
+        self.refreshed.map().at(b)
     }
 
     /// The buckets of a span of whole buckets that have no last refresh or at which something is
@@ -121,7 +144,7 @@ impl MatLog {
     {
         // Reading the end tells that it is a number of 64 bits.
         let _end = span.hi;
-        join_pieces(self.pending.ranges(span)?)
+        join_pieces(self.pending.map().ranges(span)?)
     }
 
     /// The dirty buckets below the mark, the end of a bucket that holds a time, that start in a
@@ -131,5 +154,146 @@ impl MatLog {
         ensures ranges { IfOk result (AreRanges self.now.width starts (is_stale self.now mark)) }
     {
         self.dirty(buckets_below(self.width, starts, mark))
+    }
+
+    /// The log after every entry was fed to it, in order. It costs the entries and the pieces of
+    /// the log, where the positions of the entries rise.
+    pub fn feed_all(&self, entries: &BlockList<Entry>) -> Result<MatLog, NoMemory>
+        requires within { AreWithin entries.now.items self.now }
+        ensures fed { IfOk result (IsFed entries.now.items self.now) }
+    {
+        let all = all_entries(entries)?;
+        if do_rise(&all) {
+            self.fed_at_once(&all)
+        } else {
+            self.fed_in_turn(&all)
+        }
+    }
+
+    /// The same of entries whose positions rise, in one sweep over the pieces.
+    fn fed_at_once(&self, entries: &[Entry]) -> Result<MatLog, NoMemory>
+        requires within { AreWithin entries.now self.now }
+        requires rising { are_rising 0 entries.now ≡ true }
+        ensures fed { IfOk result (IsFed entries.now self.now) }
+    {
+        let newest = latest(self.alloc, self.width, entries)?;
+        let fresh = self.refreshed.map().combined(&newest, Rule::Above)?;
+        let pending = self.pending.map().combined(&fresh, Rule::Over)?;
+        Ok(MatLog {
+            alloc: self.alloc,
+            width: self.width,
+            pending: HeldMap::own(pending).shared()?,
+            refreshed: self.refreshed.copy()?.shared()?,
+        })
+    }
+
+    /// The same of any entries, one after another.
+    fn fed_in_turn(&self, entries: &[Entry]) -> Result<MatLog, NoMemory>
+        requires within { AreWithin entries.now self.now }
+        ensures fed { IfOk result (IsFed entries.now self.now) }
+    {
+        let mut fed = self.copy()?;
+        for entry in entries {
+            fed.reserve()?;
+            fed.feed(entry);
+        }
+        fed.shared()
+    }
+
+    /// What is pending in a span of whole buckets, as if the entries had been fed: a map with just
+    /// the values there.
+    fn pending_near(&self, entries: &BlockList<Entry>, span: Span) -> Result<SpanMap, NoMemory>
+        requires within { AreWithin entries.now.items self.now }
+        ensures values { IfOk result (λ pending. (t : ℤ) → at pending t ≡ cond (in_span span t) (pending_or_fresh self.now (filter (λ e. overlaps e.hull span) entries.now.items) t) None) }
+    {
+        let near = entries_near(entries, span)?;
+        let newest = latest(self.alloc, self.width, &near)?.within(span)?;
+        let fresh = self
+            .refreshed
+            .map()
+            .within(span)?
+            .combined(&newest, Rule::Above)?;
+        self.pending
+            .map()
+            .within(span)?
+            .combined(&fresh, Rule::Over)
+    }
+
+    /// `dirty`, as if the entries had been fed to the log. It costs the entries, the pieces in the
+    /// span and no copy.
+    pub fn dirty_with(&self, entries: &BlockList<Entry>, span: Span) -> Result<Seq<Span>, NoMemory>
+        requires whole { IsWholeSpan self.now.width span }
+        requires within { AreWithin entries.now.items self.now }
+        ensures ranges { IfOk result (AreRanges self.now.width span (is_dirty_with self.now entries.now.items)) }
+    {
+        // Reading the end tells that it is a number of 64 bits, and reading the width that the two
+        // maps are in step.
+        let _end = span.hi;
+        let _width = self.width;
+        let pending = self.pending_near(entries, span)?;
+        join_pieces(pending.ranges(span)?)
+    }
+
+    /// `stale`, as if the entries had been fed to the log.
+    pub fn stale_with(
+        &self,
+        entries: &BlockList<Entry>,
+        starts: Span,
+        mark: Option<i64>,
+    ) -> Result<Seq<Span>, NoMemory>
+        requires mark { ForSome mark (IsMark self.now.width) }
+        requires within { AreWithin entries.now.items self.now }
+        ensures ranges { IfOk result (AreRanges self.now.width starts (is_stale_with self.now entries.now.items mark)) }
+    {
+        self.dirty_with(entries, buckets_below(self.width, starts, mark))
+    }
+
+    /// The buckets of a span of whole buckets that have a last refresh and at which something is
+    /// pending, as if the entries had been fed to the log, as ranges that are as long as can be.
+    pub fn changed_with(
+        &self,
+        entries: &BlockList<Entry>,
+        span: Span,
+    ) -> Result<Seq<Span>, NoMemory>
+        requires whole { IsWholeSpan self.now.width span }
+        requires within { AreWithin entries.now.items self.now }
+        ensures ranges { IfOk result (AreRanges self.now.width span (is_changed_with self.now entries.now.items)) }
+    {
+        // Reading the width tells that the two maps are in step.
+        let _width = self.width;
+        let pending = self.pending_near(entries, span)?;
+        let refreshed = self.refreshed.map().within(span)?;
+        let changed = refreshed.combined(&pending, Rule::Where)?;
+        join_pieces(changed.ranges(span)?)
+    }
+
+    /// Of these ranges of whole buckets the buckets in a span of whole buckets whose last refresh isn't
+    /// above a snapshot, also those with none, as ranges that are as long as can be: a refresh of the
+    /// span that makes the ranges anew with this snapshot renews them.
+    pub fn renewed(&self, span: Span, ranges: &[Span], snap: u64) -> Result<Seq<Span>, NoMemory>
+        requires whole { IsWholeSpan self.now.width span }
+        requires ranges { AllByRecursion (IsWholeRange self.now.width) ranges.now }
+        ensures ranges { IfOk result (AreRanges self.now.width span (λ b. lies_in ranges.now b && is_renewed self.now snap b)) }
+    {
+        // Reading the width tells that the two maps are in step.
+        let _width = self.width;
+        let all = marked(self.alloc, ranges, snap)?;
+        let refreshed = self.refreshed.map().within(span)?;
+        let renewed = refreshed.combined(&all, Rule::NotBelow)?;
+        join_pieces(renewed.ranges(span)?)
+    }
+
+    /// The buckets of a span of whole buckets whose last refresh is above a snapshot, as ranges that
+    /// are as long as can be.
+    pub fn refreshed_after(&self, span: Span, snap: u64) -> Result<Seq<Span>, NoMemory>
+        requires { IsWholeSpan self.now.width span }
+        ensures ranges { IfOk result (AreRanges self.now.width span (is_refreshed_after self.now snap)) }
+    {
+        // Reading the width tells that the two maps are in step.
+        let _width = self.width;
+        let mut refreshed = self.refreshed.map().within(span)?;
+        refreshed.reserve(2)?;
+        refreshed.clear_upto(span, snap);
+        join_pieces(refreshed.ranges(span)?)
     }
 }

@@ -1,6 +1,7 @@
-ghost use Rattle.std.specs.Prelude.{◌≡◌, pos, ◌≤ℤ◌, IfOk};
+ghost use Rattle.std.specs.Prelude.{◌≡◌, pos, ◌≤ℤ◌, [], ◌∷◌, IfOk};
 
 use super::*;
+use block_list::BlockList;
 use inval_log::Entry;
 use std::alloc::Global;
 use std::test::Fail;
@@ -86,5 +87,48 @@ fn stale_buckets_are_those_below_the_mark(rt: HostRuntime) -> Result<(), Fail> {
 fn a_new_log_has_no_refresh(rt: HostRuntime) -> Result<(), Fail> {
     let log = log_of_tens(rt.alloc())?.copy()?;
     assert_eq!(rt; log.last(120), None);
+    Ok(())
+}
+
+/// A list of one entry, a touch of one number.
+fn one_touch(alloc: Global, t: i64, at: u64) -> Result<BlockList<Entry>, NoMemory>
+    ensures { IfOk result (λ list. list.items ≡ record { hull = record { least = t; most = t }; pos = at } ∷ []) }
+{
+    let mut entries = BlockList::new(alloc);
+    let hull = Hull { least: t, most: t };
+    entries.push(Entry { hull, pos: at })?;
+    Ok(entries)
+}
+
+/// The dirty ranges from 80 to 230, with a touch as if it had been fed, and once it was fed.
+fn dirty_twice(
+    alloc: Global,
+    log: &MatLog,
+    t: i64,
+    at: u64,
+) -> Result<(Seq<Span>, Seq<Span>), NoMemory>
+    requires width { log.now.width ≡ record { step = pos 10; shift = pos 0 } }
+    requires low { pos 100 ≤ℤ t }
+    requires high { t ≤ℤ pos 200 }
+{
+    let entries = one_touch(alloc, t, at)?;
+    let asked = log.dirty_with(&entries, Span { lo: 80, hi: 230 })?;
+    let fed = log.feed_all(&entries)?.shared()?;
+    Ok((asked, dirty(&fed)?))
+}
+
+#[test]
+fn entries_are_asked_as_if_they_were_fed(rt: HostRuntime) -> Result<(), Fail> {
+    let before = Span { lo: 80, hi: 100 };
+    let touched = Span { lo: 150, hi: 160 };
+    let after = Span { lo: 200, hi: 230 };
+    let mut log = log_of_tens(rt.alloc())?;
+    settle(&mut log, 5)?;
+    let (asked, fed) = dirty_twice(rt.alloc(), &log, 151, 8)?;
+    assert_eq!(rt; asked.items(), [before, touched, after].as_slice());
+    assert_eq!(rt; fed.items(), [before, touched, after].as_slice());
+    let (asked, fed) = dirty_twice(rt.alloc(), &log, 151, 4)?;
+    assert_eq!(rt; asked.items(), [before, after].as_slice());
+    assert_eq!(rt; fed.items(), [before, after].as_slice());
     Ok(())
 }

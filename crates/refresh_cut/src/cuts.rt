@@ -3,8 +3,10 @@
 ghost use Rattle.std.specs.Prelude.{◌≡◌, [], IfOk};
 ghost use Rattle.std.specs.Int.{int_max};
 ghost use Rattle.std.specs.List.{All};
-ghost use Rattle.refresh_cut.specs.Feeding.{IsFed, AreFed, AreWithin};
+ghost use Rattle.mat_log.specs.Feeding.{AreWithin};
+ghost use Rattle.refresh_cut.specs.Cuts.{AreFed};
 
+use block_list::BlockList;
 use inval_log::{Entry, InvalLog};
 use mat_log::MatLog;
 use std::alloc::Global;
@@ -17,27 +19,18 @@ pub struct CutParts {
     pub mats: Seq<MatLog>,
 }
 
-/// The log of an aggregate after the entries were fed to it.
-fn fed(mat: &MatLog, entries: &[Entry]) -> Result<MatLog, NoMemory>
-    requires { AreWithin entries.now mat.now }
-    ensures fed { IfOk result (IsFed entries.now mat.now) }
-{
-    let mut fed = mat.copy()?;
-    for entry in entries {
-        fed.reserve()?;
-        fed.feed(entry);
-    }
-    Ok(fed)
-}
-
 /// The logs of aggregates after the entries were fed to each.
-fn fed_logs(alloc: Global, mats: &[MatLog], entries: &[Entry]) -> Result<Seq<MatLog>, NoMemory>
-    requires { All (AreWithin entries.now) mats.now }
-    ensures fed { IfOk result (AreFed entries.now mats.now) }
+fn fed_logs(
+    alloc: Global,
+    mats: &[MatLog],
+    entries: &BlockList<Entry>,
+) -> Result<Seq<MatLog>, NoMemory>
+    requires { All (AreWithin entries.now.items) mats.now }
+    ensures fed { IfOk result (AreFed entries.now.items mats.now) }
 {
     let mut all = Vec::new(alloc);
     for mat in mats {
-        all.push(fed(mat, entries)?)?;
+        all.push(mat.feed_all(entries)?)?;
     }
     Ok(Seq::of(all))
 }
@@ -54,7 +47,8 @@ fn emptied(alloc: Global, log: &InvalLog, hi: i64) -> InvalLog
 
 /// What a cut of a span that ends at `hi` makes of the log of a table and of the logs of all its
 /// aggregates: the threshold moves up to `hi`, where that is higher, the log is emptied, and every
-/// entry is fed to every aggregate.
+/// entry is fed to every aggregate. It costs the entries and the pieces of the aggregates, where the
+/// positions of the entries rise.
 pub fn cut(alloc: Global, log: &InvalLog, mats: &Seq<MatLog>, hi: i64) -> Result<CutParts, NoMemory>
     requires { All (AreWithin log.now.entries) mats.now }
     ensures threshold { IfOk result (λ parts. parts.log.threshold ≡ int_max log.now.threshold hi) }

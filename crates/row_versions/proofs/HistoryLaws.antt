@@ -1,5 +1,5 @@
 -- Tables beside histories: how they begin, what events make of them, and what they tell.
-use Rattle.std.proofs.Common.{◌≡◌, ℕ, suc, ◌+◌, ◌<◌, ◌≤◌, Bool, true, false, cond, nat_lt, Option, Some, None, List, [], ◌∷◌, ℤ, ◌+ℤ◌, ◌≤ℤ◌, refl, sym, ◌∙◌, ap, subst, arith}
+use Rattle.std.proofs.Common.{◌≡◌, ℕ, suc, ◌+◌, ◌<◌, ◌≤◌, Bool, true, false, not, ◌||◌, ◌++◌, cond, nat_lt, Option, Some, None, List, [], ◌∷◌, ℤ, ◌+ℤ◌, ◌≤ℤ◌, refl, sym, ◌∙◌, ap, subst, arith}
 use Rattle.std.specs.List.{filter, list_any, count_by}
 use Rattle.std.specs.Option.{option_map}
 use Rattle.std.specs.Int.{int_max}
@@ -17,19 +17,24 @@ use Rattle.ts_schema.specs.Rows.{row_cmp}
 use Rattle.ts_model.specs.declared.events.Event.{Event}
 use Rattle.ts_model.specs.declared.events.Event.TheVariants.{Table, Hyper, View, Mode, Commit, Cut, Built}
 use Rattle.ts_model.specs.declared.events.Op.{Op}
+use Rattle.ts_model.specs.declared.events.Op.TheVariants.{Insert, Delete}
+use Rattle.ts_schema.specs.Conditions.{passes_all}
+use Rattle.std.specs.Prelude.{◌==◌}
+use Rattle.std.proofs.lemmas.List.{append-nil}
 use Rattle.ts_model.specs.History.{History, ◌▸◌, position, prefix}
-use Rattle.ts_model.specs.Rows.{with_row, in_order, after_ops, rows}
+use Rattle.ts_model.specs.Rows.{with_row, with_rows, in_order, after_ops, rows}
 use Rattle.ts_model.specs.Effect.{all_appended}
-use Rattle.ts_model.specs.Reads.{inserted, spans_meet, chunk_of}
-use Rattle.ts_model.specs.Allowed.{last_end}
+use Rattle.ts_model.specs.Reads.{inserted, spans_meet}
+use Rattle.ts_bucket.specs.Chunks.{chunk_of}
+use Rattle.ts_model.specs.Windows.{last_end}
 use Rattle.ts_model.proofs.HistoryLaws.{prefix_end}
 use Rattle.ts_model.proofs.RowLaws.{filter-in_order}
 use Rattle.seg_rows.specs.Versions.{later_time, latest_of, latest_at, rows_of}
 use Rattle.seg_rows.proofs.HullLaws.{later_time-assoc, later_time-comm}
 use Rattle.chunk_catalog.specs.Chunks.{ChunksValue}
 use Rattle.row_versions.specs.Histories.{Holds}
-use Rattle.row_versions.specs.Laws.{is_commit, CommitsAreHeld, EffectsAreOfCommits, OthersAreHeld, HeldTablesTell}
-use Rattle.row_versions.specs.Tables.{visible_rows, IsEffect, Follows}
+use Rattle.row_versions.specs.Laws.{is_commit, CommitsAreHeld, EffectsAreOfCommits, OthersAreHeld, HeldTablesTell, UnnamedAreHeld}
+use Rattle.row_versions.specs.Tables.{visible_rows, IsEffect, Follows, is_on}
 use Rattle.row_versions.proofs.TableLaws.{both_alike, up_to_more}
 
 -- ---- commits
@@ -37,6 +42,10 @@ use Rattle.row_versions.proofs.TableLaws.{both_alike, up_to_more}
 -- at a position after its own a history is itself
 seen_now : (t : ℕ) (h : History) (table : ChunksValue) (q : ℕ) → Holds t h table → position h ≤ q → in_order (visible_rows q table.versions) ≡ rows t h
 seen_now t h table q held l = held.seen q ∙ ap (rows t) (prefix_end h q l)
+
+or_false : (a b : Bool) → (a || b) ≡ false → (a ≡ false) × (b ≡ false)
+or_false true b e = cc
+or_false false b e = (refl, e)
 
 module _ (t : ℕ) (h : History) (ops : List Op) (old new : ChunksValue) (held : Holds t h old) (follows : Follows t ops (suc (position h)) old new) where
   seen_at : (q : ℕ) (late : Bool) → nat_lt (position h) q ≡ late → in_order (visible_rows q new.versions) ≡ rows t (cond late (h ▸ Commit ops) (prefix h q))
@@ -53,6 +62,32 @@ module _ (t : ℕ) (h : History) (ops : List Op) (old new : ChunksValue) (held :
     stored = follows.stored ∙ both_alike (rows_of old.versions) (inserted t h) (all_appended t ops) held.stored;
     up_to = follows.up_to;
   }
+
+-- operations on other tables do nothing to a table
+unnamed_rows : (t : ℕ) (ops : List Op) (xs : List Row) → list_any (is_on t) ops ≡ false → after_ops t ops xs ≡ xs
+unnamed_rows t [] xs none = refl
+unnamed_rows t (Insert u new ∷ ops) xs none =
+    let parts = or_false (u == t) (list_any (is_on t) ops) none in
+    ap (λ b. after_ops t ops (cond b (with_rows new xs) xs)) parts.0 ∙ unnamed_rows t ops xs parts.1
+unnamed_rows t (Delete u tests ∷ ops) xs none =
+    let parts = or_false (u == t) (list_any (is_on t) ops) none in
+    ap (λ b. after_ops t ops (cond b (filter (λ row. not (passes_all row tests)) xs) xs)) parts.0 ∙ unnamed_rows t ops xs parts.1
+
+unnamed_appended : (t : ℕ) (ops : List Op) → list_any (is_on t) ops ≡ false → all_appended t ops ≡ []
+unnamed_appended t [] none = refl
+unnamed_appended t (Insert u new ∷ ops) none =
+    let parts = or_false (u == t) (list_any (is_on t) ops) none in
+    ap (λ b. cond b new [] ++ all_appended t ops) parts.0 ∙ unnamed_appended t ops parts.1
+unnamed_appended t (Delete u tests ∷ ops) none = unnamed_appended t ops (or_false (u == t) (list_any (is_on t) ops) none).1
+
+pub unnamed_are_held : UnnamedAreHeld
+unnamed_are_held t h ops table held none = commit_held t h ops table table held (record {
+  interval = refl;
+  earlier = λ q _. refl;
+  later = λ q _. sym (unnamed_rows t ops (in_order (visible_rows q table.versions)) none);
+  stored = ap in_order (sym (append-nil (rows_of table.versions)) ∙ ap (λ rs. rows_of table.versions ++ rs) (sym (unnamed_appended t ops none)));
+  up_to = up_to_more (position h) (suc (position h)) table.versions (omega arith) held.up_to;
+})
 
 pub commits_are_held : CommitsAreHeld
 commits_are_held t h ops old new held follows = commit_held t h ops old new held follows

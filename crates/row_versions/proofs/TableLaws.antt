@@ -1,5 +1,6 @@
 -- What inserts and deletes make of the versions of a table.
 use Rattle.std.proofs.Common.{◌≡◌, ℕ, ◌+◌, ◌<◌, ◌≤◌, ◌&&◌, Bool, true, false, cond, not, Option, Some, None, List, [], ◌∷◌, ◌++◌, length, map, get_or, take, take_all, drop, ◌-◌, ℤ, ◌+ℤ◌, refl, sym, ◌∙◌, ap, subst, eq-eqb, arith}
+use Rattle.std.proofs.lemmas.List.Folds.{list_all-append}
 use Rattle.std.specs.List.{filter, list_all, list_any, count_by}
 use Rattle.std.specs.Prelude.{nat_le, int_lt, ◌||◌, ◌==◌, Result, Ok, Err, IfOk, OnOk, OnErr, MatchResult}
 use Rattle.std.proofs.lemmas.Int.{ints}
@@ -12,23 +13,25 @@ use Rattle.ts_bucket.specs.Spans.{SpanValue, HullValue, in_span}
 use Rattle.ts_schema.specs.declared.rows.Row.{Row}
 use Rattle.ts_schema.specs.declared.conditions.Test.{Test}
 use Rattle.ts_schema.specs.Conditions.{passes_all}
-use Rattle.ts_schema.specs.Counts.{raised_by}
+use Rattle.ts_schema.specs.Counts.{raised_by, RaisedUpTo}
 use Rattle.ts_model.specs.declared.events.Op.{Op}
 use Rattle.ts_model.specs.declared.events.Op.TheVariants.{Insert, Delete}
 use Rattle.ts_model.specs.Rows.{with_rows, in_order, after_op, after_ops}
 use Rattle.ts_model.specs.Effect.{appended_by, taken_by, all_appended, all_taken, hull_with}
 use Rattle.ts_model.specs.Effect as model
-use Rattle.ts_model.specs.Reads.{rows_near, spans_meet, chunk_of}
+use Rattle.ts_model.specs.Reads.{rows_near, spans_meet}
+use Rattle.ts_bucket.specs.Chunks.{chunk_of}
 use Rattle.ts_model.proofs.RowLaws.{in_order-append, in_order-append_swap, filter-in_order, length-with_rows}
 use Rattle.seg_rows.specs.Hulls.{joined_hull, hull_at, hull_of}
-use Rattle.seg_rows.specs.Versions.{Version, AsOften, is_dead_at, visible_at, shown_at, rows_of, rows_at, newborn, is_taken, taken_at, after_kill, has_columns, TestsFit}
+use Rattle.seg_rows.specs.Versions.{Version, AsOften, is_dead_at, visible_at, shown_at, rows_of, rows_at, newborn, is_taken, taken_at, after_kill}
 use Rattle.seg_rows.proofs.HullLaws.{hull_of-append, joined_hull-assoc, joined_hull-none}
-use Rattle.chunk_catalog.specs.Chunks.{ChunksValue, IsInterval, chunk_start, is_near, held_near, HaveTimes}
+use Rattle.chunk_catalog.specs.Chunks.{ChunksValue, is_near, held_near, HaveTimes}
+use Rattle.ts_bucket.specs.Chunks.{IsInterval, chunk_start}
 use Rattle.chunk_catalog.proofs.PartLaws.{all_from_count, count_from_all, count_map, count_append}
 use Rattle.row_versions.specs.declared.effects.Effect.{Effect}
 use Rattle.row_versions.specs.declared.tables.Applied.{Applied}
-use Rattle.row_versions.specs.Tables.{visible_rows, died_by, is_up_to, IsUpTo, rows_fit, ops_fit, Follows, Counts, IsEffect}
-use Rattle.row_versions.proofs.OrderLaws.{in_order-as_often, hull_of-in_order, all-in_order, count_filter, hulls_swap}
+use Rattle.row_versions.specs.Tables.{visible_rows, died_by, is_up_to, IsUpTo, Follows, Counts, IsEffect}
+use Rattle.row_versions.proofs.OrderLaws.{in_order-as_often, hull_of-in_order, count_filter, hulls_swap}
 
 -- ---- what a position sees
 
@@ -368,55 +371,32 @@ counts_more t op ops rows x y z one rest = record {
 
 -- ---- what operations ask for
 
-fit_alike : (tests : List Test) (xs ys : List Row) → in_order xs ≡ in_order ys → rows_fit tests xs ≡ rows_fit tests ys
-fit_alike tests xs ys e =
-    sym (all-in_order (λ row. list_all (λ (t : Test). nat_le t.col (length row.vals)) tests) xs)
-    ∙ (ap (list_all (λ row. list_all (λ (t : Test). nat_le t.col (length row.vals)) tests)) e ∙ all-in_order (λ row. list_all (λ (t : Test). nat_le t.col (length row.vals)) tests) ys)
-
 pub both_alike : (xs ys new : List Row) → in_order xs ≡ in_order ys → in_order (xs ++ new) ≡ in_order (ys ++ new)
 both_alike xs ys new e = in_order-append_swap xs new ∙ (in_order-append new xs ∙ (ap (with_rows new) e ∙ (sym (in_order-append new ys) ∙ in_order-append_swap new ys)))
 
-pub ops_fit_alike : (t : ℕ) (ops : List Op) (xs ys : List Row) → in_order xs ≡ in_order ys → ops_fit t ops xs ≡ ops_fit t ops ys
-ops_fit_alike t [] xs ys e = refl
-ops_fit_alike t (Insert u new ∷ ops) xs ys e =
-    ap (λ b. cond (u == t) (list_all (λ row. is_time row.at) new && b) (ops_fit t ops xs)) (ops_fit_alike t ops (xs ++ new) (ys ++ new) (both_alike xs ys new e))
-    ∙ ap (λ b. cond (u == t) (list_all (λ row. is_time row.at) new && ops_fit t ops (ys ++ new)) b) (ops_fit_alike t ops xs ys e)
-ops_fit_alike t (Delete u tests ∷ ops) xs ys e =
-    ap (λ b. cond (u == t) (b && ops_fit t ops xs) (ops_fit t ops xs)) (fit_alike tests xs ys e)
-    ∙ ap (λ b. cond (u == t) (rows_fit tests ys && b) b) (ops_fit_alike t ops xs ys e)
+-- rows of operations that are times are times in the first operation, and in the rest
+pub first_times : (t : ℕ) (op : Op) (ops : List Op) → HaveTimes (all_appended t (op ∷ ops)) → HaveTimes (all_appended t (op ∷ []))
+first_times t op ops times =
+    list_all-append (λ row. is_time row.at) (appended_by t op) []
+    ∙ and_from (list_all (λ row. is_time row.at) (appended_by t op)) true
+    (and_parts (list_all (λ row. is_time row.at) (appended_by t op)) (list_all (λ row. is_time row.at) (all_appended t ops)) (sym (list_all-append (λ row. is_time row.at) (appended_by t op) (all_appended t ops)) ∙ times)).0 refl
 
-delete_rest : (b f r : Bool) → cond b (f && r) r ≡ true → r ≡ true
-delete_rest true f r e = (and_parts f r e).1
-delete_rest false f r e = e
+pub rest_times : (t : ℕ) (op : Op) (ops : List Op) → HaveTimes (all_appended t (op ∷ ops)) → HaveTimes (all_appended t ops)
+rest_times t op ops times =
+    (and_parts (list_all (λ row. is_time row.at) (appended_by t op)) (list_all (λ row. is_time row.at) (all_appended t ops)) (sym (list_all-append (λ row. is_time row.at) (appended_by t op) (all_appended t ops)) ∙ times)).1
 
--- what fits operations fits the first of them, and the rest after it
-pub first_fits : (t : ℕ) (op : Op) (ops : List Op) (rows : List Row) → ops_fit t (op ∷ ops) rows ≡ true → ops_fit t (op ∷ []) rows ≡ true
-first_fits t (Insert u new) ops rows = elim (u == t) as (λ b. cond b (list_all (λ row. is_time row.at) new && ops_fit t ops (rows ++ new)) (ops_fit t ops rows) ≡ true → cond b (list_all (λ row. is_time row.at) new && true) true ≡ true) [
-  | true ↦ λ e. and_from _ _ (and_parts _ _ e).0 refl
-  | false ↦ λ e. refl
-]
-first_fits t (Delete u tests) ops rows = elim (u == t) as (λ b. cond b (rows_fit tests rows && ops_fit t ops rows) (ops_fit t ops rows) ≡ true → cond b (rows_fit tests rows && true) true ≡ true) [
-  | true ↦ λ e. and_from _ _ (and_parts _ _ e).0 refl
-  | false ↦ λ e. refl
-]
+-- one operation more, whose rows are times
+pub pushed_times : (t : ℕ) (ops : List Op) (op : Op) → HaveTimes (all_appended t ops) → HaveTimes (appended_by t op) → HaveTimes (all_appended t (ops ++ op ∷ []))
+pushed_times t [] op times here =
+    list_all-append (λ row. is_time row.at) (appended_by t op) [] ∙ and_from (list_all (λ row. is_time row.at) (appended_by t op)) true here refl
+pushed_times t (x ∷ ops) op times here =
+    let first = (and_parts (list_all (λ row. is_time row.at) (appended_by t x)) (list_all (λ row. is_time row.at) (all_appended t ops)) (sym (list_all-append (λ row. is_time row.at) (appended_by t x) (all_appended t ops)) ∙ times)).0 in
+    list_all-append (λ row. is_time row.at) (appended_by t x) (all_appended t (ops ++ op ∷ []))
+    ∙ and_from (list_all (λ row. is_time row.at) (appended_by t x)) (list_all (λ row. is_time row.at) (all_appended t (ops ++ op ∷ []))) first (pushed_times t ops op (rest_times t x ops times) here)
 
-pub rest_fits : (t : ℕ) (op : Op) (ops : List Op) (rows : List Row) → ops_fit t (op ∷ ops) rows ≡ true → ops_fit t ops (rows ++ all_appended t (op ∷ [])) ≡ true
-rest_fits t (Insert u new) ops rows e =
-    elim (u == t) as (λ b. cond b (list_all (λ row. is_time row.at) new && ops_fit t ops (rows ++ new)) (ops_fit t ops rows) ≡ true → ops_fit t ops (rows ++ (cond b new [] ++ [])) ≡ true) [
-      | true ↦ λ f. ap (λ rs. ops_fit t ops (rows ++ rs)) (append-nil new) ∙ (and_parts _ _ f).1
-      | false ↦ λ f. ap (ops_fit t ops) (append-nil rows) ∙ f
-    ] e
-rest_fits t (Delete u tests) ops rows e = ap (ops_fit t ops) (append-nil rows) ∙ delete_rest (u == t) (rows_fit tests rows) (ops_fit t ops rows) e
-
-pub times_here : (t : ℕ) (new rows : List Row) → ops_fit t (Insert t new ∷ []) rows ≡ true → HaveTimes new
-times_here t new rows e = (and_parts (list_all (λ row. is_time row.at) new) true (ap (λ b. cond b (list_all (λ row. is_time row.at) new && true) true) (sym (same_table t)) ∙ e)).0
-
-pub tests_here : (t : ℕ) (tests : List Test) (rows : List Row) → ops_fit t (Delete t tests ∷ []) rows ≡ true → rows_fit tests rows ≡ true
-tests_here t tests rows e = (and_parts (rows_fit tests rows) true (ap (λ b. cond b (rows_fit tests rows && true) true) (sym (same_table t)) ∙ e)).0
-
-pub fit_of_rows : (tests : List Test) (vs : List Version) → rows_fit tests (rows_of vs) ≡ list_all (has_columns tests) vs
-fit_of_rows tests [] = refl
-fit_of_rows tests (v ∷ vs) = ap (λ b. has_columns tests v && b) (fit_of_rows tests vs)
+pub times_here : (t : ℕ) (new : List Row) → HaveTimes (all_appended t (Insert t new ∷ [])) → HaveTimes new
+times_here t new times =
+    ap (list_all (λ row. is_time row.at)) (sym (append-nil new) ∙ ap (λ b. cond b new [] ++ []) (sym (same_table t))) ∙ times
 
 -- ---- the loop over operations
 
@@ -425,9 +405,9 @@ pub record Leads (t p : ℕ) (ops : List Op) (x : ChunksValue) (left : List Op) 
   pub table : (z : ChunksValue) → Follows t left p y z → Follows t ops p x z
   pub counted : (fresh after : Effect) → fresh.inserted ≡ 0 → fresh.removed ≡ 0 → fresh.hull ≡ None → Counts t left (in_order (visible_rows p y.versions)) effect after → Counts t ops (in_order (visible_rows p x.versions)) fresh after
   pub up_to : IsUpTo p y.versions
-  pub fit : ops_fit t left (rows_of y.versions) ≡ true
+  pub times : HaveTimes (all_appended t left)
 
-pub leads_start : (t p : ℕ) (ops : List Op) (x : ChunksValue) (effect : Effect) → effect.inserted ≡ 0 → effect.removed ≡ 0 → effect.hull ≡ None → IsUpTo p x.versions → ops_fit t ops (rows_of x.versions) ≡ true → Leads t p ops x ops x effect
+pub leads_start : (t p : ℕ) (ops : List Op) (x : ChunksValue) (effect : Effect) → effect.inserted ≡ 0 → effect.removed ≡ 0 → effect.hull ≡ None → IsUpTo p x.versions → HaveTimes (all_appended t ops) → Leads t p ops x ops x effect
 leads_start t p ops x effect i r h e f = record {
   table = λ z follows. follows;
   counted = λ fresh after zi zr zh counts. record {
@@ -436,7 +416,7 @@ leads_start t p ops x effect i r h e f = record {
     hull = counts.hull ∙ ap (λ g. joined_hull g (hull_of (all_appended t ops ++ all_taken t ops (in_order (visible_rows p x.versions))))) (h ∙ sym zh);
   };
   up_to = e;
-  fit = f;
+  times = f;
 }
 
 pub leads_on : (t p : ℕ) (ops : List Op) (x : ChunksValue) (op : Op) (left : List Op) (y z : ChunksValue) (before after : Effect)
@@ -446,7 +426,7 @@ leads_on t p ops x op left y z before after leads one counts = record {
   counted = λ fresh last zi zr zh rest. leads.counted fresh last zi zr zh
       (counts_more t op left (in_order (visible_rows p y.versions)) before after last counts (subst (λ rows. Counts t left rows after last) (one.later p (omega arith)) rest));
   up_to = one.up_to;
-  fit = ops_fit_alike t left (rows_of z.versions) (rows_of y.versions ++ all_appended t (op ∷ [])) one.stored ∙ rest_fits t op left (rows_of y.versions) leads.fit;
+  times = rest_times t op left leads.times;
 }
 
 -- the hull of rows, as histories have it
@@ -538,12 +518,12 @@ either P Q (Ok v) p q = p
 either P Q (Err e) p q = q
 
 pub scan_read : {T E : Type 0} (r : Result T E) (old new : ℕ) (s : SpanValue) (x y : ChunksValue) → x ≡ y → IsInterval x.interval
-    → OnOk r (new ≡ raised_by (held_near x.interval s x.versions) old) → OnErr r (new ≤ raised_by (held_near x.interval s x.versions) old)
-    → MatchResult r (λ _. new ≡ raised_by (rows_near y.interval (rows_of y.versions) (s ∷ [])) old) (λ _. new ≤ raised_by (rows_near y.interval (rows_of y.versions) (s ∷ [])) old)
+    → OnOk r (new ≡ raised_by (held_near x.interval s x.versions) old) → OnErr r (RaisedUpTo (held_near x.interval s x.versions) old new)
+    → MatchResult r (λ _. new ≡ raised_by (rows_near y.interval (rows_of y.versions) (s ∷ [])) old) (λ _. RaisedUpTo (rows_near y.interval (rows_of y.versions) (s ∷ [])) old new)
 scan_read r old new s x y same wide ticks at_most =
     let held : held_near x.interval s x.versions ≡ rows_near y.interval (rows_of y.versions) (s ∷ []) =
     held_is x.interval s x.versions wide ∙ ap (λ (z : ChunksValue). rows_near z.interval (rows_of z.versions) (s ∷ [])) same in
-    either _ _ r (subst (λ n. OnOk r (new ≡ raised_by n old)) held ticks) (subst (λ n. OnErr r (new ≤ raised_by n old)) held at_most)
+    either _ _ r (subst (λ n. OnOk r (new ≡ raised_by n old)) held ticks) (subst (λ n. OnErr r (RaisedUpTo n old new)) held at_most)
 
 -- a delete on this table, by the number that it was asked for
 pub delete_asked : {E : Type 0} (r : Result Applied E) (u t p : ℕ) (tests : List Test) (op : Op) (x : ChunksValue) → op ≡ Delete u tests → u ≡ t
@@ -563,9 +543,6 @@ pub delete_follows : (tests : List Test) (p : ℕ) (x y new : ChunksValue) → x
     → (t : ℕ) → Follows t (Delete t tests ∷ []) p y new
 delete_follows tests p x y new same interval killed e t =
     follows_delete t tests p y new (interval ∙ ap (λ (z : ChunksValue). z.interval) same) (killed ∙ ap (λ (z : ChunksValue). map (after_kill p tests) z.versions) same) e
-
-pub delete_fits : (tests : List Test) (x y : ChunksValue) → x ≡ y → rows_fit tests (rows_of y.versions) ≡ true → TestsFit tests x.versions
-delete_fits tests x y same fit = subst (λ (z : ChunksValue). TestsFit tests z.versions) (sym same) (sym (fit_of_rows tests y.versions) ∙ fit)
 
 pub delete_counts : (tests : List Test) (p : ℕ) (x y : ChunksValue) (d before after : Effect) → x ≡ y → d ≡ before → after.inserted ≡ d.inserted → after.removed ≡ d.removed + length (taken_at p tests x.versions)
     → after.hull ≡ joined_hull d.hull (hull_of (taken_at p tests x.versions)) → (t : ℕ) → Counts t (Delete t tests ∷ []) (in_order (visible_rows p y.versions)) before after

@@ -1,5 +1,6 @@
 -- Laws of tables beside histories, each in one sentence.
 use Rattle.std.specs.Prelude.{◌≡◌, ℕ, suc, Bool, true, false, List, [], filter, ℤ, ◌+ℤ◌, None}
+use Rattle.std.specs.List.{list_any}
 use Rattle.std.specs.Option.{option_map}
 use Rattle.ts_bucket.specs.Bucket.{IsWidth, bucket_of}
 use Rattle.ts_bucket.specs.Spans.{SpanValue, in_span}
@@ -12,12 +13,14 @@ use Rattle.ts_model.specs.History.{History, ◌▸◌, position, prefix}
 use Rattle.ts_model.specs.Roster.{roster, hyper_of}
 use Rattle.ts_model.specs.Rows.{in_order, rows}
 use Rattle.ts_model.specs.Reads.{inserted, rows_near}
-use Rattle.ts_model.specs.Allowed.{all_allowed, last_end}
+use Rattle.ts_model.specs.Allowed.{all_allowed}
+use Rattle.ts_model.specs.Windows.{last_end}
 use Rattle.seg_rows.specs.Versions.{rows_of, latest_at, latest_of}
-use Rattle.chunk_catalog.specs.Chunks.{ChunksValue}
+use Rattle.ts_model.specs.Effect.{all_appended}
+use Rattle.chunk_catalog.specs.Chunks.{ChunksValue, HaveTimes}
 use Rattle.row_versions.specs.declared.effects.Effect.{Effect}
 use Rattle.row_versions.specs.Histories.{Holds}
-use Rattle.row_versions.specs.Tables.{visible_rows, IsUpTo, IsEffect, Follows, ops_fit}
+use Rattle.row_versions.specs.Tables.{visible_rows, IsUpTo, IsEffect, Follows, is_on}
 
 abbrev pub is_commit : Event → Bool
 is_commit (Table def) = false
@@ -30,12 +33,12 @@ is_commit (Built cut snap) = false
 
 -- a table without versions holds a table that isn't a hypertable, or is only now made one
 abbrev pub TablesBegin : Type 0
-TablesBegin = (t : ℕ) (h : History) (interval : ℤ) → all_allowed h ≡ true → hyper_of (roster h) t ≡ None → Holds t h (record { interval = interval; versions = [] })
+TablesBegin = (t : ℕ) (h : History) (table : ChunksValue) → all_allowed h ≡ true → hyper_of (roster h) t ≡ None → table.versions ≡ [] → Holds t h table
 
 -- a table that holds a history may be given the operations of the next commit at the next position
 pub record Asks (t : ℕ) (h : History) (ops : List Op) (table : ChunksValue) : Type 0 where
   pub up_to : IsUpTo (suc (position h)) table.versions
-  pub fit : ops_fit t ops (rows_of table.versions) ≡ true
+  pub times : HaveTimes (all_appended t ops)
 
 abbrev pub CommitsFit : Type 0
 CommitsFit = (t : ℕ) (h : History) (ops : List Op) (table : ChunksValue) → Holds t h table → all_allowed (h ▸ Commit ops) ≡ true → Asks t h ops table
@@ -47,6 +50,10 @@ CommitsAreHeld = (t : ℕ) (h : History) (ops : List Op) (old new : ChunksValue)
 -- and their effect is that of the commit
 abbrev pub EffectsAreOfCommits : Type 0
 EffectsAreOfCommits = (t : ℕ) (h : History) (ops : List Op) (table : ChunksValue) (effect : Effect) → Holds t h table → IsEffect t ops (in_order (visible_rows (suc (position h)) table.versions)) effect → IsEffect t ops (rows t h) effect
+
+-- a commit that names no operation on a table leaves it as it is
+abbrev pub UnnamedAreHeld : Type 0
+UnnamedAreHeld = (t : ℕ) (h : History) (ops : List Op) (table : ChunksValue) → Holds t h table → list_any (is_on t) ops ≡ false → Holds t (h ▸ Commit ops) table
 
 -- any other event leaves a table as it is
 abbrev pub OthersAreHeld : Type 0

@@ -1,9 +1,7 @@
 -- Tables under operations: what a position sees, and what the operations of a commit make of a table.
-use Rattle.std.specs.Prelude.{◌≡◌, ℕ, ◌+◌, ◌<◌, ◌≤◌, Bool, true, cond, ◌&&◌, ◌==◌, nat_le, List, [], ◌∷◌, ◌++◌, length, filter, Option, None, Some}
+use Rattle.std.specs.Prelude.{◌≡◌, ℕ, ◌+◌, ◌<◌, ◌≤◌, Bool, true, ◌&&◌, ◌==◌, nat_le, List, ◌++◌, length, filter, Option, None, Some}
 use Rattle.std.specs.List.{list_all}
-use Rattle.ts_bucket.specs.Bucket.{is_time}
 use Rattle.ts_schema.specs.declared.rows.Row.{Row}
-use Rattle.ts_schema.specs.declared.conditions.Test.{Test}
 use Rattle.ts_model.specs.declared.events.Op.{Op}
 use Rattle.ts_model.specs.declared.events.Op.TheVariants.{Insert, Delete}
 use Rattle.ts_model.specs.Rows.{in_order, after_ops}
@@ -30,15 +28,10 @@ is_up_to p v = nat_le v.born p && died_by p v.died
 abbrev pub IsUpTo : ℕ → List Version → Type 0
 IsUpTo p vs = list_all (is_up_to p) vs ≡ true
 
--- every row has the columns of these tests
-abbrev pub rows_fit : List Test → List Row → Bool
-rows_fit tests rows = list_all (λ row. list_all (λ t. nat_le t.col (length row.vals)) tests) rows
-
--- these operations may be applied to table t, which stores these rows: times are times, and rows have the columns of the tests
-abbrev pub ops_fit : ℕ → List Op → List Row → Bool
-ops_fit t [] rows = true
-ops_fit t (Insert u new ∷ ops) rows = cond (u == t) (list_all (λ row. is_time row.at) new && ops_fit t ops (rows ++ new)) (ops_fit t ops rows)
-ops_fit t (Delete u tests ∷ ops) rows = cond (u == t) (rows_fit tests rows && ops_fit t ops rows) (ops_fit t ops rows)
+-- the operation is on table t
+abbrev pub is_on : ℕ → Op → Bool
+is_on t (Insert u new) = u == t
+is_on t (Delete u tests) = u == t
 
 -- what operations on table t at position p make of its versions: earlier positions see what they saw, p and later ones see the
 -- rows after the operations, and everything that was ever inserted is stored

@@ -1,5 +1,5 @@
 //! Laws that join tables to histories. Each is the clause of a function that does nothing.
-ghost use Rattle.row_versions.specs.Laws.{CommitsAreHeld, CommitsFit, EffectsAreOfCommits, HeldTablesTell, OthersAreHeld, TablesBegin};
+ghost use Rattle.row_versions.specs.Laws.{CommitsAreHeld, CommitsFit, EffectsAreOfCommits, HeldTablesTell, OthersAreHeld, TablesBegin, UnnamedAreHeld};
 
 /// A new table holds a table of an allowed history that isn't a hypertable yet.
 pub fn tables_begin()
@@ -19,6 +19,11 @@ pub fn commits_are_held()
 /// The effect that `apply` tells is that of the commit.
 pub fn effects_are_of_commits()
     ensures { EffectsAreOfCommits }
+{}
+
+/// A commit that names no operation on a table leaves it as it is.
+pub fn unnamed_are_held()
+    ensures { UnnamedAreHeld }
 {}
 
 /// Every other event leaves a table as it is.

@@ -1,13 +1,15 @@
 //! Tables.
 ghost use Rattle.std.specs.Prelude.{◌≡◌, ◌≤◌, ℕ, [], ◌∷◌, filter, true, IfOk, MatchResult};
 ghost use Rattle.ts_bucket.specs.Spans.{in_span};
-ghost use Rattle.ts_schema.specs.Counts.{raised_by};
+ghost use Rattle.ts_schema.specs.Counts.{raised_by, RaisedUpTo};
 ghost use Rattle.seg_rows.specs.Versions.{latest_at, rows_of};
-ghost use Rattle.chunk_catalog.specs.Chunks.{IsInterval, HaveTimes};
+ghost use Rattle.chunk_catalog.specs.Chunks.{HaveTimes};
+ghost use Rattle.ts_bucket.specs.Chunks.{IsInterval};
 ghost use Rattle.ts_model.specs.declared.events.Op.TheVariants.{Insert, Delete};
+ghost use Rattle.ts_model.specs.Effect.{all_appended};
 ghost use Rattle.ts_model.specs.Rows.{in_order};
 ghost use Rattle.ts_model.specs.Reads.{rows_near};
-ghost use Rattle.row_versions.specs.Tables.{Counts, Follows, IsEffect, IsUpTo, ops_fit, rows_fit, visible_rows};
+ghost use Rattle.row_versions.specs.Tables.{Counts, Follows, IsEffect, IsUpTo, visible_rows};
 
 use crate::effects::Effect;
 use chunk_catalog::Chunks;
@@ -66,7 +68,7 @@ impl Table {
     /// changes, with what they did. The table itself stays as it was.
     pub fn apply(&self, ops: &Seq<Op>, table: u32, pos: u64) -> Result<Applied, NoMemory>
         requires up_to { IsUpTo pos self.now.versions }
-        requires fit { ops_fit table ops.now (rows_of self.now.versions) ≡ true }
+        requires times { HaveTimes (all_appended table ops.now) }
         ensures table { IfOk result (λ a. Follows table ops.now pos self.now a.table) }
         ensures effect { IfOk result (λ a. IsEffect table ops.now (in_order (visible_rows pos self.now.versions)) a.effect) }
     {
@@ -86,7 +88,7 @@ impl Table {
     /// or not, in the chunks that meet the span.
     pub fn scan<L>(&self, pos: u64, span: Span, steps: &mut Steps<L>) -> Result<Seq<Row>, NoMemory>
         ensures rows { IfOk result (λ rows. rows ≡ filter (λ row. in_span span row.at) (visible_rows pos self.now.versions)) }
-        ensures read { MatchResult result (λ _. steps.new ≡ raised_by (rows_near self.now.interval (rows_of self.now.versions) (span ∷ [])) steps.old) (λ _. steps.new ≤ raised_by (rows_near self.now.interval (rows_of self.now.versions) (span ∷ [])) steps.old) }
+        ensures read { MatchResult result (λ _. steps.new ≡ raised_by (rows_near self.now.interval (rows_of self.now.versions) (span ∷ [])) steps.old) (λ _. RaisedUpTo (rows_near self.now.interval (rows_of self.now.versions) (span ∷ [])) steps.old steps.new) }
     {
         self.chunks.scan(pos, span, steps)
     }
@@ -103,7 +105,7 @@ impl Applied {
     /// The same after one more operation.
     fn and(self, op: &Op, table: u32, pos: u64) -> Result<Applied, NoMemory>
         requires up_to { IsUpTo pos self.table.versions }
-        requires fit { ops_fit table (op.now ∷ []) (rows_of self.table.versions) ≡ true }
+        requires times { HaveTimes (all_appended table (op.now ∷ [])) }
         ensures table { IfOk result (λ a. Follows table (op.now ∷ []) pos self.table a.table) }
         ensures effect { IfOk result (λ a. Counts table (op.now ∷ []) (in_order (visible_rows pos self.table.versions)) self.effect a.effect) }
     {
@@ -146,7 +148,6 @@ impl Applied {
     /// The same after a delete.
     fn and_delete(self, tests: &Seq<Test>, pos: u64) -> Result<Applied, NoMemory>
         requires up_to { IsUpTo pos self.table.versions }
-        requires fit { rows_fit tests.now (rows_of self.table.versions) ≡ true }
         ensures table { IfOk result (λ a. (t : ℕ) → Follows t (Delete t tests.now ∷ []) pos self.table a.table) }
         ensures effect { IfOk result (λ a. (t : ℕ) → Counts t (Delete t tests.now ∷ []) (in_order (visible_rows pos self.table.versions)) self.effect a.effect) }
     {

@@ -2,8 +2,9 @@
 ghost use Rattle.std.specs.Prelude.{◌≡◌, ◌≤◌, ℕ, ◌∷◌, [], true, List, IfOk};
 ghost use Rattle.ts_bucket.specs.Bucket.{is_time};
 ghost use Rattle.ts_schema.specs.declared.rows.Row.{Row};
+ghost use Rattle.ts_model.specs.Effect.{all_appended, appended_by};
 ghost use Rattle.chunk_catalog.specs.Chunks.{HaveTimes};
-ghost use Rattle.row_versions.specs.Tables.{IsUpTo, ops_fit, rows_fit};
+ghost use Rattle.row_versions.specs.Tables.{IsUpTo};
 
 use crate::{Applied, Table};
 use std::alloc::Global;
@@ -91,9 +92,7 @@ fn three(alloc: Global, at: i64) -> Result<Seq<Row>, NoMemory>
 }
 
 /// The one test that a row's time is `cmp` a number.
-fn on_time(alloc: Global, cmp: Cmp, num: i64) -> Result<Seq<Test>, NoMemory>
-    ensures fit { IfOk result (λ tests. (rows : List Row) → rows_fit tests rows ≡ true) }
-{
+fn on_time(alloc: Global, cmp: Cmp, num: i64) -> Result<Seq<Test>, NoMemory> {
     let mut tests = Seq::new(alloc);
     tests.push(Test { col: 0, cmp, num })?;
     Ok(tests)
@@ -101,7 +100,7 @@ fn on_time(alloc: Global, cmp: Cmp, num: i64) -> Result<Seq<Test>, NoMemory>
 
 /// An operation on table 0.
 fn op(alloc: Global, kind: Kind, at: i64) -> Result<Op, NoMemory>
-    ensures fit { IfOk result (λ op. (rows : List Row) → ops_fit 0 (op ∷ []) rows ≡ true) }
+    ensures times { IfOk result (λ op. HaveTimes (appended_by 0 op)) }
 {
     let table = 0;
     Ok(match kind {
@@ -122,7 +121,7 @@ fn op(alloc: Global, kind: Kind, at: i64) -> Result<Op, NoMemory>
 
 /// The operations of the commit at a position.
 fn ops(alloc: Global, pos: u64) -> Result<Seq<Op>, NoMemory>
-    ensures fit { IfOk result (λ ops. (rows : List Row) → ops_fit 0 ops rows ≡ true) }
+    ensures times { IfOk result (λ ops. HaveTimes (all_appended 0 ops)) }
 {
     let mut ops = Seq::new(alloc);
     for (at_pos, kind, at) in EDITS {

@@ -67,3 +67,15 @@ latest_of-append (x ∷ xs) ys =
 -- one row more
 pub hull_push : (rows : List Row) (row : Row) → hull_of (rows ++ row ∷ []) ≡ joined_hull (hull_of rows) (hull_at row.at)
 hull_push rows row = hull_of-append rows (row ∷ [])
+
+pub latest_push : (rows : List Row) (row : Row) → latest_of (rows ++ row ∷ []) ≡ later_time (latest_of rows) (Some row.at)
+latest_push rows row = latest_of-append rows (row ∷ [])
+
+-- a time to which two others add nothing together: neither adds anything alone
+pub later_apart : (a b c : Option ℤ) → later_time a (later_time b c) ≡ a → (later_time a b ≡ a) × (later_time a c ≡ a)
+later_apart a None c h = (later_time-none a, h)
+later_apart a (Some y) None h = (h, later_time-none a)
+later_apart None (Some y) (Some z) h = absurd (let none : None ≡ Some (int_max y z) = sym h in cc)
+later_apart (Some x) (Some y) (Some z) h =
+    let same : int_max x (int_max y z) ≡ x = cc in
+    (ap Some (omega (arith, ints, clamps, same)), ap Some (omega (arith, ints, clamps, same)))

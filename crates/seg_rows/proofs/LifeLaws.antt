@@ -1,12 +1,13 @@
 -- Laws of rows with their lives.
-use Rattle.std.proofs.Common.{◌≡◌, ℕ, suc, zero, ◌<◌, ◌+◌, List, [], ◌∷◌, ◌++◌, length, get_or, take, map, replicate, refl, sym, ◌∙◌, ap, subst, arith}
-use Rattle.std.proofs.lemmas.List.{take_more, length-take-le, map-append, append_assoc}
+use Rattle.std.proofs.Common.{◌≡◌, ℕ, ℤ, Option, suc, zero, ◌<◌, ◌+◌, List, [], ◌∷◌, ◌++◌, length, get_or, take, map, replicate, refl, sym, ◌∙◌, ap, subst, arith}
+use Rattle.std.proofs.lemmas.List.{take_more, length-take-le, length-append, map-append, append_assoc}
 use Rattle.ts_schema.specs.declared.rows.Row.{Row}
 use Rattle.seg_rows.specs.declared.lives.Life.{Life}
-use Rattle.seg_rows.specs.Versions.{Version, newborn}
+use Rattle.seg_rows.specs.Versions.{Version, newborn, rows_of, later_time}
+use Rattle.seg_rows.proofs.HullLaws.{latest_of-append}
 use Rattle.seg_rows.specs.declared.lives.Lives.{Lives}
 use Rattle.seg_rows.specs.declared.lives.Lives.TheVariants.{Together, Born}
-use Rattle.seg_rows.specs.Lives.{AreUnharmed, Covers, lives_of, unharmed, with_life, with_lives, versions_of}
+use Rattle.seg_rows.specs.Lives.{AreUnharmed, Covers, IsSealed, lives_of, unharmed, with_life, with_lives, versions_of}
 
 pub length-with_lives : (rows : List Row) (lives : List Life) → length lives ≡ length rows → length (with_lives rows lives) ≡ length rows
 length-with_lives [] lives e = refl
@@ -82,3 +83,24 @@ births_more done lives before i l plain h is e =
     ∙ (ap (λ x. (before ++ take i lives) ++ x ∷ []) this
     ∙ (append_assoc before (take i lives) (l ∷ [])
     ∙ ap (λ ls. before ++ ls) (ap (λ x. take i lives ++ x ∷ []) is ∙ sym (take_more lives i l h)))))
+
+-- the rows of rows with lives
+pub rows_of-with_lives : (rows : List Row) (lives : List Life) → length lives ≡ length rows → rows_of (with_lives rows lives) ≡ rows
+rows_of-with_lives [] lives e = refl
+rows_of-with_lives (r ∷ rows) [] e = absurd (omega (arith, e))
+rows_of-with_lives (r ∷ rows) (l ∷ lives) e = ap (λ rs. r ∷ rs) (rows_of-with_lives rows lives (omega (arith, e)))
+
+pub rows_of-versions : (rows : List Row) (lives : Lives) → Covers (length rows) lives → rows_of (versions_of rows lives) ≡ rows
+rows_of-versions rows lives covers = rows_of-with_lives rows (lives_of (length rows) lives) covers
+
+-- two sealed lists, one after the other
+pub joined_sealed : (first second rows : List Row) (l m lives : Lives) (a b latest : Option ℤ) → IsSealed first l a → IsSealed second m b → rows ≡ first ++ second
+    → ((n : ℕ) → lives_of n lives ≡ lives_of (length first) l ++ lives_of (length second) m) → latest ≡ later_time a b → IsSealed rows lives latest
+joined_sealed first second rows l m lives a b latest one two rows_are lives_are latest_are =
+    let covers_one : length (lives_of (length first) l) ≡ length first = one.covers in
+    let covers_two : length (lives_of (length second) m) ≡ length second = two.covers in
+    let many : length rows ≡ length first + length second = ap length rows_are ∙ length-append first second in
+    record {
+      covers = ap length (lives_are (length rows)) ∙ (length-append (lives_of (length first) l) (lives_of (length second) m) ∙ omega (arith, covers_one, covers_two, many));
+      latest_is = rw (rows_are, latest_of-append first second, ← one.latest_is, ← two.latest_is) latest_are;
+    }

@@ -4,14 +4,13 @@ use Rattle.std.proofs.lemmas.List.{map_more, length-take-le}
 use Rattle.ts_bucket.specs.Spans.{SpanValue}
 use Rattle.ts_schema.specs.declared.rows.Row.{Row}
 use Rattle.ts_schema.specs.declared.conditions.Test.{Test}
-use Rattle.ts_schema.specs.Conditions.{ColumnsAreThere}
 use Rattle.seg_rows.specs.declared.lives.Life.{Life}
 use Rattle.seg_rows.specs.declared.lives.Lives.{Lives}
 use Rattle.seg_rows.specs.Hulls.{joined_hull, hull_at, hull_of}
 use Rattle.seg_rows.specs.Lives.{Covers, lives_of, is_alive_at, with_life, with_lives, versions_of}
-use Rattle.seg_rows.specs.Versions.{Version, shown_at, rows_at, is_taken, taken_at, after_kill, later_time, latest_at, TestsFit}
+use Rattle.seg_rows.specs.Versions.{Version, shown_at, rows_at, is_taken, taken_at, after_kill, later_time, latest_at}
 use Rattle.seg_rows.proofs.LifeLaws.{length-versions_of, version_read, with_lives-more}
-use Rattle.seg_rows.proofs.VersionLaws.{rows_at-more, taken_at-more_length, taken_at-more_hull, taken_at-length, latest_at-more, fit_at}
+use Rattle.seg_rows.proofs.VersionLaws.{rows_at-more, taken_at-more_length, taken_at-more_hull, taken_at-length, latest_at-more}
 
 -- past the last row all versions are done
 pub versions_done : (rows : List Row) (lives : Lives) (i : ℕ) → Covers (length rows) lives → length rows ≤ i → take i (versions_of rows lives) ≡ versions_of rows lives
@@ -35,9 +34,6 @@ module _ (rows : List Row) (lives : Lives) (i : ℕ) (r : Row) (l : Life) (cover
 
   pub taken_step_hull : (p : ℕ) (tests : List Test) → hull_of (taken_at p tests (take (i + 1) (versions_of rows lives))) ≡ joined_hull (hull_of (taken_at p tests (take i (versions_of rows lives)))) (cond (is_taken p tests (with_life r l)) (hull_at r.at) None)
   taken_step_hull p tests = taken_at-more_hull p tests (versions_of rows lives) i (with_life r l) (with_life r l) within (read (with_life r l))
-
-  pub fits_here : (tests : List Test) → TestsFit tests (versions_of rows lives) → ColumnsAreThere (length r.vals) tests
-  fits_here tests fit = subst (λ (v : Version). ColumnsAreThere (length v.row.vals) tests) (read (with_life r l)) (fit_at tests (versions_of rows lives) i (with_life r l) fit within)
 
   pub kill_step : (p : ℕ) (tests : List Test) → map (after_kill p tests) (take (i + 1) (versions_of rows lives)) ≡ map (after_kill p tests) (take i (versions_of rows lives)) ++ after_kill p tests (with_life r l) ∷ []
   kill_step p tests =

@@ -1,5 +1,5 @@
 -- Laws of versions: what one more version adds to what is shown or taken.
-use Rattle.std.proofs.Common.{◌≡◌, ℕ, ◌<◌, ◌≤◌, ◌+◌, Bool, true, false, cond, ◌&&◌, Some, None, ℤ, List, [], ◌∷◌, ◌++◌, length, get_or, take, drop, map, refl, sym, ◌∙◌, ap, subst, arith}
+use Rattle.std.proofs.Common.{◌≡◌, ℕ, ◌<◌, ◌≤◌, ◌+◌, Bool, true, false, cond, ◌&&◌, Option, Some, None, ℤ, List, [], ◌∷◌, ◌++◌, length, get_or, take, drop, map, refl, sym, ◌∙◌, ap, subst, arith}
 use Rattle.std.specs.List.{filter, list_all}
 use Rattle.std.specs.Prelude.{nat_le}
 use Rattle.std.proofs.lemmas.List.Folds.{list_all-append}
@@ -12,10 +12,9 @@ use Rattle.std.proofs.lemmas.List.Sums.{length-filter, count_by-le-length}
 use Rattle.ts_bucket.specs.Spans.{SpanValue}
 use Rattle.ts_schema.specs.declared.rows.Row.{Row}
 use Rattle.ts_schema.specs.declared.conditions.Test.{Test}
-use Rattle.ts_schema.specs.Conditions.{ColumnsAreThere}
 use Rattle.seg_rows.specs.Hulls.{joined_hull, hull_at, hull_of}
-use Rattle.seg_rows.specs.Versions.{Version, visible_at, shown_at, rows_of, rows_at, is_taken, taken_at, after_kill, later_time, latest_of, latest_at, has_columns, TestsFit}
-use Rattle.seg_rows.proofs.HullLaws.{hull_of-append, latest_of-append}
+use Rattle.seg_rows.specs.Versions.{Version, visible_at, shown_at, rows_of, rows_at, is_taken, taken_at, after_kill, later_time, latest_of, latest_at}
+use Rattle.seg_rows.proofs.HullLaws.{hull_of-append, latest_of-append, later_time-assoc, later_apart, later_time-none}
 
 map-cond : {X Y : Type 0} (f : X → Y) (b : Bool) (x : X) → map f (cond b (x ∷ []) []) ≡ cond b (f x ∷ []) []
 map-cond f true x = refl
@@ -123,15 +122,6 @@ pub kill_nothing : (p : ℕ) (tests : List Test) (old new : List Version) (remov
     → new ≡ map (after_kill p tests) old → removed ≡ length (taken_at p tests old) → removed ≡ 0 → new ≡ old
 kill_nothing p tests old new removed after counted none = after ∙ after_kill-nothing p tests old (sym counted ∙ none)
 
--- the columns of the tests are there
-pub columns_there : (tests : List Test) (n : ℕ) → list_all (λ (t : Test). nat_le t.col n) tests ≡ true → ColumnsAreThere n tests
-columns_there [] n h = tt
-columns_there (t ∷ tests) n h = (leb-true t.col n (and_first (nat_le t.col n) (list_all (λ (t : Test). nat_le t.col n) tests) h), columns_there tests n (and_second (nat_le t.col n) (list_all (λ (t : Test). nat_le t.col n) tests) h))
-
--- tests that fit all versions fit each one
-pub fit_at : (tests : List Test) (vs : List Version) (i : ℕ) (d : Version) → TestsFit tests vs → i < length vs → ColumnsAreThere (length (get_or vs i d).row.vals) tests
-fit_at tests vs i d fit h = columns_there tests (length (get_or vs i d).row.vals) (and_at (list_all (has_columns tests)) (has_columns tests) refl (λ _ _. refl) vs i d h fit)
-
 -- what is seen and taken of two lists
 pub ruleset parts = (rows_at-append, taken_at-append, latest_at-append, hull_of-append, latest_of-append, length-append, map-append, append-nil, list_all-append)
 
@@ -139,9 +129,21 @@ pub ruleset parts = (rows_at-append, taken_at-append, latest_at-append, hull_of-
 pub taken_few : (p : ℕ) (tests : List Test) (vs : List Version) → length (taken_at p tests vs) ≤ length vs
 taken_few p tests vs = taken_at-length p tests vs
 
--- a test of the time fits every version
-pub time_fits : (tests : List Test) (cmp : Cmp) (num : ℤ) → tests ≡ record { col = 0; cmp = cmp; num = num } ∷ [] → (vs : List Version) → TestsFit tests vs
-time_fits tests cmp num e [] = refl
-time_fits tests cmp num e (v ∷ vs) =
-    let here : has_columns tests v ≡ true = rw e (rw (le-leb 0 (length v.row.vals) (omega arith)) refl) in
-    rw here (time_fits tests cmp num e vs)
+-- where no version has a later time, no visible one has
+pub no_later : (p : ℕ) (best : Option ℤ) (vs : List Version) → later_time best (latest_of (rows_of vs)) ≡ best → later_time best (latest_at p vs) ≡ best
+no_later p best [] h = h
+no_later p best (v ∷ vs) h =
+    let parts = later_apart best (Some v.row.at) (latest_of (rows_of vs)) h in
+    elim (visible_at p v) as (λ b. later_time best (latest_of (rows_of (cond b (v ∷ filter (visible_at p) vs) (filter (visible_at p) vs)))) ≡ best) [
+      | true ↦ later_time-assoc best (Some v.row.at) (latest_at p vs) ∙ (ap (λ t. later_time t (latest_at p vs)) parts.0 ∙ no_later p best vs parts.1)
+      | false ↦ no_later p best vs parts.1
+    ]
+
+-- the rows of versions after a delete are those before it
+pub rows_of-killed : (p : ℕ) (tests : List Test) (vs : List Version) → rows_of (map (after_kill p tests) vs) ≡ rows_of vs
+rows_of-killed p tests [] = refl
+rows_of-killed p tests (v ∷ vs) =
+    elim (is_taken p tests v) as (λ b. (cond b (record { row = v.row; born = v.born; died = Some p }) v).row ∷ rows_of (map (after_kill p tests) vs) ≡ v.row ∷ rows_of vs) [
+      | true ↦ ap (λ rs. v.row ∷ rs) (rows_of-killed p tests vs)
+      | false ↦ ap (λ rs. v.row ∷ rs) (rows_of-killed p tests vs)
+    ]

@@ -1,7 +1,7 @@
 -- How the positions of a segment's versions are kept.
-use Rattle.std.specs.Prelude.{◌≡◌, ℕ, Bool, not, ◌&&◌, nat_le, List, [], ◌∷◌, length, map, replicate, None}
+use Rattle.std.specs.Prelude.{◌≡◌, ℕ, ℤ, Bool, not, ◌&&◌, nat_le, List, [], ◌∷◌, length, map, replicate, Option, None}
 use Rattle.ts_schema.specs.declared.rows.Row.{Row}
-use Rattle.seg_rows.specs.Versions.{Version, is_dead_at}
+use Rattle.seg_rows.specs.Versions.{Version, is_dead_at, latest_of}
 use Rattle.seg_rows.specs.declared.lives.Life.{Life}
 use Rattle.seg_rows.specs.declared.lives.Lives.{Lives}
 use Rattle.seg_rows.specs.declared.lives.Lives.TheVariants.{Together, Born, Each}
@@ -41,3 +41,8 @@ with_lives (row ∷ rows) (life ∷ lives) = with_life row life ∷ with_lives r
 -- the versions of these rows
 abbrev pub versions_of : List Row → Lives → List Version
 versions_of rows lives = with_lives rows (lives_of (length rows) lives)
+
+-- these are the lives of these rows, and their greatest time
+pub record IsSealed (rows : List Row) (lives : Lives) (latest : Option ℤ) : Type 0 where
+  pub covers : Covers (length rows) lives
+  pub latest_is : latest ≡ latest_of rows

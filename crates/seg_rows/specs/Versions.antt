@@ -65,14 +65,6 @@ latest_of (row ∷ rows) = later_time (Some row.at) (latest_of rows)
 abbrev pub latest_at : ℕ → List Version → Option ℤ
 latest_at p vs = latest_of (rows_of (filter (visible_at p) vs))
 
--- each test is on a column that the row of this version has
-abbrev pub has_columns : List Test → Version → Bool
-has_columns tests v = list_all (λ t. nat_le t.col (length v.row.vals)) tests
-
--- each test is on a column that every row has
-abbrev pub TestsFit : List Test → List Version → Type 0
-TestsFit tests vs = list_all (has_columns tests) vs ≡ true
-
 -- the same items, each as often, in some order: every test passes as many of both
 abbrev pub AsOften : {X : Type 0} → List X → List X → Type 0
 AsOften {X} xs ys = (test : X → Bool) → count_by test xs ≡ count_by test ys

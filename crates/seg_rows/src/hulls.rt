@@ -1,7 +1,9 @@
-//! Hulls of the times of rows.
+//! Hulls of the times of rows, and the greatest of these times.
 ghost use Rattle.std.specs.Prelude.{◌≡◌};
 ghost use Rattle.seg_rows.specs.Hulls.{hull_at, hull_of, joined_hull};
+ghost use Rattle.seg_rows.specs.Versions.{latest_of};
 
+use crate::scans::later;
 use ts_bucket::Hull;
 use ts_schema::Row;
 
@@ -39,4 +41,16 @@ pub fn row_hull(rows: &[Row]) -> Option<Hull>
         hull = join_hulls(hull, point(row));
     }
     hull
+}
+
+/// The greatest time of these rows.
+#[tactic(auto, using(crate::proofs::HullLaws::latest_push, std::proofs::lemmas::Grind::common_steps))]
+pub fn latest_time(rows: &[Row]) -> Option<i64>
+    ensures latest { result ≡ latest_of rows.now }
+{
+    let mut latest = None;
+    for row in rows {
+        latest = later(latest, Some(row.at));
+    }
+    latest
 }

@@ -2,8 +2,8 @@
 ghost use Rattle.std.specs.Prelude.{◌≡◌, ◌<◌, ◌+◌, ◌-◌, ◌^◌, cond, length, map, IfOk};
 ghost use Rattle.seg_rows.specs.Hulls.{hull_at, hull_of, joined_hull};
 ghost use Rattle.seg_rows.specs.Lives.{Covers, versions_of, with_life, with_lives};
-ghost use Rattle.seg_rows.specs.Versions.{after_kill, is_taken, taken_at, TestsFit};
-ghost use Rattle.ts_schema.specs.Conditions.{ColumnsAreThere, passes_all};
+ghost use Rattle.seg_rows.specs.Versions.{after_kill, is_taken, taken_at};
+ghost use Rattle.ts_schema.specs.Conditions.{passes_all};
 
 use crate::hulls::{join_hulls, point};
 use crate::lives::{Life, Lives};
@@ -41,7 +41,6 @@ impl Taken {
 /// What a delete at a position takes from these versions.
 pub fn taken_by(rows: &[Row], lives: &Lives, tests: &Seq<Test>, pos: u64) -> Taken
     requires covers { Covers (length rows.now) lives.now }
-    requires fit { TestsFit tests.now (versions_of rows.now lives.now) }
     ensures removed { result.removed ≡ length (taken_at pos tests.now (versions_of rows.now lives.now)) }
     ensures hull { result.hull ≡ hull_of (taken_at pos tests.now (versions_of rows.now lives.now)) }
 {
@@ -58,7 +57,6 @@ pub fn taken_by(rows: &[Row], lives: &Lives, tests: &Seq<Test>, pos: u64) -> Tak
 
 /// Whether a delete at a position takes a version away.
 fn takes_version(row: &Row, life: Life, tests: &Seq<Test>, pos: u64) -> bool
-    requires fit { ColumnsAreThere (length row.now.vals) tests.now }
     ensures { result ≡ is_taken pos tests.now (with_life row.now life) }
 {
     life.is_visible(pos) && passes(row, tests)
@@ -73,7 +71,6 @@ pub fn lives_after(
     pos: u64,
 ) -> Result<Seq<Life>, NoMemory>
     requires covers { Covers (length rows.now) lives.now }
-    requires fit { TestsFit tests.now (versions_of rows.now lives.now) }
     ensures count { IfOk result (λ after. length after ≡ length rows.now) }
     ensures after { IfOk result (λ after. with_lives rows.now after ≡ map (after_kill pos tests.now) (versions_of rows.now lives.now)) }
 {
@@ -86,7 +83,6 @@ pub fn lives_after(
 
 /// The life of a version after a delete at a position.
 fn life_after(row: &Row, life: Life, tests: &Seq<Test>, pos: u64) -> Life
-    requires fit { ColumnsAreThere (length row.now.vals) tests.now }
     ensures { with_life row.now result ≡ after_kill pos tests.now (with_life row.now life) }
 {
     if takes_version(row, life, tests, pos) {

@@ -15,5 +15,5 @@ mod segments;
 mod tests;
 
 pub use hulls::{join_hulls, row_hull};
-pub use scans::later;
+pub use scans::{is_no_later, later};
 pub use segments::{Killed, Segment};

@@ -1,7 +1,7 @@
 //! What a position sees of a segment.
-ghost use Rattle.std.specs.Prelude.{◌≡◌, ◌≤◌, ◌++◌, ◌∷◌, [], cond, length, OnOk, OnErr, IfOk, ℕ, take};
+ghost use Rattle.std.specs.Prelude.{◌≡◌, ◌≤◌, true, ◌++◌, ◌∷◌, [], cond, length, OnOk, OnErr, IfOk, ℕ, take};
 ghost use Rattle.ts_bucket.specs.Spans.{in_span};
-ghost use Rattle.ts_schema.specs.Counts.{raised_by};
+ghost use Rattle.ts_schema.specs.Counts.{raised_by, RaisedUpTo};
 ghost use Rattle.seg_rows.specs.Lives.{Covers, versions_of, with_life};
 ghost use Rattle.seg_rows.specs.Versions.{latest_at, later_time, rows_at, shown_at, visible_at};
 
@@ -22,7 +22,7 @@ pub fn scan_rows<L>(
     ensures rows { OnOk result (out.new ≡ out.old ++ rows_at pos span (versions_of rows.now lives.now)) }
     ensures part { OnErr result ((k : ℕ) × (out.new ≡ out.old ++ take k (rows_at pos span (versions_of rows.now lives.now)))) }
     ensures ticks { OnOk result (steps.new ≡ raised_by (length rows.now) steps.old) }
-    ensures at_most { OnErr result (steps.new ≤ raised_by (length rows.now) steps.old) }
+    ensures at_most { OnErr result (RaisedUpTo (length rows.now) steps.old steps.new) }
 {
     let _so_far = steps.count();
     for (i, row) in rows.iter().enumerate() {
@@ -99,5 +99,16 @@ pub fn later(a: Option<i64>, b: Option<i64>) -> Option<i64>
         (None, other) => other,
         (Some(x), None) => Some(x),
         (Some(x), Some(y)) => Some(x.max(y)),
+    }
+}
+
+/// Whether a time is no later than another one.
+pub fn is_no_later(time: Option<i64>, best: Option<i64>) -> bool
+    ensures no_later { result ≡ true → later_time best time ≡ best }
+{
+    match (time, best) {
+        (None, _) => true,
+        (Some(_), None) => false,
+        (Some(x), Some(y)) => x <= y,
     }
 }

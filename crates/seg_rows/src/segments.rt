@@ -1,13 +1,14 @@
 //! Segments.
 ghost use Rattle.std.specs.Prelude.{◌≡◌, ◌≤◌, ◌+◌, ◌-◌, ◌^◌, ◌<◌, ◌++◌, length, map, take, ℕ, IfOk, OnOk, OnErr};
 ghost use Rattle.seg_rows.specs.Hulls.{hull_of};
-ghost use Rattle.seg_rows.specs.Versions.{after_kill, latest_at, newborn, rows_at, taken_at, TestsFit};
-ghost use Rattle.ts_schema.specs.Counts.{raised_by};
+ghost use Rattle.seg_rows.specs.Versions.{after_kill, later_time, latest_at, latest_of, newborn, rows_at, rows_of, taken_at};
+ghost use Rattle.ts_schema.specs.Counts.{raised_by, RaisedUpTo};
 
+use crate::hulls::latest_time;
 use crate::joins::{joined_lives, joined_rows};
 use crate::kills::{lives_after, taken_by};
 use crate::lives::Lives;
-use crate::scans::{last_time, scan_rows};
+use crate::scans::{is_no_later, last_time, later, scan_rows};
 use std::alloc::Global;
 use std::marker::Model;
 use std::sync::Arc;
@@ -22,6 +23,8 @@ pub struct Segment {
     alloc: Global,
     rows: Arc<Seq<Row>>,
     lives: Arc<Lives>,
+    /// The greatest time of all rows, visible or not.
+    latest: Option<i64>,
 }
 
 impl Model for Segment {
@@ -30,11 +33,11 @@ impl Model for Segment {
 
     ghost Value = { List Version };
 
-    ghost use Rattle.seg_rows.specs.Lives.{Covers, versions_of};
+    ghost use Rattle.seg_rows.specs.Lives.{IsSealed, versions_of};
 
     ghost view = { λ s. versions_of s.rows.value s.lives.value };
 
-    ghost invariant = { λ s. Covers (length s.rows.value) s.lives.value };
+    ghost invariant = { λ s. IsSealed s.rows.value s.lives.value s.latest };
 }
 
 /// What a delete made of a segment.
@@ -53,10 +56,12 @@ impl Segment {
     pub fn seal(alloc: Global, rows: Seq<Row>, born: u64) -> Result<Segment, NoMemory>
         ensures born { IfOk result (λ s. s ≡ map (newborn born) rows) }
     {
+        let latest = latest_time(rows.items());
         Ok(Segment {
             alloc,
             rows: Arc::new(alloc, rows)?,
             lives: Arc::new(alloc, Lives::Together(born))?,
+            latest,
         })
     }
 
@@ -75,6 +80,7 @@ impl Segment {
             alloc: self.alloc,
             rows: Arc::try_clone(&self.rows)?,
             lives: Arc::try_clone(&self.lives)?,
+            latest: self.latest,
         })
     }
 
@@ -94,13 +100,13 @@ impl Segment {
             alloc: self.alloc,
             rows: Arc::new(self.alloc, rows)?,
             lives: Arc::new(self.alloc, lives)?,
+            latest: later(self.latest, other.latest),
         })
     }
 
     /// A delete at a position, which is at least those of the earlier changes: the versions that are
     /// visible there and pass every test die there. Every version stays.
     pub fn kill(&self, tests: &Seq<Test>, pos: u64) -> Result<Killed, NoMemory>
-        requires fit { TestsFit tests.now self.now }
         ensures after { IfOk result (λ k. k.segment ≡ map (after_kill pos tests.now) self.now) }
         ensures removed { IfOk result (λ k. k.removed ≡ length (taken_at pos tests.now self.now)) }
         ensures hull { IfOk result (λ k. k.hull ≡ hull_of (taken_at pos tests.now self.now)) }
@@ -115,7 +121,6 @@ impl Segment {
 
     /// The segment after a delete at a position that takes so many versions.
     fn after(&self, removed: u64, tests: &Seq<Test>, pos: u64) -> Result<Segment, NoMemory>
-        requires fit { TestsFit tests.now self.now }
         requires counted { removed ≡ length (taken_at pos tests.now self.now) }
         ensures after { IfOk result (λ s. s ≡ map (after_kill pos tests.now) self.now) }
     {
@@ -128,7 +133,6 @@ impl Segment {
 
     /// The same rows after a delete at a position.
     fn with_deaths(&self, tests: &Seq<Test>, pos: u64) -> Result<Segment, NoMemory>
-        requires fit { TestsFit tests.now self.now }
         ensures after { IfOk result (λ s. s ≡ map (after_kill pos tests.now) self.now) }
     {
         let lives = lives_after(self.alloc, self.rows.items(), &self.lives, tests, pos)?;
@@ -136,6 +140,7 @@ impl Segment {
             alloc: self.alloc,
             rows: Arc::try_clone(&self.rows)?,
             lives: Arc::new(self.alloc, Lives::Each(lives))?,
+            latest: self.latest,
         })
     }
 
@@ -151,7 +156,7 @@ impl Segment {
         ensures rows { OnOk result (out.new ≡ out.old ++ rows_at pos span self.now) }
         ensures part { OnErr result ((k : ℕ) × (out.new ≡ out.old ++ take k (rows_at pos span self.now))) }
         ensures ticks { OnOk result (steps.new ≡ raised_by (length self.now) steps.old) }
-        ensures at_most { OnErr result (steps.new ≤ raised_by (length self.now) steps.old) }
+        ensures at_most { OnErr result (RaisedUpTo (length self.now) steps.old steps.new) }
     {
         scan_rows(self.rows.items(), &self.lives, pos, span, out, steps)
     }
@@ -161,5 +166,23 @@ impl Segment {
         ensures last { result ≡ latest_at pos self.now }
     {
         last_time(self.rows.items(), &self.lives, pos)
+    }
+    /// The greatest time of all versions, visible or not.
+    pub fn latest(&self) -> Option<i64>
+        ensures latest { result ≡ latest_of (rows_of self.now) }
+    {
+        self.latest
+    }
+
+    /// The greatest of a time and the times that are visible at a position. Where no version has a
+    /// later time, none is looked at.
+    pub fn last_of(&self, pos: u64, best: Option<i64>) -> Option<i64>
+        ensures last { result ≡ later_time best (latest_at pos self.now) }
+    {
+        if is_no_later(self.latest, best) {
+            best
+        } else {
+            later(best, self.last(pos))
+        }
     }
 }

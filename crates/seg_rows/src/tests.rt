@@ -1,6 +1,5 @@
 //! Segments beside plain lists of versions.
-ghost use Rattle.std.specs.Prelude.{◌≤ℤ◌, List, IfOk};
-ghost use Rattle.seg_rows.specs.Versions.{Version, TestsFit};
+ghost use Rattle.std.specs.Prelude.{◌≤ℤ◌};
 
 use crate::{Killed, Segment};
 use std::alloc::Global;
@@ -22,9 +21,7 @@ fn sealed(alloc: Global, times: &[i64], born: u64) -> Result<Segment, NoMemory> 
 }
 
 /// The one test that a row's time is `cmp` a number.
-fn on_time(alloc: Global, cmp: Cmp, num: i64) -> Result<Seq<Test>, NoMemory>
-    ensures fit { IfOk result (λ tests. (versions : List Version) → TestsFit tests versions) }
-{
+fn on_time(alloc: Global, cmp: Cmp, num: i64) -> Result<Seq<Test>, NoMemory> {
     let mut tests = Seq::new(alloc);
     tests.push(Test { col: 0, cmp, num })?;
     Ok(tests)

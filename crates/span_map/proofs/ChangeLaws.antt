@@ -1,18 +1,17 @@
 -- Laws of changes: an edge more changes no value, nor does one that begins the value before it, and a change within a span changes its values alone.
-use Rattle.std.proofs.Common.{◌≡◌, ℕ, length, suc, Bool, true, false, cond, ◌⊎◌, inl, inr, ℤ, ◌≤ℤ◌, ◌<ℤ◌, int_lt, List, [], ◌∷◌, ◌++◌, map, take, drop, insert, Option, Some, None, nat_eq, refl, sym, ap, ◌∙◌, arith, true≢false}
+use Rattle.std.proofs.Common.{◌≡◌, ℕ, ◌<◌, ◌≤◌, length, zero, suc, ◌+◌, Bool, true, false, not, cond, nat_eq, ◌⊎◌, inl, inr, ℤ, ◌≤ℤ◌, ◌<ℤ◌, int_lt, int_le, List, [], ◌∷◌, ◌++◌, map, take, drop, insert, get_or, set, Option, Some, None, refl, sym, ap, ◌∙◌, subst, arith, true≢false}
 use Rattle.std.proofs.lemmas.Bool.{false≢true}
-use Rattle.std.proofs.lemmas.List.{length-map}
-use Rattle.std.proofs.Math.Seq.{take-append_seam}
-use Rattle.std.specs.List.{dedup, dedup_from}
+use Rattle.std.proofs.lemmas.List.{append_assoc, drop-set-lt, length-set}
+use Rattle.std.proofs.Math.Seq.{drop-cons, take-suc-set}
 use Rattle.std.specs.Option.{option_eq}
 use Rattle.std.proofs.lemmas.Int.{ints, by_lt_z}
 use Rattle.std.proofs.lemmas.Bool.Decides.{Decides-int_eq, Decides-eqb}
 use Rattle.ts_bucket.specs.Spans.{SpanValue, in_span}
 use Rattle.span_map.specs.declared.edges.Edge.{Edge}
 use Rattle.span_map.specs.declared.changes.Change.{Change}
-use Rattle.span_map.specs.Edges.{value_from, last_value, IsBelowFirst, IsRising, place_below, begins_at, same_value}
-use Rattle.span_map.specs.Changes.{changed, edge_changed, with_edge, ChangesValues}
-use Rattle.span_map.proofs.EdgeLaws.{value_from-below, IsBelowFirst-from}
+use Rattle.span_map.specs.Edges.{value_from, last_value, IsBelowFirst, IsRising, place_upto, place_below, begins_at}
+use Rattle.span_map.specs.Changes.{changed, edge_changed, edges_halfway, with_edge, ChangesValues}
+use Rattle.span_map.proofs.EdgeLaws.{value_from-below, last_value-end, IsBelowFirst-from}
 
 -- neither of two numbers is below the other
 same_number : (a b : ℤ) → int_lt a b ≡ false → int_lt b a ≡ false → a ≡ b
@@ -115,13 +114,7 @@ kept-with_edge : (x : ℤ) (v : Option ℕ) (t : ℤ) (es : List Edge) → HasEd
 kept-with_edge x v t [] h = absurd h
 kept-with_edge x v t (e ∷ es) h = kept_step x v t e es (int_lt e.from t) (int_lt t e.from) (kept-with_edge x e.value t es) h
 
--- ---- edges that begin the value before them
-
-equal_values : (a b : Option ℕ) → option_eq nat_eq a b ≡ true → a ≡ b
-equal_values None None h = refl
-equal_values None (Some q) h = absurd (false≢true h)
-equal_values (Some p) None h = absurd (false≢true h)
-equal_values (Some p) (Some q) h = ap Some ((Decides-eqb p q).0 h)
+-- ---- an edge that begins the value before it
 
 -- dropping such an edge changes no value
 skipped : (v : Option ℕ) (x : Edge) (xs : List Edge) (t : ℤ) → IsRising (x ∷ xs) → x.value ≡ v → value_from v xs t ≡ value_from v (x ∷ xs) t
@@ -129,49 +122,13 @@ skipped v x xs t r same = by_lt_z t x.from
     (λ below. let low : int_lt t x.from ≡ true = grind (arith, ints) in value_from-below v xs x.from t r.0 (omega (arith, ints)) ∙ sym (ap (λ b. cond b v (value_from x.value xs t)) low))
     (λ above. let high : int_lt t x.from ≡ false = grind (arith, ints) in sym (ap (λ b. cond b v (value_from x.value xs t)) high ∙ ap (λ w. value_from w xs t) same))
 
-dropped_step : (v : Option ℕ) (k x : Edge) (xs : List Edge) (t : ℤ) (same : Bool) → same_value x k ≡ same → IsRising (k ∷ x ∷ xs) → value_from v (dedup_from same_value k xs) t ≡ value_from v (k ∷ xs) t → value_from k.value (dedup_from same_value x xs) t ≡ value_from k.value (x ∷ xs) t → value_from v (cond same (dedup_from same_value k xs) (k ∷ dedup_from same_value x xs)) t ≡ value_from v (k ∷ x ∷ xs) t
-dropped_step v k x xs t true s r one two = one ∙ ap (λ w. cond (int_lt t k.from) v w) (skipped k.value x xs t r.1 (equal_values x.value k.value s))
-dropped_step v k x xs t false s r one two = ap (λ w. cond (int_lt t k.from) v w) two
-
--- edges without a middle one still rise
-rising_without : (k x : Edge) (xs : List Edge) → IsRising (k ∷ x ∷ xs) → IsRising (k ∷ xs)
-rising_without k x xs r = (IsBelowFirst-from k.from x.from xs (let l : k.from <ℤ x.from = r.0 in omega (arith, ints)) r.1.0, r.1.1)
-
-values-dedup_from : (v : Option ℕ) (k : Edge) (xs : List Edge) (t : ℤ) → IsRising (k ∷ xs) → value_from v (dedup_from same_value k xs) t ≡ value_from v (k ∷ xs) t
-values-dedup_from v k [] t r = refl
-values-dedup_from v k (x ∷ xs) t r = dropped_step v k x xs t (same_value x k) refl r (values-dedup_from v k xs t (rising_without k x xs r)) (values-dedup_from k.value x xs t r.1)
-
-pub values-dedup : (v : Option ℕ) (es : List Edge) (t : ℤ) → IsRising es → value_from v (dedup same_value es) t ≡ value_from v es t
-values-dedup v [] t r = refl
-values-dedup v (e ∷ es) t r = values-dedup_from v e es t r
-
-first_step : (y : ℤ) (k x : Edge) (xs : List Edge) (same : Bool) → y <ℤ k.from → IsBelowFirst y (dedup_from same_value k xs) → IsBelowFirst y (cond same (dedup_from same_value k xs) (k ∷ dedup_from same_value x xs))
-first_step y k x xs true h rest = rest
-first_step y k x xs false h rest = h
-
-below-dedup_from : (y : ℤ) (k : Edge) (xs : List Edge) → y <ℤ k.from → IsBelowFirst y (dedup_from same_value k xs)
-below-dedup_from y k [] h = h
-below-dedup_from y k (x ∷ xs) h = first_step y k x xs (same_value x k) h (below-dedup_from y k xs h)
-
-rise_step : (k x : Edge) (xs : List Edge) (same : Bool) → k.from <ℤ x.from → IsRising (dedup_from same_value k xs) → IsRising (dedup_from same_value x xs) → IsRising (cond same (dedup_from same_value k xs) (k ∷ dedup_from same_value x xs))
-rise_step k x xs true l one two = one
-rise_step k x xs false l one two = (below-dedup_from k.from x xs l, two)
-
-rising-dedup_from : (k : Edge) (xs : List Edge) → IsRising (k ∷ xs) → IsRising (dedup_from same_value k xs)
-rising-dedup_from k [] r = r
-rising-dedup_from k (x ∷ xs) r = rise_step k x xs (same_value x k) r.0 (rising-dedup_from k xs (rising_without k x xs r)) (rising-dedup_from x xs r.1)
-
-pub rising-dedup : (es : List Edge) → IsRising es → IsRising (dedup same_value es)
-rising-dedup [] r = r
-rising-dedup (e ∷ es) r = rising-dedup_from e es r
-
 -- ---- a change within a span
 
 below-changed : (x : ℤ) (s : SpanValue) (c : Change) (es : List Edge) → IsBelowFirst x es → IsBelowFirst x (map (edge_changed s c) es)
 below-changed x s c [] h = h
 below-changed x s c (e ∷ es) h = h
 
-rising-changed : (s : SpanValue) (c : Change) (es : List Edge) → IsRising es → IsRising (map (edge_changed s c) es)
+pub rising-changed : (s : SpanValue) (c : Change) (es : List Edge) → IsRising es → IsRising (map (edge_changed s c) es)
 rising-changed s c [] r = r
 rising-changed s c (e ∷ es) r = (below-changed e.from s c es r.0, rising-changed s c es r.1)
 
@@ -231,22 +188,179 @@ values-changed s c (x ∷ xs) t l r lo hi =
     ∙ values_on s c x.from x.value (edge_changed s c x).value xs t r.0 r.1 (λ below. later_edge x xs s.lo below lo) (λ below. later_edge x xs s.hi below hi) refl above
     ∙ sym (ap (λ b. cond (in_span s t) (changed c (cond b None (value_from x.value xs t))) (cond b None (value_from x.value xs t))) high))
 
--- the edges after a change within a span
-abbrev pub edges_changed : SpanValue → Change → List Edge → List Edge
-edges_changed s c es = dedup same_value (map (edge_changed s c) (with_edge None s.hi (with_edge None s.lo es)))
+-- ---- edges changed one after another
 
--- they still rise, and have the values of the change
-pub rising-edges_changed : (s : SpanValue) (c : Change) (es : List Edge) → IsRising es → IsRising (edges_changed s c es)
-rising-edges_changed s c es r = rising-dedup _ (rising-changed s c _ (rising-with_edge None s.hi _ (rising-with_edge None s.lo es r)))
+value_over : (v : Option ℕ) (xs ys zs : List Edge) (t : ℤ) → value_from (last_value v xs) ys t ≡ value_from (last_value v xs) zs t → value_from v (xs ++ ys) t ≡ value_from v (xs ++ zs) t
+value_over v [] ys zs t e = e
+value_over v (x ∷ xs) ys zs t e = ap (λ w. cond (int_lt t x.from) v w) (value_over x.value xs ys zs t e)
 
-pub values-edges_changed : (s : SpanValue) (c : Change) (es : List Edge) → s.lo <ℤ s.hi → IsRising es → ChangesValues s c es (edges_changed s c es)
+rising_back : (xs ys : List Edge) → IsRising (xs ++ ys) → IsRising ys
+rising_back [] ys r = r
+rising_back (x ∷ xs) ys r = rising_back xs ys r.1
+
+below_without : (y : ℤ) (xs : List Edge) (x : Edge) (ys : List Edge) → IsRising (xs ++ x ∷ ys) → IsBelowFirst y (xs ++ x ∷ ys) → IsBelowFirst y (xs ++ ys)
+below_without y [] x ys r h = IsBelowFirst-from y x.from ys (omega (arith, ints)) r.0
+below_without y (z ∷ xs) x ys r h = h
+
+-- rising edges without a middle one still rise
+rising_without : (xs : List Edge) (x : Edge) (ys : List Edge) → IsRising (xs ++ x ∷ ys) → IsRising (xs ++ ys)
+rising_without [] x ys r = r.1
+rising_without (z ∷ xs) x ys r = (below_without z.from xs x ys r.1 r.0, rising_without xs x ys r.1)
+
+-- the next edge to be changed
+next_todo : (s : SpanValue) (c : Change) (done i : ℕ) (es : List Edge) (d : Edge) → i < length es → edges_halfway s c done i es ≡ take done es ++ edge_changed s c (get_or es i d) ∷ map (edge_changed s c) (drop (suc i) es)
+next_todo s c done i es d l = ap (λ todo. take done es ++ map (edge_changed s c) todo) (drop-cons es i d l)
+
+-- an edge goes that begins the value of the last one kept
+pub rising_skip : (s : SpanValue) (c : Change) (done i : ℕ) (es : List Edge) (d : Edge) → i < length es → IsRising (edges_halfway s c done i es) → IsRising (edges_halfway s c done (suc i) es)
+rising_skip s c done i es d l r = rising_without (take done es) (edge_changed s c (get_or es i d)) (map (edge_changed s c) (drop (suc i) es)) (subst IsRising (next_todo s c done i es d l) r)
+
+pub values_skip : (s : SpanValue) (c : Change) (done i : ℕ) (es : List Edge) (d : Edge) (t : ℤ) → i < length es → IsRising (edges_halfway s c done i es) → (edge_changed s c (get_or es i d)).value ≡ last_value None (take done es) → value_from None (edges_halfway s c done (suc i) es) t ≡ value_from None (edges_halfway s c done i es) t
+values_skip s c done i es d t l r same =
+    let x = edge_changed s c (get_or es i d) in
+    let rest = map (edge_changed s c) (drop (suc i) es) in
+    value_over None (take done es) rest (x ∷ rest) t (skipped (last_value None (take done es)) x rest t (rising_back (take done es) (x ∷ rest) (subst IsRising (next_todo s c done i es d l) r)) same)
+    ∙ sym (ap (λ xs. value_from None xs t) (next_todo s c done i es d l))
+
+-- an edge stays, at the place after the last one kept
+pub halfway_keep : (s : SpanValue) (c : Change) (done i : ℕ) (es : List Edge) (d : Edge) → done ≤ i → i < length es → edges_halfway s c (suc done) (suc i) (set es done (edge_changed s c (get_or es i d))) ≡ edges_halfway s c done i es
+halfway_keep s c done i es d le l =
+    let x = edge_changed s c (get_or es i d) in
+    ap (λ kept. kept ++ map (edge_changed s c) (drop (suc i) (set es done x))) (take-suc-set es done x (omega arith))
+    ∙ ap (λ todo. (take done es ++ x ∷ []) ++ map (edge_changed s c) todo) (drop-set-lt (suc i) es done x (omega arith))
+    ∙ append_assoc (take done es) (x ∷ []) (map (edge_changed s c) (drop (suc i) es))
+    ∙ sym (next_todo s c done i es d l)
+
+pub last_keep : (done : ℕ) (es : List Edge) (x : Edge) → done < length es → x.value ≡ last_value None (take (suc done) (set es done x))
+last_keep done es x l = sym (ap (last_value None) (take-suc-set es done x l) ∙ last_value-end None (take done es) x)
+
+-- the edges before a place are changed, where those that begin no new value went, and those from the place on aren't
+pub record IsHalfway (s : SpanValue) (c : Change) (first : ℕ) (old : List Edge) (kept : ℕ) (v : Option ℕ) (i : ℕ) (es : List Edge) : Type 0 where
+  pub low : first ≤ i
+  pub high : kept ≤ i
+  pub len : length es ≡ length old
+  pub after : drop i es ≡ drop i old
+  pub last : v ≡ last_value None (take kept es)
+  pub rising : IsRising (edges_halfway s c kept i es)
+  pub values : (t : ℤ) → value_from None (edges_halfway s c kept i es) t ≡ value_from None (edges_halfway s c first first old) t
+
+drop_next : (i : ℕ) (es old : List Edge) → drop i es ≡ drop i old → drop (suc i) es ≡ drop (suc i) old
+drop_next i es old e = sym (drop_one i es) ∙ ap (drop 1) e ∙ drop_one i old
+  where
+    drop_one : (i : ℕ) (xs : List Edge) → drop 1 (drop i xs) ≡ drop (suc i) xs
+    drop_one zero xs = refl
+    drop_one (suc i) [] = refl
+    drop_one (suc i) (x ∷ xs) = drop_one i xs
+
+pub halfway_skipped : (s : SpanValue) (c : Change) (first : ℕ) (old : List Edge) (kept : ℕ) (v : Option ℕ) (i : ℕ) (es : List Edge) (x d : Edge) (kept' : ℕ) (v' : Option ℕ) (es' : List Edge) → es' ≡ es → kept' ≡ kept → v' ≡ v → i < length es → x ≡ edge_changed s c (get_or es i d) → x.value ≡ v → IsHalfway s c first old kept v i es → IsHalfway s c first old kept' v' (i + 1) es'
+halfway_skipped s c first old kept v i es x d kept' v' es' e f g l is same h =
+    let le : kept ≤ i = h.high in
+    let lo : first ≤ i = h.low in
+    let next : suc i ≡ i + 1 = omega arith in
+    let begins : (edge_changed s c (get_or es i d)).value ≡ last_value None (take kept es) = ap (λ (e : Edge). e.value) (sym is) ∙ same ∙ h.last in
+    subst (λ n. IsHalfway s c first old kept' v' n es') next (subst (λ xs. IsHalfway s c first old kept' v' (suc i) xs) (sym e) (subst (λ k. IsHalfway s c first old k v' (suc i) es) (sym f) (record {
+      low = omega arith;
+      high = omega arith;
+      len = h.len;
+      after = drop_next i es old h.after;
+      last = g ∙ h.last;
+      rising = rising_skip s c kept i es d l h.rising;
+      values = λ t. values_skip s c kept i es d t l h.rising begins ∙ h.values t;
+    })))
+
+pub halfway_kept : (s : SpanValue) (c : Change) (first : ℕ) (old : List Edge) (kept : ℕ) (v : Option ℕ) (i : ℕ) (es : List Edge) (x d : Edge) (kept' : ℕ) (v' : Option ℕ) (es' : List Edge) → es' ≡ set es kept x → kept' ≡ kept + 1 → v' ≡ x.value → i < length es → x ≡ edge_changed s c (get_or es i d) → IsHalfway s c first old kept v i es → IsHalfway s c first old kept' v' (i + 1) es'
+halfway_kept s c first old kept v i es x d kept' v' es' e f g l is h =
+    let le : kept ≤ i = h.high in
+    let lo : first ≤ i = h.low in
+    let next : suc i ≡ i + 1 = omega arith in
+    let more : kept' ≡ suc kept = omega arith in
+    let same : edges_halfway s c (suc kept) (suc i) (set es kept x) ≡ edges_halfway s c kept i es = ap (λ y. edges_halfway s c (suc kept) (suc i) (set es kept y)) is ∙ halfway_keep s c kept i es d le l in
+    subst (λ n. IsHalfway s c first old kept' v' n es') next (subst (λ xs. IsHalfway s c first old kept' v' (suc i) xs) (sym e) (subst (λ k. IsHalfway s c first old k v' (suc i) (set es kept x)) (sym more) (record {
+      low = omega arith;
+      high = omega arith;
+      len = length-set es kept x ∙ h.len;
+      after = drop-set-lt (suc i) es kept x (omega arith) ∙ drop_next i es old h.after;
+      last = g ∙ last_keep kept es x (omega arith);
+      rising = subst IsRising (sym same) h.rising;
+      values = λ t. ap (λ xs. value_from None xs t) same ∙ h.values t;
+    })))
+
+-- what the test of two values says
+pub equal_values : (a b : Option ℕ) (differ : Bool) → differ ≡ not (option_eq nat_eq a b) → differ ≡ false → a ≡ b
+equal_values None None differ e f = refl
+equal_values None (Some q) differ e f = absurd (true≢false (sym e ∙ f))
+equal_values (Some p) None differ e f = absurd (true≢false (sym e ∙ f))
+equal_values (Some p) (Some q) differ e f = by (nat_eq p q) refl
+  where
+    by : (b : Bool) → nat_eq p q ≡ b → Some p ≡ Some q
+    by true t = ap Some ((Decides-eqb p q).0 t)
+    by false t = absurd (true≢false (sym (e ∙ ap not t) ∙ f))
+
+-- edges below a span, and those above its end, stay
+kept_below : (s : SpanValue) (c : Change) (e : Edge) → e.from <ℤ s.lo → edge_changed s c e ≡ e
+kept_below s c e l = let out : in_span s e.from ≡ false = grind (arith, ints) in ap (λ b. record { from = e.from; value = cond b (changed c e.value) e.value }) out
+
+kept_above : (s : SpanValue) (c : Change) (e : Edge) → s.hi ≤ℤ e.from → edge_changed s c e ≡ e
+kept_above s c e l = let out : in_span s e.from ≡ false = grind (arith, ints) in ap (λ b. record { from = e.from; value = cond b (changed c e.value) e.value }) out
+
+pub halfway_start : (s : SpanValue) (c : Change) (es : List Edge) → edges_halfway s c (place_below s.lo es) (place_below s.lo es) es ≡ map (edge_changed s c) es
+halfway_start s c [] = refl
+halfway_start s c (e ∷ es) = by (int_lt e.from s.lo) refl (halfway_start s c es)
+  where
+    by : (b : Bool) → int_lt e.from s.lo ≡ b → edges_halfway s c (place_below s.lo es) (place_below s.lo es) es ≡ map (edge_changed s c) es → edges_halfway s c (cond b (suc (place_below s.lo es)) 0) (cond b (suc (place_below s.lo es)) 0) (e ∷ es) ≡ map (edge_changed s c) (e ∷ es)
+    by true l rest = ap (λ x. x ∷ edges_halfway s c (place_below s.lo es) (place_below s.lo es) es) (sym (kept_below s c e (grind (arith, ints)))) ∙ ap (λ xs. edge_changed s c e ∷ xs) rest
+    by false l rest = refl
+
+all_kept : (s : SpanValue) (c : Change) (x : ℤ) (es : List Edge) → s.hi ≤ℤ x → IsBelowFirst x es → IsRising es → map (edge_changed s c) es ≡ es
+all_kept s c x [] le h r = refl
+all_kept s c x (e ∷ es) le h r =
+    let above : x <ℤ e.from = h in
+    let over : s.hi ≤ℤ e.from = omega (arith, ints) in
+    ap (λ y. y ∷ map (edge_changed s c) es) (kept_above s c e over) ∙ ap (λ ys. e ∷ ys) (all_kept s c e.from es over r.0 r.1)
+
+later_kept : (s : SpanValue) (c : Change) (es : List Edge) → IsRising es → map (edge_changed s c) (drop (place_upto s.hi es) es) ≡ drop (place_upto s.hi es) es
+later_kept s c [] r = refl
+later_kept s c (e ∷ es) r = by (int_le e.from s.hi) refl (later_kept s c es r.1)
+  where
+    by : (b : Bool) → int_le e.from s.hi ≡ b → map (edge_changed s c) (drop (place_upto s.hi es) es) ≡ drop (place_upto s.hi es) es → map (edge_changed s c) (drop (cond b (suc (place_upto s.hi es)) 0) (e ∷ es)) ≡ drop (cond b (suc (place_upto s.hi es)) 0) (e ∷ es)
+    by true l rest = rest
+    by false l rest =
+        let over : s.hi ≤ℤ e.from = grind (arith, ints) in
+        ap (λ y. y ∷ map (edge_changed s c) es) (kept_above s c e over) ∙ ap (λ ys. e ∷ ys) (all_kept s c e.from es over r.0 r.1)
+
+-- the search for the start of a span ends at or before that for its end
+pub places_ordered : (lo hi : ℤ) (es : List Edge) → lo ≤ℤ hi → place_below lo es ≤ place_upto hi es
+places_ordered lo hi [] le = omega arith
+places_ordered lo hi (e ∷ es) le = by (int_lt e.from lo) refl (places_ordered lo hi es le)
+  where
+    by : (b : Bool) → int_lt e.from lo ≡ b → place_below lo es ≤ place_upto hi es → cond b (suc (place_below lo es)) 0 ≤ place_upto hi (e ∷ es)
+    by false l rest = omega arith
+    by true l rest =
+        let in_reach : int_le e.from hi ≡ true = grind (arith, ints) in
+        subst (λ n. suc (place_below lo es) ≤ n) (sym (ap (λ b. cond b (suc (place_upto hi es)) 0) in_reach)) (omega arith)
+
+-- where the changes of edges began and ended at the places that two searches found, the values are those of all edges changed
+pub halfway_begins : (s : SpanValue) (c : Change) (es : List Edge) (lo : ℤ) (first : ℕ) → lo ≡ s.lo → first ≡ place_below lo es → edges_halfway s c first first es ≡ map (edge_changed s c) es
+halfway_begins s c es lo first l e = ap (λ n. edges_halfway s c n n es) (e ∙ ap (λ x. place_below x es) l) ∙ halfway_start s c es
+
+pub halfway_ends : (s : SpanValue) (c : Change) (old new : List Edge) (hi : ℤ) (kept end : ℕ) → IsRising old → hi ≡ s.hi → end ≡ place_upto hi old → drop end new ≡ drop end old → edges_halfway s c kept end new ≡ take kept new ++ drop end new
+halfway_ends s c old new hi kept end r h e same =
+    let found : end ≡ place_upto s.hi old = e ∙ ap (λ x. place_upto x old) h in
+    ap (λ todo. take kept new ++ map (edge_changed s c) todo) (same ∙ ap (λ n. drop n old) found)
+    ∙ ap (λ todo. take kept new ++ todo) (later_kept s c old r)
+    ∙ ap (λ todo. take kept new ++ todo) (sym (same ∙ ap (λ n. drop n old) found))
+
+-- edges in which both ends of a span begin a value still rise when those within it are changed, and have the values of the change
+pub rising-edges_changed : (s : SpanValue) (c : Change) (es : List Edge) → IsRising es → IsRising (map (edge_changed s c) (with_edge None s.hi (with_edge None s.lo es)))
+rising-edges_changed s c es r = rising-changed s c _ (rising-with_edge None s.hi _ (rising-with_edge None s.lo es r))
+
+pub values-edges_changed : (s : SpanValue) (c : Change) (es : List Edge) → s.lo <ℤ s.hi → IsRising es → ChangesValues s c es (map (edge_changed s c) (with_edge None s.hi (with_edge None s.lo es)))
 values-edges_changed s c es l r t =
     let one = with_edge None s.lo es in
     let two = with_edge None s.hi one in
     let rise : IsRising two = rising-with_edge None s.hi one (rising-with_edge None s.lo es r) in
     let same : value_from None two t ≡ value_from None es t = value_from-with_edge None s.hi one t ∙ value_from-with_edge None s.lo es t in
-    values-dedup None (map (edge_changed s c) two) t (rising-changed s c two rise)
-    ∙ values-changed s c two t l rise (kept-with_edge s.lo None s.hi one (has-with_edge None s.lo es)) (has-with_edge None s.hi one)
+    values-changed s c two t l rise (kept-with_edge s.lo None s.hi one (has-with_edge None s.lo es)) (has-with_edge None s.hi one)
     ∙ ap (λ v. cond (in_span s t) (changed c v) v) same
 
 -- a change within an empty span changes nothing
@@ -254,9 +368,3 @@ pub values-unchanged : (s : SpanValue) (c : Change) (es : List Edge) → s.hi �
 values-unchanged s c es l t =
     let out : in_span s t ≡ false = grind (arith, ints) in
     sym (ap (λ b. cond b (changed c (value_from None es t)) (value_from None es t)) out)
-
--- what a write of a whole slice leaves of the list that holds it
-pub written_back : (f : Edge → Edge) (xs ys : List Edge) (n : ℕ) → n ≡ length xs → ys ≡ map f xs → take n (ys ++ drop (length ys) xs) ≡ map f xs
-written_back f xs ys n e h =
-    let same : length ys ≡ length xs = ap length h ∙ length-map xs f in
-    ap (λ k. take k (ys ++ drop (length ys) xs)) (e ∙ sym same) ∙ take-append_seam ys (drop (length ys) xs) ∙ h

@@ -1,13 +1,15 @@
 -- What is assigned where a floor has nothing or less: just the numbers of the span at which it has.
-use Rattle.std.proofs.Common.{◌≡◌, ℕ, Bool, true, false, cond, ◌&&◌, ◌⊎◌, inl, inr, ℤ, ◌≤ℤ◌, ◌<ℤ◌, int_lt, int_le, List, [], ◌∷◌, Option, Some, None, refl, sym, ap, ◌∙◌, arith}
+use Rattle.std.proofs.Common.{◌≡◌, ℕ, ◌≤◌, drop, Bool, true, false, cond, ◌&&◌, ◌⊎◌, inl, inr, ℤ, ◌≤ℤ◌, ◌<ℤ◌, int_lt, int_le, List, [], ◌∷◌, Option, Some, None, refl, sym, ap, ◌∙◌, arith}
+use Rattle.std.proofs.lemmas.List.Sums.{sum_by-take-drop}
 use Rattle.std.specs.Int.{int_max, int_min}
 use Rattle.std.proofs.lemmas.Int.{ints, clamps, by_lt_z}
 use Rattle.ts_bucket.specs.Positions.{is_before}
 use Rattle.ts_bucket.specs.Spans.{SpanValue, in_span}
 use Rattle.span_map.specs.declared.edges.Edge.{Edge}
-use Rattle.span_map.specs.Edges.{value_from, IsBelowFirst, IsRising}
-use Rattle.span_map.specs.Floors.{run_filled, opened, floor_filled}
+use Rattle.span_map.specs.Edges.{value_from, IsBelowFirst, IsRising, place_upto, place_below, value_on, between, piece_count, has_value}
+use Rattle.span_map.specs.Floors.{run_filled, run_on, opened, floor_filled}
 use Rattle.span_map.proofs.EdgeLaws.{value_from-below, IsBelowFirst-from}
+use Rattle.span_map.proofs.PieceLaws.{rising-between, value_from-between}
 
 -- t is at or above the start of the open run, or of the span where none is open
 abbrev run_from : SpanValue → Option ℤ → ℤ → Bool
@@ -138,6 +140,35 @@ filled : (s : SpanValue) (pos : ℕ) (run : Option ℤ) (w : Option ℕ) (es : L
 filled s pos run w [] v t r fits = filled_end s pos run w v t fits
 filled s pos run w (e ∷ es) v t r fits = filled_step s pos run w e es v t (is_before pos e.value) refl r fits (λ run' v' f. filled s pos run' e.value es v' t r.1 f)
 
--- over the whole floor
-pub floor_filled-all : (s : SpanValue) (pos : ℕ) (es : List Edge) (v : Option ℕ) (t : ℤ) → IsRising es → floor_filled s pos (Some s.lo) es v t ≡ cond (in_span s t && is_before pos (value_from None es t)) (Some pos) v
-floor_filled-all s pos es v t r = filled s pos (Some s.lo) None es v t r (refl, omega (arith, ints), inl refl)
+-- over the part of the floor within the span
+pub floor_filled-between : (s : SpanValue) (pos : ℕ) (es : List Edge) (v : Option ℕ) (t : ℤ) → IsRising es → floor_filled s pos (run_on s pos (value_on s.lo es)) (between s.lo s.hi es) v t ≡ cond (in_span s t && is_before pos (value_from None es t)) (Some pos) v
+floor_filled-between s pos es v t r =
+    filled s pos (run_on s pos w) w part v t (rising-between s.lo s.hi es r) (fits (is_before pos w) refl) ∙ from_lo (is_before pos w) refl
+  where
+    w : Option ℕ
+    w = value_on s.lo es
+
+    part : List Edge
+    part = between s.lo s.hi es
+
+    fits : (b : Bool) → is_before pos w ≡ b → RunFits s pos (cond b (Some s.lo) None) w part
+    fits true e = (e, omega (arith, ints), inl refl)
+    fits false e = e
+
+    same_test : (a : Bool) → in_span s t ≡ a → cond (a && is_before pos (value_from w part t)) (Some pos) v ≡ cond (a && is_before pos (value_from None es t)) (Some pos) v
+    same_test true e = ap (λ x. cond (is_before pos x) (Some pos) v) (value_from-between s.lo s.hi es t (grind (arith, ints)) (grind (arith, ints)))
+    same_test false e = refl
+
+    from_lo : (b : Bool) → is_before pos w ≡ b → wanted s pos (cond b (Some s.lo) None) w part v t ≡ cond (in_span s t && is_before pos (value_from None es t)) (Some pos) v
+    from_lo true e = same_test (in_span s t) refl
+    from_lo false e = same_test (in_span s t) refl
+
+-- ---- pieces of a part
+
+-- a part has no more pieces than the whole
+pub piece_count-between : (lo hi : ℤ) (es : List Edge) → piece_count (between lo hi es) ≤ piece_count es
+piece_count-between lo hi es =
+    let worth : Edge → ℕ = λ e. cond (has_value e) 1 0 in
+    let whole = sum_by-take-drop worth es (place_upto lo es) in
+    let part = sum_by-take-drop worth (drop (place_upto lo es) es) (place_below hi (drop (place_upto lo es) es)) in
+    omega arith

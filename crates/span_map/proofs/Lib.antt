@@ -3,3 +3,4 @@ mod EdgeLaws
 mod ChangeLaws
 mod FloorLaws
 mod PieceLaws
+mod CombineLaws

@@ -4,13 +4,9 @@ use Rattle.std.proofs.lemmas.Int.{ints, by_lt_z}
 use Rattle.ts_bucket.specs.Spans.{SpanValue, in_span}
 use Rattle.span_map.specs.declared.edges.Edge.{Edge}
 use Rattle.span_map.specs.declared.pieces.Piece.{Piece}
-use Rattle.span_map.specs.Edges.{value_from, last_value, IsBelowFirst, IsRising, place_upto, place_below}
+use Rattle.span_map.specs.Edges.{value_from, last_value, IsBelowFirst, IsRising, place_upto, place_below, value_on, between, framed}
+use Rattle.span_map.proofs.EdgeLaws.{AllBelow, value_from-before_end, value_from-end, rising-end, below-end}
 use Rattle.span_map.specs.Pieces.{piece_at, ArePieces, piece_of, pieces_from}
-
--- each of the edges is below x
-abbrev AllBelow : ℤ → List Edge → Type 0
-AllBelow x [] = Unit {0}
-AllBelow x (e ∷ es) = (e.from <ℤ x) × AllBelow x es
 
 lower : (x t : ℤ) → t <ℤ x → int_lt t x ≡ true
 lower x t l = grind (arith, ints)
@@ -118,7 +114,7 @@ rising-pieces_from lo hi v (e ∷ es) h r b =
 
 -- ---- the edges between two numbers
 
-below-drop_upto : (lo : ℤ) (es : List Edge) → IsBelowFirst lo (drop (place_upto lo es) es)
+pub below-drop_upto : (lo : ℤ) (es : List Edge) → IsBelowFirst lo (drop (place_upto lo es) es)
 below-drop_upto lo [] = tt
 below-drop_upto lo (e ∷ es) = by (int_le e.from lo) refl (below-drop_upto lo es)
   where
@@ -131,17 +127,17 @@ rising-drop zero es r = r
 rising-drop (suc n) [] r = r
 rising-drop (suc n) (e ∷ es) r = rising-drop n es r.1
 
-below-take : (x : ℤ) (n : ℕ) (es : List Edge) → IsBelowFirst x es → IsBelowFirst x (take n es)
+pub below-take : (x : ℤ) (n : ℕ) (es : List Edge) → IsBelowFirst x es → IsBelowFirst x (take n es)
 below-take x zero es h = tt
 below-take x (suc n) [] h = h
 below-take x (suc n) (e ∷ es) h = h
 
-rising-take : (n : ℕ) (es : List Edge) → IsRising es → IsRising (take n es)
+pub rising-take : (n : ℕ) (es : List Edge) → IsRising es → IsRising (take n es)
 rising-take zero es r = tt
 rising-take (suc n) [] r = r
 rising-take (suc n) (e ∷ es) r = (below-take e.from n es r.0, rising-take n es r.1)
 
-all_below-take : (hi : ℤ) (es : List Edge) → AllBelow hi (take (place_below hi es) es)
+pub all_below-take : (hi : ℤ) (es : List Edge) → AllBelow hi (take (place_below hi es) es)
 all_below-take hi [] = tt
 all_below-take hi (e ∷ es) = by (int_lt e.from hi) refl (all_below-take hi es)
   where
@@ -149,7 +145,7 @@ all_below-take hi (e ∷ es) = by (int_lt e.from hi) refl (all_below-take hi es)
     by true p rest = (grind (arith, ints), rest)
     by false p rest = tt
 
-value_from-drop : (w : Option ℕ) (lo : ℤ) (es : List Edge) (t : ℤ) → lo ≤ℤ t → value_from (last_value w (take (place_upto lo es) es)) (drop (place_upto lo es) es) t ≡ value_from w es t
+pub value_from-drop : (w : Option ℕ) (lo : ℤ) (es : List Edge) (t : ℤ) → lo ≤ℤ t → value_from (last_value w (take (place_upto lo es) es)) (drop (place_upto lo es) es) t ≡ value_from w es t
 value_from-drop w lo [] t l = refl
 value_from-drop w lo (e ∷ es) t l = by (int_le e.from lo) refl (value_from-drop e.value lo es t l)
   where
@@ -159,7 +155,7 @@ value_from-drop w lo (e ∷ es) t l = by (int_le e.from lo) refl (value_from-dro
         rest ∙ sym (ap (λ b. cond b w (value_from e.value es t)) (higher e.from t (omega (arith, ints))))
     by false p rest = refl
 
-value_from-take : (w : Option ℕ) (hi : ℤ) (es : List Edge) (t : ℤ) → t <ℤ hi → value_from w (take (place_below hi es) es) t ≡ value_from w es t
+pub value_from-take : (w : Option ℕ) (hi : ℤ) (es : List Edge) (t : ℤ) → t <ℤ hi → value_from w (take (place_below hi es) es) t ≡ value_from w es t
 value_from-take w hi [] t l = refl
 value_from-take w hi (e ∷ es) t l = by (int_lt e.from hi) refl (value_from-take e.value hi es t l)
   where
@@ -169,42 +165,32 @@ value_from-take w hi (e ∷ es) t l = by (int_lt e.from hi) refl (value_from-tak
         let above : hi ≤ℤ e.from = grind (arith, ints) in
         sym (ap (λ b. cond b w (value_from e.value es t)) (lower e.from t (omega (arith, ints))))
 
--- the edges between two numbers, and the value at the first
-abbrev pub between : ℤ → ℤ → List Edge → List Edge
-between lo hi es = take (place_below hi (drop (place_upto lo es) es)) (drop (place_upto lo es) es)
+-- the edges between two numbers rise, above the first and below the second
+pub rising-between : (lo hi : ℤ) (es : List Edge) → IsRising es → IsRising (between lo hi es)
+rising-between lo hi es r = rising-take _ (drop (place_upto lo es) es) (rising-drop _ es r)
 
-abbrev pub value_on : ℤ → List Edge → Option ℕ
-value_on lo es = last_value None (take (place_upto lo es) es)
+pub below-between : (lo hi : ℤ) (es : List Edge) → IsBelowFirst lo (between lo hi es)
+below-between lo hi es = below-take lo _ (drop (place_upto lo es) es) (below-drop_upto lo es)
+
+pub all_below-between : (lo hi : ℤ) (es : List Edge) → AllBelow hi (between lo hi es)
+all_below-between lo hi es = all_below-take hi (drop (place_upto lo es) es)
+
+-- and have the values there
+pub value_from-between : (lo hi : ℤ) (es : List Edge) (t : ℤ) → lo ≤ℤ t → t <ℤ hi → value_from (value_on lo es) (between lo hi es) t ≡ value_from None es t
+value_from-between lo hi es t low high = value_from-take (value_on lo es) hi (drop (place_upto lo es) es) t high ∙ value_from-drop None lo es t low
 
 -- the pieces within a span have the values of the edges
 pub piece_at-within : (s : SpanValue) (es : List Edge) (t : ℤ) → IsRising es → piece_at (pieces_from s.lo s.hi (value_on s.lo es) (between s.lo s.hi es)) t ≡ cond (in_span s t) (value_from None es t) None
 piece_at-within s es t r =
-    let later = drop (place_upto s.lo es) es in
-    piece_at-pieces_from s.lo s.hi (value_on s.lo es) (between s.lo s.hi es) t (below-take s.lo _ later (below-drop_upto s.lo es)) (rising-take _ later (rising-drop _ es r)) (all_below-take s.hi later)
+    piece_at-pieces_from s.lo s.hi (value_on s.lo es) (between s.lo s.hi es) t (below-between s.lo s.hi es) (rising-between s.lo s.hi es r) (all_below-between s.lo s.hi es)
     ∙ by (in_span s t) refl
   where
     by : (b : Bool) → in_span s t ≡ b → cond b (value_from (value_on s.lo es) (between s.lo s.hi es) t) None ≡ cond b (value_from None es t) None
-    by true h =
-        let low : s.lo ≤ℤ t = grind (arith, ints) in
-        let high : t <ℤ s.hi = grind (arith, ints) in
-        value_from-take (value_on s.lo es) s.hi (drop (place_upto s.lo es) es) t high ∙ value_from-drop None s.lo es t low
+    by true h = value_from-between s.lo s.hi es t (grind (arith, ints)) (grind (arith, ints))
     by false h = refl
 
 pub rising-within : (s : SpanValue) (es : List Edge) → IsRising es → ArePieces s.lo s.hi (pieces_from s.lo s.hi (value_on s.lo es) (between s.lo s.hi es))
-rising-within s es r =
-    let later = drop (place_upto s.lo es) es in
-    rising-pieces_from s.lo s.hi (value_on s.lo es) (between s.lo s.hi es) (below-take s.lo _ later (below-drop_upto s.lo es)) (rising-take _ later (rising-drop _ es r)) (all_below-take s.hi later)
-
--- what two searches find is between the ends of the span
-pub found_is : (s : SpanValue) (es : List Edge) (lo hi : ℤ) (v : Option ℕ) (first below : ℕ) (later front : List Edge) → lo ≡ s.lo → hi ≡ s.hi → first ≡ place_upto lo es → later ≡ drop first es → below ≡ place_below hi later → front ≡ take below later → v ≡ last_value None (take first es) → pieces_from lo hi v front ≡ pieces_from s.lo s.hi (value_on s.lo es) (between s.lo s.hi es)
-found_is s es lo hi v first below later front l h f d b t w =
-    let first_is : first ≡ place_upto s.lo es = f ∙ ap (λ x. place_upto x es) l in
-    let later_is : later ≡ drop (place_upto s.lo es) es = d ∙ ap (λ n. drop n es) first_is in
-    let below_is : below ≡ place_below s.hi (drop (place_upto s.lo es) es) = b ∙ ap (λ x. place_below x later) h ∙ ap (place_below s.hi) later_is in
-    let front_is : front ≡ between s.lo s.hi es = t ∙ ap (λ n. take n later) below_is ∙ ap (take (place_below s.hi (drop (place_upto s.lo es) es))) later_is in
-    let value_is : v ≡ value_on s.lo es = w ∙ ap (λ n. last_value None (take n es)) first_is in
-    ap (λ x. pieces_from x hi v front) l ∙ ap (λ x. pieces_from s.lo x v front) h
-    ∙ ap (λ x. pieces_from s.lo s.hi x front) value_is ∙ ap (pieces_from s.lo s.hi (value_on s.lo es)) front_is
+rising-within s es r = rising-pieces_from s.lo s.hi (value_on s.lo es) (between s.lo s.hi es) (below-between s.lo s.hi es) (rising-between s.lo s.hi es r) (all_below-between s.lo s.hi es)
 
 -- the same of a result that has these pieces
 pub values_as : {E : Type 0} (s : SpanValue) (es : List Edge) (r : Result (List Piece) E) (found : List Piece) → IsRising es → found ≡ pieces_from s.lo s.hi (value_on s.lo es) (between s.lo s.hi es) → IfOk r (λ pieces. pieces ≡ found) → IfOk r (λ pieces. (t : ℤ) → piece_at pieces t ≡ cond (in_span s t) (value_from None es t) None)
@@ -214,3 +200,33 @@ values_as s es (Err x) found r e h = tt
 pub rising_as : {E : Type 0} (s : SpanValue) (es : List Edge) (r : Result (List Piece) E) (found : List Piece) → IsRising es → found ≡ pieces_from s.lo s.hi (value_on s.lo es) (between s.lo s.hi es) → IfOk r (λ pieces. pieces ≡ found) → IfOk r (λ pieces. ArePieces s.lo s.hi pieces)
 rising_as s es (Ok pieces) found r e h = subst (ArePieces s.lo s.hi) (sym (h ∙ e)) (rising-within s es r)
 rising_as s es (Err x) found r e h = tt
+
+-- ---- the part of a map within a span
+
+pub rising-framed : (lo hi : ℤ) (es : List Edge) → lo <ℤ hi → IsRising es → IsRising (framed lo hi (value_on lo es) (between lo hi es))
+rising-framed lo hi es l r =
+    let part = between lo hi es in
+    let end : Edge = record { from = hi; value = None } in
+    (below-end lo part end l (below-between lo hi es), rising-end part end (all_below-between lo hi es) (rising-between lo hi es r))
+
+pub value_from-framed : (s : SpanValue) (es : List Edge) (t : ℤ) → s.lo <ℤ s.hi → value_from None (framed s.lo s.hi (value_on s.lo es) (between s.lo s.hi es)) t ≡ cond (in_span s t) (value_from None es t) None
+value_from-framed s es t l = by_lt_z t s.lo
+    (λ below.
+    let out : in_span s t ≡ false = grind (arith, ints) in
+    ap (λ b. cond b None (value_from v (part ++ end ∷ []) t)) (lower s.lo t below) ∙ sym (ap (λ b. cond b (value_from None es t) None) out))
+    (λ above. ap (λ b. cond b None (value_from v (part ++ end ∷ []) t)) (higher s.lo t above) ∙ by_lt_z t s.hi
+    (λ under.
+    let inside : in_span s t ≡ true = grind (arith, ints) in
+    value_from-before_end v part end t under ∙ value_from-between s.lo s.hi es t above under ∙ sym (ap (λ b. cond b (value_from None es t) None) inside))
+    (λ over.
+    let out : in_span s t ≡ false = grind (arith, ints) in
+    value_from-end v part end t (all_below-between s.lo s.hi es) over ∙ sym (ap (λ b. cond b (value_from None es t) None) out)))
+  where
+    part : List Edge
+    part = between s.lo s.hi es
+
+    v : Option ℕ
+    v = value_on s.lo es
+
+    end : Edge
+    end = record { from = s.hi; value = None }

@@ -1,5 +1,5 @@
 -- Changes of the values within a span.
-use Rattle.std.specs.Prelude.{◌≡◌, ℕ, cond, ℤ, List, Option, Some, None, int_lt, [], ◌∷◌}
+use Rattle.std.specs.Prelude.{◌≡◌, ℕ, cond, ℤ, List, Option, Some, None, int_lt, [], ◌∷◌, ◌++◌, map, take, drop}
 use Rattle.ts_bucket.specs.Positions.{later, above}
 use Rattle.ts_bucket.specs.Spans.{SpanValue, in_span}
 use Rattle.span_map.specs.Edges.{value_from}
@@ -16,6 +16,10 @@ changed (Raise p) v = later v (Some p)
 -- what a change within a span makes of an edge
 abbrev pub edge_changed : SpanValue → Change → Edge → Edge
 edge_changed s c e = record { from = e.from; value = cond (in_span s e.from) (changed c e.value) e.value }
+
+-- edges that are changed from one place on, where those from the other place on aren't changed yet and those between the two go
+abbrev pub edges_halfway : SpanValue → Change → ℕ → ℕ → List Edge → List Edge
+edges_halfway s c done todo es = take done es ++ map (edge_changed s c) (drop todo es)
 
 -- the edges with one at t more, where there was none, that changes no value
 abbrev pub with_edge : Option ℕ → ℤ → List Edge → List Edge

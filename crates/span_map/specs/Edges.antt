@@ -1,7 +1,6 @@
 -- Edges: the numbers at which the value of a map changes, in rising order.
-use Rattle.std.specs.Prelude.{ℕ, suc, Bool, false, cond, ℤ, ◌<ℤ◌, int_lt, int_le, nat_eq, List, [], ◌∷◌, Option, is_some, count_by}
+use Rattle.std.specs.Prelude.{ℕ, suc, Bool, false, cond, ℤ, ◌<ℤ◌, int_lt, int_le, List, [], ◌∷◌, ◌++◌, take, drop, Option, None, is_some, count_by}
 use Rattle.std.specs.Ordering.{int_eq}
-use Rattle.std.specs.Option.{option_eq}
 use Rattle.span_map.specs.declared.edges.Edge.{Edge}
 
 -- the value at t, where the value before the edges is v: that of the last edge at or below t
@@ -29,10 +28,6 @@ abbrev pub place_below : ℤ → List Edge → ℕ
 place_below t [] = 0
 place_below t (e ∷ es) = cond (int_lt e.from t) (suc (place_below t es)) 0
 
--- the two edges begin the same value
-abbrev pub same_value : Edge → Edge → Bool
-same_value a b = option_eq nat_eq a.value b.value
-
 -- x is below the first of these edges
 abbrev pub IsBelowFirst : ℤ → List Edge → Type 0
 IsBelowFirst x [] = Unit {0}
@@ -50,3 +45,14 @@ has_value e = is_some e.value
 -- how many pieces the edges begin
 abbrev pub piece_count : List Edge → ℕ
 piece_count es = count_by has_value es
+
+-- the value at lo, and the edges above lo and below hi
+abbrev pub value_on : ℤ → List Edge → Option ℕ
+value_on lo es = last_value None (take (place_upto lo es) es)
+
+abbrev pub between : ℤ → ℤ → List Edge → List Edge
+between lo hi es = take (place_below hi (drop (place_upto lo es) es)) (drop (place_upto lo es) es)
+
+-- edges of which the first, at lo, begins the value v, and the last, at hi, begins none
+abbrev pub framed : ℤ → ℤ → Option ℕ → List Edge → List Edge
+framed lo hi v es = record { from = lo; value = v } ∷ es ++ record { from = hi; value = None } ∷ []

@@ -15,6 +15,10 @@ abbrev pub opened : Option ℤ → ℤ → Option ℤ
 opened None x = Some x
 opened (Some from) x = Some from
 
+-- the open run at the start of a span at which the floor has the value v
+abbrev pub run_on : SpanValue → ℕ → Option ℕ → Option ℤ
+run_on s pos v = cond (is_before pos v) (Some s.lo) None
+
 -- the open run after an edge of the floor
 abbrev pub run_past : SpanValue → ℕ → Option ℤ → Edge → Option ℤ
 run_past s pos run e = cond (is_before pos e.value) (opened run (int_max e.from s.lo)) None

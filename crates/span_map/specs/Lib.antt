@@ -3,3 +3,4 @@ pub mod Changes
 pub mod Maps
 pub mod Pieces
 pub mod Floors
+pub mod Combined

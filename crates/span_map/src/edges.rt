@@ -1,9 +1,8 @@
 //! Edges: the numbers at which the value of a map changes, in rising order.
 
-ghost use Rattle.std.specs.Prelude.{◌≡◌, ◌+◌, ◌<◌, ◌≤◌, None, MatchOption, length, map, take, drop, insert, vec_len, vec_capacity};
-ghost use Rattle.std.specs.List.{dedup};
-ghost use Rattle.span_map.specs.Changes.{edge_changed, with_edge, ChangesValues};
-ghost use Rattle.span_map.specs.Edges.{IsRising, value_from, last_value, place_upto, place_below, begins_at, same_value, piece_count};
+ghost use Rattle.std.specs.Prelude.{◌≡◌, ◌+◌, ◌<◌, ◌≤◌, ◌++◌, ℤ, None, MatchOption, length, map, take, drop, insert, vec_len, vec_capacity};
+ghost use Rattle.span_map.specs.Changes.{edge_changed, edges_halfway, with_edge, ChangesValues};
+ghost use Rattle.span_map.specs.Edges.{IsRising, value_from, last_value, place_upto, place_below, begins_at, piece_count};
 
 use crate::changes::{Change, applied};
 use ts_bucket::Span;
@@ -118,22 +117,62 @@ fn changed_edge(edge: Edge, span: Span, change: Change) -> Edge
     }
 }
 
-/// Changes the value of each edge within the span.
-fn change_within(edges: &mut [Edge], span: Span, change: Change)
-    ensures { edges.new ≡ map (edge_changed span change) edges.old }
+/// Changes the value of each edge from one place on and below another, and moves those that begin a
+/// new value together. Gives the place where the last of them ends.
+fn change_between(
+    edges: &mut Vec<Edge>,
+    first: usize,
+    end: usize,
+    span: Span,
+    change: Change,
+) -> usize
+    requires order { first ≤ end }
+    requires within { end ≤ vec_len edges.old }
+    requires rising { IsRising (edges_halfway span change first first edges.old.items) }
+    ensures place { result ≤ end }
+    ensures len { vec_len edges.new ≡ vec_len edges.old }
+    ensures capacity { vec_capacity edges.new ≡ vec_capacity edges.old }
+    ensures after { drop end edges.new.items ≡ drop end edges.old.items }
+    ensures rising { IsRising (edges_halfway span change result end edges.new.items) }
+    ensures values { (t : ℤ) → value_from None (edges_halfway span change result end edges.new.items) t ≡ value_from None (edges_halfway span change first first edges.old.items) t }
 {
-    for edge in edges.iter_mut() {
-        *edge = changed_edge(*edge, span, change);
+    let mut kept = first;
+    let mut last = value_after(edges, first);
+    for i in first..end {
+        let edge = changed_edge(edges[i], span, change);
+        if edge.value != last {
+            edges[kept] = edge;
+            kept += 1;
+            last = edge.value;
+        }
     }
+    kept
 }
 
-/// Drops each edge that begins the value that was there before it.
-fn merge(edges: &mut Vec<Edge>)
-    ensures items { edges.new.items ≡ dedup same_value edges.old.items }
+/// Takes out the edges from one place on and below another.
+fn take_out(edges: &mut Vec<Edge>, first: usize, end: usize)
+    requires order { first ≤ end }
+    requires within { end ≤ vec_len edges.old }
+    ensures items { edges.new.items ≡ take first edges.old.items ++ drop end edges.old.items }
     ensures len { vec_len edges.new ≤ vec_len edges.old }
     ensures capacity { vec_capacity edges.new ≡ vec_capacity edges.old }
 {
-    edges.dedup_by_key(|edge| edge.value);
+    let _ = edges.drain(first..end);
+}
+
+/// Changes the value of each edge within the span. Where an edge from its start to its end begins
+/// the value that was there before it, the edge goes.
+fn change_within(edges: &mut Vec<Edge>, span: Span, change: Change)
+    requires rising { IsRising edges.old.items }
+    ensures rising { IsRising edges.new.items }
+    ensures values { (t : ℤ) → value_from None edges.new.items t ≡ value_from None (map (edge_changed span change) edges.old.items) t }
+    ensures len { vec_len edges.new ≤ vec_len edges.old }
+    ensures capacity { vec_capacity edges.new ≡ vec_capacity edges.old }
+{
+    let first = places_below(edges, span.lo);
+    let end = places_upto(edges, span.hi);
+    let kept = change_between(edges, first, end, span, change);
+    take_out(edges, kept, end);
 }
 
 /// Changes the value of each number within the span.
@@ -149,6 +188,5 @@ pub(crate) fn change_values(edges: &mut Vec<Edge>, span: Span, change: Change)
         split(edges, span.lo);
         split(edges, span.hi);
         change_within(edges, span, change);
-        merge(edges);
     }
 }

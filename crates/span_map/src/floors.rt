@@ -4,10 +4,11 @@ ghost use Rattle.std.specs.Prelude.{◌≡◌, ℤ, ◌+◌, ◌*◌, ◌≤◌,
 ghost use Rattle.ts_bucket.specs.Positions.{is_before};
 ghost use Rattle.ts_bucket.specs.Spans.{in_span};
 ghost use Rattle.span_map.specs.Edges.{IsRising, value_from, piece_count, has_value};
-ghost use Rattle.span_map.specs.Floors.{run_filled, run_past, value_past};
+ghost use Rattle.span_map.specs.Floors.{run_filled, run_past, run_on, value_past, floor_filled};
 
 use crate::changes::Change;
 use crate::edges::{Edge, change_values};
+use crate::parts::part_within;
 use ts_bucket::Span;
 
 /// Whether there is no position, or one below `pos`.
@@ -76,6 +77,33 @@ fn pass_edge(edges: &mut Vec<Edge>, run: Option<i64>, edge: Edge, span: Span, po
     }
 }
 
+/// Assigns `pos` to the numbers of the span that are in an open run, or at or above an edge of the
+/// floor with nothing or less.
+fn assign_runs(edges: &mut Vec<Edge>, span: Span, pos: u64, start: Option<i64>, floor: &[Edge])
+    requires rising { IsRising edges.old.items }
+    requires room { vec_len edges.old + 2 * (piece_count floor.now + 1) ≤ vec_capacity edges.old }
+    ensures values { (t : ℤ) → value_from None edges.new.items t ≡ floor_filled span pos start floor.now (value_from None edges.old.items t) t }
+    ensures rising { IsRising edges.new.items }
+{
+    let mut run = start;
+    for edge in floor {
+        pass_edge(edges, run, *edge, span, pos);
+        run = run_after(run, *edge, span, pos);
+    }
+    close_run(edges, run, span.hi, pos);
+}
+
+/// Where a run is open at the start of a span at which the floor has this value.
+fn run_at_start(value: Option<u64>, span: Span, pos: u64) -> Option<i64>
+    ensures { result ≡ run_on span pos value }
+{
+    if is_lower(value, pos) {
+        Some(span.lo)
+    } else {
+        None
+    }
+}
+
 /// Assigns `pos` to each number of the span at which the floor has nothing or less.
 pub(crate) fn assign_above_floor(edges: &mut Vec<Edge>, span: Span, pos: u64, floor: &[Edge])
     requires rising { IsRising edges.old.items }
@@ -84,10 +112,7 @@ pub(crate) fn assign_above_floor(edges: &mut Vec<Edge>, span: Span, pos: u64, fl
     ensures values { (t : ℤ) → value_from None edges.new.items t ≡ cond (in_span span t && is_before pos (value_from None floor.now t)) (Some pos) (value_from None edges.old.items t) }
     ensures rising { IsRising edges.new.items }
 {
-    let mut run = Some(span.lo);
-    for edge in floor {
-        pass_edge(edges, run, *edge, span, pos);
-        run = run_after(run, *edge, span, pos);
-    }
-    close_run(edges, run, span.hi, pos);
+    let (value, between) = part_within(floor, span);
+    let run = run_at_start(value, span, pos);
+    assign_runs(edges, span, pos, run, between);
 }

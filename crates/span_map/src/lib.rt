@@ -2,12 +2,16 @@
 #![tactic(auto)]
 
 mod changes;
+mod combine;
 mod edges;
 mod floors;
 mod maps;
+mod parts;
 mod pieces;
+mod rules;
 #[cfg(test)]
 mod tests;
 
 pub use maps::SpanMap;
 pub use pieces::Piece;
+pub use rules::Rule;

@@ -3,13 +3,17 @@
 ghost use Rattle.std.specs.Prelude.{◌≡◌, ◌==◌, ℤ, ◌+◌, ◌*◌, ◌^◌, ◌<◌, ◌≤◌, ◌&&◌, cond, IfOk, OnOk};
 ghost use Rattle.ts_bucket.specs.Positions.{later, above, is_before};
 ghost use Rattle.ts_bucket.specs.Spans.{in_span};
+ghost use Rattle.span_map.specs.Combined.{combined_by};
 ghost use Rattle.span_map.specs.Maps.{at, piece_count_of};
 ghost use Rattle.span_map.specs.Pieces.{piece_at, ArePieces};
 
 use crate::changes::Change;
+use crate::combine::combine;
 use crate::edges::{Edge, change_values, count_pieces, value_at};
 use crate::floors::assign_above_floor;
+use crate::parts::edges_within;
 use crate::pieces::{Piece, pieces_within};
+use crate::rules::Rule;
 use std::alloc::Global;
 use std::marker::Model;
 use ts_bucket::Span;
@@ -42,6 +46,11 @@ impl SpanMap {
         SpanMap {
             edges: Vec::new(alloc),
         }
+    }
+
+    /// The allocator that the map was made with.
+    pub fn allocator(&self) -> Global {
+        *self.edges.allocator()
     }
 
     /// How many pieces the map has.
@@ -121,6 +130,27 @@ impl SpanMap {
         ensures values { (t : ℤ) → at self.new t ≡ cond (in_span span t && is_before pos (at floor.now t)) (Some pos) (at self.old t) }
     {
         assign_above_floor(&mut self.edges, span, pos, &floor.edges);
+    }
+
+    /// The map that has the values of this one within the span, and none elsewhere. It costs the
+    /// pieces within the span.
+    pub fn within(&self, span: Span) -> Result<SpanMap, NoMemory>
+        ensures values { IfOk result (λ part. (t : ℤ) → at part t ≡ cond (in_span span t) (at self.now t) None) }
+    {
+        Ok(SpanMap {
+            edges: edges_within(*self.edges.allocator(), &self.edges, span)?,
+        })
+    }
+
+    /// The map that has at each number what the rule makes of the values of both maps there. It
+    /// costs the pieces of both.
+    pub fn combined(&self, other: &SpanMap, rule: Rule) -> Result<SpanMap, NoMemory>
+        ensures values { IfOk result (λ both. (t : ℤ) → at both t ≡ combined_by rule (at self.now t) (at other.now t)) }
+    {
+        let alloc = *self.edges.allocator();
+        Ok(SpanMap {
+            edges: combine(alloc, &self.edges, &other.edges, rule)?,
+        })
     }
 
     /// The pieces within the span: each number of the span that has a value is in one of them, and

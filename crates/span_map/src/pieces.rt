@@ -5,7 +5,8 @@ ghost use Rattle.ts_bucket.specs.Spans.{in_span};
 ghost use Rattle.span_map.specs.Edges.{IsRising, value_from};
 ghost use Rattle.span_map.specs.Pieces.{piece_of, pieces_from, piece_at, ArePieces};
 
-use crate::edges::{Edge, places_below, places_upto, value_after};
+use crate::edges::Edge;
+use crate::parts::part_within;
 use std::alloc::Global;
 use ts_bucket::Span;
 use ts_schema::{NoMemory, Seq};
@@ -63,12 +64,10 @@ pub(crate) fn pieces_within(
     ensures values { IfOk result (λ pieces. (t : ℤ) → piece_at pieces t ≡ cond (in_span span t) (value_from None edges.now t) None) }
     ensures rising { IfOk result (λ pieces. ArePieces span.lo span.hi pieces) }
 {
-    let first = places_upto(edges, span.lo);
-    let (_, later) = edges.split_at(first);
-    let (between, _) = later.split_at(places_below(later, span.hi));
+    let (value, between) = part_within(edges, span);
     let start = Edge {
         from: span.lo,
-        value: value_after(edges, first),
+        value,
     };
     let end = Edge {
         from: span.hi,

@@ -1,6 +1,7 @@
 use Rattle.std.proofs.Common.{◌≡◌, sym, ap, ◌∙◌, subst}
 use Rattle.ts_bucket.specs.Bucket.{IsWidth}
-use Rattle.group_fold.specs.Grouping.{ShowScratch, groups_of}
+use Rattle.group_fold.specs.Grouping.{ShowScratch}
+use Rattle.ts_model.specs.Groups.{groups_of}
 use Rattle.group_fold.proofs.AnyOrder.{groups_of-permuted}
 use Rattle.group_fold.proofs.Scratches.{groups_show_scratch}
 use Rattle.group_fold.proofs.folds.fold.Goals as goal

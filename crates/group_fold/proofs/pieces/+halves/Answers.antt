@@ -1,6 +1,7 @@
 use Rattle.std.proofs.Common.{◌≡◌, ◌<◌, ◌/◌, ◌∙◌, length, arith, rules}
 use Rattle.std.proofs.lemmas.Result.{IfOk-weaker, IfOk-at_ok}
-use Rattle.group_fold.specs.Grouping.{all_rows, groups_of, PiecesFit}
+use Rattle.group_fold.specs.Grouping.{all_rows, PiecesAreTimes}
+use Rattle.ts_model.specs.Groups.{groups_of}
 use Rattle.group_fold.specs.Merging.{with_groups}
 use Rattle.group_fold.proofs.CutRows.{back_fits, few_parts, front_fits, parts_can_join, parts_joined}
 use Rattle.group_fold.proofs.pieces.+halves.Goals as goal
@@ -8,8 +9,8 @@ use Rattle.group_fold.proofs.pieces.+halves.Goals as goal
 pub join-mine-requires-after_bounds : goal.join-mine-requires-after_bounds
 join-mine-requires-after_bounds g t c κs within =
     let both = few_parts c.args.pieces.now c.split_at.result.0.now c.split_at.result.1.now (length c.args.pieces.now / 2) c.split_at.ensures.front c.split_at.ensures.back c.requires.few in
-    let front_fit : PiecesFit c.args.plan.now c.split_at.result.0.now = front_fits c.args.plan.now c.args.pieces.now c.split_at.result.0.now (length c.args.pieces.now / 2) c.split_at.ensures.front c.requires.fits in
-    let back_fit : PiecesFit c.args.plan.now c.split_at.result.1.now = back_fits c.args.plan.now c.args.pieces.now c.split_at.result.1.now (length c.args.pieces.now / 2) c.split_at.ensures.back c.requires.fits in
+    let front_fit : PiecesAreTimes c.split_at.result.0.now = front_fits c.args.pieces.now c.split_at.result.0.now (length c.args.pieces.now / 2) c.split_at.ensures.front c.requires.times in
+    let back_fit : PiecesAreTimes c.split_at.result.1.now = back_fits c.args.pieces.now c.split_at.result.1.now (length c.args.pieces.now / 2) c.split_at.ensures.back c.requires.times in
     let front : length (all_rows c.split_at.result.0.now) < 4611686018427387904 = omega (arith, both) in
     let back : length (all_rows c.split_at.result.1.now) < 4611686018427387904 = omega (arith, both) in
     search rules

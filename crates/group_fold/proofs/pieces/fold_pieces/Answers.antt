@@ -1,6 +1,7 @@
 use Rattle.std.proofs.Common.{◌≡◌, sym, ◌∙◌, subst, rules}
 use Rattle.ts_bucket.specs.Bucket.{IsWidth}
-use Rattle.group_fold.specs.Grouping.{ShowScratch, groups_of, all_rows}
+use Rattle.group_fold.specs.Grouping.{ShowScratch, all_rows}
+use Rattle.ts_model.specs.Groups.{groups_of}
 use Rattle.group_fold.proofs.AnyOrder.{groups_of-permuted}
 use Rattle.group_fold.proofs.Scratches.{groups_show_scratch}
 use Rattle.group_fold.proofs.pieces.fold_pieces.Goals as goal

@@ -1,5 +1,5 @@
 use Rattle.std.proofs.Common.{◌≡◌, ◌++◌, length}
-use Rattle.group_fold.specs.Grouping.{shown_each}
+use Rattle.ts_model.specs.Groups.{shown_each}
 use Rattle.group_fold.proofs.results.put_parts.Given as goal
 
 abbrev pub invariant-loop-aggs_left : goal.invariant-loop-aggs_left

@@ -1,7 +1,7 @@
 -- The lists are the same, seen as slices.
 use Rattle.std.proofs.Common.{sym, subst}
 use Rattle.std.specs.List.{All}
-use Rattle.refresh_cut.specs.Feeding.{AreWithin}
+use Rattle.mat_log.specs.Feeding.{AreWithin}
 use Rattle.refresh_cut.proofs.cuts.cut.Goals as goal
 
 pub fed_logs-requires : goal.fed_logs-requires

@@ -1,7 +1,6 @@
-use Rattle.std.proofs.Common.{◌≡◌, true, List}
-use Rattle.ts_schema.specs.declared.rows.Row.{Row}
-use Rattle.row_versions.specs.Tables.{ops_fit}
+use Rattle.ts_model.specs.Effect.{all_appended}
+use Rattle.chunk_catalog.specs.Chunks.{HaveTimes}
 use Rattle.row_versions.proofs.tests.ops.Given as goal
 
 abbrev pub invariant-loop-at_pos : goal.invariant-loop-at_pos
-invariant-loop-at_pos l = (rows : List Row) → ops_fit 0 l.ops rows ≡ true
+invariant-loop-at_pos l = HaveTimes (all_appended 0 l.ops)

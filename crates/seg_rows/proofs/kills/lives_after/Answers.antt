@@ -2,11 +2,8 @@ use Rattle.std.proofs.Common.{◌+◌, ◌∙◌, ap, sym, length, map, take, ta
 use Rattle.std.proofs.lemmas.List.{length_push}
 use Rattle.seg_rows.specs.Lives.{with_lives}
 use Rattle.seg_rows.specs.Versions.{after_kill}
-use Rattle.seg_rows.proofs.StepLaws.{fits_here, kill_step, life_step, versions_done}
+use Rattle.seg_rows.proofs.StepLaws.{kill_step, life_step, versions_done}
 use Rattle.seg_rows.proofs.kills.lives_after.Goals as goal
-
-pub life_after-requires : goal.life_after-requires
-life_after-requires c = record { fit = fits_here c.args.rows.now c.args.lives.now c.loop-i.i c.index-rows-i.result c.at.result c.requires.covers c.loop-i-test.true c.index-rows-i.is c.at.ensures.life c.args.tests.now c.requires.fit }
 
 pub loop-i-preserved : goal.loop-i-preserved
 loop-i-preserved c =

@@ -3,11 +3,8 @@ use Rattle.seg_rows.specs.Hulls.{hull_of}
 use Rattle.seg_rows.specs.Lives.{versions_of}
 use Rattle.seg_rows.specs.Versions.{taken_at}
 use Rattle.seg_rows.proofs.LifeLaws.{length-versions_of}
-use Rattle.seg_rows.proofs.StepLaws.{fits_here, taken_step_length, taken_step_hull, taken_within, versions_done}
+use Rattle.seg_rows.proofs.StepLaws.{taken_step_length, taken_step_hull, taken_within, versions_done}
 use Rattle.seg_rows.proofs.kills.taken_by.Goals as goal
-
-pub takes_version-takes-requires : goal.takes_version-takes-requires
-takes_version-takes-requires c = record { fit = fits_here c.args.rows.now c.args.lives.now c.loop-i.i c.index-rows-i.result c.at.result c.requires.covers c.loop-i-test.true c.index-rows-i.is c.at.ensures.life c.args.tests.now c.requires.fit }
 
 pub and-taken-requires : goal.and-taken-requires
 and-taken-requires c =

@@ -1,22 +1,19 @@
--- At the end of the floor the last run is closed.
-use Rattle.std.proofs.Common.{◌≡◌, ◌≤◌, ◌∙◌, None, ap, sym, length, arith}
-use Rattle.std.specs.Int.{w64, cast_signed, cast_unsigned}
-use Rattle.std.proofs.lemmas.Int.{ints}
-use Rattle.std.proofs.lemmas.List.{drop_all}
-use Rattle.ts_bucket.specs.Spans.{SpanValue}
-use Rattle.span_map.specs.Edges.{value_from}
-use Rattle.span_map.specs.Floors.{run_filled, floor_filled}
-use Rattle.span_map.proofs.FloorLaws.{floor_filled-all}
+-- The floor's part within the span decides.
+use Rattle.std.proofs.Common.{◌≡◌, ◌≤◌, ◌∙◌, None, ap, subst, sym, arith}
+use Rattle.span_map.specs.Edges.{value_from, value_on, piece_count}
+use Rattle.span_map.specs.Floors.{run_on, floor_filled}
+use Rattle.span_map.proofs.FloorLaws.{floor_filled-between, piece_count-between}
 use Rattle.span_map.proofs.floors.assign_above_floor.Goals as goal
+
+pub assign_runs-requires-clause-room : goal.assign_runs-requires-clause-room
+assign_runs-requires-clause-room c =
+    let few : piece_count c.part_within-value.result.1.now ≤ piece_count c.args.floor.now = subst (λ es. piece_count es ≤ piece_count c.args.floor.now) (sym c.part_within-value.ensures.edges) (piece_count-between c.args.span.lo c.args.span.hi c.args.floor.now) in
+    omega arith
 
 pub returns-clause-values : goal.returns-clause-values
 returns-clause-values c = λ t.
-    let high : c.span-2.inside.hi ≡ c.args.span.hi = ap (λ (s : SpanValue). s.hi) c.span-2.view_is in
-    let hi : cast_signed w64 (cast_unsigned w64 c.span-2.inside.hi) ≡ c.args.span.hi = omega (arith, ints) in
-    let at_end : length c.args.floor.now ≤ c.loop-edge.edge-index = omega arith in
-    let now = value_from None c.loop-edge.edges.items t in
-    c.close_run.ensures.values t
-    ∙ ap (λ end. run_filled c.loop-edge.run end c.args.pos now t) hi
-    ∙ sym (ap (λ es. floor_filled c.args.span c.args.pos c.loop-edge.run es now t) (drop_all c.loop-edge.edge-index c.args.floor.now at_end))
-    ∙ c.loop-edge.invariant.values t
-    ∙ floor_filled-all c.args.span c.args.pos c.args.floor.now (value_from None c.args.edges.now.items t) t c.requires.floor_rising
+    let old = value_from None c.args.edges.now.items t in
+    c.assign_runs.ensures.values t
+    ∙ ap (λ run. floor_filled c.args.span c.args.pos run c.part_within-value.result.1.now old t) (c.run_at_start-run.ensures ∙ ap (run_on c.args.span c.args.pos) c.part_within-value.ensures.value)
+    ∙ ap (λ es. floor_filled c.args.span c.args.pos (run_on c.args.span c.args.pos (value_on c.args.span.lo c.args.floor.now)) es old t) c.part_within-value.ensures.edges
+    ∙ floor_filled-between c.args.span c.args.pos c.args.floor.now old t c.requires.floor_rising

@@ -9,11 +9,8 @@ use Rattle.seg_rows.specs.Versions.{taken_at}
 use Rattle.chunk_catalog.specs.Chunks.{after_drop, dropped_at}
 use Rattle.chunk_catalog.specs.Places.{versions_of, after_kill_in, reached}
 use Rattle.chunk_catalog.specs.Reach.{in_reach}
-use Rattle.chunk_catalog.proofs.CatalogLaws.{killed_placed, dropped_reached, dropped_killed, no_tests_fit}
+use Rattle.chunk_catalog.proofs.CatalogLaws.{killed_placed, dropped_reached, dropped_killed}
 use Rattle.chunk_catalog.proofs.catalog.Chunks.drop_below.Goals as goal
-
-pub kill-requires-clause-fit : goal.kill-requires-clause-fit
-kill-requires-clause-fit c = no_tests_fit c.new.result (versions_of c.self.inside.tree.0) c.new.ensures.items
 
 pub invariant_of-result : goal.invariant_of-result
 invariant_of-result c =

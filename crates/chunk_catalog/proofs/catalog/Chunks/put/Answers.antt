@@ -7,7 +7,7 @@ use mir.Val.{to_z, of_z}
 use Rattle.chunk_catalog.specs.Places.{versions_of}
 use Rattle.std.specs.List.{count_by}
 use Rattle.seg_rows.specs.Versions.{newborn}
-use Rattle.chunk_catalog.specs.Chunks.{IsInterval}
+use Rattle.ts_bucket.specs.Chunks.{IsInterval}
 use Rattle.chunk_catalog.specs.Places.{ArePlaced}
 use Rattle.chunk_catalog.specs.Parts.{placed_row, placed_rows}
 use Rattle.chunk_catalog.proofs.PartLaws.{length_more, placed_more, versions_more}

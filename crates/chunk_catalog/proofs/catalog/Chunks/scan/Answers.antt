@@ -1,11 +1,12 @@
-use Rattle.std.proofs.Common.{◌≡◌, ◌≤◌, ◌≤ℤ◌, ℤ, negsuc, ◌-◌, ◌^◌, ◌∙◌, ◌++◌, length, ap, subst, rules}
+use Rattle.std.proofs.Common.{◌≡◌, ◌≤ℤ◌, ℤ, negsuc, ◌-◌, ◌^◌, ◌∙◌, ◌++◌, length, ap, subst, rules}
 use Rattle.std.specs.Prelude.{FitsSigned}
 use Rattle.std.specs.Int.{w64}
 use Rattle.std.proofs.lemmas.Int.{to_z-of_z}
 use Rattle.std.proofs.lemmas.Result.{err_from_is_err_and}
-use Rattle.ts_schema.specs.Counts.{raised_by}
+use Rattle.ts_schema.specs.Counts.{raised_by, RaisedUpTo}
 use Rattle.seg_rows.specs.Versions.{rows_at}
-use Rattle.chunk_catalog.specs.Chunks.{IsInterval, chunk_meets, held_near}
+use Rattle.chunk_catalog.specs.Chunks.{chunk_meets, held_near}
+use Rattle.ts_bucket.specs.Chunks.{IsInterval}
 use Rattle.chunk_catalog.specs.Places.{versions_of, reached}
 use Rattle.chunk_catalog.specs.Reach.{in_reach}
 use Rattle.chunk_catalog.proofs.CatalogLaws.{held_reached, shown_reached}
@@ -21,7 +22,7 @@ returns-in_err-scan-clause-at_most g c =
     held_reached c.self.inside.interval c.span_reach-reach.result c.self.invariant.wide c.args.span met c.self.inside.tree.0 c.self.invariant.placed
     ∙ (ap (λ i. held_near i c.args.span (versions_of c.self.inside.tree.0)) interval_is ∙ ap (held_near c.args.self.now.interval c.args.span) versions_is) in
     let p = err_from_is_err_and c.from_residual.result c.from_residual.ensures.1 in
-    rw p.1 (subst (λ n. c.scan.new.steps ≤ raised_by n c.args.steps.now) held c.in_err-scan.ensures.at_most)
+    rw p.1 (subst (λ n. RaisedUpTo n c.args.steps.now c.scan.new.steps) held c.in_err-scan.ensures.at_most)
 
 pub returns-clause-rows : goal.returns-clause-rows
 returns-clause-rows g c =

@@ -1,4 +1,6 @@
-use Rattle.std.proofs.Common.{◌∙◌, ap, map, length}
+use Rattle.std.proofs.Common.{◌∙◌, ap, map, length, subst}
+use Rattle.chunk_catalog.specs.Piles.{IsFork, IsPile}
+use Rattle.chunk_catalog.proofs.LevelLaws.{fork_killed}
 use Rattle.seg_rows.specs.Versions.{after_kill, taken_at}
 use Rattle.seg_rows.proofs.VersionLaws.{kill_nothing}
 use Rattle.chunk_catalog.proofs.piles.Pile.+kill.Goals as goal
@@ -8,6 +10,7 @@ changed-requires t c = record {
   same = λ none. kill_nothing c.args.pos c.args.tests.now c.in-Fork.left.value.0 c.in_ok-first-in-Fork.first.pile.0 c.in_ok-first-in-Fork.first.removed
       (c.in_ok-first-in-Fork.ensures.after ∙ ap (λ v. map (after_kill c.args.pos c.args.tests.now) v.0) c.deref.ensures)
       (c.in_ok-first-in-Fork.ensures.removed ∙ ap (λ v. length (taken_at c.args.pos c.args.tests.now v.0)) c.deref.ensures) none;
+  levels = c.in_ok-first-in-Fork.ensures.levels ∙ ap (λ v. v.1) c.deref.ensures;
 }
 
 pub changed-requires-in-Fork : goal.changed-requires-in-Fork
@@ -15,4 +18,16 @@ changed-requires-in-Fork t c = record {
   same = λ none. kill_nothing c.args.pos c.args.tests.now c.in-Fork.right.value.0 c.in_ok-second-in-Fork.second.pile.0 c.in_ok-second-in-Fork.second.removed
       (c.in_ok-second-in-Fork.ensures.after ∙ ap (λ v. map (after_kill c.args.pos c.args.tests.now) v.0) c.deref-in-Fork.ensures)
       (c.in_ok-second-in-Fork.ensures.removed ∙ ap (λ v. length (taken_at c.args.pos c.args.tests.now v.0)) c.deref-in-Fork.ensures) none;
+  levels = c.in_ok-second-in-Fork.ensures.levels ∙ ap (λ v. v.1) c.deref-in-Fork.ensures;
 }
+
+pub invariant_of-result : goal.invariant_of-result
+invariant_of-result t c =
+    let left = c.in-Fork.left.value in
+    let right = c.in-Fork.right.value in
+    let fork : IsFork left right c.in-Fork.count c.in-Fork.latest = subst IsPile c.in-Fork.is c.self.invariant in
+    fork_killed left right c.in_ok-left-in-Fork.left.value c.in_ok-right-in-Fork.right.value c.in-Fork.count c.args.pos c.in-Fork.latest c.args.tests.now fork
+    (c.in_ok-left-in-Fork.ensures.versions ∙ (c.in_ok-first-in-Fork.ensures.after ∙ ap (λ v. map (after_kill c.args.pos c.args.tests.now) v.0) c.deref.ensures))
+    (c.in_ok-right-in-Fork.ensures.versions ∙ (c.in_ok-second-in-Fork.ensures.after ∙ ap (λ v. map (after_kill c.args.pos c.args.tests.now) v.0) c.deref-in-Fork.ensures))
+    (c.in_ok-left-in-Fork.ensures.levels ∙ (c.in_ok-first-in-Fork.ensures.levels ∙ ap (λ v. v.1) c.deref.ensures))
+    (c.in_ok-right-in-Fork.ensures.levels ∙ (c.in_ok-second-in-Fork.ensures.levels ∙ ap (λ v. v.1) c.deref-in-Fork.ensures))

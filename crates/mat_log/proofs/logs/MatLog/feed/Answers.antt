@@ -6,7 +6,7 @@ use Rattle.ts_bucket.specs.Spans.{SpanValue, in_span, meets, touched_span}
 use Rattle.ts_bucket.proofs.SpanLaws.{meets-between}
 use Rattle.span_map.specs.Maps.{at}
 use Rattle.mat_log.specs.Logs.{LogValue, pending_at, last_at, IsInStep}
-use Rattle.mat_log.proofs.SpanLaws.{touched_starts, touched_ends}
+use Rattle.ts_bucket.proofs.WholeSpanLaws.{touched_starts, touched_ends}
 use Rattle.mat_log.proofs.StepLaws.{in_step-fed}
 use Rattle.mat_log.proofs.logs.MatLog.feed.Goals as goal
 
@@ -14,6 +14,7 @@ use Rattle.mat_log.proofs.logs.MatLog.feed.Goals as goal
 values : (c : goal.After-assign_above) (t : ℤ) → at c.assign_above.new.self t ≡ cond (in_span (touched_span c.self.inside.width c.args.entry.now.hull) t && is_before c.args.entry.now.pos (at c.self.inside.refreshed t)) (Some c.args.entry.now.pos) (at c.self.inside.pending t)
 values c t =
     c.assign_above.ensures.values t
+    ∙ ap (λ v. cond (in_span c.touched-span.result t && is_before c.args.entry.now.pos v) (Some c.args.entry.now.pos) (at c.self.inside.pending t)) (c.map.ensures.values t)
     ∙ ap (λ (s : SpanValue). cond (in_span s t && is_before c.args.entry.now.pos (at c.self.inside.refreshed t)) (Some c.args.entry.now.pos) (at c.self.inside.pending t)) c.touched-span.ensures.value
 
 pub invariant_of-self : goal.invariant_of-self

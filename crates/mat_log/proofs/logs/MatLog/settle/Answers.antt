@@ -2,7 +2,7 @@
 use Rattle.std.proofs.Common.{◌≡◌, true, sym, ap, subst}
 use Rattle.ts_bucket.specs.Bucket.{WidthValue, is_bucket}
 use Rattle.span_map.specs.Maps.{at}
-use Rattle.mat_log.specs.Spans.{IsWholeSpan}
+use Rattle.ts_bucket.specs.WholeSpans.{IsWholeSpan}
 use Rattle.mat_log.specs.Logs.{LogValue}
 use Rattle.mat_log.proofs.StepLaws.{in_step-settled}
 use Rattle.mat_log.proofs.logs.MatLog.settle.Goals as goal

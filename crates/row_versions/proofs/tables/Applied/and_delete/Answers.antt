@@ -1,10 +1,7 @@
 use Rattle.std.proofs.Common.{◌+◌, ◌∙◌, ap}
 use Rattle.seg_rows.specs.Hulls.{joined_hull}
-use Rattle.row_versions.proofs.TableLaws.{delete_follows, delete_counts, delete_fits}
+use Rattle.row_versions.proofs.TableLaws.{delete_follows, delete_counts}
 use Rattle.row_versions.proofs.tables.Applied.and_delete.Goals as goal
-
-pub kill-requires : goal.kill-requires
-kill-requires c = record { fit = delete_fits c.args.tests.now c.self.inside.0.0.chunks c.args.self.table (ap (λ a. a.table) c.self.view_is) c.requires.fit }
 
 pub returns-clause-table : goal.returns-clause-table
 returns-clause-table c =

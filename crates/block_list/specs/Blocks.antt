@@ -1,0 +1,43 @@
+-- Blocks of a list, and where each of them begins.
+use Rattle.std.specs.Prelude.{◌≡◌, ℕ, ◌+◌, ◌^◌, ◌<◌, ◌≤◌, List, [], ◌∷◌, ◌++◌, length, take, drop, Option, Some, None, refl}
+use Rattle.std.specs.Arc.{arc_value}
+use Rattle.std.specs.declared.sync.Arc.{Arc}
+use Rattle.std.specs.Coded.{Coded, code_by, coded×, coded_ℕ, coded_list}
+
+-- the greatest number of items of a block
+abbrev pub block_len : ℕ
+block_len = 256
+
+-- the greatest number of items that stand in blocks
+abbrev pub most_items : ℕ
+most_items = 2 ^ 62
+
+-- a block: how many items stand before it, and its own
+pub record BlockValue (X : Type 0) : Type 0 where
+  pub start : ℕ
+  pub items : List X
+
+abbrev pub block_value_code : {X : Type 0} → Coded X → Coded (BlockValue X)
+block_value_code {X} x = code_by (ℕ × List X) (coded× coded_ℕ (coded_list x)) (λ b. (b.start, b.items)) (λ p. record { start = p.0; items = p.1 }) (λ _. refl)
+
+module _ {X : Type 0} where
+  -- the items of the blocks, one block after another
+  abbrev pub items_of : List (BlockValue X) → List X
+  items_of [] = []
+  items_of (b ∷ bs) = b.items ++ items_of bs
+
+  -- no block has more items than a block may have, and each says how many stand before it, where n stand before the first
+  abbrev pub AreBlocks : ℕ → List (BlockValue X) → Type 0
+  AreBlocks n [] = Unit {0}
+  AreBlocks n (b ∷ bs) = (b.start ≡ n) × (length b.items ≤ block_len) × AreBlocks (n + length b.items) bs
+
+  -- what is shared, where something is
+  abbrev pub shared_if : {Z : Type 0} → Option (Arc (List X) Z) → List X
+  shared_if None = []
+  shared_if (Some xs) = arc_value xs
+
+  -- these are the items of a list from a place on, at least one, and they end at or before another place
+  pub record IsRun (all : List X) (at end : ℕ) (run : List X) : Type 0 where
+    pub some : 0 < length run
+    pub within : at + length run ≤ end
+    pub items : take (length run) (drop at all) ≡ run

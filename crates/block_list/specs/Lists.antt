@@ -1,0 +1,16 @@
+-- A list in blocks, as contracts see it.
+use Rattle.std.specs.Prelude.{◌≡◌, ℕ, ◌-◌, min, List, refl}
+use Rattle.block_list.specs.Blocks.{block_len}
+use Rattle.std.specs.Coded.{Coded, code_by, coded×, coded_ℕ, coded_list}
+
+-- its items in order, and for how many more there is room
+pub record ListValue (X : Type 0) : Type 0 where
+  pub items : List X
+  pub room : ℕ
+
+abbrev pub list_value_code : {X : Type 0} → Coded X → Coded (ListValue X)
+list_value_code {X} x = code_by (List X × ℕ) (coded× (coded_list x) coded_ℕ) (λ v. (v.items, v.room)) (λ p. record { items = p.0; room = p.1 }) (λ _. refl)
+
+-- for how many items there is room beside so many, where a vector has this capacity: no more than fill a block
+abbrev pub room_of : ℕ → ℕ → ℕ
+room_of len capacity = min capacity block_len - len

@@ -1,0 +1,236 @@
+//! Lists.
+ghost use Rattle.std.specs.Prelude.{◌≡◌, ◌==◌, ◌+◌, ◌<◌, ◌≤◌, [], ◌∷◌, ◌++◌, length, take, drop, slice_index_or, vec_len, vec_capacity, IfOk, IfSome, OnOk, OnErr};
+ghost use Rattle.std.specs.Arc.{arc_value};
+ghost use Rattle.block_list.specs.Blocks.{IsRun, block_len, shared_if};
+ghost use Rattle.block_list.specs.Lists.{room_of};
+
+use crate::blocks::{BLOCK_LEN, Blocks};
+use crate::builders::Builder;
+use crate::clones::joined;
+use crate::iter::Iter;
+use crate::runs::{copy_if, items_if, run_in, whole_in, with_block_if};
+use std::alloc::Global;
+use std::marker::Model;
+use std::sync::Arc;
+use ts_schema::{NoMemory, Seq};
+
+/// A list of items in blocks of at most 256. Contracts see it as the list of its items, and for how
+/// many more there is room.
+///
+/// Its blocks are shared with its copies. What was pushed since it was last `shared` is its own
+/// alone, and a copy copies that.
+#[derive(Drop, Debug)]
+pub struct BlockList<T> {
+    alloc: Global,
+    blocks: Blocks<T>,
+    newest: Option<Arc<Seq<T>>>,
+    own: Vec<T>,
+}
+
+impl<T> Model for BlockList<T> {
+    ghost use Rattle.std.specs.Prelude.{◌++◌, ◌≤◌, length, vec_len, vec_capacity};
+    ghost use Rattle.block_list.specs.Blocks.{block_len, shared_if};
+    ghost use Rattle.block_list.specs.Lists.{ListValue, list_value_code, room_of};
+
+    ghost Value = { ListValue T };
+
+    ghost coded = { list_value_code T.code };
+
+    ghost view = { λ l. record { items = l.blocks ++ (shared_if l.newest ++ l.own.items); room = room_of (vec_len l.own) (vec_capacity l.own) } };
+
+    ghost invariant = { λ l. (length (shared_if l.newest) ≤ block_len) × (vec_len l.own ≤ block_len) };
+}
+
+impl<T> BlockList<T> {
+    /// The empty list. It takes no memory.
+    pub fn new(alloc: Global) -> BlockList<T>
+        ensures items { result.items ≡ [] }
+    {
+        BlockList {
+            alloc,
+            blocks: Blocks::none(),
+            newest: None,
+            own: Vec::new(alloc),
+        }
+    }
+
+    /// How many items there are.
+    pub fn len(&self) -> usize
+        ensures len { result ≡ length self.now.items }
+    {
+        self.blocks.len() + items_if(&self.newest).len() + self.own.len()
+    }
+
+    /// Whether there is no item.
+    pub fn is_empty(&self) -> bool
+        ensures empty { result ≡ (length self.now.items == 0) }
+    {
+        self.len() == 0
+    }
+
+    /// The allocator that the list was made with.
+    pub fn allocator(&self) -> Global {
+        self.alloc
+    }
+
+    /// Items from place `i` on, counted from 0: one at least, and as many as stand in one block.
+    pub fn run_at(&self, i: usize) -> &[T]
+        requires { i < length self.now.items }
+        ensures run { IsRun self.now.items i (length self.now.items) result.now }
+    {
+        run_in(&self.blocks, items_if(&self.newest), &self.own, i)
+    }
+
+    /// The item at place `i`, counted from 0.
+    pub fn get(&self, i: usize) -> &T
+        requires { i < length self.now.items }
+        ensures item { result.now ≡ slice_index_or self.now.items i result.now }
+    {
+        &self.run_at(i)[0]
+    }
+
+    /// The items, one after another.
+    pub fn iter(&self) -> Iter<'_, T>
+        ensures items { result ≡ self.now.items }
+    {
+        Iter::of(self)
+    }
+}
+
+impl<T: Clone + Drop> BlockList<T> {
+    /// The same list again. It is a count, but for the items that were pushed since the list was
+    /// last `shared`. Its room may differ.
+    pub fn copy(&self) -> Result<BlockList<T>, NoMemory>
+        requires faithful { (x y : T) → T.is_clone x y → x ≡ y }
+        ensures items { IfOk result (λ copy. copy.items ≡ self.now.items) }
+    {
+        Ok(BlockList {
+            alloc: self.alloc,
+            blocks: self.blocks.copy()?,
+            newest: copy_if(&self.newest)?,
+            own: joined(self.alloc, &self.own, &[])?,
+        })
+    }
+
+    /// The same list, all of whose items are shared from here on, so that a copy of it is a count.
+    /// It costs a block, and the number of blocks once in a block of new items.
+    pub fn shared(&self) -> Result<BlockList<T>, NoMemory>
+        requires faithful { (x y : T) → T.is_clone x y → x ≡ y }
+        ensures items { IfOk result (λ shared. shared.items ≡ self.now.items) }
+    {
+        if self.own.is_empty() {
+            return self.copy();
+        }
+        let alloc = self.alloc;
+        let newest = items_if(&self.newest);
+        if newest.len() + self.own.len() <= BLOCK_LEN {
+            let items = joined(alloc, newest, &self.own)?;
+            with_newest(alloc, self.blocks.copy()?, items)
+        } else {
+            let items = joined(alloc, &self.own, &[])?;
+            with_newest(
+                alloc,
+                with_block_if(&self.blocks, alloc, &self.newest)?,
+                items,
+            )
+        }
+    }
+
+    /// Makes room for one more item.
+    pub fn reserve(&mut self) -> Result<(), NoMemory>
+        requires faithful { (x y : T) → T.is_clone x y → x ≡ y }
+        ensures room { OnOk result (1 ≤ self.new.room) }
+        ensures items { self.new.items ≡ self.old.items }
+    {
+        if self.own.len() < BLOCK_LEN {
+            self.own.reserve(1)?;
+            return Ok(());
+        }
+        let items = joined(self.alloc, &self.own, &[])?;
+        let blocks = with_block_if(&self.blocks, self.alloc, &self.newest)?;
+        let newest = Arc::new(self.alloc, Seq::of(items))?;
+        let mut own = Vec::new(self.alloc);
+        own.reserve(1)?;
+        self.blocks = blocks;
+        self.newest = Some(newest);
+        self.own = own;
+        Ok(())
+    }
+
+    /// Puts an item at the end, for which there is room. It takes no memory.
+    pub fn push_reserved(&mut self, item: T)
+        requires { 1 ≤ self.old.room }
+        ensures items { self.new.items ≡ self.old.items ++ item ∷ [] }
+        ensures room { self.old.room ≤ self.new.room + 1 }
+    {
+        self.own.push_reserved(item);
+    }
+
+    /// Puts an item at the end.
+    pub fn push(&mut self, item: T) -> Result<(), NoMemory>
+        requires faithful { (x y : T) → T.is_clone x y → x ≡ y }
+        ensures pushed { IfOk result (λ _. self.new.items ≡ self.old.items ++ item ∷ []) }
+        ensures kept { OnErr result (self.new.items ≡ self.old.items) }
+    {
+        self.reserve()?;
+        self.push_reserved(item);
+        Ok(())
+    }
+
+    /// The list with these items in place of those from place `from` on and below place `to`. It
+    /// costs the blocks in which both places are, the new items, and the number of blocks.
+    pub fn replaced(&self, from: usize, to: usize, items: &[T]) -> Result<BlockList<T>, NoMemory>
+        requires order { from ≤ to }
+        requires within { to ≤ length self.now.items }
+        requires faithful { (x y : T) → T.is_clone x y → x ≡ y }
+        ensures items { IfOk result (λ list. list.items ≡ take from self.now.items ++ items.now ++ drop to self.now.items) }
+    {
+        let mut made = Builder::new(self.alloc);
+        made.append(self, 0, from)?;
+        made.push_all(items)?;
+        made.append(self, to, self.len())?;
+        made.finish()
+    }
+}
+
+impl<T> BlockList<T> {
+    /// The block that is shared, begins at place `at` and ends at or before `end`, if one does.
+    pub(crate) fn whole_at(&self, at: usize, end: usize) -> Option<&Arc<Seq<T>>>
+        requires within { at < length self.now.items }
+        requires order { at ≤ end }
+        ensures run { IfSome result (λ block. IsRun self.now.items at end (arc_value block.now)) }
+        ensures few { IfSome result (λ block. length (arc_value block.now) ≤ block_len) }
+    {
+        whole_in(&self.blocks, &self.newest, &self.own, at, end)
+    }
+
+    /// The list of these blocks and one more. It takes one allocation.
+    pub(crate) fn of_blocks(
+        alloc: Global,
+        blocks: Blocks<T>,
+        newest: Option<Arc<Seq<T>>>,
+    ) -> BlockList<T>
+        requires { length (shared_if newest) ≤ block_len }
+        ensures { result.items ≡ blocks ++ shared_if newest }
+    {
+        BlockList {
+            alloc,
+            blocks,
+            newest,
+            own: Vec::new(alloc),
+        }
+    }
+}
+
+/// The list of blocks and of the items of one more.
+pub(crate) fn with_newest<T: Drop>(
+    alloc: Global,
+    blocks: Blocks<T>,
+    items: Vec<T>,
+) -> Result<BlockList<T>, NoMemory>
+    requires { vec_len items ≤ block_len }
+    ensures { IfOk result (λ list. list.items ≡ blocks ++ items.items) }
+{
+    let newest = Some(Arc::new(alloc, Seq::of(items))?);
+    Ok(BlockList::of_blocks(alloc, blocks, newest))
+}

@@ -1,0 +1,63 @@
+-- How many levels a tree has beside how much it holds.
+use Rattle.std.specs.Prelude.{◌≡◌, ℕ, suc, ◌+◌, ◌*◌, ◌^◌, ◌≤◌, max, List, [], ◌++◌, length, Some}
+use Rattle.ts_bucket.specs.Spans.{HullValue}
+use Rattle.chunk_catalog.specs.Places.{Kept, Placed, StartsIn, in_chunk}
+
+-- so many levels are few for so large a size: every second level doubles the least size
+abbrev pub AreFew : ℕ → ℕ → Type 0
+AreFew levels size = (k : ℕ) → 2 * k ≤ levels → 2 ^ k ≤ size
+
+-- how many levels of chunks a tree has, and how many levels of segments its chunks have at most
+pub record Levels : Type 0 where
+  pub chunks : ℕ
+  pub segments : ℕ
+
+-- the levels of a chunk with so many levels of segments between two trees
+abbrev pub levels_over : Levels → ℕ → Levels → Levels
+levels_over l n r = record { chunks = suc (max l.chunks r.chunks); segments = max n (max l.segments r.segments) }
+
+-- two trees may stand on both sides of a chunk: neither has two levels of chunks more than the other
+pub record AreLevel (l r : Levels) : Type 0 where
+  pub left : l.chunks ≤ suc r.chunks
+  pub right : r.chunks ≤ suc l.chunks
+
+-- these levels are few for so many versions
+pub record FewLevels (levels : Levels) (size : ℕ) : Type 0 where
+  pub chunks : AreFew levels.chunks (size + 1)
+  pub segments : AreFew levels.segments (2 * size + 1)
+
+-- two trees that are level, or of which one has two levels of chunks more than the other
+pub record AreNear (l r : Levels) : Type 0 where
+  pub left : l.chunks ≤ suc (suc r.chunks)
+  pub right : r.chunks ≤ suc (suc l.chunks)
+
+-- the levels of a tree that was made of two and a chunk between them: one more than the higher has, or as many where that one was
+-- too high
+pub record Balances (l r new : Levels) : Type 0 where
+  pub least : max l.chunks r.chunks ≤ new.chunks
+  pub most : new.chunks ≤ suc (max l.chunks r.chunks)
+  pub exact : AreLevel l r → new.chunks ≡ suc (max l.chunks r.chunks)
+
+-- as many levels of chunks as before, or one more
+pub record Grows (old new : Levels) : Type 0 where
+  pub least : old.chunks ≤ new.chunks
+  pub most : new.chunks ≤ suc old.chunks
+
+-- the versions of a tree in the order of the chunks, and its levels
+abbrev pub TreeValue : Type 0
+TreeValue = List Placed × Levels
+
+-- no chunk, and a chunk between two trees
+abbrev pub no_tree : TreeValue
+no_tree = ([], record { chunks = 0; segments = 0 })
+
+abbrev pub tree_over : TreeValue → Kept → TreeValue → TreeValue
+tree_over l chunk r = (l.0 ++ in_chunk chunk.start chunk.versions ++ r.0, levels_over l.1 chunk.levels r.1)
+
+-- what holds of a chunk between two trees, with a hull and a number of levels: the starts lie in the hull, the number is that of
+-- the levels of chunks, both sides are level, and there are few levels
+pub record IsOver (l : TreeValue) (chunk : Kept) (r : TreeValue) (starts : HullValue) (height : ℕ) : Type 0 where
+  pub starts_in : StartsIn (Some starts) (tree_over l chunk r).0
+  pub counted : height ≡ (tree_over l chunk r).1.chunks
+  pub even : AreLevel l.1 r.1
+  pub few : FewLevels (tree_over l chunk r).1 (length (tree_over l chunk r).0)

@@ -1,0 +1,174 @@
+//! Whether an event is allowed next.
+ghost use Rattle.std.specs.Prelude.{◌≡◌, ◌&&◌, cond, is_none, nat_le, None, Some};
+ghost use Rattle.ts_model.specs.History.{History};
+ghost use Rattle.ts_model.specs.Allowed.{allowed};
+ghost use Rattle.ts_model.specs.Pending.{is_known};
+ghost use Rattle.ts_model.specs.Sound.{columns_fit};
+ghost use Rattle.ts_schema.specs.Names.{is_name};
+ghost use Rattle.event_check.specs.Checks.{IsAt, event_refusal, finish_refusal, fits_by, hyper_refusal, no_number, refusal_by, refused, relation_refusal, sound_by};
+
+use crate::bytes::bytes_of;
+use crate::columns::{columns_are_fit, hyper_is_fit};
+use crate::cuts::span_is_fit;
+use crate::folds::view_is_fit_in;
+use crate::laws::name_law;
+use crate::operations::ops_are_fit;
+use crate::relations::{hyper_in, is_named, table_in, view_in};
+use ts_model::{Event, Pending, Refusal, Roster, TableDef};
+
+/// The number of a refusal that has none.
+const NO_NUMBER: u8 = 0;
+
+/// A name is taken, or a table is a hypertable.
+const NAME_TAKEN: u8 = 7;
+
+/// No refresh of this number waits.
+const NO_REFRESH: u8 = 19;
+
+/// There are as many as there may be.
+const TOO_MANY: u8 = 21;
+
+/// The most tables, and the most aggregates.
+const MOST_RELATIONS: usize = 64;
+
+/// An event takes fewer bytes than this.
+const BYTES_LIMIT: u64 = 4_294_967_296;
+
+/// A refusal at a position, with a number that its reply prints.
+fn refused(code: u8, pos: u64, mark: u64) -> Refusal
+    ensures { result ≡ refused code pos mark }
+{
+    Refusal { code, pos, mark }
+}
+
+/// Why a relation isn't made, where there are so many of its kind.
+fn relation_refusal(taken: bool, many: usize, position: u64) -> Option<Refusal>
+    ensures { result ≡ relation_refusal taken many position }
+{
+    if taken {
+        Some(refused(NAME_TAKEN, position, 0))
+    } else if many < MOST_RELATIONS {
+        None
+    } else {
+        Some(refused(TOO_MANY, position, 65))
+    }
+}
+
+/// Why a table isn't made a hypertable.
+fn hyper_refusal(made: bool, position: u64) -> Option<Refusal>
+    ensures { result ≡ hyper_refusal made position }
+{
+    if made {
+        Some(refused(NAME_TAKEN, position, 0))
+    } else {
+        None
+    }
+}
+
+/// Why a refresh isn't finished.
+fn finish_refusal(pending: Pending, position: u64) -> Option<Refusal>
+    ensures { result ≡ finish_refusal pending position }
+{
+    match pending {
+        Pending::Waiting(_) => None,
+        Pending::Finished(by) => Some(refused(NO_REFRESH, position, by)),
+        Pending::Unknown => Some(refused(NO_REFRESH, position, 0)),
+    }
+}
+
+/// Why the call that makes this event is refused.
+fn call_refusal(roster: &Roster, pending: Pending, position: u64, event: &Event) -> Option<Refusal>
+    ensures { result ≡ refusal_by roster.now pending position event.now }
+{
+    match event {
+        Event::Table(def) => {
+            relation_refusal(is_named(roster, &def.name), roster.tables.len(), position)
+        }
+        Event::Hyper { table, .. } => {
+            hyper_refusal(hyper_in(roster, *table).is_some(), position)
+        }
+        Event::View(def) => {
+            relation_refusal(is_named(roster, &def.name), roster.views.len(), position)
+        }
+        Event::Mode { .. } => None,
+        Event::Commit(_) => None,
+        Event::Cut { .. } => None,
+        Event::Built { .. } => finish_refusal(pending, position),
+    }
+}
+
+/// Whether a table may be made, as far as its name and its columns go.
+fn table_is_fit(def: &TableDef) -> bool
+    ensures { result ≡ (is_name def.now.name && columns_fit def.now.cols) }
+{
+    name_law(&def.name);
+    columns_are_fit(&def.cols)
+}
+
+/// Whether a refresh may be finished with the rows of a snapshot, as far as the positions go.
+fn finish_is_fit(pending: Pending, position: u64, base: u64, cut: u64, snap: u64) -> bool
+    ensures { result ≡ (is_known pending && nat_le cut snap && nat_le base snap && nat_le snap position) }
+{
+    let known = match pending {
+        Pending::Waiting(_) => true,
+        Pending::Finished(_) => true,
+        Pending::Unknown => false,
+    };
+    known && cut <= snap && base <= snap && snap <= position
+}
+
+/// Whether what an event names is there, and all that it holds is in range.
+fn is_fit(roster: &Roster, pending: Pending, position: u64, base: u64, event: &Event) -> bool
+    ensures { result ≡ fits_by roster.now pending position base event.now }
+{
+    match event {
+        Event::Table(def) => table_is_fit(def),
+        Event::Hyper { table, hyper } => hyper_is_fit(*hyper, table_in(roster, *table)),
+        Event::View(def) => view_is_fit_in(def, table_in(roster, def.table)),
+        Event::Mode { view, .. } => view_in(roster, *view).is_some(),
+        Event::Commit(ops) => ops_are_fit(roster, ops),
+        Event::Cut { view, span } => span_is_fit(*span, view_in(roster, *view)),
+        Event::Built { cut, snap } => finish_is_fit(pending, position, base, *cut, *snap),
+    }
+}
+
+/// Whether an event is fit and takes few enough bytes.
+fn is_sound(roster: &Roster, pending: Pending, position: u64, base: u64, event: &Event) -> bool
+    ensures { result ≡ sound_by roster.now pending position base event.now }
+{
+    let fit = is_fit(roster, pending, position, base, event);
+    fit && bytes_of(event) < BYTES_LIMIT
+}
+
+/// Why an event that no call refuses isn't allowed, where it isn't sound.
+fn unsound_refusal(sound: bool, position: u64) -> Option<Refusal>
+    ensures { result ≡ cond sound None (Some (refused no_number position 0)) }
+{
+    if sound {
+        None
+    } else {
+        Some(refused(NO_NUMBER, position, 0))
+    }
+}
+
+/// Why an event isn't allowed next at a history with this roster and position, which begins at `base`.
+/// It is refused as the call of a store that makes such an event is, as `E07`, `E21` or `E19`, and else
+/// with the number 0.
+///
+/// `pending` is what became of the refresh that the event finishes. At an event that finishes none it
+/// plays no part.
+pub fn refusal_of(
+    roster: &Roster,
+    pending: Pending,
+    position: u64,
+    base: u64,
+    event: &Event,
+) -> Option<Refusal>
+    ensures allowed { (h : History) → IsAt h event.now roster.now pending position base → is_none result ≡ allowed h event.now }
+    ensures refused { (h : History) → IsAt h event.now roster.now pending position base → result ≡ event_refusal h event.now }
+{
+    match call_refusal(roster, pending, position, event) {
+        Some(refusal) => Some(refusal),
+        None => unsound_refusal(is_sound(roster, pending, position, base, event), position),
+    }
+}

@@ -1,0 +1,89 @@
+//! Rows for a hypertable.
+ghost use Rattle.std.specs.Prelude.{◌≡◌, option_copied, remove};
+ghost use Rattle.std.specs.List.{list_all};
+ghost use Rattle.ts_model.specs.Roster.{of_table};
+ghost use Rattle.ts_model.specs.Sound.{row_fits, rows_fit, value_fits, values_fit};
+
+use crate::laws::word_law;
+use ts_bucket::{MAX_TIME, MIN_TIME};
+use ts_model::{Hyper, TableDef, TableInfo};
+use ts_schema::{Column, Row, Seq};
+
+fn value_is_fit(col: &Column, value: Option<i64>) -> bool
+    ensures { result ≡ value_fits col.now value }
+{
+    match value {
+        None => !col.must,
+        Some(number) => {
+            word_law(number);
+            true
+        }
+    }
+}
+
+fn values_are_fit(cols: &[Column], vals: &[Option<i64>]) -> bool
+    ensures { result ≡ values_fit cols.now vals.now }
+{
+    match cols {
+        [] => vals.is_empty(),
+        [col, more_cols @ ..] => match vals {
+            [] => false,
+            [value, more_vals @ ..] => value_is_fit(col, *value)
+                && values_are_fit(more_cols, more_vals),
+        },
+    }
+}
+
+/// Whether values fit the columns but the one at a place.
+fn others_are_fit(at: usize, cols: &[Column], vals: &[Option<i64>]) -> bool
+    ensures { result ≡ values_fit (remove cols.now at) vals.now }
+{
+    match cols {
+        [] => vals.is_empty(),
+        [col, more_cols @ ..] => {
+            if at == 0 {
+                return values_are_fit(more_cols, vals);
+            }
+            match vals {
+                [] => false,
+                [value, more_vals @ ..] => value_is_fit(col, *value)
+                    && others_are_fit(at - 1, more_cols, more_vals),
+            }
+        }
+    }
+}
+
+fn row_is_fit(def: &TableDef, hyper: Hyper, row: &Row) -> bool
+    ensures { result ≡ row_fits def.now hyper row.now }
+{
+    let timed = MIN_TIME <= row.at && row.at <= MAX_TIME;
+    let values = others_are_fit(hyper.at as usize, def.cols.items(), row.vals.items());
+    timed && values
+}
+
+fn each_row_is_fit(def: &TableDef, hyper: Hyper, rows: &Seq<Row>) -> bool
+    ensures { result ≡ list_all (row_fits def.now hyper) rows.now }
+{
+    rows.items().iter().all(|row| row_is_fit(def, hyper, row))
+}
+
+fn rows_are_fit(def: &TableDef, hyper: Hyper, rows: &Seq<Row>) -> bool
+    ensures { result ≡ rows_fit def.now hyper rows.now }
+{
+    let some = 0 < rows.len();
+    let each = each_row_is_fit(def, hyper, rows);
+    some && each
+}
+
+/// Whether there is a row, and all may be inserted into a table.
+pub(crate) fn rows_are_fit_in(rows: &Seq<Row>, info: Option<&TableInfo>) -> bool
+    ensures { result ≡ of_table (λ def hyper. rows_fit def hyper rows.now) (option_copied info.entry) }
+{
+    match info {
+        None => false,
+        Some(info) => match info.hyper {
+            None => false,
+            Some(hyper) => rows_are_fit(&info.def, hyper, rows),
+        },
+    }
+}

@@ -1,0 +1,5 @@
+use Rattle.group_fold.proofs.BucketGroups.{groups_of_one_bucket}
+use Rattle.group_fold.proofs.laws.groups_of_one_bucket.Goals as goal
+
+pub returns : goal.returns
+returns c = groups_of_one_bucket

@@ -1,5 +1,0 @@
-use Rattle.std.proofs.Common.{length}
-use Rattle.group_fold.proofs.tests.+tests_fit.Given as goal
-
-abbrev pub decreases-tests_fit : goal.decreases-tests_fit
-decreases-tests_fit l = length l.tests.now

@@ -1,0 +1,66 @@
+-- Groups in no order, as rows are taken in.
+use Rattle.std.specs.Prelude.{◌≡◌, ◌+◌, ◌^◌, ◌<◌, ◌≤◌, ℕ, suc, max, length, slice_index_or, List, [], ◌∷◌}
+use Rattle.std.specs.List.{AllByRecursion}
+use Rattle.std.specs.declared.cmp.Ordering.TheVariants.{Equal}
+use Rattle.ts_schema.specs.declared.rows.Row.{Row}
+use Rattle.ts_model.specs.declared.views.Fold.{Fold}
+use Rattle.partial_agg.specs.declared.groups.Group.{Group}
+use Rattle.partial_agg.specs.Groups.{group_cmp}
+use Rattle.partial_agg.specs.Summaries.{Summary}
+use Rattle.group_fold.specs.Grouping.{row_group}
+use Rattle.ts_model.specs.Groups.{groups_of}
+use Rattle.group_fold.specs.Merging.{with_group, with_groups}
+
+-- groups of no order put in order, where those of the same bucket and keys are merged
+abbrev pub ordered : List Group → List Group
+ordered groups = with_groups groups []
+
+-- a group of the same bucket and keys stands at a place
+pub record IsAt (g : Group) (groups : List Group) (at : ℕ) : Type 0 where
+  pub within : at < length groups
+  pub same : (d : Group) → group_cmp (slice_index_or groups at d) g ≡ Equal
+
+-- a group has one part for each aggregate, and its counts are below a bound
+abbrev pub IsBelow : ℕ → Fold → Group → Type 0
+IsBelow bound fold g = (length g.parts ≡ length fold.aggs) × AllByRecursion (λ p. p.count < bound) g.parts
+
+-- the greatest count of these parts
+abbrev pub most_counted : List Summary → ℕ
+most_counted [] = 0
+most_counted (p ∷ ps) = max p.count (most_counted ps)
+
+-- the counts of groups taken together
+abbrev pub counted : List Group → ℕ
+counted [] = 0
+counted (g ∷ gs) = most_counted g.parts + counted gs
+
+-- every group has so many parts
+abbrev pub HaveParts : ℕ → List Group → Type 0
+HaveParts n groups = AllByRecursion (λ g. length g.parts ≡ n) groups
+
+-- as many parts as the first group has
+abbrev pub parts_each : List Group → ℕ
+parts_each [] = 0
+parts_each (g ∷ gs) = length g.parts
+
+-- groups of no order can be put in order: they have as many parts, and their counts can be added up
+pub record CanOrder (groups : List Group) : Type 0 where
+  pub alike : HaveParts (parts_each groups) groups
+  pub few : counted groups < 2 ^ 62
+
+-- groups of a plan, with room for so many rows more
+pub record HasRoom (more : ℕ) (fold : Fold) (groups : List Group) : Type 0 where
+  pub alike : HaveParts (length fold.aggs) groups
+  pub few : counted groups + more < 2 ^ 62
+
+-- these are, in some order, the groups of these rows
+pub record IsGathered (fold : Fold) (rows : List Row) (groups : List Group) : Type 0 where
+  pub groups_are : ordered groups ≡ groups_of fold rows
+  pub alike : HaveParts (length fold.aggs) groups
+  pub few : counted groups ≤ length rows
+
+-- one row was taken in
+pub record Takes (fold : Fold) (row : Row) (old new : List Group) : Type 0 where
+  pub groups_are : ordered new ≡ with_group (row_group fold row) (ordered old)
+  pub alike : HaveParts (length fold.aggs) new
+  pub few : counted new ≤ suc (counted old)

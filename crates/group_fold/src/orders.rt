@@ -1,0 +1,70 @@
+//! Groups put in order.
+ghost use Rattle.std.specs.Prelude.{◌≡◌, ◌∷◌, true, IfOk};
+ghost use Rattle.std.specs.declared.cmp.Ordering.TheVariants.{Less};
+ghost use Rattle.partial_agg.specs.Groups.{group_cmp};
+ghost use Rattle.group_fold.specs.Gathering.{CanOrder, ordered};
+ghost use Rattle.group_fold.specs.Merging.{AreInOrder};
+
+use crate::joins::join_lists;
+use partial_agg::{Group, group_order};
+use std::alloc::Global;
+use std::cmp::Ordering;
+use ts_schema::NoMemory;
+
+/// Groups in order by bucket and keys, where those of the same bucket and keys are merged.
+pub(crate) fn in_order(alloc: Global, groups: Vec<Group>) -> Result<Vec<Group>, NoMemory>
+    requires { CanOrder groups.items }
+    ensures { IfOk result (λ sorted. sorted.items ≡ ordered groups.items) }
+{
+    let mut sorted = groups;
+    sorted.sort_by(|a: &Group, b: &Group| group_order(a, b))?;
+    if rises(sorted.as_slice()) {
+        return Ok(sorted);
+    }
+    merged(alloc, sorted)
+}
+
+/// Whether each group stands before the next one, so that no two have the same bucket and keys.
+fn rises(groups: &[Group]) -> bool
+    ensures { result ≡ true → AreInOrder groups.now }
+{
+    let mut left = groups;
+    while let [group, rest @ ..] = left {
+        if !is_before_all(group, rest) {
+            return false;
+        }
+        left = rest;
+    }
+    true
+}
+
+/// Whether a group stands before the first of others, or there is none.
+fn is_before_all(group: &Group, others: &[Group]) -> bool
+    ensures { result ≡ true → AreInOrder others.now → AreInOrder (group.now ∷ others.now) }
+{
+    match others {
+        [] => true,
+        [next, ..] => is_before(group, next),
+    }
+}
+
+fn is_before(group: &Group, next: &Group) -> bool
+    ensures { result ≡ true → group_cmp group.now next.now ≡ Less }
+{
+    group_order(group, next) == Ordering::Less
+}
+
+/// The same of groups of which some have the same bucket and keys.
+fn merged(alloc: Global, groups: Vec<Group>) -> Result<Vec<Group>, NoMemory>
+    requires { CanOrder groups.items }
+    ensures { IfOk result (λ sorted. sorted.items ≡ ordered groups.items) }
+{
+    if groups.len() < 2 {
+        return Ok(groups);
+    }
+    let mut front = groups;
+    let back = front.split_off(front.len() / 2)?;
+    let mine = merged(alloc, front)?;
+    let theirs = merged(alloc, back)?;
+    join_lists(alloc, mine, theirs)
+}

@@ -1,0 +1,45 @@
+-- Groups with those of some spans replaced.
+use Rattle.std.specs.Prelude.{◌≡◌, ℕ, true, false, ℤ, ◌≤ℤ◌, int_lt, int_le, List, [], ◌∷◌, ◌++◌, filter}
+use Rattle.std.specs.List.Sorted.{IsStrictlySortedBy, IsPartitionPoint}
+use Rattle.std.specs.Ordering.{int_eq}
+use Rattle.ts_bucket.specs.Spans.{SpanValue, in_span}
+use Rattle.partial_agg.specs.declared.groups.Group.{Group}
+use Rattle.partial_agg.specs.Groups.{group_cmp}
+
+-- the groups whose buckets start below x, from x on, and in a span
+abbrev pub below : ℤ → List Group → List Group
+below x groups = filter (λ g. int_lt g.start x) groups
+
+abbrev pub from_on : ℤ → List Group → List Group
+from_on x groups = filter (λ g. int_le x g.start) groups
+
+abbrev pub within : SpanValue → List Group → List Group
+within s groups = filter (λ g. in_span s g.start) groups
+
+-- the groups of the list start below x before a place, and from x on after it
+abbrev pub PartsAt : ℤ → List Group → ℕ → Type 0
+PartsAt x groups place = IsPartitionPoint (λ g. int_lt g.start x ≡ true) (λ g. int_lt g.start x ≡ false) groups place
+
+-- the groups of the bucket that starts at b
+abbrev pub of_bucket : ℤ → List Group → List Group
+of_bucket b groups = filter (λ g. int_eq g.start b) groups
+
+-- the old groups, where the new ones are in place of those that start in one of the spans
+abbrev pub replaced : List SpanValue → List Group → List Group → List Group
+replaced [] new old = old
+replaced (s ∷ ss) new old = below s.lo old ++ (within s new ++ replaced ss new (from_on s.hi old))
+
+-- each span starts at or above the end of the one before it
+abbrev pub SpansRise : List SpanValue → Type 0
+SpansRise [] = Unit {0}
+SpansRise (s ∷ []) = Unit {0}
+SpansRise (s ∷ t ∷ ss) = (s.hi ≤ℤ t.lo) × SpansRise (t ∷ ss)
+
+-- no span ends below its start
+abbrev pub AreSpans : List SpanValue → Type 0
+AreSpans [] = Unit {0}
+AreSpans (s ∷ ss) = (s.lo ≤ℤ s.hi) × AreSpans ss
+
+-- groups in order: by bucket, and then by keys, and no two of one bucket with the same keys
+abbrev pub AreInOrder : List Group → Type 0
+AreInOrder groups = IsStrictlySortedBy group_cmp groups

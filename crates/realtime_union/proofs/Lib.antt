@@ -1,0 +1,4 @@
+pub mod LiveLaws
+pub mod OrderedRows
+pub mod UnionLaws
+pub mod NearLaws

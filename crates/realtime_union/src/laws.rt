@@ -1,0 +1,17 @@
+//! Laws of what is shown and of what is looked at. Each is the clause of a function that does nothing.
+ghost use Rattle.realtime_union.specs.Laws.{AllTimesReadAll, LiveReadsAreOfBuckets, UnionsAreOfBuckets};
+
+/// What an aggregate shows is, bucket by bucket of those asked for, what it shows of the bucket.
+pub fn unions_are_of_buckets()
+    ensures { UnionsAreOfBuckets }
+{}
+
+/// The rows in chunks that meet the live span are those in chunks that meet a live bucket.
+pub fn live_reads_are_of_buckets()
+    ensures { LiveReadsAreOfBuckets }
+{}
+
+/// A scan of all times looks at all stored rows.
+pub fn all_times_read_all()
+    ensures { AllTimesReadAll }
+{}

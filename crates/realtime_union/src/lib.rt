@@ -1,0 +1,14 @@
+//! What an aggregate shows: its materialised groups, and at or above its mark the groups of the rows.
+#![tactic(auto)]
+
+pub mod laws;
+mod live;
+mod passing;
+mod shown;
+mod tables;
+mod unions;
+
+pub use live::live_span;
+pub use passing::passing_rows;
+pub use tables::folded_rows;
+pub use unions::union_rows;

@@ -1,0 +1,66 @@
+//! What a grouping over a whole hypertable shows.
+ghost use Rattle.std.specs.Prelude.{◌≡◌, ◌∷◌, [], IfOk, MatchResult, map};
+ghost use Rattle.ts_schema.specs.Counts.{raised_by, RaisedUpTo};
+ghost use Rattle.ts_model.specs.Groups.{cells_of};
+ghost use Rattle.ts_model.specs.Reads.{rows_near};
+ghost use Rattle.ts_model.specs.Rows.{in_order};
+ghost use Rattle.ts_model.specs.Scratch.{fold_rows};
+ghost use Rattle.span_fold.specs.Spans.{HaveTimes};
+ghost use Rattle.realtime_union.specs.Live.{all_times};
+
+use crate::shown::show;
+use partial_agg::Group;
+use span_fold::fold_spans;
+use std::alloc::Global;
+use std::thread::Threads;
+use ts_bucket::{MAX_TIME, MIN_TIME, Span};
+use ts_model::{Fold, RowsAt};
+use ts_num::Datum;
+use ts_schema::{NoMemory, Seq, Steps};
+
+/// The result rows of a grouping over all rows of a hypertable, by one scan of all times. It counts one
+/// step for each stored row in a chunk that holds a time.
+pub fn folded_rows<R: Threads + Sync, W: RowsAt, L>(
+    rt: &R,
+    alloc: Global,
+    rows: &W,
+    table: u32,
+    plan: &Fold,
+    steps: &mut Steps<L>,
+) -> Result<Seq<Seq<Datum>>, NoMemory>
+    requires times { HaveTimes (W.visible rows.now table) }
+    ensures rows { IfOk result (λ shown. shown ≡ fold_rows plan.now (in_order (W.visible rows.now table))) }
+    ensures read { MatchResult result (λ _. steps.new ≡ raised_by (rows_near (W.interval rows.now table) (W.stored rows.now table) (all_times ∷ [])) steps.old) (λ _. RaisedUpTo (rows_near (W.interval rows.now table) (W.stored rows.now table) (all_times ∷ [])) steps.old steps.new) }
+{
+    let _so_far = steps.count();
+    let groups = all_groups(rt, alloc, rows, table, plan, steps)?;
+    let mut shown = Seq::new(alloc);
+    show(alloc, plan, groups.items(), &mut shown)?;
+    Ok(shown)
+}
+
+/// The groups of all rows.
+fn all_groups<R: Threads + Sync, W: RowsAt, L>(
+    rt: &R,
+    alloc: Global,
+    rows: &W,
+    table: u32,
+    plan: &Fold,
+    steps: &mut Steps<L>,
+) -> Result<Seq<Group>, NoMemory>
+    requires times { HaveTimes (W.visible rows.now table) }
+    ensures shown { IfOk result (λ groups. map (cells_of plan.now) groups ≡ fold_rows plan.now (in_order (W.visible rows.now table))) }
+    ensures read { MatchResult result (λ _. steps.new ≡ raised_by (rows_near (W.interval rows.now table) (W.stored rows.now table) (all_times ∷ [])) steps.old) (λ _. RaisedUpTo (rows_near (W.interval rows.now table) (W.stored rows.now table) (all_times ∷ [])) steps.old steps.new) }
+{
+    fold_spans(rt, alloc, rows, table, plan, &[whole_time()], steps)
+}
+
+/// All times.
+pub(crate) fn whole_time() -> Span
+    ensures { result ≡ all_times }
+{
+    Span {
+        lo: MIN_TIME,
+        hi: MAX_TIME + 1,
+    }
+}

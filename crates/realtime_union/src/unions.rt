@@ -1,0 +1,65 @@
+//! Materialised and live groups together.
+ghost use Rattle.std.specs.Prelude.{◌≡◌, ℤ, Option, IfOk, MatchResult};
+ghost use Rattle.ts_bucket.specs.Spans.{SpanValue};
+ghost use Rattle.ts_bucket.specs.WholeSpans.{IsWholeSpan};
+ghost use Rattle.ts_schema.specs.Counts.{raised_by, RaisedUpTo};
+ghost use Rattle.ts_model.specs.Rows.{in_order};
+ghost use Rattle.span_fold.specs.Spans.{HaveTimes};
+ghost use Rattle.realtime_union.specs.Live.{IsLiveSpan, live_groups, live_reads, union_rows};
+
+use crate::shown::show;
+use partial_agg::Group;
+use span_fold::fold_spans;
+use std::alloc::Global;
+use std::thread::Threads;
+use ts_bucket::Span;
+use ts_model::{RowsAt, ViewDef};
+use ts_num::Datum;
+use ts_schema::{NoMemory, Seq, Steps};
+
+/// The result rows of an aggregate for the buckets asked for: those of its materialised groups, which
+/// lie below its mark, and then, where it doesn't show materialised rows only, those of the rows of
+/// the live buckets, whose span `live_span` gives, by one scan. It counts one step for each stored row in the
+/// chunks that meet a bucket of that scan.
+pub fn union_rows<R: Threads + Sync, W: RowsAt, L>(
+    rt: &R,
+    alloc: Global,
+    rows: &W,
+    def: &ViewDef,
+    kept: &Seq<Group>,
+    live: Span,
+    steps: &mut Steps<L>,
+) -> Result<Seq<Seq<Datum>>, NoMemory>
+    requires whole { IsWholeSpan def.now.fold.width live }
+    requires times { HaveTimes (W.visible rows.now def.now.table) }
+    ensures rows { IfOk result (λ shown. (mark : Option ℤ) (starts : SpanValue) → IsLiveSpan def.now.fold.width mark starts live → shown ≡ union_rows def.now kept.now mark starts (in_order (W.visible rows.now def.now.table))) }
+    ensures read { MatchResult result (λ _. steps.new ≡ raised_by (live_reads def.now (W.interval rows.now def.now.table) (W.stored rows.now def.now.table) live) steps.old) (λ _. RaisedUpTo (live_reads def.now (W.interval rows.now def.now.table) (W.stored rows.now def.now.table) live) steps.old steps.new) }
+{
+    let _so_far = steps.count();
+    let live = live_of(rt, alloc, rows, def, live, steps)?;
+    let mut shown = Seq::new(alloc);
+    show(alloc, &def.fold, kept.items(), &mut shown)?;
+    show(alloc, &def.fold, live.items(), &mut shown)?;
+    Ok(shown)
+}
+
+/// The groups of the live buckets, or none where materialised rows only are shown.
+fn live_of<R: Threads + Sync, W: RowsAt, L>(
+    rt: &R,
+    alloc: Global,
+    rows: &W,
+    def: &ViewDef,
+    live: Span,
+    steps: &mut Steps<L>,
+) -> Result<Seq<Group>, NoMemory>
+    requires whole { IsWholeSpan def.now.fold.width live }
+    requires times { HaveTimes (W.visible rows.now def.now.table) }
+    ensures groups { IfOk result (λ groups. (mark : Option ℤ) (starts : SpanValue) → IsLiveSpan def.now.fold.width mark starts live → groups ≡ live_groups def.now mark starts (in_order (W.visible rows.now def.now.table))) }
+    ensures read { MatchResult result (λ _. steps.new ≡ raised_by (live_reads def.now (W.interval rows.now def.now.table) (W.stored rows.now def.now.table) live) steps.old) (λ _. RaisedUpTo (live_reads def.now (W.interval rows.now def.now.table) (W.stored rows.now def.now.table) live) steps.old steps.new) }
+{
+    let _so_far = steps.count();
+    if def.only {
+        return Ok(Seq::new(alloc));
+    }
+    fold_spans(rt, alloc, rows, def.table, &def.fold, &[live], steps)
+}

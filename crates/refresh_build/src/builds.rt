@@ -1,0 +1,82 @@
+//! Jobs made from rows.
+ghost use Rattle.std.specs.Prelude.{◌≡◌, IfOk, List, MatchResult};
+ghost use Rattle.std.specs.List.{AllByRecursion};
+ghost use Rattle.ts_bucket.specs.Ranges.{AreRanges, IsWholeRange};
+ghost use Rattle.ts_bucket.specs.WholeSpans.{IsWholeSpan};
+ghost use Rattle.ts_bucket.specs.declared.spans.Span.{Span};
+ghost use Rattle.ts_schema.specs.Counts.{raised_by, RaisedUpTo};
+ghost use Rattle.mat_log.specs.Feeding.{AreWithin, is_dirty_with};
+ghost use Rattle.span_fold.specs.Spans.{AreApart, HaveTimes, near_each};
+ghost use Rattle.refresh_build.specs.Jobs.{IsFor, IsMadeOf};
+
+use crate::jobs::{Job, Refresh};
+use crate::tops::end_of;
+use block_list::BlockList;
+use inval_log::Entry;
+use mat_log::MatLog;
+use span_fold::fold_spans;
+use std::alloc::Global;
+use std::thread::Threads;
+use ts_bucket::Span;
+use ts_model::{RowsAt, ViewDef};
+use ts_schema::{NoMemory, Seq, Steps};
+
+/// The job of a refresh: it makes the buckets of its span anew that have no last refresh or at which
+/// something is pending once the entries were fed, as ranges that are as long as can be. Each of them
+/// is scanned once. It counts one step for each stored row in the chunks that meet the range.
+pub fn build<R: Threads + Sync, W: RowsAt, L>(
+    rt: &R,
+    alloc: Global,
+    rows: &W,
+    def: &ViewDef,
+    log: &MatLog,
+    entries: &BlockList<Entry>,
+    refresh: Refresh,
+    steps: &mut Steps<L>,
+) -> Result<Job, NoMemory>
+    requires whole { IsWholeSpan log.now.width refresh.span }
+    requires width { log.now.width ≡ def.now.fold.width }
+    requires within { AreWithin entries.now.items log.now }
+    requires times { HaveTimes (W.visible rows.now def.now.table) }
+    ensures ranges { IfOk result (λ job. AreRanges def.now.fold.width refresh.span (is_dirty_with log.now entries.now.items) job.spans) }
+    ensures refresh { IfOk result (λ job. IsFor refresh job.spans job) }
+    ensures made { IfOk result (IsMadeOf def.now.fold (W.visible rows.now def.now.table)) }
+    ensures read { (spans : List Span) → AreRanges def.now.fold.width refresh.span (is_dirty_with log.now entries.now.items) spans → MatchResult result (λ _. steps.new ≡ raised_by (near_each (W.interval rows.now def.now.table) (W.stored rows.now def.now.table) spans) steps.old) (λ _. RaisedUpTo (near_each (W.interval rows.now def.now.table) (W.stored rows.now def.now.table) spans) steps.old steps.new) }
+{
+    let _so_far = steps.count();
+    let spans = log.dirty_with(entries, refresh.span)?;
+    build_ranges(rt, alloc, rows, def, refresh, spans, steps)
+}
+
+/// A job of a refresh that makes these ranges of whole buckets anew, of which no two hold the same
+/// bucket. Each is scanned once. It counts one step for each stored row in the chunks that meet the
+/// range.
+pub fn build_ranges<R: Threads + Sync, W: RowsAt, L>(
+    rt: &R,
+    alloc: Global,
+    rows: &W,
+    def: &ViewDef,
+    refresh: Refresh,
+    spans: Seq<Span>,
+    steps: &mut Steps<L>,
+) -> Result<Job, NoMemory>
+    requires whole { AllByRecursion (IsWholeRange def.now.fold.width) spans }
+    requires apart { AreApart spans }
+    requires times { HaveTimes (W.visible rows.now def.now.table) }
+    ensures refresh { IfOk result (IsFor refresh spans) }
+    ensures made { IfOk result (IsMadeOf def.now.fold (W.visible rows.now def.now.table)) }
+    ensures read { MatchResult result (λ _. steps.new ≡ raised_by (near_each (W.interval rows.now def.now.table) (W.stored rows.now def.now.table) spans) steps.old) (λ _. RaisedUpTo (near_each (W.interval rows.now def.now.table) (W.stored rows.now def.now.table) spans) steps.old steps.new) }
+{
+    let width = def.fold.width;
+    let groups = fold_spans(rt, alloc, rows, def.table, &def.fold, spans.items(), steps)?;
+    let top = end_of(width, groups.items());
+    Ok(Job {
+        view: refresh.view,
+        cut: refresh.cut,
+        snap: refresh.snap,
+        span: refresh.span,
+        spans,
+        groups,
+        top,
+    })
+}

@@ -1,0 +1,79 @@
+-- Refreshes in order of their cuts, beside a history.
+use Rattle.std.specs.Prelude.{◌≡◌, ℕ, suc, ◌<◌, ◌≤◌, cond, ◌==◌, List, [], ◌∷◌, length, slice_index_or, Option, Some, None, unwrap_or}
+use Rattle.std.specs.List.{AllByRecursion}
+use Rattle.ts_bucket.specs.declared.spans.Span.{Span}
+use Rattle.ts_model.specs.declared.refreshes.Pending.{Pending}
+use Rattle.ts_model.specs.declared.refreshes.Pending.TheVariants.{Waiting, Finished, Unknown}
+use Rattle.ts_model.specs.declared.refreshes.Waiting.{Waiting as WaitingRefresh}
+use Rattle.ts_model.specs.History.{History, position}
+use Rattle.ts_model.specs.Pending.{pending, waiting}
+use Rattle.ts_model.specs.Refreshes.{span_of_cut}
+use Rattle.refresh_list.specs.declared.refreshes.Refresh.{Refresh}
+
+-- a refresh that was cut and isn't finished
+abbrev pub newly_cut : ℕ → ℕ → Span → Refresh
+newly_cut cut view span = record { cut = cut; view = view; span = span; finish = None }
+
+-- what became of a refresh, by the number of its finish, if it has one
+abbrev pub state_by : ℕ → Option ℕ → Pending
+state_by view None = Waiting view
+state_by view (Some k) = Finished k
+
+-- what became of the refresh with a number
+abbrev pub pending_in : List Refresh → ℕ → Pending
+pending_in [] k = Unknown
+pending_in (r ∷ rs) k = cond (k == r.cut) (state_by r.view r.finish) (pending_in rs k)
+
+-- a refresh, where it has no finish, before others that wait
+abbrev pub with_waiting : Refresh → Option ℕ → List WaitingRefresh → List WaitingRefresh
+with_waiting r None rs = record { cut = r.cut; view = r.view; span = r.span } ∷ rs
+with_waiting r (Some k) rs = rs
+
+-- those that aren't finished
+abbrev pub waiting_in : List Refresh → List WaitingRefresh
+waiting_in [] = []
+waiting_in (r ∷ rs) = with_waiting r r.finish (waiting_in rs)
+
+-- the refresh that is there with a number, if one is
+abbrev pub refresh_in : List Refresh → ℕ → Option Refresh
+refresh_in [] k = None
+refresh_in (r ∷ rs) k = cond (k == r.cut) (Some r) (refresh_in rs k)
+
+-- each cut is after the one before it, and the first after n
+abbrev pub CutsRise : ℕ → List Refresh → Type 0
+CutsRise n [] = Unit {0}
+CutsRise n (r ∷ rs) = (n < r.cut) × CutsRise r.cut rs
+
+-- each cut is before n
+abbrev pub CutsBelow : ℕ → List Refresh → Type 0
+CutsBelow n rs = AllByRecursion (λ r. r.cut < n) rs
+
+-- each cut is at or after n
+abbrev pub CutsFrom : ℕ → List Refresh → Type 0
+CutsFrom n rs = AllByRecursion (λ r. n ≤ r.cut) rs
+
+-- a refresh that event number k finished, unless it was finished before
+abbrev pub finished_one : ℕ → Refresh → Refresh
+finished_one k r = record r { finish = Some (unwrap_or r.finish k) }
+
+-- the same, where it has this number
+abbrev pub finished_at : ℕ → ℕ → Refresh → Refresh
+finished_at cut k r = cond (cut == r.cut) (finished_one k r) r
+
+-- the refreshes are those of a history: what became of each, which wait, the span of each, and none is from after the history
+pub record RefreshesStand (h : History) (refreshes : List Refresh) : Type 0 where
+  pub pending : (k : ℕ) → pending_in refreshes k ≡ pending h k
+  pub waiting : waiting_in refreshes ≡ waiting h
+  pub spans : AllByRecursion (λ r. span_of_cut r.view h r.cut ≡ Some r.span) refreshes
+  pub past : CutsBelow (suc (position h)) refreshes
+
+-- the refresh with number k stands at place p
+pub record StandsAt (rs : List Refresh) (k p : ℕ) : Type 0 where
+  pub within : p < length rs
+  pub named : (d : Refresh) → (slice_index_or rs p d).cut ≡ k
+  pub found : (d : Refresh) → refresh_in rs k ≡ Some (slice_index_or rs p d)
+
+-- the place of the refresh with number k, where it is there
+abbrev pub IsPlace : List Refresh → ℕ → Option ℕ → Type 0
+IsPlace rs k None = refresh_in rs k ≡ None
+IsPlace rs k (Some p) = StandsAt rs k p

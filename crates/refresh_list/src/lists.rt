@@ -1,0 +1,201 @@
+//! Refreshes in order of their cuts.
+ghost use Rattle.std.specs.Prelude.{◌≡◌, ◌<◌, ◌≤◌, ◌++◌, ◌∷◌, [], drop, length, map, take, IfOk, None, Some};
+ghost use Rattle.refresh_list.specs.Refreshes.{CutsBelow, CutsFrom, CutsRise, IsPlace, StandsAt, finished_at, finished_one, newly_cut, pending_in, refresh_in, state_by, waiting_in};
+
+use crate::refreshes::Refresh;
+use block_list::BlockList;
+use std::alloc::Global;
+use std::marker::Model;
+use ts_bucket::Span;
+use ts_model::{Pending, Waiting};
+use ts_schema::{NoMemory, Seq};
+
+/// The refreshes that were cut, in order of their cuts. Contracts see the list of them.
+///
+/// A change makes a new list, which shares what it leaves alone with the old one.
+#[derive(Drop, Debug)]
+pub struct Refreshes {
+    list: BlockList<Refresh>,
+}
+
+impl Model for Refreshes {
+    ghost use Rattle.std.specs.Prelude.{List};
+    ghost use Rattle.refresh_list.specs.declared.refreshes.Refresh.{Refresh};
+    ghost use Rattle.refresh_list.specs.Refreshes.{CutsRise};
+
+    ghost Value = { List Refresh };
+
+    ghost view = { λ r. r.list.items };
+
+    ghost invariant = { λ r. CutsRise 0 r.list.items };
+}
+
+/// The place of the first refresh whose cut is at or after a number.
+fn first_from(list: &BlockList<Refresh>, cut: u64) -> usize
+    requires rise { CutsRise 0 list.now.items }
+    ensures within { result ≤ length list.now.items }
+    ensures below { CutsBelow cut (take result list.now.items) }
+    ensures from { CutsFrom cut (drop result list.now.items) }
+{
+    let mut low = 0;
+    let mut high = list.len();
+    while low < high {
+        let middle = low + (high - low) / 2;
+        if list.get(middle).cut < cut {
+            low = middle + 1;
+        } else {
+            high = middle;
+        }
+    }
+    low
+}
+
+/// The place of the refresh with this number, if it is there.
+fn place_of(list: &BlockList<Refresh>, cut: u64) -> Option<usize>
+    requires rise { CutsRise 0 list.now.items }
+    ensures place { IsPlace list.now.items cut result }
+{
+    let place = first_from(list, cut);
+    if place == list.len() {
+        return None;
+    }
+    if list.get(place).cut == cut {
+        Some(place)
+    } else {
+        None
+    }
+}
+
+/// What became of a refresh.
+fn state_of(refresh: Refresh) -> Pending
+    ensures { result ≡ state_by refresh.view refresh.finish }
+{
+    match refresh.finish {
+        None => Pending::Waiting(refresh.view),
+        Some(by) => Pending::Finished(by),
+    }
+}
+
+/// A refresh that an event finished, unless it was finished before.
+fn marked(refresh: Refresh, by: u64) -> Refresh
+    ensures { result ≡ finished_one by refresh }
+{
+    Refresh {
+        cut: refresh.cut,
+        view: refresh.view,
+        span: refresh.span,
+        finish: Some(refresh.finish.unwrap_or(by)),
+    }
+}
+
+/// The refreshes after the one at a place, which has this number, was finished.
+fn with_mark(
+    list: &BlockList<Refresh>,
+    place: usize,
+    cut: u64,
+    by: u64,
+) -> Result<BlockList<Refresh>, NoMemory>
+    requires rise { CutsRise 0 list.now.items }
+    requires stands { StandsAt list.now.items cut place }
+    ensures marked { IfOk result (λ new. new.items ≡ map (finished_at cut by) list.now.items) }
+{
+    let _many = list.len();
+    let marked = marked(*list.get(place), by);
+    list.replaced(place, place + 1, &[marked])
+}
+
+impl Refreshes {
+    /// No refresh. It takes no memory.
+    pub fn new(alloc: Global) -> Refreshes
+        ensures none { result ≡ [] }
+    {
+        Refreshes {
+            list: BlockList::new(alloc),
+        }
+    }
+
+    /// The same refreshes again. It is a count.
+    pub fn copy(&self) -> Result<Refreshes, NoMemory>
+        ensures same { IfOk result (λ copy. copy ≡ self.now) }
+    {
+        Ok(Refreshes {
+            list: self.list.copy()?,
+        })
+    }
+
+    /// The refresh with this number, if it is there.
+    pub fn find(&self, cut: u64) -> Option<Refresh>
+        ensures found { result ≡ refresh_in self.now cut }
+    {
+        match place_of(&self.list, cut) {
+            None => None,
+            Some(place) => Some(*self.list.get(place)),
+        }
+    }
+
+    /// What became of the refresh with this number.
+    pub fn pending(&self, cut: u64) -> Pending
+        ensures pending { result ≡ pending_in self.now cut }
+    {
+        match self.find(cut) {
+            None => Pending::Unknown,
+            Some(refresh) => state_of(refresh),
+        }
+    }
+
+    /// The refreshes with one more, which was cut after all of them.
+    pub fn with_cut(&self, cut: u64, view: u32, span: Span) -> Result<Refreshes, NoMemory>
+        requires some { 0 < cut }
+        requires after { CutsBelow cut self.now }
+        ensures cut { IfOk result (λ new. new ≡ self.now ++ newly_cut cut view span ∷ []) }
+    {
+        let mut list = self.list.copy()?;
+        list.push(Refresh {
+            cut,
+            view,
+            span,
+            finish: None,
+        })?;
+        Ok(Refreshes {
+            list: list.shared()?,
+        })
+    }
+
+    /// The refreshes after the event with number `by` finished the one with number `cut`, unless it was
+    /// finished before.
+    pub fn finished(&self, cut: u64, by: u64) -> Result<Refreshes, NoMemory>
+        ensures finished { IfOk result (λ new. new ≡ map (finished_at cut by) self.now) }
+    {
+        match place_of(&self.list, cut) {
+            None => self.copy(),
+            Some(place) => Ok(Refreshes {
+                list: with_mark(&self.list, place, cut, by)?,
+            }),
+        }
+    }
+
+    /// The refreshes that aren't finished, in order of their cuts.
+    pub fn waiting(&self) -> Result<Seq<Waiting>, NoMemory>
+        ensures waiting { IfOk result (λ found. found ≡ waiting_in self.now) }
+    {
+        let mut found = Seq::new(self.list.allocator());
+        for refresh in self.list.iter() {
+            push_waiting(&mut found, refresh)?;
+        }
+        Ok(found)
+    }
+}
+
+/// Appends a refresh where it isn't finished.
+fn push_waiting(found: &mut Seq<Waiting>, refresh: &Refresh) -> Result<(), NoMemory>
+    ensures { IfOk result (λ _. found.new ≡ found.old ++ waiting_in (refresh.now ∷ [])) }
+{
+    match refresh.finish {
+        None => found.push(Waiting {
+            cut: refresh.cut,
+            view: refresh.view,
+            span: refresh.span,
+        }),
+        Some(_) => Ok(()),
+    }
+}

@@ -1,0 +1,177 @@
+-- Laws of rows in spans and in pieces.
+use Rattle.std.proofs.Common.{◌≡◌, ℕ, ◌+◌, ◌≤◌, ◌<◌, ◌^◌, ◌-◌, length, get_or, take, take_all, drop, Bool, true, false, ◌&&◌, ◌||◌, cond, List, [], ◌∷◌, ◌++◌, ℤ, refl, sym, ◌∙◌, ap, arith}
+use Rattle.std.specs.List.{filter, list_all}
+use Rattle.std.specs.Prelude.{Result, Ok, Err, MatchResult}
+use Rattle.std.specs.Ordering.{is_gt}
+use Rattle.std.proofs.lemmas.Bool.{and_parts, and_from}
+use Rattle.std.proofs.lemmas.List.{append_assoc, append-nil}
+use Rattle.std.proofs.lemmas.List.Folds.{list_all-append}
+use Rattle.ts_bucket.specs.Bucket.{IsWidth, is_time}
+use Rattle.ts_bucket.specs.Ranges.{lies_in}
+use Rattle.ts_bucket.specs.Spans.{in_span}
+use Rattle.ts_bucket.specs.declared.spans.Span.{Span}
+use Rattle.ts_schema.specs.declared.rows.Row.{Row}
+use Rattle.ts_schema.specs.Rows.{row_cmp}
+use Rattle.ts_schema.specs.Counts.{raised_by, RaisedUpTo}
+use Rattle.ts_model.specs.declared.views.Fold.{Fold}
+use Rattle.ts_model.specs.Rows.{with_row, with_rows, in_order}
+use Rattle.ts_model.specs.Groups.{groups_of}
+use Rattle.ts_model.proofs.RowLaws.{in_order-append, in_order-append_swap, with_rows-with_row}
+use Rattle.group_fold.specs.Grouping.{AreTimes, PiecesAreTimes, all_rows}
+use Rattle.group_fold.proofs.BucketGroups.{order_plays_no_part}
+use Rattle.group_fold.proofs.CutRows.{all_rows-append, take_drop}
+use Rattle.span_fold.specs.Spans.{HaveTimes, rows_in}
+
+-- ---- rows in order
+
+all-with_row : (p : Row → Bool) (row : Row) (xs : List Row) → list_all p (with_row row xs) ≡ (p row && list_all p xs)
+all-with_row p row [] = refl
+all-with_row p row (x ∷ xs) =
+    elim (is_gt (row_cmp row x)) as (λ b. list_all p (cond b (x ∷ with_row row xs) (row ∷ x ∷ xs)) ≡ (p row && (p x && list_all p xs))) [
+      | true ↦ ap (λ b. p x && b) (all-with_row p row xs) ∙ swapped (p x) (p row) (list_all p xs)
+      | false ↦ refl
+    ]
+  where
+    swapped : (a b c : Bool) → (a && (b && c)) ≡ (b && (a && c))
+    swapped true true c = refl
+    swapped true false c = refl
+    swapped false true c = refl
+    swapped false false c = refl
+
+-- a test that all rows pass is passed by all in any order
+pub all-in_order : (p : Row → Bool) (xs : List Row) → list_all p (in_order xs) ≡ list_all p xs
+all-in_order p [] = refl
+all-in_order p (x ∷ xs) = all-with_row p x (in_order xs) ∙ ap (λ b. p x && b) (all-in_order p xs)
+
+pub same_all : (p : Row → Bool) (xs ys : List Row) → in_order xs ≡ in_order ys → list_all p xs ≡ list_all p ys
+same_all p xs ys e = sym (all-in_order p xs) ∙ (ap (list_all p) e ∙ all-in_order p ys)
+
+-- rows behind others may be in any order
+pub same_behind : (xs ys zs : List Row) → in_order ys ≡ in_order zs → in_order (xs ++ ys) ≡ in_order (xs ++ zs)
+same_behind xs ys zs e = in_order-append xs ys ∙ (ap (with_rows xs) e ∙ sym (in_order-append xs zs))
+
+pub same_before : (xs ys zs : List Row) → in_order xs ≡ in_order ys → in_order (xs ++ zs) ≡ in_order (ys ++ zs)
+same_before xs ys zs e = in_order-append_swap xs zs ∙ (same_behind zs xs ys e ∙ in_order-append_swap zs ys)
+
+-- ---- pieces
+
+-- a piece more, of the last of the rows that are left
+pub piece_step : (before after : List (List Row)) (piece rest left : List Row) → left ≡ rest ++ piece → after ≡ before ++ piece ∷ []
+    → in_order (all_rows after ++ rest) ≡ in_order (all_rows before ++ left)
+piece_step before after piece rest left split pushed =
+    let all : all_rows after ≡ all_rows before ++ piece = ap all_rows pushed ∙ (all_rows-append before (piece ∷ []) ∙ ap (λ rs. all_rows before ++ rs) (append-nil piece)) in
+    ap (λ rs. in_order (rs ++ rest)) all
+    ∙ (ap in_order (append_assoc (all_rows before) piece rest)
+    ∙ (same_behind (all_rows before) (piece ++ rest) (rest ++ piece) (in_order-append_swap piece rest) ∙ ap (λ rs. in_order (all_rows before ++ rs)) (sym split)))
+
+pub last_piece : (before after : List (List Row)) (left : List Row) → after ≡ before ++ left ∷ [] → all_rows after ≡ all_rows before ++ left
+last_piece before after left pushed = ap all_rows pushed ∙ (all_rows-append before (left ∷ []) ∙ ap (λ rs. all_rows before ++ rs) (append-nil left))
+
+are_times : (rows : List Row) → list_all (λ row. is_time row.at) rows ≡ true → AreTimes rows
+are_times [] e = tt
+are_times (row ∷ rows) e =
+    let parts = and_parts (is_time row.at) (list_all (λ r. is_time r.at) rows) e in
+    (parts.0, are_times rows parts.1)
+
+-- rows that all have times have them in each piece
+pub pieces_are_times : (pieces : List (List Row)) → HaveTimes (all_rows pieces) → PiecesAreTimes pieces
+pieces_are_times [] e = tt
+pieces_are_times (piece ∷ pieces) e =
+    let parts = and_parts (list_all (λ row. is_time row.at) piece) (list_all (λ row. is_time row.at) (all_rows pieces)) (sym (list_all-append (λ row. is_time row.at) piece (all_rows pieces)) ∙ e) in
+    (are_times piece parts.0, pieces_are_times pieces parts.1)
+
+-- ---- spans
+
+all-filter : (p q : Row → Bool) (xs : List Row) → list_all p xs ≡ true → list_all p (filter q xs) ≡ true
+all-filter p q [] e = refl
+all-filter p q (x ∷ xs) e =
+    let parts = and_parts (p x) (list_all p xs) e in
+    elim (q x) as (λ b. list_all p (cond b (x ∷ filter q xs) (filter q xs)) ≡ true) [
+      | true ↦ and_from (p x) (list_all p (filter q xs)) parts.0 (all-filter p q xs parts.1)
+      | false ↦ all-filter p q xs parts.1
+    ]
+
+-- what was found of spans has times where the rows have
+pub found_times : (spans : List Span) (pieces : List (List Row)) (rows : List Row) → in_order (all_rows pieces) ≡ in_order (rows_in spans rows) → HaveTimes rows → HaveTimes (all_rows pieces)
+found_times spans pieces rows found times =
+    same_all (λ row. is_time row.at) (all_rows pieces) (rows_in spans rows) found ∙ all-filter (λ row. is_time row.at) (λ row. lies_in spans row.at) rows times
+
+-- and has the groups of the rows of the spans
+pub found_groups : (fold : Fold) → IsWidth fold.width → (spans : List Span) (pieces : List (List Row)) (rows : List Row) → in_order (all_rows pieces) ≡ in_order (rows_in spans rows) → groups_of fold (all_rows pieces) ≡ groups_of fold (rows_in spans rows)
+found_groups fold wide spans pieces rows found = order_plays_no_part fold (all_rows pieces) (rows_in spans rows) wide found
+
+in_order-middle : (x : Row) (xs ys : List Row) → in_order (xs ++ x ∷ ys) ≡ with_row x (in_order (xs ++ ys))
+in_order-middle x xs ys = in_order-append xs (x ∷ ys) ∙ (with_rows-with_row xs x (in_order ys) ∙ ap (with_row x) (sym (in_order-append xs ys)))
+
+-- rows of one span, and then those of later ones, of which none holds a number of the first
+both_spans : (s : Span) (ss : List Span) (xs : List Row) → ((t : ℤ) → in_span s t ≡ true → lies_in ss t ≡ false)
+    → in_order (filter (λ row. in_span s row.at) xs ++ filter (λ row. lies_in ss row.at) xs) ≡ in_order (filter (λ row. in_span s row.at || lies_in ss row.at) xs)
+both_spans s ss [] apart = refl
+both_spans s ss (x ∷ xs) apart =
+    let rest = both_spans s ss xs apart in
+    let first = filter (λ (row : Row). in_span s row.at) xs in
+    let others = filter (λ (row : Row). lies_in ss row.at) xs in
+    let all = filter (λ (row : Row). in_span s row.at || lies_in ss row.at) xs in
+    elim (in_span s x.at) as (λ b. in_span s x.at ≡ b → in_order (cond b (x ∷ first) first ++ cond (lies_in ss x.at) (x ∷ others) others) ≡ in_order (cond (b || lies_in ss x.at) (x ∷ all) all)) [
+      | true ↦ λ here. ap (λ b. in_order ((x ∷ first) ++ cond b (x ∷ others) others)) (apart x.at here) ∙ ap (with_row x) rest
+      | false ↦ λ _.
+          elim (lies_in ss x.at) as (λ b. in_order (first ++ cond b (x ∷ others) others) ≡ in_order (cond b (x ∷ all) all)) [
+            | true ↦ in_order-middle x first others ∙ ap (with_row x) rest
+            | false ↦ rest
+          ]
+    ] refl
+
+-- one span more was scanned
+pub span_step : (s : Span) (left : List Span) (rows found : List Row) (before after : List (List Row)) → ((t : ℤ) → in_span s t ≡ true → lies_in left t ≡ false)
+    → in_order found ≡ in_order (filter (λ row. in_span s row.at) rows) → in_order (all_rows after) ≡ in_order (all_rows before ++ found)
+    → in_order (all_rows after ++ rows_in left rows) ≡ in_order (all_rows before ++ rows_in (s ∷ left) rows)
+span_step s left rows found before after apart same cut =
+    same_before (all_rows after) (all_rows before ++ found) (rows_in left rows) cut
+    ∙ (ap in_order (append_assoc (all_rows before) found (rows_in left rows))
+    ∙ same_behind (all_rows before) (found ++ rows_in left rows) (rows_in (s ∷ left) rows)
+    (same_before found (filter (λ row. in_span s row.at) rows) (rows_in left rows) same ∙ both_spans s left rows apart))
+
+pub cut_whole : (left rest piece : List Row) (k : ℕ) → rest ≡ take k left → piece ≡ drop k left → left ≡ rest ++ piece
+cut_whole left rest piece k r p = sym (ap (λ xs. xs ++ piece) r ∙ (ap (λ ys. take k left ++ ys) p ∙ take_drop k left))
+
+-- ---- counts
+
+-- the count of one span, and then of those that are left
+pub count_step : (near rest whole old now next : ℕ) → now < 2 ^ 64 → next ≡ raised_by near now → raised_by (near + rest) now ≡ raised_by whole old → old ≤ now → (raised_by rest next ≡ raised_by whole old) × (old ≤ next)
+count_step near rest whole old now next small one all up = (omega (arith, small, one, all), omega (arith, small, one, up))
+
+-- a scan that was cut off
+pub count_cut : (near rest whole old now next : ℕ) → now < 2 ^ 64 → RaisedUpTo near now next → raised_by (near + rest) now ≡ raised_by whole old → old ≤ now → RaisedUpTo whole old next
+count_cut near rest whole old now next small up all low = (omega (arith, low, up.0), omega (arith, up.1, all))
+
+-- a whole scan, after which memory ran out
+pub count_kept : (near rest whole old now next : ℕ) → now < 2 ^ 64 → next ≡ raised_by near now → raised_by (near + rest) now ≡ raised_by whole old → old ≤ now → RaisedUpTo whole old next
+count_kept near rest whole old now next small one all low = (omega (arith, small, one, low), omega (arith, one, all))
+
+pub small_step : (near now next : ℕ) → next ≡ raised_by near now → next < 2 ^ 64
+small_step near now next one = omega (arith, one)
+
+-- however a call ends, where both endings are known
+pub ended : {T E A B : Type 0} (r : Result T E) → A → B → MatchResult r (λ _. A) (λ _. B)
+ended (Ok t) a b = a
+ended (Err e) a b = b
+
+pub raised_whole : (n old new : ℕ) → old < 2 ^ 64 → new ≡ raised_by n old → RaisedUpTo n old new
+raised_whole n old new small one = (omega (arith, small, one), omega (arith, one))
+
+-- ---- the first span and those that are left
+
+pub front : (left rest : List Span) (s : Span) → 1 ≤ length left → rest ≡ take (length left - 1) (drop 1 left) → s ≡ get_or left 0 s → left ≡ s ∷ rest
+front [] rest s h r e = absurd (omega (arith, h))
+front (x ∷ xs) rest s h r e =
+    let whole : rest ≡ xs = r ∙ take_all (length (x ∷ xs) - 1) xs (omega arith) in
+    ap (λ y. y ∷ xs) (sym e) ∙ ap (λ ys. s ∷ ys) (sym whole)
+
+pub none_left : (left : List Span) → length left < 1 → left ≡ []
+none_left [] h = refl
+none_left (x ∷ xs) h = absurd (omega arith)
+
+-- no row lies in no span
+pub nothing_in : (rows : List Row) → rows_in [] rows ≡ []
+nothing_in [] = refl
+nothing_in (row ∷ rows) = nothing_in rows

@@ -1,0 +1,39 @@
+//! Scans and folds.
+ghost use Rattle.std.specs.Prelude.{◌≡◌, IfOk, MatchResult};
+ghost use Rattle.ts_bucket.specs.Bucket.{IsWidth};
+ghost use Rattle.ts_schema.specs.Counts.{raised_by, RaisedUpTo};
+ghost use Rattle.ts_model.specs.Groups.{groups_of};
+ghost use Rattle.span_fold.specs.Spans.{AreApart, HaveTimes, near_each, rows_in};
+
+use crate::scans::scan_spans;
+use group_fold::fold_pieces;
+use partial_agg::Group;
+use std::alloc::Global;
+use std::thread::Threads;
+use ts_bucket::Span;
+use ts_model::{Fold, RowsAt};
+use ts_schema::{NoMemory, Seq, Steps};
+
+/// The groups of the rows of a table whose times lie in these spans, of which no two hold the same
+/// number. Each span is scanned once. It counts one step for each stored row in the chunks that meet
+/// the span.
+pub fn fold_spans<R: Threads + Sync, W: RowsAt, L>(
+    rt: &R,
+    alloc: Global,
+    rows: &W,
+    table: u32,
+    plan: &Fold,
+    spans: &[Span],
+    steps: &mut Steps<L>,
+) -> Result<Seq<Group>, NoMemory>
+    requires apart { AreApart spans.now }
+    requires times { HaveTimes (W.visible rows.now table) }
+    ensures groups { IfOk result (λ groups. groups ≡ groups_of plan.now (rows_in spans.now (W.visible rows.now table))) }
+    ensures bounds { IsWidth plan.now.width }
+    ensures read { MatchResult result (λ _. steps.new ≡ raised_by (near_each (W.interval rows.now table) (W.stored rows.now table) spans.now) steps.old) (λ _. RaisedUpTo (near_each (W.interval rows.now table) (W.stored rows.now table) spans.now) steps.old steps.new) }
+{
+    let _so_far = steps.count();
+    let _step = plan.width.step;
+    let pieces = scan_spans(alloc, rows, table, spans, steps)?;
+    fold_pieces(rt, alloc, plan, &pieces)
+}

@@ -1,0 +1,50 @@
+//! The rows of spans, in pieces.
+ghost use Rattle.std.specs.Prelude.{◌≡◌, ◌++◌, IfOk, OnOk, MatchResult};
+ghost use Rattle.ts_schema.specs.Counts.{raised_by, RaisedUpTo};
+ghost use Rattle.ts_model.specs.Rows.{in_order};
+ghost use Rattle.group_fold.specs.Grouping.{all_rows};
+ghost use Rattle.span_fold.specs.Spans.{AreApart, near_each, rows_in};
+
+use std::alloc::Global;
+use ts_bucket::Span;
+use ts_model::RowsAt;
+use ts_schema::{NoMemory, Row, Seq, Steps};
+
+/// Pieces have so many rows at most.
+pub const PIECE: usize = 4096;
+
+/// The rows of a table whose times lie in these spans, in pieces.
+pub(crate) fn scan_spans<W: RowsAt, L>(
+    alloc: Global,
+    rows: &W,
+    table: u32,
+    spans: &[Span],
+    steps: &mut Steps<L>,
+) -> Result<Seq<Seq<Row>>, NoMemory>
+    requires apart { AreApart spans.now }
+    ensures rows { IfOk result (λ pieces. in_order (all_rows pieces) ≡ in_order (rows_in spans.now (W.visible rows.now table))) }
+    ensures read { MatchResult result (λ _. steps.new ≡ raised_by (near_each (W.interval rows.now table) (W.stored rows.now table) spans.now) steps.old) (λ _. RaisedUpTo (near_each (W.interval rows.now table) (W.stored rows.now table) spans.now) steps.old steps.new) }
+{
+    let _so_far = steps.count();
+    let mut pieces = Seq::new(alloc);
+    let mut left = spans;
+    while let [span, rest @ ..] = left {
+        let found = rows.scan(table, *span, steps)?;
+        cut(found, &mut pieces)?;
+        left = rest;
+    }
+    Ok(pieces)
+}
+
+/// Cuts rows into pieces.
+fn cut(found: Seq<Row>, pieces: &mut Seq<Seq<Row>>) -> Result<(), NoMemory>
+    ensures rows { OnOk result (in_order (all_rows pieces.new) ≡ in_order (all_rows pieces.old ++ found)) }
+{
+    let mut left = found.into_items();
+    while left.len() > PIECE {
+        let from = left.len() - PIECE;
+        pieces.push(Seq::of(left.split_off(from)?))?;
+    }
+    pieces.push(Seq::of(left))?;
+    Ok(())
+}

@@ -1,0 +1,49 @@
+//! Rules by which the values of two maps are combined.
+
+ghost use Rattle.std.specs.Prelude.{◌≡◌};
+ghost use Rattle.span_map.specs.Combined.{combined_by};
+
+/// How the values that two maps have at a number are combined.
+#[derive(Clone, Copy, Debug, PartialEq, Eq)]
+pub enum Rule {
+    /// The value of the second map, and that of the first where the second has none.
+    Over,
+    /// The later of the two.
+    Later,
+    /// The value of the second map, where it is above that of the first, or the first has none.
+    Above,
+    /// The value of the second map, where it is at or above that of the first, or the first has
+    /// none.
+    NotBelow,
+    /// The value of the second map, where the first has one.
+    Where,
+}
+
+/// What a rule makes of two values.
+pub(crate) fn combined(rule: Rule, first: Option<u64>, second: Option<u64>) -> Option<u64>
+    ensures { result ≡ combined_by rule first second }
+{
+    match rule {
+        Rule::Over => match second {
+            Some(pos) => Some(pos),
+            None => first,
+        },
+        Rule::Later => match (first, second) {
+            (Some(p), Some(q)) => Some(p.max(q)),
+            (Some(p), None) => Some(p),
+            (None, value) => value,
+        },
+        Rule::Above => match first {
+            Some(pos) => second.filter(|later| pos < *later),
+            None => second,
+        },
+        Rule::NotBelow => match first {
+            Some(pos) => second.filter(|later| pos <= *later),
+            None => second,
+        },
+        Rule::Where => match first {
+            Some(_) => second,
+            None => None,
+        },
+    }
+}
