@@ -5,7 +5,7 @@ use Rattle.std.specs.List.{flat_map, fold as folded}
 use Rattle.ts_schema.specs.declared.columns.Column.{Column}
 use Rattle.ts_schema.specs.declared.conditions.Test.{Test}
 use Rattle.ts_schema.specs.declared.rows.Row.{Row}
-use Rattle.ts_model.specs.Allowed.{fold_bytes, name_bytes, op_bytes, row_bytes, value_bytes}
+use Rattle.ts_model.specs.Bytes.{fold_bytes, name_bytes, op_bytes, row_bytes, value_bytes}
 use Rattle.ts_model.specs.declared.events.Event.TheVariants as events
 use Rattle.ts_model.specs.declared.events.Op.{Op}
 use Rattle.ts_model.specs.declared.events.Op.TheVariants as ops

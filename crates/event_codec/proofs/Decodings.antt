@@ -4,10 +4,9 @@ use Rattle.std.proofs.lemmas.List.{append-nil, take_at, take-append-drop, length
 use Rattle.ts_model.specs.declared.events.Event.{Event}
 use Rattle.event_codec.specs.Decoding.{BeginsEvent}
 use Rattle.event_codec.specs.Formed.{IsFormed}
-use Rattle.event_codec.specs.Prefixes.{Begins}
 use Rattle.event_codec.specs.Spelling as spelling
 use Rattle.event_codec.specs.Reading.{event_at, at_end, whole_event}
-use Rattle.event_codec.proofs.Formats.{Viable, parted, went_on, stopped, done, same_value, same_left}
+use Rattle.event_codec.proofs.Formats.{Begins, Viable, parted, went_on, stopped, done, same_value, same_left}
 use Rattle.event_codec.proofs.EventLaws.{event_format}
 
 -- no event's bytes begin another's

@@ -3,7 +3,6 @@ use Rattle.std.proofs.Common.{◌≡◌, ℕ, zero, suc, ◌≤◌, Bool, true, 
 use Rattle.std.specs.List.{flat_map, AllByRecursion}
 use Rattle.std.proofs.lemmas.List.{nil_from_length}
 use Rattle.event_codec.specs.Reading.{Reads, go_on, gives, pair, mapped, byte_where, put_before, items, second, listed}
-use Rattle.event_codec.specs.Prefixes.{Begins}
 
 -- a value that fits
 pub record Sample {A : Type 0} (fits : A → Type 0) : Type 0 where
@@ -14,6 +13,13 @@ pub record Sample {A : Type 0} (fits : A → Type 0) : Type 0 where
 pub record Stands {A : Type 0} (spelling : A → List ℕ) (fits : A → Type 0) (bytes : List ℕ) (a : A) (left : List ℕ) : Type 0 where
   pub ok : fits a
   pub parts : bytes ≡ spelling a ++ left
+
+-- bytes are a front that begins a text, and a rest
+pub record Begins (bytes left text : List ℕ) : Type 0 where
+  pub front : List ℕ
+  pub more : List ℕ
+  pub parts : bytes ≡ front ++ left
+  pub begun : text ≡ front ++ more
 
 -- a front that begins the spelling of a value that fits
 pub record Viable {A : Type 0} (spelling : A → List ℕ) (fits : A → Type 0) (bytes left : List ℕ) : Type 0 where

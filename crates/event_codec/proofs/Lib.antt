@@ -10,4 +10,5 @@ pub mod Loops
 pub mod NameLaws
 pub mod Decodings
 pub mod BytesCounted
+pub mod SoundFormed
 pub mod GrowthLaws

@@ -1,7 +1,6 @@
 pub mod Codes
 pub mod Spelling
 pub mod Formed
-pub mod Prefixes
 pub mod Growing
 pub mod Reading
 pub mod Decoding

@@ -1,5 +1,5 @@
 //! Laws of the bytes of events. Each is the clause of a function that does nothing.
-ghost use Rattle.event_codec.specs.Laws.{BytesAreCounted, NoneBeginsAnother};
+ghost use Rattle.event_codec.specs.Laws.{BytesAreCounted, NoneBeginsAnother, SoundAreFormed};
 
 /// An event has as many bytes as it takes in a journal.
 pub fn events_have_their_bytes()
@@ -9,4 +9,9 @@ pub fn events_have_their_bytes()
 /// No event's bytes are a proper prefix of another's, and no two events have the same bytes.
 pub fn no_event_begins_another()
     ensures { NoneBeginsAnother }
+{}
+
+/// Each sound event of an allowed history whose position is a number of 64 bits can be encoded.
+pub fn sound_events_are_formed()
+    ensures { SoundAreFormed }
 {}
