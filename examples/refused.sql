@@ -1,4 +1,4 @@
--- What is refused, and why: the text, the block, what isn't built, then names and values from left to right.
+-- What is refused, and why: the text, the block, then names and values from left to right.
 SELECT * FROM m
 a: SELECT #
 a: SELEC
