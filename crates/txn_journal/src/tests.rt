@@ -199,50 +199,6 @@ fn every_cut_of_ten_payloads_keeps_those_before_it(rt: HostRuntime) -> Result<()
     Ok(())
 }
 
-/// What is found in ten payloads where the highest bit of the byte at a place is turned over.
-fn found_where_turned(at: usize) -> Found {
-    match at {
-        0..=7 => broken(0, 0),
-        8 => sound(0),
-        9..=12 => broken(0, 8),
-        13 => sound(1),
-        14..=17 => broken(1, 13),
-        19 => sound(2),
-        20..=23 => broken(2, 19),
-        26 => sound(3),
-        27..=30 => broken(3, 26),
-        34 => sound(4),
-        35..=38 => broken(4, 34),
-        43 => sound(5),
-        44..=47 => broken(5, 43),
-        53 => sound(6),
-        54..=57 => broken(6, 53),
-        64 => sound(7),
-        65..=68 => broken(7, 64),
-        76 => sound(8),
-        77..=80 => broken(8, 76),
-        89 => sound(9),
-        90..=93 => broken(9, 89),
-        _ => sound(10),
-    }
-}
-
-#[test]
-fn every_byte_of_ten_payloads_is_changed(rt: HostRuntime) -> Result<(), Fail> {
-    let alloc = rt.alloc();
-    let (disk, last) = append_ten(alloc, MemDisk::new(alloc, Vec::new(alloc)))?;
-    assert_eq!(rt; last, Append::Done);
-    for at in 0..104 {
-        let mut bytes = Vec::from_slice(alloc, disk.bytes())?;
-        if let Some(byte) = bytes.get_mut(at) {
-            *byte ^= 128;
-        }
-        let found = read(alloc, &bytes)?;
-        assert_eq!(rt; found, found_where_turned(at), "byte {at}");
-    }
-    Ok(())
-}
-
 /// Whether each of eight images of a disk stands for some first ones of the ten payloads.
 fn images_are_read(alloc: Global, disk: &MemDisk) -> Result<bool, NoMemory> {
     for pick in 0..4 {
