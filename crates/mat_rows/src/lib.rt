@@ -4,5 +4,7 @@
 mod making;
 mod rows;
 mod search;
+#[cfg(test)]
+mod tests;
 
 pub use rows::MatRows;

@@ -1,0 +1,4 @@
+pub mod AfterLaws
+pub mod GoesOnLaws
+pub mod DeskLaws
+pub mod StoreLaws

@@ -1,0 +1,10 @@
+pub mod HistoryLaws
+pub mod ImageLaws
+pub mod DraftLaws
+pub mod AppendLaws
+pub mod KeptLaws
+pub mod CallLaws
+pub mod RecordLaws
+pub mod ReplayLaws
+pub mod StartLaws
+pub mod StandsLaws
