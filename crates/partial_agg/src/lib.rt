@@ -10,6 +10,3 @@ mod partials;
 
 pub use groups::{Group, group_order};
 pub use partials::Partial;
-
-#[cfg(test)]
-mod tests;

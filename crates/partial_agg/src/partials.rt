@@ -1,10 +1,10 @@
 //! The partial aggregate of a column, and what a function shows of it.
 ghost use Rattle.std.specs.Prelude.{◌≡◌, ◌+◌, ◌-◌, ◌^◌, ◌<◌, List, [], ◌∷◌, ◌++◌, Option, ℤ};
-ghost use Rattle.ts_num.specs.Aggregates.{aggregate, greater, lesser, shown_or_null};
+ghost use Rattle.ts_num.specs.Aggregates.{aggregate, shown_or_null};
 ghost use Rattle.partial_agg.specs.Summaries.{IsBounded, joined, mean_shown, shown, sum_shown, summary};
 
 use std::marker::Model;
-use ts_num::{Datum, Fun, lowest};
+use ts_num::{Datum, Fun, greater, lesser, lowest};
 
 /// What a column of values, one for each row of a group, sums up to. Contracts see it as a
 /// `Summary`; it is the partial aggregate of a column where that is the column's `summary`.
@@ -112,28 +112,6 @@ impl Partial {
         ensures { IsBounded self.now.count self.now.values self.now.sum }
     {
         let _count = self.count;
-    }
-}
-
-/// The lesser of two numbers, each of which may be missing.
-fn lesser(a: Option<i64>, b: Option<i64>) -> Option<i64>
-    ensures { result ≡ lesser a b }
-{
-    match (a, b) {
-        (Some(x), Some(y)) => Some(x.min(y)),
-        (Some(x), None) => Some(x),
-        (None, y) => y,
-    }
-}
-
-/// The greater of two numbers, each of which may be missing.
-fn greater(a: Option<i64>, b: Option<i64>) -> Option<i64>
-    ensures { result ≡ greater a b }
-{
-    match (a, b) {
-        (Some(x), Some(y)) => Some(x.max(y)),
-        (Some(x), None) => Some(x),
-        (None, y) => y,
     }
 }
 

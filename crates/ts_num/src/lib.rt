@@ -15,6 +15,3 @@ pub use ends::{greater, lesser};
 pub use fractions::{Frac, lowest, lowest_terms_law};
 pub use texts::{put_datum, put_int};
 pub use values::{Datum, Fun};
-
-#[cfg(test)]
-mod tests;
