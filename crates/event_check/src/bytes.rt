@@ -122,7 +122,7 @@ fn bytes_of_view(def: &ViewDef) -> u64
 }
 
 /// The bytes that an event takes.
-pub(crate) fn bytes_of(event: &Event) -> u64
+pub fn bytes_of(event: &Event) -> u64
     ensures { result ≡ min (event_bytes event.now) (2 ^ 64 - 1) }
 {
     match event {

@@ -15,6 +15,7 @@ mod relations;
 mod rows;
 mod windows;
 
+pub use bytes::bytes_of;
 pub use events::refusal_of;
 pub use queries::can_be_asked;
 pub use windows::window;

@@ -161,7 +161,7 @@ fed_some w b r (e ∷ es) v h bucket =
     ∙ ap (λ x. is_some v || x) (sym (ap is_some (above_last-later r one (touch_at w es b)) ∙ is_some-later (above_last r one) (above_last r (touch_at w es b))))
     ∙ ap (λ m. is_some v || is_some (above_last r (later (cond m (Some e.pos) None) (touch_at w es b)))) (meets-between w b e.hull h bucket)
 
-some_over : (v q : Option ℕ) → is_some (combined_by Over v q) ≡ (is_some v || is_some q)
+pub some_over : (v q : Option ℕ) → is_some (combined_by Over v q) ≡ (is_some v || is_some q)
 some_over None None = refl
 some_over None (Some q) = refl
 some_over (Some p) None = refl

@@ -15,15 +15,16 @@ use Rattle.span_map.specs.Pieces.{piece_at, ArePieces}
 use Rattle.ts_bucket.specs.Positions.{above, is_above}
 use Rattle.ts_bucket.specs.Ranges.{lies_in, is_asked, IsWholeRange, RiseApart, AreRanges}
 use Rattle.ts_bucket.specs.WholeSpans.{IsWholeSpan, whole_span, greatest, is_below}
+use Rattle.ts_bucket.proofs.PositionLaws.{is_some-above}
 use Rattle.ts_bucket.proofs.RangeLaws.{AreRanges-same}
 use Rattle.ts_bucket.proofs.WholeSpanLaws.{in_span-bucket}
 use Rattle.inval_log.specs.declared.entries.Entry.{Entry}
-use Rattle.mat_log.specs.Logs.{LogValue, IsInStep, pending_at, last_at}
+use Rattle.mat_log.specs.Logs.{LogValue, IsInStep, is_refreshed_after, pending_at, last_at}
 use Rattle.span_map.specs.Combined.{combined_by}
-use Rattle.span_map.specs.declared.rules.Rule.TheVariants.{NotBelow, Where}
-use Rattle.mat_log.specs.Feeding.{is_dirty_with, is_changed_with}
+use Rattle.span_map.specs.declared.rules.Rule.TheVariants.{NotBelow, Over, Where}
+use Rattle.mat_log.specs.Feeding.{is_dirty_with, is_changed_with, is_redone_with}
 use Rattle.mat_log.specs.Touching.{pending_or_fresh}
-use Rattle.mat_log.proofs.FeedLaws.{in_step-with, near_some, cond_twice}
+use Rattle.mat_log.proofs.FeedLaws.{in_step-with, near_some, cond_twice, some_over}
 use Rattle.mat_log.specs.Joined.{open_after, closed_by, still_open, joined}
 
 -- x is below the first of the ranges
@@ -384,3 +385,57 @@ renewed_as log s ranges snap f pieces found h whole parts is values rising =
     inside : (i : Bool) (v u : Option ℕ) → cond i (combined_by NotBelow (cond i v None) u) None ≡ cond i (combined_by NotBelow v u) None
     inside true v u = refl
     inside false v u = refl
+
+-- what is left within a span of a value above a snapshot
+pub cut_above : (i : Bool) (snap : ℕ) (v : Option ℕ) → cond i (above snap (cond i v None)) (cond i v None) ≡ cond i (above snap v) None
+cut_above true snap v = refl
+cut_above false snap v = refl
+
+-- the ranges that a refresh with a snapshot makes anew when it is done again, where the pieces are those of what is pending then near a span and of the last refreshes above the snapshot
+pub redone_with_as : {E : Type 0} (log : LogValue) (es : List Entry) (snap : ℕ) (s : SpanValue) (f q a : ℤ → Option ℕ) (pieces : List Piece) (found : Result (List SpanValue) E) → IsInStep log.width (pending_at log) (last_at log) → IsWholeSpan log.width s → s.hi ≤ℤ greatest → ((t : ℤ) → q t ≡ cond (in_span s t) (pending_or_fresh log (filter (λ e. overlaps e.hull s) es) t) None) → ((t : ℤ) → a t ≡ cond (in_span s t) (above snap (last_at log t)) None) → ((t : ℤ) → f t ≡ combined_by Over (q t) (a t)) → ((t : ℤ) → piece_at pieces t ≡ cond (in_span s t) (f t) None) → ArePieces s.lo s.hi pieces → IfOk found (λ ranges. ranges ≡ joined None pieces) → IfOk found (AreRanges log.width s (is_redone_with log es snap))
+redone_with_as log es snap s f q a pieces found h whole end qs ats fs values rising =
+    IfOk-weaker found _ _ (λ ranges e. subst (AreRanges w s (is_redone_with log es snap)) (sym e)
+    (AreRanges-same w s s (λ b. is_some (g b)) (is_redone_with log es snap) (joined None pieces) same
+    (some_ranges w g s pieces h.bounds one whole (λ t. values t ∙ ap (λ v. cond (in_span s t) v None) (fs t ∙ ap (λ v. combined_by Over v (a t)) (qs t) ∙ ap (combined_by Over (cond (in_span s t) (p t) None)) (ats t)) ∙ inside (in_span s t) (p t) (above snap (last_at log t))) rising)))
+  where
+    w : WidthValue
+    w = log.width
+
+    near : List Entry
+    near = filter (λ e. overlaps e.hull s) es
+
+    p : ℤ → Option ℕ
+    p t = pending_or_fresh log near t
+
+    g : ℤ → Option ℕ
+    g t = combined_by Over (p t) (above snap (last_at log t))
+
+    inside : (i : Bool) (v u : Option ℕ) → cond i (combined_by Over (cond i v None) (cond i u None)) None ≡ cond i (combined_by Over v u) None
+    inside true v u = refl
+    inside false v u = refl
+
+    step : IsInStep w p (last_at log)
+    step = in_step-with w (pending_at log) (last_at log) p near h (λ t. refl)
+
+    one : (t : ℤ) → g t ≡ g (bucket_of w t)
+    one t = ap (λ v. combined_by Over v (above snap (last_at log t))) (step.one_pending t) ∙ ap (λ v. combined_by Over (p (bucket_of w t)) (above snap v)) (step.one_refreshed t)
+
+    pending_is : (v u : Option ℕ) → (is_some u || is_some v) ≡ true → is_some v ≡ (is_none u || is_some v)
+    pending_is v None m = m
+    pending_is v (Some x) m = refl
+
+    by : (b : ℤ) (c : Bool) → is_bucket w b ≡ true → in_span s b ≡ c → (c && is_some (g b)) ≡ (c && is_redone_with log es snap b)
+    by b false bucket e = refl
+    by b true bucket e =
+        let ends = in_span-ends s b e in
+        let first : first_of w ≤ℤ s.lo = whole.from_first in
+        let low : s.lo ≤ℤ b = ends.0 in
+        let high : b <ℤ s.hi = ends.1 in
+        let last : s.hi ≤ℤ bucket_of w greatest = bucket_of-last w s.hi greatest h.bounds whole.ends end in
+        let held : in_span (whole_span w) b ≡ true = in_span-from_ends (whole_span w) b (omega (arith, ints)) (omega (arith, ints)) in
+        some_over (p b) (above snap (last_at log b))
+        ∙ ap (λ c. is_some (p b) || c) (is_some-above snap (last_at log b))
+        ∙ ap (λ c. c || is_refreshed_after log snap b) (pending_is (p b) (last_at log b) (step.marked b held) ∙ ap (λ c. is_none (last_at log b) || c) (near_some w s b (last_at log b) es (pending_at log b) h.bounds whole bucket e))
+
+    same : (b : ℤ) → is_bucket w b ≡ true → (is_asked w s b && is_some (g b)) ≡ (is_asked w s b && is_redone_with log es snap b)
+    same b bucket = ap (λ c. c && is_some (g b)) (asked w s b whole bucket) ∙ by b (in_span s b) bucket refl ∙ ap (λ c. c && is_redone_with log es snap b) (sym (asked w s b whole bucket))

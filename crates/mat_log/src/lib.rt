@@ -5,8 +5,6 @@ mod held;
 mod logs;
 mod ranges;
 mod spans;
-#[cfg(test)]
-mod tests;
 mod touches;
 
 pub use logs::MatLog;

@@ -9,7 +9,7 @@ ghost use Rattle.ts_bucket.specs.Spans.{in_span, meets, overlaps};
 ghost use Rattle.span_map.specs.Maps.{at};
 ghost use Rattle.ts_bucket.specs.Ranges.{AreRanges, IsWholeRange, lies_in};
 ghost use Rattle.ts_bucket.specs.WholeSpans.{IsWholeSpan, IsWithin, IsMark, whole_span};
-ghost use Rattle.mat_log.specs.Feeding.{AreWithin, IsFed, are_rising, is_changed_with, is_dirty_with, is_stale_with};
+ghost use Rattle.mat_log.specs.Feeding.{AreWithin, IsFed, are_rising, is_changed_with, is_dirty_with, is_redone_with, is_stale_with};
 ghost use Rattle.mat_log.specs.Touching.{pending_or_fresh};
 ghost use Rattle.mat_log.specs.Logs.{pending_at, last_at, is_dirty, is_refreshed_after, is_renewed, is_stale, HasRoom, IsSame};
 
@@ -295,5 +295,30 @@ impl MatLog {
         refreshed.reserve(2)?;
         refreshed.clear_upto(span, snap);
         join_pieces(refreshed.ranges(span)?)
+    }
+
+    /// The buckets of a span of whole buckets that a refresh with this snapshot, done again, makes
+    /// anew: those that are dirty, as if the entries had been fed to the log, and those whose last
+    /// refresh is above the snapshot, as ranges that are as long as can be.
+    pub fn redone_with(
+        &self,
+        entries: &BlockList<Entry>,
+        span: Span,
+        snap: u64,
+    ) -> Result<Seq<Span>, NoMemory>
+        requires whole { IsWholeSpan self.now.width span }
+        requires within { AreWithin entries.now.items self.now }
+        ensures ranges { IfOk result (AreRanges self.now.width span (is_redone_with self.now entries.now.items snap)) }
+    {
+        // Reading the end tells that it is a number of 64 bits, and reading the width that the two
+        // maps are in step.
+        let _end = span.hi;
+        let _width = self.width;
+        let pending = self.pending_near(entries, span)?;
+        let mut refreshed = self.refreshed.map().within(span)?;
+        refreshed.reserve(2)?;
+        refreshed.clear_upto(span, snap);
+        let redone = pending.combined(&refreshed, Rule::Over)?;
+        join_pieces(redone.ranges(span)?)
     }
 }

@@ -260,7 +260,7 @@ module _ (def : ViewDef) (kept : List Group) (mark : Option ℤ) (starts : Span)
       (λ below. rw below (ap (λ xs. of_bucket b kept ++ xs) (live_none def.fold.width mark starts b live live_is below) ∙ append-nil (of_bucket b kept)))
       (λ above. rw above (ap (λ xs. xs ++ of_bucket b live) (kept_none def.fold.width mark starts b kept kept_is above) ∙ live_at b asked above))
 
-all_among : (P : ℤ → Type 0) (bs : List ℤ) → ((b : ℤ) → among b bs ≡ true → P b) → AllByRecursion P bs
+pub all_among : (P : ℤ → Type 0) (bs : List ℤ) → ((b : ℤ) → among b bs ≡ true → P b) → AllByRecursion P bs
 all_among P [] gives = tt
 all_among P (b ∷ bs) gives =
     let here : int_eq b b ≡ true = (Decides-int_eq b b).1 refl in

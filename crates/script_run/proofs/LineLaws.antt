@@ -21,7 +21,7 @@ use Rattle.ts_sessions.specs.Step.{bare}
 use Rattle.ts_sessions.specs.Script.{Play, Played, Scene, text_of, has_fault, takes_turn, with_places, places_of, plays, plays_kind, plays_as, session_name, refused, refused_line, line_limit, most_sessions}
 use Rattle.ts_sessions.specs.Sessions.{IfAnswered, Stepped}
 use Rattle.ts_sessions.proofs.WalkLaws.{goes_walks, goes_breaks}
-use Rattle.script_run.specs.Plays.{IsReply, Replies, LinePlayed, LineAnswered, LineBroken, LineFailed, ends_with}
+use Rattle.script_run.specs.Plays.{RepliesWith, Replies, LinePlayed, LineAnswered, LineBroken, LineFailed, ends_with}
 use Rattle.script_run.proofs.Counting.{raised_some, raised_none}
 use Rattle.script_run.proofs.WalkedAlone.{WalkedBroken, WalkedFailed, begins_after, breaks_alone, walks_failed, walks_whole, went_same}
 
@@ -82,7 +82,7 @@ answered_so NoMemory Q R follows q = tt
 -- ---- lines that change nothing
 
 -- a line that was answered without its store
-pub same_answered : {P : Type 0} (played : Played P) (reply : ReplyMade) (s : State) (scene : Scene P) (count : ℕ) → count < 2 ^ 64 → stands_still s ≡ false → IsReply played.text played.fault reply → played.scene ≡ scene → played.reads ≡ 0
+pub same_answered : {P : Type 0} (played : Played P) (reply : ReplyMade) (s : State) (scene : Scene P) (count : ℕ) → count < 2 ^ 64 → stands_still s ≡ false → RepliesWith played.text played.fault reply → played.scene ≡ scene → played.reads ≡ 0
     → LineAnswered played reply s s scene count count
 same_answered played reply s scene count small going says e none = record {
   replied = says;

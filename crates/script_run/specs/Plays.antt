@@ -19,13 +19,13 @@ pub record IsSpoken (line : List ℕ) (len skip end : ℕ) : Type 0 where
   pub within : end ≤ length line
 
 -- a reply with this text, which is a FAULT or not
-pub record IsReply (text : List ℕ) (fault : Bool) (reply : ReplyMade) : Type 0 where
+pub record RepliesWith (text : List ℕ) (fault : Bool) (reply : ReplyMade) : Type 0 where
   pub text_is : reply.text ≡ text
   pub fault_is : reply.fault ≡ fault
 
 -- a line came to what it should come to, and the store goes on
 pub record LineAnswered {P : Type 0} (played : Played P) (reply : ReplyMade) (old new : State) (scene : Scene P) (before after : ℕ) : Type 0 where
-  pub replied : IsReply played.text played.fault reply
+  pub replied : RepliesWith played.text played.fault reply
   pub reached : scene ≡ played.scene
   pub went : WentOn false old new
   pub counted : after ≡ raised_by played.reads before
@@ -50,7 +50,7 @@ LinePlayed NoMemory played old new scene before after = LineBroken played old ne
 
 -- a reply was made, unless there was no memory for it
 abbrev pub Replies : List ℕ → Bool → Result ReplyMade NoMemoryLeft → Type 0
-Replies text fault (Ok r) = IsReply text fault r
+Replies text fault (Ok r) = RepliesWith text fault r
 Replies text fault (Err e) = ⊤
 
 -- the end of a line that is answered so

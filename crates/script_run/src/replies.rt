@@ -3,7 +3,7 @@ ghost use Rattle.std.specs.Prelude.{◌≡◌, [], true, false, IfOk, Ok};
 ghost use Rattle.result_text.specs.declared.replies.Said.TheVariants.{Fault};
 ghost use Rattle.result_text.specs.Replies.{line_fault_text, reply_text};
 ghost use Rattle.ts_sessions.specs.Step.{bare as bare_refusal};
-ghost use Rattle.script_run.specs.Plays.{IsReply, Replies, ends_with};
+ghost use Rattle.script_run.specs.Plays.{RepliesWith, Replies, ends_with};
 
 use result_text::{Said, put_line_fault, put_reply};
 use std::alloc::Global;
@@ -23,7 +23,7 @@ pub(crate) fn ending(reply: Result<Reply, NoMemory>) -> StepEnd
 
 /// Nothing is said.
 pub(crate) fn silence(alloc: Global) -> Reply
-    ensures { IsReply [] false result }
+    ensures { RepliesWith [] false result }
 {
     Reply {
         text: Seq::new(alloc),
@@ -63,7 +63,7 @@ fn bare(code: u8) -> Refusal
 
 /// A reply with this text, which is a FAULT.
 fn fault(alloc: Global, text: Vec<u8>) -> Reply
-    ensures { IsReply text.items true result }
+    ensures { RepliesWith text.items true result }
 {
     Reply {
         text: Seq::of(text),

@@ -136,8 +136,8 @@ comparison_only k (scan.mark m) a e = refl
 abbrev pub on_test : Seen → Bool
 on_test = any (is_keyword kw.Is) (any on_not none)
 
-reads_test : (n : ℕ) → Reads n read.test rule.test on_test
-unfolding read.test
+reads_test : (n : ℕ) → Reads n read.any_test rule.test on_test
+unfolding read.any_test
 reads_test n =
     reads_then n (reads_name n) (λ c.
     takes_keyword n kw.Is (λ m. reads_null_test m c) (reads_number_test n c) (avoids_sequence _ _ _ _ (avoids_one _ comparison_of _ (comparison_only kw.Is))))

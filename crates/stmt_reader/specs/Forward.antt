@@ -4,7 +4,7 @@ use Rattle.std.specs.Prelude.{option_and_then}
 use Rattle.stmt_reader.specs.Scan.{Seen}
 use Rattle.stmt_reader.specs.Words.{word_of, number_of}
 use Rattle.stmt_reader.specs.Streams.{Stream, ends, stops, ◌then◌, size, heads, tail, seen_ahead, refused}
-use Rattle.stmt_reader.specs.Reading.{Parser, gives, go_on, bind, takes, choose, said, one, wanted, fitting, number, repeat, more, parts, listed, value, row, not_null, column, null_test, number_test, test, alias, argument, aggregate_rest, aggregate, name}
+use Rattle.stmt_reader.specs.Reading.{Parser, gives, go_on, bind, takes, choose, said, one, wanted, fitting, number, repeat, more, parts, listed, value, row, not_null, column, null_test, number_test, any_test, alias, argument, aggregate_rest, aggregate, name}
 use Rattle.stmt_reader.specs.declared.faults.Fault.{Fault}
 
 pub record Forward {A : Type 0} (p : Parser A) : Type 0 where
@@ -107,8 +107,8 @@ pub forward-column : Forward column
 unfolding column not_null
 forward-column = forward-bind forward-name (λ c. forward-bind (forward-wanted _) (λ _. forward-bind (forward-takes _ (forward-bind (forward-wanted _) (λ _. forward-gives true)) (forward-gives false)) (λ must. forward-gives _)))
 
-pub forward-test : Forward test
-unfolding test null_test number_test
+pub forward-test : Forward any_test
+unfolding any_test null_test number_test
 forward-test = forward-bind forward-name (λ c. forward-takes _
     (forward-takes _ (forward-bind (forward-wanted _) (λ _. forward-gives _)) (forward-bind (forward-wanted _) (λ _. forward-gives _)))
     (forward-bind (forward-one _) (λ op. forward-bind forward-number (λ z. forward-gives _))))

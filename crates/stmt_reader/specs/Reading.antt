@@ -162,12 +162,12 @@ number_test c = do
   z ← number
   gives (record { col = c; cmp = op; num = z })
 
-unfoldable pub test : Parser NamedTest
-test = name >>= λ c. takes (is_keyword kw.Is) (null_test c) (number_test c)
+unfoldable pub any_test : Parser NamedTest
+any_test = name >>= λ c. takes (is_keyword kw.Is) (null_test c) (number_test c)
 
 -- [WHERE tests]
 unfoldable pub filters : Parser (List NamedTest)
-filters = takes (is_keyword kw.Where) (listed separators.And test) (gives [])
+filters = takes (is_keyword kw.Where) (listed separators.And any_test) (gives [])
 
 -- [AS x]
 unfoldable pub alias : Parser (Option (List ℕ))

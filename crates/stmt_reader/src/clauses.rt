@@ -59,7 +59,7 @@ impl Phrase for Column {
 
 /// A test.
 impl Phrase for NamedTest {
-    ghost phrase = { spec.test };
+    ghost phrase = { spec.any_test };
 
     fn read(reader: &mut Reader<'_>) -> Result<NamedTest, ReadError> {
         reader.test()
@@ -111,9 +111,9 @@ impl Reader<'_> {
         Ok(Column { name, must })
     }
 
-    #[tactic(auto, unfolding(crate::specs::Reading::test, crate::specs::Reading::bind, crate::specs::Reading::takes))]
+    #[tactic(auto, unfolding(crate::specs::Reading::any_test, crate::specs::Reading::bind, crate::specs::Reading::takes))]
     fn test(&mut self) -> Result<NamedTest, ReadError>
-        ensures { Gives result (spec.test (ahead self.old)) (ahead self.new) }
+        ensures { Gives result (spec.any_test (ahead self.old)) (ahead self.new) }
     {
         let col = self.name()?;
         if self.takes_keyword(Keyword::Is) {

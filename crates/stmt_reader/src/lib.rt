@@ -22,8 +22,6 @@ mod phrases;
 mod reader;
 mod reading;
 mod statements;
-#[cfg(test)]
-mod tests;
 mod tokens;
 
 pub use faults::{Fault, ReadError};

@@ -14,7 +14,7 @@ use Rattle.txn_journal.proofs.FrameLaws.{front-push, length-front-push, fit-push
 
 -- a file is what was read, the gate there, and what follows
 module _ (file : List ℕ) (at : ℕ) (payloads : List (List ℕ)) (read : IsReadTo Ready file at payloads) (within : at < length file) where
-  split : file ≡ front payloads ++ get_or file at 0 ∷ drop (at + 1) file
+  pub split : file ≡ front payloads ++ get_or file at 0 ∷ drop (at + 1) file
   split = sym (take-append-drop at file) ∙ ap (λ (l : List ℕ). l ++ drop at file) read.0 ∙ ap (λ (l : List ℕ). front payloads ++ l) (drop_more file at 0 within)
 
   pub closed_lies : IsHead Closed file at → LiesAs Ready file at payloads

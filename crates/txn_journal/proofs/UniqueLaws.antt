@@ -56,6 +56,46 @@ fronts_one file a b g h r s fit_a fit_b stop_g stop_h is_a is_b =
     frames_one a b g h r s fit_a fit_b stop_g stop_h
     (append_cancel_left magic (frames a ++ g ∷ r) (frames b ++ h ∷ s) (sym (append_assoc magic (frames a) (g ∷ r)) ∙ sym is_a ∙ is_b ∙ append_assoc magic (frames b) (h ∷ s)))
 
+-- ---- what stands before two gates
+
+-- the frames before one gate are the first of those before another, or the other way round
+frames_compared : (a b : List (List ℕ)) (g h : ℕ) (r s : List ℕ) → AllFit a → AllFit b → frames a ++ g ∷ r ≡ frames b ++ h ∷ s
+    → ((more : List (List ℕ)) × (b ≡ a ++ more)) ⊎ ((more : List (List ℕ)) × (a ≡ b ++ more))
+frames_compared [] b g h r s fit_a fit_b is = inl (b, refl)
+frames_compared (p ∷ a) [] g h r s fit_a fit_b is = inr (p ∷ a, refl)
+frames_compared (p ∷ a) (q ∷ b) g h r s fit_a fit_b is =
+    let behind : body p ++ frames a ++ g ∷ r ≡ body q ++ frames b ++ h ∷ s = cc is in
+    let parts = same_payload p q (frames a ++ g ∷ r) (frames b ++ h ∷ s) fit_a.0 fit_b.0 (sym (append_assoc (body p) (frames a) (g ∷ r)) ∙ behind ∙ append_assoc (body q) (frames b) (h ∷ s)) in
+    ⊎_elim
+    (λ more. inl (more.0, λ k. sym parts.0 k ∷ more.1 k))
+    (λ more. inr (more.0, λ k. parts.0 k ∷ more.1 k))
+    (frames_compared a b g h r s fit_a.1 fit_b.1 parts.1)
+
+-- where the frames end at the other gate, those before the one are the first of them
+frames_begin : (a b : List (List ℕ)) (g h : ℕ) (r s : List ℕ) → AllFit a → AllFit b → Stops h s → frames a ++ g ∷ r ≡ frames b ++ h ∷ s → (more : List (List ℕ)) × (b ≡ a ++ more)
+frames_begin [] b g h r s fit_a fit_b stop is = (b, refl)
+frames_begin (p ∷ a) [] g h r s fit_a fit_b stop is =
+    let open_h : h ≡ 1 = cc is in
+    let rest : s ≡ body p ++ frames a ++ g ∷ r = cc is in
+    let rest_there : s ≡ body p ++ (frames a ++ g ∷ r) = rest ∙ append_assoc (body p) (frames a) (g ∷ r) in
+    absurd (goes_on p (frames a ++ g ∷ r) fit_a.0 (subst (λ (l : List ℕ). Stops 1 l) rest_there (subst (λ (n : ℕ). Stops n s) open_h stop)) (omega (arith, length-append (frames a) (g ∷ r))))
+frames_begin (p ∷ a) (q ∷ b) g h r s fit_a fit_b stop is =
+    let behind : body p ++ frames a ++ g ∷ r ≡ body q ++ frames b ++ h ∷ s = cc is in
+    let parts = same_payload p q (frames a ++ g ∷ r) (frames b ++ h ∷ s) fit_a.0 fit_b.0 (sym (append_assoc (body p) (frames a) (g ∷ r)) ∙ behind ∙ append_assoc (body q) (frames b) (h ∷ s)) in
+    let more = frames_begin a b g h r s fit_a.1 fit_b.1 stop parts.1 in
+    (more.0, λ k. sym parts.0 k ∷ more.1 k)
+
+frames_of : (a b : List (List ℕ)) (r s : List ℕ) → front a ++ r ≡ front b ++ s → frames a ++ r ≡ frames b ++ s
+frames_of a b r s is = append_cancel_left magic (frames a ++ r) (frames b ++ s) (sym (append_assoc magic (frames a) r) ∙ is ∙ append_assoc magic (frames b) s)
+
+pub compared : (file : List ℕ) (a b : List (List ℕ)) (g h : ℕ) (r s : List ℕ) → AllFit a → AllFit b → file ≡ front a ++ g ∷ r → file ≡ front b ++ h ∷ s
+    → ((more : List (List ℕ)) × (b ≡ a ++ more)) ⊎ ((more : List (List ℕ)) × (a ≡ b ++ more))
+compared file a b g h r s fit_a fit_b is_a is_b = frames_compared a b g h r s fit_a fit_b (frames_of a b (g ∷ r) (h ∷ s) (sym is_a ∙ is_b))
+
+pub begin_all : (file : List ℕ) (a b : List (List ℕ)) (g h : ℕ) (r s : List ℕ) → AllFit a → AllFit b → (h ≢ 1) ⊎ IsShort s → file ≡ front a ++ g ∷ r → file ≡ front b ++ h ∷ s
+    → (more : List (List ℕ)) × (b ≡ a ++ more)
+begin_all file a b g h r s fit_a fit_b stop is_a is_b = frames_begin a b g h r s fit_a fit_b stop (frames_of a b (g ∷ r) (h ∷ s) (sym is_a ∙ is_b))
+
 -- a file of at most nine bytes holds no payload
 none_held : (file : List ℕ) (payloads : List (List ℕ)) → length file ≤ 9 → Holds file payloads → payloads ≡ []
 none_held file [] short holds = refl
@@ -68,7 +108,7 @@ stands_once file a b (inl x) (inr y) = x.1 ∙ sym (none_held file b x.0 y)
 stands_once file a b (inr x) (inl y) = none_held file a y.0 x ∙ sym y.1
 stands_once file a b (inr x) (inr y) = (fronts_one file a b x.gate y.gate x.ignored y.ignored x.fit y.fit (inl x.closed) (inl y.closed) x.split y.split).0
 
-begins_magic : (file : List ℕ) (payloads : List (List ℕ)) (rest : List ℕ) → file ≡ front payloads ++ rest → take 8 file ≡ magic
+pub begins_magic : (file : List ℕ) (payloads : List (List ℕ)) (rest : List ℕ) → file ≡ front payloads ++ rest → take 8 file ≡ magic
 begins_magic file payloads rest is = ap (take 8) (is ∙ append_assoc magic (frames payloads) rest) ∙ take_at magic (frames payloads ++ rest) 8 refl
 
 pub damaged_or_not : (file : List ℕ) (a b : List (List ℕ)) (at : ℕ) → StandsFor file a → IsDamaged file b at → ⊥

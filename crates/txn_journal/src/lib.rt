@@ -20,6 +20,3 @@ pub use openings::Opened;
 pub use payloads::Payload;
 pub use readers::{Next, Reader};
 pub use recovery::{Recovered, recover};
-
-#[cfg(test)]
-mod tests;

@@ -1,6 +1,0 @@
-use Rattle.std.proofs.Common.{◌≢◌}
-use Rattle.txn_journal.specs.declared.journals.Standing.TheVariants.{Bare}
-use Rattle.txn_journal.proofs.tests.append_ten.Given as goal
-
-abbrev pub invariant-loop-n : goal.invariant-loop-n
-invariant-loop-n g l = l.journal.standing ≢ Bare
