@@ -1,0 +1,28 @@
+-- What one more event makes of a state.
+use Rattle.std.specs.Prelude.{◌≡◌, ℕ, true, Option}
+use Rattle.ts_model.specs.declared.events.Event.{Event}
+use Rattle.ts_model.specs.declared.events.Event.TheVariants.{Commit, Built}
+use Rattle.ts_model.specs.History.{History}
+use Rattle.ts_model.specs.Allowed.{allowed}
+use Rattle.ts_model.specs.Calls.{committed}
+use Rattle.refresh_build.specs.declared.jobs.Job.{Job}
+use Rattle.refresh_build.specs.Fitting.{JobIsFor}
+use Rattle.engine_state.specs.Stands.{StateValue, StandsFor}
+
+-- how many rows an event appends and takes away, over all tables
+abbrev pub CountsAre : History → Event → ℕ → ℕ → Type 0
+CountsAre h (Commit ops) inserted removed = (inserted ≡ (committed ops h).inserted) × (removed ≡ (committed ops h).removed)
+CountsAre h e inserted removed = (inserted ≡ 0) × (removed ≡ 0)
+
+-- an event may come next, with this job, after some history that the state stands for
+pub record IsNext (s : StateValue) (e : Event) (job : Option Job) : Type 0 where
+  pub history : History
+  pub stands : StandsFor history s
+  pub fits : allowed history e ≡ true
+  pub job_is : JobIsFor history e job
+
+-- the finish of a refresh with this snapshot may come next
+pub record IsNextFinish (s : StateValue) (cut snap : ℕ) : Type 0 where
+  pub history : History
+  pub stands : StandsFor history s
+  pub fits : allowed history (Built cut snap) ≡ true

@@ -1,0 +1,47 @@
+-- The materialised groups of an aggregate beside a history.
+use Rattle.std.specs.Prelude.{◌≡◌, ℕ, Bool, true, not, ◌&&◌, cond, List, [], ℤ, Option, Some, None}
+use Rattle.std.specs.List.{list_all}
+use Rattle.ts_bucket.specs.Bucket.{is_bucket}
+use Rattle.ts_bucket.specs.Positions.{is_above}
+use Rattle.ts_bucket.specs.Ranges.{lies_in}
+use Rattle.ts_bucket.specs.WholeSpans.{is_below}
+use Rattle.ts_bucket.specs.declared.spans.Span.{Span}
+use Rattle.partial_agg.specs.declared.groups.Group.{Group}
+use Rattle.mat_rows.specs.Replacing.{AreInOrder, of_bucket}
+use Rattle.ts_model.specs.declared.views.ViewDef.{ViewDef}
+use Rattle.ts_model.specs.History.{History}
+use Rattle.ts_model.specs.Groups.{groups_at}
+use Rattle.ts_model.specs.Refreshes.{last}
+
+-- the groups that the last refresh of a bucket has left: those that stood there at its snapshot, and none where there is none
+abbrev pub groups_left : ℕ → ViewDef → History → ℤ → Option ℕ → List Group
+groups_left n def h b None = []
+groups_left n def h b (Some s) = groups_at n def h s b
+
+-- a group is of a bucket below the mark
+abbrev pub is_materialised : ViewDef → Option ℤ → Group → Bool
+is_materialised def mark group = is_bucket def.fold.width group.start && is_below group.start mark
+
+-- the groups of an aggregate are what its last refreshes have left
+pub record GroupsStand (n : ℕ) (def : ViewDef) (h : History) (mark : Option ℤ) (groups : List Group) : Type 0 where
+  pub in_order : AreInOrder groups
+  pub all : list_all (is_materialised def mark) groups ≡ true
+  pub exact : (b : ℤ) → is_bucket def.fold.width b ≡ true → of_bucket b groups ≡ groups_left n def h b (last n h b)
+
+-- ---- a finish
+
+-- the buckets of these spans that a snapshot isn't older than
+abbrev pub is_renewed : List Span → ℕ → Option ℕ → ℤ → Bool
+is_renewed spans snap last b = lies_in spans b && not (is_above snap last)
+
+-- groups in place of those of spans
+pub record AreReplaced (spans : List Span) (put old new : List Group) : Type 0 where
+  pub in_order : AreInOrder new
+  pub exact : (b : ℤ) → of_bucket b new ≡ cond (lies_in spans b) (of_bucket b put) (of_bucket b old)
+  pub all : (test : Group → Bool) → list_all test put ≡ true → list_all test old ≡ true → list_all test new ≡ true
+
+-- what a finish with a snapshot puts in: the groups of its job at the buckets that the snapshot isn't older than, which these spans hold
+pub record AreRenewed (n : ℕ) (def : ViewDef) (h : History) (snap : ℕ) (spans : List Span) (groups : List Group) (renewed : List Span) (put : List Group) : Type 0 where
+  pub spans_are : (b : ℤ) → is_bucket def.fold.width b ≡ true → lies_in renewed b ≡ is_renewed spans snap (last n h b) b
+  pub groups_are : (b : ℤ) → lies_in renewed b ≡ true → of_bucket b put ≡ of_bucket b groups
+  pub all : (test : Group → Bool) → list_all test groups ≡ true → list_all test put ≡ true

@@ -1,0 +1,11 @@
+pub mod Lists
+pub mod Notes
+pub mod Groups
+pub mod Views
+pub mod Tables
+pub mod Stands
+pub mod Steps
+pub mod Afters
+pub mod Scans
+pub mod Nexts
+pub mod Shown

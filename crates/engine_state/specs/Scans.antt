@@ -1,0 +1,14 @@
+-- What a position sees of a hypertable.
+use Rattle.std.specs.Prelude.{ℕ, List}
+use Rattle.ts_schema.specs.declared.rows.Row.{Row}
+use Rattle.seg_rows.specs.Versions.{rows_of}
+use Rattle.row_versions.specs.Tables.{visible_rows}
+use Rattle.engine_state.specs.Tables.{TableValue}
+
+-- its rows at a position
+abbrev pub seen_rows : ℕ → TableValue → List Row
+seen_rows p table = visible_rows p table.rows.versions
+
+-- the rows that it stores, removed or not
+abbrev pub stored_rows : TableValue → List Row
+stored_rows table = rows_of table.rows.versions

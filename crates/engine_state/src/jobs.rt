@@ -1,0 +1,124 @@
+//! Jobs for refreshes.
+ghost use Rattle.std.specs.Prelude.{◌≡◌, IfOk, IsSome, IsTrue, MatchResult, Some};
+ghost use Rattle.std.specs.Thread.{IsSync};
+ghost use Rattle.ts_schema.specs.Counts.{raised_by, RaisedUpTo};
+ghost use Rattle.ts_model.specs.declared.events.Event.TheVariants.{Built};
+ghost use Rattle.ts_model.specs.Allowed.{allowed};
+ghost use Rattle.ts_model.specs.History.{History, position};
+ghost use Rattle.ts_model.specs.Pending.{is_waiting, pending};
+ghost use Rattle.ts_model.specs.Reads.{job_reads};
+ghost use Rattle.refresh_list.specs.Refreshes.{pending_in};
+ghost use Rattle.refresh_build.specs.Fitting.{IsJobOf, JobFits};
+ghost use Rattle.engine_state.specs.Afters.{IsNextFinish};
+ghost use Rattle.engine_state.specs.Shown.{IsRefreshOf};
+ghost use Rattle.engine_state.specs.Stands.{Stands, StandsFor};
+
+use crate::parts::Parts;
+use crate::scans::TableAt;
+use crate::states::State;
+use refresh_build::{Job, Refresh, build, build_ranges};
+use std::alloc::Global;
+use std::thread::Threads;
+use ts_schema::{NoMemory, Steps};
+
+impl Parts {
+    /// The refresh with this number, to be made of the rows of a position.
+    fn refresh(&self, cut: u64, snap: u64) -> Refresh
+        requires waits { IsTrue (is_waiting (pending_in self.now.refreshes cut)) }
+        ensures snap { result.snap ≡ snap }
+        ensures refresh { (h : History) → StandsFor h self.now → IsRefreshOf h cut result }
+    {
+        match self.refreshes.find(cut) {
+            Some(found) => Refresh {
+                view: found.view,
+                cut: found.cut,
+                snap,
+                span: found.span,
+            },
+            None => unreachable!(),
+        }
+    }
+
+    /// A job for the refresh with this number, which waits, from the rows of the position of the state.
+    fn start_job<R: Threads + Sync, L>(
+        &self,
+        rt: &R,
+        alloc: Global,
+        cut: u64,
+        steps: &mut Steps<L>,
+    ) -> Result<Job, NoMemory>
+        requires stands { Stands self.now }
+        requires waits { IsTrue (is_waiting (pending_in self.now.refreshes cut)) }
+        ensures job { (h : History) → StandsFor h self.now → IfOk result (λ job. JobFits h job × (job.cut ≡ cut) × (job.snap ≡ position h)) }
+        ensures read { (h : History) → StandsFor h self.now → MatchResult result (λ _. steps.new ≡ raised_by (job_reads h cut) steps.old) (λ _. RaisedUpTo (job_reads h cut) steps.old steps.new) }
+    {
+        let refresh = self.refresh(cut, self.position);
+        let seen = self.view_seen(refresh.view);
+        let log = seen.state.log();
+        let entries = seen.rows.table.log().entries();
+        build(
+            rt, alloc, &seen.rows, seen.def, log, entries, refresh, steps,
+        )
+    }
+
+    /// The job of a finish that was read from a journal: the refresh is made again of the rows that its
+    /// snapshot saw.
+    fn rebuild<R: Threads + Sync>(
+        &self,
+        rt: &R,
+        alloc: Global,
+        cut: u64,
+        snap: u64,
+    ) -> Result<Job, NoMemory>
+        requires next { IsNextFinish self.now cut snap }
+        ensures job { (h : History) → StandsFor h self.now → IsTrue (allowed h (Built cut snap)) → IfOk result (IsJobOf h cut snap) }
+    {
+        let refresh = self.refresh(cut, snap);
+        let seen = self.view_seen(refresh.view);
+        let rows = TableAt {
+            table: seen.rows.table,
+            position: snap,
+        };
+        let entries = rows.table.log().entries();
+        let log = seen.state.log();
+        let spans = log.redone_with(entries, refresh.span, snap)?;
+        build_ranges(
+            rt,
+            alloc,
+            &rows,
+            seen.def,
+            refresh,
+            spans,
+            &mut Steps::new(()),
+        )
+    }
+}
+
+impl State {
+    /// A job for the refresh with this number, which waits, from the rows of this state. It makes anew
+    /// the buckets that are out of date, and counts one step for each stored row that it looks at.
+    pub fn start_job<R: Threads + Sync, L>(
+        &self,
+        rt: &R,
+        cut: u64,
+        steps: &mut Steps<L>,
+    ) -> Result<Job, NoMemory>
+        requires sync { IsSync R.row }
+        requires waits { (h : History) → StandsFor h self.now → IsTrue (is_waiting (pending h cut)) }
+        ensures job { (h : History) → StandsFor h self.now → IfOk result (λ job. JobFits h job × (job.cut ≡ cut) × (job.snap ≡ position h)) }
+        ensures read { (h : History) → StandsFor h self.now → MatchResult result (λ _. steps.new ≡ raised_by (job_reads h cut) steps.old) (λ _. RaisedUpTo (job_reads h cut) steps.old steps.new) }
+    {
+        self.parts.start_job(rt, self.alloc, cut, steps)
+    }
+
+    /// The job of the finish of a refresh with this snapshot, which is allowed next, as a journal tells
+    /// it. It makes anew the buckets that are out of date, and those that were refreshed at a later
+    /// snapshot.
+    pub fn rebuild<R: Threads + Sync>(&self, rt: &R, cut: u64, snap: u64) -> Result<Job, NoMemory>
+        requires sync { IsSync R.row }
+        requires next { IsNextFinish self.now cut snap }
+        ensures job { (h : History) → StandsFor h self.now → IsTrue (allowed h (Built cut snap)) → IfOk result (IsJobOf h cut snap) }
+    {
+        self.parts.rebuild(rt, self.alloc, cut, snap)
+    }
+}

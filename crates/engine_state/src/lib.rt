@@ -1,0 +1,21 @@
+//! The state of an engine: what it keeps of a history, in one value that snapshots share.
+#![tactic(auto)]
+
+mod answers;
+mod commits;
+mod cuts;
+mod finishes;
+mod jobs;
+mod parts;
+mod rosters;
+mod scans;
+mod states;
+mod steps;
+mod tables;
+mod views;
+mod windows;
+
+pub use rosters::after_event;
+pub use states::{After, State};
+pub use tables::TableState;
+pub use views::ViewState;

@@ -1,0 +1,115 @@
+//! The state of an engine.
+ghost use Rattle.std.specs.Prelude.{◌≡◌, IfOk, IsSome, IsTrue};
+ghost use Rattle.std.specs.Option.{ForSome};
+ghost use Rattle.ts_bucket.specs.Bucket.{is_time};
+ghost use Rattle.ts_model.specs.History.{History, start};
+ghost use Rattle.ts_model.specs.Pending.{pending, waiting};
+ghost use Rattle.ts_model.specs.Roster.{view_of};
+ghost use Rattle.engine_state.specs.Afters.{IsNext};
+ghost use Rattle.engine_state.specs.Nexts.{Counts, GoesTo, WindowIs};
+ghost use Rattle.engine_state.specs.Stands.{StandsFor};
+
+use crate::parts::Parts;
+use refresh_build::Job;
+use std::alloc::Global;
+use std::marker::Model;
+use ts_model::{Event, Pending, Roster, Waiting, Window};
+use ts_schema::{NoMemory, Seq};
+
+/// The state of an engine: what it keeps of a history. It stands for an allowed history.
+#[derive(Drop)]
+pub struct State {
+    pub(crate) alloc: Global,
+    pub(crate) parts: Parts,
+}
+
+impl Model for State {
+    ghost use Rattle.engine_state.specs.Stands.{StateValue, Stands};
+
+    ghost Value = { StateValue };
+
+    ghost view = { λ s. s.parts };
+
+    ghost invariant = { λ s. Stands s.parts };
+}
+
+/// A state after one more event, and what the event did.
+#[derive(Drop)]
+pub struct After {
+    /// The state.
+    pub state: State,
+    /// How many rows the event appended, over all tables.
+    pub inserted: u64,
+    /// How many rows it took away.
+    pub removed: u64,
+}
+
+impl State {
+    /// The state of the empty history.
+    pub fn new(alloc: Global) -> Result<State, NoMemory>
+        ensures stands { IfOk result (StandsFor start) }
+    {
+        Ok(State {
+            alloc,
+            parts: Parts::none(alloc)?,
+        })
+    }
+
+    /// The position of the history.
+    pub fn position(&self) -> u64
+        ensures position { result ≡ self.now.position }
+    {
+        self.parts.position
+    }
+
+    /// Its tables and aggregates.
+    pub fn roster(&self) -> &Roster
+        ensures roster { result.now ≡ self.now.roster }
+    {
+        &self.parts.roster
+    }
+
+    /// What became of the refresh with this number.
+    pub fn pending(&self, cut: u64) -> Pending
+        ensures pending { (h : History) → StandsFor h self.now → result ≡ pending h cut }
+    {
+        self.parts.refreshes.pending(cut)
+    }
+
+    /// The refreshes that were cut and not finished, in order of their cuts.
+    pub fn waiting(&self) -> Result<Seq<Waiting>, NoMemory>
+        ensures waiting { (h : History) → StandsFor h self.now → IfOk result (λ found. found ≡ waiting h) }
+    {
+        self.parts.refreshes.waiting()
+    }
+
+    /// The buckets that a refresh of an aggregate covers whose window is from `lo` on and below `hi`. A
+    /// missing start is that of the first bucket, and a missing end the greater of the aggregate's
+    /// watermark and the end of the last bucket with a row.
+    pub fn window(&self, view: u32, lo: Option<i64>, hi: Option<i64>) -> Window
+        requires view { IsSome (view_of self.now.roster view) }
+        requires low { ForSome lo (λ t. IsTrue (is_time t)) }
+        requires high { ForSome hi (λ t. IsTrue (is_time t)) }
+        ensures window { WindowIs self.now view lo hi result }
+    {
+        self.parts.window(view, lo, hi)
+    }
+
+    /// The state after an event that is allowed next. One that finishes a refresh comes with a job of
+    /// it. The state itself stays as it was, and the two share what the event leaves alone.
+    pub fn after(&self, event: &Event, job: Option<Job>) -> Result<After, NoMemory>
+        requires next { IsNext self.now event.now job }
+        ensures stands { IfOk result (λ after. GoesTo self.now event.now job after.state) }
+        ensures counts { IfOk result (λ after. Counts self.now event.now after.inserted after.removed) }
+    {
+        let step = self.parts.after(self.alloc, event, &job)?;
+        Ok(After {
+            state: State {
+                alloc: self.alloc,
+                parts: step.parts,
+            },
+            inserted: step.inserted,
+            removed: step.removed,
+        })
+    }
+}

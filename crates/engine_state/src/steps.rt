@@ -1,0 +1,178 @@
+//! What each event makes of the parts of a state.
+ghost use Rattle.std.specs.Prelude.{◌≡◌, IfOk, None, Some};
+ghost use Rattle.ts_model.specs.declared.events.Event.TheVariants.{Built, Commit, Cut, Hyper as HyperMade, View};
+ghost use Rattle.engine_state.specs.Afters.{IsNext};
+ghost use Rattle.engine_state.specs.Nexts.{Counts, FinishesTo, GoesTo, ModesTo, StepsTo, TablesTo};
+
+use crate::commits::all_after;
+use crate::cuts::all_fed;
+use crate::finishes::finished;
+use crate::parts::Parts;
+use crate::tables::TableState;
+use crate::views::ViewState;
+use refresh_build::Job;
+use std::alloc::Global;
+use ts_bucket::Span;
+use ts_model::{Event, Hyper, Op, ViewDef};
+use ts_schema::{NoMemory, Seq};
+
+/// What an event made of the parts of a state.
+#[derive(Drop)]
+pub(crate) struct Step {
+    /// The parts after it.
+    pub parts: Parts,
+    /// How many rows it appended, over all tables.
+    pub inserted: u64,
+    /// How many rows it took away.
+    pub removed: u64,
+}
+
+/// What an event made that moves no row.
+fn still(parts: Parts) -> Step
+    ensures parts { result.parts ≡ parts }
+    ensures inserted { result.inserted ≡ 0 }
+    ensures removed { result.removed ≡ 0 }
+{
+    Step {
+        parts,
+        inserted: 0,
+        removed: 0,
+    }
+}
+
+impl Parts {
+    /// The parts after a table was made.
+    fn with_table(&self, alloc: Global, event: &Event) -> Result<Parts, NoMemory>
+        ensures stands { IfOk result (TablesTo self.now event.now) }
+    {
+        let mut new = self.with_roster(alloc, event)?;
+        new.tables.push(None)?;
+        Ok(new)
+    }
+
+    /// The parts after a table was made a hypertable.
+    fn with_hyper(
+        &self,
+        alloc: Global,
+        event: &Event,
+        table: u32,
+        hyper: Hyper,
+    ) -> Result<Parts, NoMemory>
+        requires event { event.now ≡ HyperMade table hyper }
+        requires next { IsNext self.now (HyperMade table hyper) None }
+        ensures stands { IfOk result (StepsTo self.now (HyperMade table hyper)) }
+    {
+        let state = TableState::new(alloc, hyper.interval)?;
+        let mut new = self.with_roster(alloc, event)?;
+        new.tables.set(table as usize, Some(state));
+        Ok(new)
+    }
+
+    /// The parts after an aggregate was made.
+    fn with_view(&self, alloc: Global, event: &Event, def: &ViewDef) -> Result<Parts, NoMemory>
+        requires event { event.now ≡ View def.now }
+        ensures stands { IfOk result (StepsTo self.now (View def.now)) }
+    {
+        let mut new = self.with_roster(alloc, event)?;
+        let view = ViewState::new(alloc, def.table, def.fold.width, new.position)?;
+        new.views.push(view)?;
+        Ok(new)
+    }
+
+    /// The parts after an aggregate was set to a mode.
+    fn with_mode(&self, alloc: Global, event: &Event) -> Result<Parts, NoMemory>
+        ensures stands { IfOk result (ModesTo self.now event.now) }
+    {
+        self.with_roster(alloc, event)
+    }
+
+    /// What operations made of the parts.
+    fn with_ops(&self, alloc: Global, ops: &Seq<Op>) -> Result<Step, NoMemory>
+        requires next { IsNext self.now (Commit ops.now) None }
+        ensures stands { IfOk result (λ step. StepsTo self.now (Commit ops.now) step.parts) }
+        ensures counts { IfOk result (λ step. Counts self.now (Commit ops.now) step.inserted step.removed) }
+    {
+        let position = self.next_position()?;
+        let moves = all_after(alloc, self.tables.items(), ops, position)?;
+        let parts = Parts {
+            position,
+            roster: self.same_roster()?,
+            tables: moves.tables,
+            views: self.views.copy()?,
+            refreshes: self.refreshes.copy()?,
+        };
+        Ok(Step {
+            parts,
+            inserted: moves.inserted,
+            removed: moves.removed,
+        })
+    }
+
+    /// The parts after a refresh was cut.
+    fn with_cut(&self, alloc: Global, view: u32, span: Span) -> Result<Parts, NoMemory>
+        requires next { IsNext self.now (Cut view span) None }
+        ensures stands { IfOk result (StepsTo self.now (Cut view span)) }
+    {
+        let number = self.views.get(view as usize).table();
+        let table = self.table(number);
+        let position = self.next_position()?;
+        let views = all_fed(alloc, self.views.items(), number, table)?;
+        let mut tables = self.tables.copy()?;
+        tables.set(number as usize, Some(table.emptied(alloc, span.hi)?));
+        Ok(Parts {
+            position,
+            roster: self.same_roster()?,
+            tables,
+            views,
+            refreshes: self.refreshes.with_cut(position, view, span)?,
+        })
+    }
+
+    /// The parts after a refresh was finished with a job.
+    fn with_job(&self, alloc: Global, job: &Job) -> Result<Parts, NoMemory>
+        requires next { IsNext self.now (Built job.now.cut job.now.snap) (Some job.now) }
+        ensures stands { IfOk result (FinishesTo self.now job.now) }
+    {
+        let view = self.views.get(job.view as usize);
+        let renewed = view.log().renewed(job.span, job.spans.items(), job.snap)?;
+        let done = finished(alloc, view, job, &renewed)?;
+        let mut views = self.views.copy()?;
+        views.set(job.view as usize, done);
+        let position = self.next_position()?;
+        Ok(Parts {
+            position,
+            roster: self.same_roster()?,
+            tables: self.tables.copy()?,
+            views,
+            refreshes: self.refreshes.finished(job.cut, position)?,
+        })
+    }
+
+    /// What an event that is allowed next made of the parts. One that finishes a refresh comes with a
+    /// job of it.
+    pub(crate) fn after(
+        &self,
+        alloc: Global,
+        event: &Event,
+        job: &Option<Job>,
+    ) -> Result<Step, NoMemory>
+        requires next { IsNext self.now event.now job.now }
+        ensures stands { IfOk result (λ step. GoesTo self.now event.now job.now step.parts) }
+        ensures counts { IfOk result (λ step. Counts self.now event.now step.inserted step.removed) }
+    {
+        match event {
+            Event::Table(_) => Ok(still(self.with_table(alloc, event)?)),
+            Event::Hyper { table, hyper } => {
+                Ok(still(self.with_hyper(alloc, event, *table, *hyper)?))
+            }
+            Event::View(def) => Ok(still(self.with_view(alloc, event, def)?)),
+            Event::Mode { .. } => Ok(still(self.with_mode(alloc, event)?)),
+            Event::Commit(ops) => self.with_ops(alloc, ops),
+            Event::Cut { view, span } => Ok(still(self.with_cut(alloc, *view, *span)?)),
+            Event::Built { .. } => match job {
+                Some(job) => Ok(still(self.with_job(alloc, job)?)),
+                None => unreachable!(),
+            },
+        }
+    }
+}

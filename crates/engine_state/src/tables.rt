@@ -1,0 +1,170 @@
+//! Hypertables: their rows at every position, and the log of noted hulls.
+ghost use Rattle.std.specs.Prelude.{◌≡◌, [], length, IfOk};
+ghost use Rattle.std.specs.Int.{int_max};
+ghost use Rattle.ts_bucket.specs.Chunks.{IsInterval};
+ghost use Rattle.ts_model.specs.Effect.{all_appended, all_taken};
+ghost use Rattle.coverage.specs.Notes.{logged};
+ghost use Rattle.engine_state.specs.Notes.{noted_in};
+ghost use Rattle.engine_state.specs.Steps.{TableAsks, TableCut, TableGoes, rows_before};
+
+use inval_log::InvalLog;
+use row_versions::{Applied, Table};
+use std::alloc::{AllocError, Global};
+use std::marker::Model;
+use std::sync::Arc;
+use ts_bucket::Hull;
+use ts_model::Op;
+use ts_schema::{NoMemory, Seq};
+
+/// The state of a hypertable, which its copies share.
+#[derive(Drop)]
+pub struct TableState {
+    parts: Arc<Parts>,
+}
+
+/// What is shared.
+#[derive(Drop)]
+struct Parts {
+    rows: Table,
+    log: InvalLog,
+}
+
+impl Model for TableState {
+    ghost use Rattle.engine_state.specs.Tables.{TableValue};
+
+    ghost Value = { TableValue };
+
+    ghost view = { λ t. record { rows = t.parts.value.rows; log = t.parts.value.log } };
+}
+
+/// What operations made of a hypertable.
+#[derive(Drop)]
+pub(crate) struct Moved {
+    /// Its state after them.
+    pub table: TableState,
+    /// How many rows they appended.
+    pub inserted: u64,
+    /// How many rows they took away.
+    pub removed: u64,
+}
+
+/// The log after the hull of a commit was noted, where it has one.
+fn noted(log: &InvalLog, hull: Option<Hull>, pos: u64) -> Result<InvalLog, NoMemory>
+    ensures threshold { IfOk result (λ new. new.threshold ≡ log.now.threshold) }
+    ensures entries { IfOk result (λ new. noted_in new.entries ≡ logged hull pos log.now.threshold (noted_in log.now.entries)) }
+{
+    match hull {
+        None => log.copy(),
+        Some(hull) => with_entry(log, hull, pos),
+    }
+}
+
+/// The log after a hull was noted.
+fn with_entry(log: &InvalLog, hull: Hull, pos: u64) -> Result<InvalLog, NoMemory>
+    ensures threshold { IfOk result (λ new. new.threshold ≡ log.now.threshold) }
+    ensures entries { IfOk result (λ new. noted_in new.entries ≡ logged (Some hull) pos log.now.threshold (noted_in log.now.entries)) }
+{
+    let mut new = log.copy()?;
+    new.reserve()?;
+    new.note(hull, pos);
+    new.shared()
+}
+
+/// The empty log whose threshold is that of a log, or `hi` where that is higher.
+fn emptied_log(alloc: Global, log: &InvalLog, hi: i64) -> InvalLog
+    ensures threshold { result.threshold ≡ int_max log.now.threshold hi }
+    ensures entries { result.entries ≡ [] }
+{
+    let mut emptied = InvalLog::new(alloc);
+    emptied.raise(log.threshold().max(hi));
+    emptied
+}
+
+impl Clone for TableState {
+    ghost is_clone = { λ a b. a ≡ b };
+
+    fn clone(&self) -> Result<TableState, AllocError> {
+        Ok(TableState {
+            parts: Arc::try_clone(&self.parts)?,
+        })
+    }
+}
+
+impl TableState {
+    /// A hypertable without rows, whose chunks are this long.
+    pub(crate) fn new(alloc: Global, interval: i64) -> Result<TableState, NoMemory>
+        requires { IsInterval interval }
+        ensures interval { IfOk result (λ t. t.rows.interval ≡ interval) }
+        ensures versions { IfOk result (λ t. t.rows.versions ≡ []) }
+        ensures entries { IfOk result (λ t. t.log.entries ≡ []) }
+    {
+        TableState::of(alloc, Table::new(alloc, interval), InvalLog::new(alloc))
+    }
+
+    /// The state of these rows and this log.
+    fn of(alloc: Global, rows: Table, log: InvalLog) -> Result<TableState, NoMemory>
+        ensures rows { IfOk result (λ t. t.rows ≡ rows) }
+        ensures log { IfOk result (λ t. t.log ≡ log) }
+    {
+        Ok(TableState {
+            parts: Arc::new(alloc, Parts { rows, log })?,
+        })
+    }
+
+    /// The same state again. It is a count.
+    pub fn copy(&self) -> Result<TableState, NoMemory>
+        ensures same { IfOk result (λ copy. copy ≡ self.now) }
+    {
+        Ok(TableState {
+            parts: Arc::try_clone(&self.parts)?,
+        })
+    }
+
+    /// Its rows at every position.
+    pub fn rows(&self) -> &Table
+        ensures rows { result.now ≡ self.now.rows }
+    {
+        &self.parts.rows
+    }
+
+    /// Its log of noted hulls.
+    pub fn log(&self) -> &InvalLog
+        ensures log { result.now ≡ self.now.log }
+    {
+        &self.parts.log
+    }
+
+    /// The state after a cut of a span that ends at `hi`: its log is emptied, and its threshold raised.
+    pub(crate) fn emptied(&self, alloc: Global, hi: i64) -> Result<TableState, NoMemory>
+        ensures cut { IfOk result (λ new. TableCut hi self.now new) }
+    {
+        let log = emptied_log(alloc, self.log(), hi);
+        TableState::of(alloc, self.rows().copy()?, log)
+    }
+
+    /// The state after these operations on the table with this number, at a position above those of
+    /// all earlier changes.
+    pub(crate) fn after_ops(
+        &self,
+        alloc: Global,
+        ops: &Seq<Op>,
+        table: u32,
+        pos: u64,
+    ) -> Result<Moved, NoMemory>
+        requires { TableAsks ops.now pos table self.now }
+        ensures goes { IfOk result (λ m. TableGoes ops.now pos table self.now m.table) }
+        ensures inserted { IfOk result (λ m. m.inserted ≡ length (all_appended table ops.now)) }
+        ensures removed { IfOk result (λ m. m.removed ≡ length (all_taken table ops.now (rows_before pos self.now))) }
+    {
+        let Applied {
+            table: rows,
+            effect,
+        } = self.rows().apply(ops, table, pos)?;
+        let log = noted(self.log(), effect.hull, pos)?;
+        Ok(Moved {
+            table: TableState::of(alloc, rows, log)?,
+            inserted: effect.inserted,
+            removed: effect.removed,
+        })
+    }
+}
