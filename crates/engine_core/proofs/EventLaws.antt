@@ -1,0 +1,72 @@
+-- Events of a history by their numbers.
+use Rattle.std.proofs.Common.{◌≡◌, ℕ, zero, suc, ◌+◌, ◌<◌, ◌≤◌, true, false, cond, ◌==◌, List, [], ◌∷◌, length, slice_get, Option, Some, None, sym, refl, ap, ◌∙◌, arith}
+use Rattle.std.specs.Prelude.{IfSome, get_or, is_some, nat_lt, option_map}
+use Rattle.std.proofs.lemmas.Bool.{eqb-true, ltb-false, ltb-true}
+use Rattle.std.proofs.lemmas.Option.{slice_get_past, slice_get_read}
+use Rattle.ts_model.specs.declared.events.Event.{Event}
+use Rattle.ts_model.specs.History.{History, start, ◌▸◌, ◌▸▸◌, position, base_position, event_at}
+use Rattle.ts_model.proofs.HistoryLaws.{position_followed, base_begins, begins_followed}
+use Rattle.engine_core.specs.Histories.{history_of}
+
+pub position_of : (events : List Event) → position (history_of events) ≡ length events
+position_of events = omega (arith, position_followed start events)
+
+pub base_of : (events : List Event) → 0 ≡ base_position (history_of events)
+base_of events = sym (base_begins (begins_followed start events))
+
+-- no event has a number above the position
+event_above : (h : History) (k : ℕ) → position h < k → event_at h k ≡ None
+event_above start k l = refl
+event_above (h ▸ e) k l =
+    elim (k == suc (position h)) as (λ t. (k == suc (position h)) ≡ t → cond t (Some e) (event_at h k) ≡ None) [
+      | true ↦ λ same. let is : k ≡ suc (position h) = eqb-true k (suc (position h)) same in absurd (omega arith)
+      | false ↦ λ _. event_above h k (omega arith)
+    ] refl
+
+-- an event of the beginning
+event_before : (h : History) (es : List Event) (k : ℕ) → k ≤ position h → event_at (h ▸▸ es) k ≡ event_at h k
+event_before h [] k l = refl
+event_before h (e ∷ es) k l =
+    event_before (h ▸ e) es k (omega arith)
+    ∙ (elim (k == suc (position h)) as (λ t. (k == suc (position h)) ≡ t → cond t (Some e) (event_at h k) ≡ event_at h k) [
+      | true ↦ λ same. let is : k ≡ suc (position h) = eqb-true k (suc (position h)) same in absurd (omega arith)
+      | false ↦ λ _. refl
+    ] refl)
+
+-- the event at a place of those that follow
+event_after : (h : History) (es : List Event) (i : ℕ) → event_at (h ▸▸ es) (suc (position h) + i) ≡ slice_get es i
+event_after h [] i = event_above h (suc (position h) + i) (omega arith)
+event_after h (e ∷ es) zero = event_before (h ▸ e) es (suc (position h) + 0) (omega arith) ∙ own (suc (position h) + 0) (omega arith)
+  where
+    own : (k : ℕ) → k ≡ suc (position h) → event_at (h ▸ e) k ≡ Some e
+    own k is = ap (λ k. event_at (h ▸ e) k) is ∙ same_number (suc (position h))
+      where
+        same_number : (n : ℕ) → cond (n == n) (Some e) (event_at h n) ≡ Some e
+        same_number n = ap (λ t. cond t (Some e) (event_at h n)) (equal n)
+          where
+            equal : (n : ℕ) → (n == n) ≡ true
+            equal n = grind arith
+event_after h (e ∷ es) (suc i) =
+    let moved : suc (position h) + suc i ≡ suc (suc (position h)) + i = omega arith in
+    ap (λ k. event_at ((h ▸ e) ▸▸ es) k) moved ∙ event_after (h ▸ e) es i
+
+-- events are numbered from 1
+pub event_numbered : (events : List Event) (k i : ℕ) → k ≡ i + 1 → event_at (history_of events) k ≡ slice_get events i
+event_numbered events k i is = ap (λ n. event_at (history_of events) n) (let e : k ≡ 1 + i = omega arith in e) ∙ event_after start events i
+
+-- no event has the number 0
+event_none : (h : History) → event_at h 0 ≡ None
+event_none start = refl
+event_none (h ▸ e) =
+    elim (0 == suc (position h)) as (λ t. (0 == suc (position h)) ≡ t → cond t (Some e) (event_at h 0) ≡ None) [
+      | true ↦ λ same. let is : 0 ≡ suc (position h) = eqb-true 0 (suc (position h)) same in absurd (omega arith)
+      | false ↦ λ _. event_none h
+    ] refl
+
+pub event_unnumbered : (events : List Event) (k : ℕ) → k < 1 → event_at (history_of events) k ≡ None
+event_unnumbered events k l = ap (λ n. event_at (history_of events) n) (let e : k ≡ 0 = omega arith in e) ∙ event_none (history_of events)
+
+-- what stands at a place of a list, read through a reference
+pub read_at : {A B : Type 0} (now : B → A) (o : Option B) (xs : List A) (i : ℕ) → is_some o ≡ nat_lt i (length xs) → IfSome o (λ x. now x ≡ get_or xs i (now x)) → option_map now o ≡ slice_get xs i
+read_at now None xs i there is = sym (slice_get_past xs i (ltb-false i (length xs) (sym there)))
+read_at now (Some x) xs i there is = sym (slice_get_read xs (length xs) i (now x) refl (ltb-true i (length xs) (sym there)) is)

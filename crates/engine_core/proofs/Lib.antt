@@ -1,0 +1,3 @@
+pub mod ActLaws
+pub mod StoreLaws
+pub mod EventLaws

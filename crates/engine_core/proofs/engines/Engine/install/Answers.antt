@@ -1,0 +1,19 @@
+use Rattle.std.proofs.Common.{◌≡◌, ◌∷◌, ◌++◌, [], sym, ap, ◌∙◌, subst}
+use Rattle.std.specs.Arc.{arc_value}
+use Rattle.ts_model.specs.History.{◌▸◌}
+use Rattle.engine_state.specs.Stands.{StandsFor}
+use Rattle.engine_core.specs.Histories.{history_of}
+use Rattle.engine_core.specs.Values.{EngineValue}
+use Rattle.engine_core.proofs.StoreLaws.{history_push}
+use Rattle.engine_core.proofs.engines.Engine.install.Goals as goal
+
+pub invariant_of-self : goal.invariant_of-self
+invariant_of-self c =
+    let old = c.args.self.now.events in
+    let event = c.args.prepared.event in
+    let same : c.self.inside.events.items ≡ c.args.self.now.events = ap (λ (v : EngineValue). v.events) c.self.view_is in
+    let pushed : c.push_reserved.new.self.items ≡ c.args.self.now.events ++ (c.args.prepared.event ∷ []) = c.push_reserved.ensures.items ∙ (λ i. same i ++ (c.into_parts-event.ensures.event i ∷ [])) in
+    let history_is = ap history_of pushed ∙ history_push old event in
+    let stands : StandsFor (history_of c.args.self.now.events ▸ c.args.prepared.event) (arc_value c.into_parts-event.result.1) =
+    subst (StandsFor (history_of old ▸ event)) (sym c.into_parts-event.ensures.state) c.requires.prepared.stands in
+    subst (λ h. StandsFor h (arc_value c.into_parts-event.result.1)) (sym history_is) stands

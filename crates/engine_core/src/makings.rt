@@ -1,0 +1,165 @@
+//! Calls that make one event, on an engine that nobody else changes.
+ghost use Rattle.std.specs.Prelude.{◌≡◌, IsSome, IsTrue};
+ghost use Rattle.std.specs.Option.{ForSome};
+ghost use Rattle.ts_bucket.specs.Bucket.{is_time};
+ghost use Rattle.ts_model.specs.declared.events.Event.TheVariants.{Commit, Hyper as HyperMade, Mode, Table, View};
+ghost use Rattle.ts_model.specs.declared.outcomes.CutDone.TheVariants.{Cut as CutMade};
+ghost use Rattle.ts_model.specs.Allowed.{allowed};
+ghost use Rattle.ts_model.specs.Calls.{committing, cutting, finishing, making_hyper, making_table, making_view, refusal, setting_mode};
+ghost use Rattle.ts_model.specs.Roster.{roster, view_of};
+ghost use Rattle.ts_model.specs.Sound.{sound};
+ghost use Rattle.refresh_build.specs.Fitting.{JobFits, JobIsFor};
+ghost use Rattle.engine_core.specs.Acts.{making_event, outcome_as};
+ghost use Rattle.engine_core.specs.Histories.{history_of};
+ghost use Rattle.engine_core.specs.Stores.{Does};
+
+use crate::engines::Engine;
+use refresh_build::Job;
+use ts_bucket::Span;
+use ts_model::{Committed, CutDone, Event, Hyper, Op, Outcome, Refusal, TableDef, ViewDef, Window};
+use ts_schema::Seq;
+
+/// No bucket lies whole in a window with a given end.
+const NO_BUCKET: u8 = 15;
+
+/// Makes an event that is allowed next, and tells what it does.
+fn made(engine: &mut Engine, event: Event, job: Option<Job>) -> Outcome<Committed>
+    requires allowed { IsTrue (allowed (history_of engine.old.events) event) }
+    requires job { JobIsFor (history_of engine.old.events) event job }
+    ensures { Does (making_event event) engine.old.events result engine.new.events }
+{
+    match engine.prepare(event, job) {
+        Err(_) => Outcome::NoMemory,
+        Ok(prepared) => {
+            let effect = prepared.effect();
+            engine.install(prepared);
+            Outcome::Done(effect)
+        }
+    }
+}
+
+/// Makes an event, unless its call is refused. The job of a finish is given up on every answer.
+fn make(engine: &mut Engine, event: Event, job: Option<Job>) -> Outcome<Committed>
+    requires sound { IsTrue (sound (history_of engine.old.events) event) }
+    requires job { JobIsFor (history_of engine.old.events) event job }
+    ensures { Does (making_event event) engine.old.events result engine.new.events }
+{
+    match engine.check(&event) {
+        Err(refusal) => Outcome::Refused(refusal),
+        Ok(()) => made(engine, event, job),
+    }
+}
+
+/// The same outcome, of which the event's number alone is told.
+pub fn numbered(outcome: Outcome<Committed>) -> Outcome<u64>
+    ensures { result ≡ outcome_as (λ c. c.pos) outcome }
+{
+    match outcome {
+        Outcome::Done(effect) => Outcome::Done(effect.pos),
+        Outcome::Refused(refusal) => Outcome::Refused(refusal),
+        Outcome::DiskFault => Outcome::DiskFault,
+        Outcome::NoMemory => Outcome::NoMemory,
+    }
+}
+
+/// The same outcome, told of a cut over this span.
+pub fn cut_over(outcome: Outcome<Committed>, span: Span) -> Outcome<CutDone>
+    ensures { result ≡ outcome_as (λ c. CutMade c.pos span) outcome }
+{
+    match outcome {
+        Outcome::Done(effect) => Outcome::Done(CutDone::Cut {
+            pos: effect.pos,
+            span,
+        }),
+        Outcome::Refused(refusal) => Outcome::Refused(refusal),
+        Outcome::DiskFault => Outcome::DiskFault,
+        Outcome::NoMemory => Outcome::NoMemory,
+    }
+}
+
+/// A refusal of a window without a whole bucket.
+pub fn no_bucket(engine: &Engine) -> Refusal
+    ensures { result ≡ refusal 15 (history_of engine.now.events) 0 }
+{
+    Refusal {
+        code: NO_BUCKET,
+        pos: engine.length(),
+        mark: 0,
+    }
+}
+
+/// Begins a refresh of the whole buckets of a window.
+pub(crate) fn cut(
+    engine: &mut Engine,
+    view: u32,
+    lo: Option<i64>,
+    hi: Option<i64>,
+) -> Outcome<CutDone>
+    requires view { IsSome (view_of (roster (history_of engine.old.events)) view) }
+    requires low { ForSome lo (λ t. IsTrue (is_time t)) }
+    requires high { ForSome hi (λ t. IsTrue (is_time t)) }
+    ensures { Does (cutting view lo hi) engine.old.events result engine.new.events }
+{
+    match engine.window(view, lo, hi) {
+        Window::Nothing => Outcome::Done(CutDone::Nothing {
+            pos: engine.length(),
+        }),
+        Window::NoBucket => Outcome::Refused(no_bucket(engine)),
+        Window::Whole(span) => {
+            let outcome = make(engine, Event::Cut { view, span }, None);
+            cut_over(outcome, span)
+        }
+    }
+}
+
+/// Makes a table.
+pub(crate) fn make_table(engine: &mut Engine, def: TableDef) -> Outcome<u64>
+    requires { IsTrue (sound (history_of engine.old.events) (Table def)) }
+    ensures { Does (making_table def) engine.old.events result engine.new.events }
+{
+    numbered(make(engine, Event::Table(def), None))
+}
+
+/// Makes a table a hypertable.
+pub(crate) fn make_hyper(engine: &mut Engine, table: u32, hyper: Hyper) -> Outcome<u64>
+    requires { IsTrue (sound (history_of engine.old.events) (HyperMade table hyper)) }
+    ensures { Does (making_hyper table hyper) engine.old.events result engine.new.events }
+{
+    numbered(make(engine, Event::Hyper { table, hyper }, None))
+}
+
+/// Makes an aggregate.
+pub(crate) fn make_view(engine: &mut Engine, def: ViewDef) -> Outcome<u64>
+    requires { IsTrue (sound (history_of engine.old.events) (View def)) }
+    ensures { Does (making_view def) engine.old.events result engine.new.events }
+{
+    numbered(make(engine, Event::View(def), None))
+}
+
+/// Sets an aggregate to a mode.
+pub(crate) fn set_mode(engine: &mut Engine, view: u32, only: bool) -> Outcome<u64>
+    requires { IsTrue (sound (history_of engine.old.events) (Mode view only)) }
+    ensures { Does (setting_mode view only) engine.old.events result engine.new.events }
+{
+    numbered(make(engine, Event::Mode { view, only }, None))
+}
+
+/// Lets operations take effect, in order.
+pub(crate) fn commit(engine: &mut Engine, ops: Seq<Op>) -> Outcome<Committed>
+    requires { IsTrue (sound (history_of engine.old.events) (Commit ops)) }
+    ensures { Does (committing ops) engine.old.events result engine.new.events }
+{
+    make(engine, Event::Commit(ops), None)
+}
+
+/// Finishes the refresh that a job was made for.
+pub(crate) fn finish(engine: &mut Engine, job: Job) -> Outcome<u64>
+    requires { JobFits (history_of engine.old.events) job }
+    ensures { Does (finishing job.cut job.snap) engine.old.events result engine.new.events }
+{
+    let event = Event::Built {
+        cut: job.cut,
+        snap: job.snap,
+    };
+    numbered(make(engine, event, Some(job)))
+}
