@@ -1,0 +1,134 @@
+-- What the calls of a store do to its state.
+use Rattle.std.proofs.Common.{◌≡◌, ℕ, suc, ◌≤◌, true, List, [], ◌∷◌, ◌++◌, Option, Some, None, refl, sym, ◌∙◌, ap, subst, arith}
+use Rattle.std.specs.Prelude.{IsTrue, is_some}
+use Rattle.std.proofs.lemmas.Bool.{le-ltb, cond-false}
+use Rattle.ts_schema.specs.Faults.{Rose}
+use Rattle.ts_model.specs.declared.events.Event.{Event}
+use Rattle.ts_model.specs.declared.outcomes.Committed.{Committed}
+use Rattle.ts_model.specs.declared.outcomes.Outcome.{Outcome}
+use Rattle.ts_model.specs.declared.outcomes.Outcome.TheVariants.{Done, DiskFault, NoMemory, Refused}
+use Rattle.ts_model.specs.declared.outcomes.Refusal.{Refusal}
+use Rattle.ts_model.specs.Allowed.{allowed}
+use Rattle.ts_model.specs.Calls.{Act, Answered, Looked, making, makes, refusal, refuses, says, stopped}
+use Rattle.ts_model.specs.History.{History, ◌▸◌, position, prefix, same}
+use Rattle.ts_model.specs.States.{State, Found, Keeps, Makes, Fails, stands_still}
+use Rattle.ts_model.proofs.HistoryLaws.{prefix_further}
+use Rattle.event_check.specs.Checks.{call_refusal}
+use Rattle.engine_core.specs.Acts.{making_event, unless}
+use Rattle.engine_core.specs.Effects.{effect_of}
+use Rattle.engine_core.specs.Histories.{history_of}
+use Rattle.engine_core.proofs.ActLaws.{free_where_allowed}
+use Rattle.engine_core.proofs.EventLaws.{position_of}
+use Rattle.engine_core.proofs.StoreLaws.{kept_by_any}
+use Rattle.ts_store.specs.Stores.{StoreValue, Does, IsKept, numbers_above, seen, state_of}
+use Rattle.ts_store.proofs.KeptLaws.{seen_push}
+
+-- a store that is alone finds what it saw
+finds_itself : (s : State) → s.origin.faults ≤ s.faults → (IsTrue (stands_still s) → Rose s.origin.faults s.faults) → Found true s s
+finds_itself s counted fell = record {
+  alone_found = λ _. refl;
+  begins = same;
+  still_there = λ _. refl;
+  still_failed = λ _. refl;
+  made = refl;
+  origin = refl;
+  counted = counted;
+  fell = fell;
+}
+
+-- the number of one event more
+number_push : (p : ℕ) (h : History) (e : Event) → p ≤ position h → numbers_above p (h ▸ e) ≡ numbers_above p h ++ (suc (position h) ∷ [])
+number_push p h e le = cond-false _ [] (numbers_above p h ++ (suc (position h) ∷ [])) (le-ltb (position h) p le)
+
+-- two stores that differ in no more than how their journal and their room stand
+pub record Same {D : Type 0} (faults : D → ℕ) (old new : StoreValue D) : Type 0 where
+  pub events : new.engine.events ≡ old.engine.events
+  pub failed : new.failed ≡ old.failed
+  pub counted : faults new.journal.disk ≡ faults old.journal.disk
+  pub begun : new.begun ≡ old.begun
+  pub opened : new.opened ≡ old.opened
+
+module _ {D : Type 0} (bytes : D → Option (List ℕ)) (may_leave : D → List ℕ → Type 0) (moment : D → ℕ) (left_since : D → ℕ → List ℕ → Type 0) (faults : D → ℕ) where
+  abbrev Kept : StoreValue D → Type 0
+  Kept s = IsKept bytes may_leave moment left_since faults s
+
+  abbrev state : StoreValue D → State
+  state s = state_of faults moment s
+
+  -- ---- states
+
+  pub keeps_state : (old new : StoreValue D) → Same faults old new → Keeps (state old) (state new)
+  keeps_state old new is = record {
+    history = ap history_of is.events;
+    failed = is.failed;
+    faults = is.counted;
+    made = λ k. numbers_above (is.opened k) (history_of (is.events k));
+    origin = λ k. record { faults = faults (is.begun k); opening = prefix (history_of (is.events k)) (is.opened k); moment = moment (is.begun k) };
+  }
+
+  pub makes_state : (old new : StoreValue D) (e : Event) → Kept old → old.failed ≡ None → new.failed ≡ None → new.engine.events ≡ old.engine.events ++ (e ∷ [])
+      → faults new.journal.disk ≡ faults old.journal.disk → new.begun ≡ old.begun → new.opened ≡ old.opened → Makes e (state old) (state new)
+  makes_state old new e kept going goes with count begun opened =
+      let now : seen new ≡ (seen old ▸ e) = ap history_of with ∙ seen_push old.engine.events e in
+      let within : old.opened ≤ position (seen old) = omega (arith, kept.from, position_of old.engine.events) in
+      record {
+        went_on = going;
+        history = now;
+        failed = goes;
+        faults = count;
+        made = (λ k. numbers_above (opened k) (now k)) ∙ number_push old.opened (seen old) e within;
+        origin = (λ k. record { faults = faults (begun k); opening = prefix (now k) (opened k); moment = moment (begun k) })
+            ∙ ap (λ (h : History). record { faults = faults old.begun; opening = h; moment = moment old.begun }) (prefix_further (seen old) e old.opened within);
+      }
+
+  pub fails_state : (old new : StoreValue D) (e : Event) → old.failed ≡ None → new.failed ≡ Some e → new.engine.events ≡ old.engine.events
+      → Rose (faults old.journal.disk) (faults new.journal.disk) → new.begun ≡ old.begun → new.opened ≡ old.opened → Fails e (state old) (state new)
+  fails_state old new e going failed events rose begun opened = record {
+    went_on = going;
+    history = ap history_of events;
+    failed = failed;
+    faults = rose;
+    made = λ k. numbers_above (opened k) (history_of (events k));
+    origin = λ k. record { faults = faults (begun k); opening = prefix (history_of (events k)) (opened k); moment = moment (begun k) };
+  }
+
+  -- ---- calls
+
+  does_of : {A : Type 0} (act : History → Act A) (old new : StoreValue D) (outcome : Outcome A) → Kept old → Answered (act (seen old)) (state old) outcome (state new) → Does faults moment act old outcome new
+  does_of act old new outcome kept answered = record { found = state old; finds = finds_itself (state old) kept.counted kept.fell; answered = answered }
+
+  does_by : {A : Type 0} (act : History → Act A) (a : Act A) (old new : StoreValue D) (outcome : Outcome A) → Kept old → act (seen old) ≡ a → Answered a (state old) outcome (state new) → Does faults moment act old outcome new
+  does_by act a old new outcome kept is answered = does_of act old new outcome kept (subst (λ x. Answered x (state old) outcome (state new)) (sym is) answered)
+
+  -- no call refuses an event that is allowed
+  makes_allowed : (h : History) (e : Event) → allowed h e ≡ true → making_event e h ≡ makes e (effect_of h e)
+  makes_allowed h e fits = ap (λ o. unless o (making h e (effect_of h e))) (free_where_allowed h e fits)
+
+  pub does_made : (old new : StoreValue D) (e : Event) (effect : Committed) → Kept old → allowed (seen old) e ≡ true → effect ≡ effect_of (seen old) e → Makes e (state old) (state new)
+      → Does faults moment (making_event e) old (Done effect) new
+  does_made old new e effect kept fits told made = does_by (making_event e) (makes e (effect_of (seen old) e)) old new (Done effect) kept (makes_allowed (seen old) e fits) (told, made)
+
+  pub does_failed : (old new : StoreValue D) (e : Event) → Kept old → allowed (seen old) e ≡ true → Fails e (state old) (state new) → Does faults moment (making_event e) old DiskFault new
+  does_failed old new e kept fits failed = does_by (making_event e) (makes e (effect_of (seen old) e)) old new DiskFault kept (makes_allowed (seen old) e fits) failed
+
+  pub does_stopped : (old new : StoreValue D) (e : Event) (q : Refusal) → Kept old → allowed (seen old) e ≡ true → is_some old.failed ≡ true → q ≡ refusal stopped (seen old) 0 → Same faults old new
+      → Does faults moment (making_event e) old (Refused q) new
+  does_stopped old new e q kept fits still told is = does_by (making_event e) (makes e (effect_of (seen old) e)) old new (Refused q) kept (makes_allowed (seen old) e fits) (still, told, keeps_state old new is)
+
+  pub does_refused : (old new : StoreValue D) (e : Event) (r : Refusal) → Kept old → call_refusal (seen old) e ≡ Some r → Same faults old new → Does faults moment (making_event e) old (Refused r) new
+  does_refused old new e r kept refused is =
+      does_by (making_event e) (refuses r) old new (Refused r) kept (ap (λ o. unless o (making (seen old) e (effect_of (seen old) e))) refused) (refl, keeps_state old new is)
+
+  pub does_without_memory : {A : Type 0} (act : History → Act A) (old new : StoreValue D) → Kept old → Same faults old new → Does faults moment act old NoMemory new
+  does_without_memory act old new kept is = does_of act old new NoMemory kept (kept_by_any (act (seen old)) (state old) (state new) (keeps_state old new is))
+
+  -- a call said something, or was refused, and nothing changed
+  pub does_say : {A : Type 0} (act : History → Act A) (old new : StoreValue D) (a b : A) → Kept old → act (seen old) ≡ says a → b ≡ a → Same faults old new → Does faults moment act old (Done b) new
+  does_say act old new a b kept is told same_state = does_by act (says a) old new (Done b) kept is (told, keeps_state old new same_state)
+
+  pub does_refuse : {A : Type 0} (act : History → Act A) (old new : StoreValue D) (r q : Refusal) → Kept old → act (seen old) ≡ refuses r → q ≡ r → Same faults old new → Does faults moment act old (Refused q) new
+  does_refuse act old new r q kept is told same_state = does_by act (refuses r) old new (Refused q) kept is (told, keeps_state old new same_state)
+
+  -- what is looked at where nothing changed
+  pub looks : (Tells : History → Type 0) (old new : StoreValue D) → Kept old → Same faults old new → Tells (seen old) → Looked true (state old) Tells (state new)
+  looks Tells old new kept is told = record { found = state old; finds = finds_itself (state old) kept.counted kept.fell; keeps = keeps_state old new is; tells = told }

@@ -1,0 +1,229 @@
+-- What is true of a store stays so.
+use Rattle.std.proofs.Common.{◌≡◌, Bool, ◌≢◌, inl, ⊎_elim, ℕ, ◌+◌, ◌-◌, ◌^◌, ◌≤◌, ◌<◌, true, false, min, List, [], ◌∷◌, ◌++◌, length, Option, Some, None, IsSomeAnd, refl, sym, ◌∙◌, ap, subst, arith}
+use Rattle.std.specs.Prelude.{IsTrue, is_some}
+use Rattle.std.proofs.lemmas.Bool.{true≢false}
+use Rattle.std.proofs.Math.Nat.{min-le_left, min-le_right, le-min}
+use Rattle.ts_schema.specs.Faults.{Rose}
+use Rattle.ts_model.specs.declared.events.Event.{Event}
+use Rattle.ts_model.specs.History.{History, start, ◌▸◌, position, prefix, Begins, same}
+use Rattle.ts_model.proofs.HistoryLaws.{begins_prefix, begins_trans, followed_push, prefix_end, prefix_stays}
+use Rattle.engine_core.specs.Histories.{history_of}
+use Rattle.engine_core.specs.Values.{EngineValue}
+use Rattle.engine_core.proofs.EventLaws.{position_of}
+use Rattle.ts_disk.specs.CrashImage.{LeavesOnly, Only}
+use Rattle.ts_disk.specs.Disk.{Keeps}
+use Rattle.txn_journal.specs.Calls.{Logged, IsAtRest}
+use Rattle.txn_journal.specs.declared.journals.Standing.{Standing}
+use Rattle.txn_journal.specs.declared.journals.Standing.TheVariants.{Bare, Ready, Still}
+use Rattle.txn_journal.proofs.JournalLaws.{lies_ready, lies_stands}
+use Rattle.ts_store.specs.Images.{HasHeader, IsBetween, IsDurable, StandsForEither, latest}
+use Rattle.ts_store.specs.Safe.{IsSafe}
+use Rattle.ts_store.specs.Stands.{Stands, IsSound, payloads_of}
+use Rattle.ts_store.specs.Stores.{StoreValue, IsKept, Rests, is_still, opening, seen}
+use Rattle.ts_store.proofs.ImageLaws.{begin_on, begins_latest, between_either, between_on, either_more, holds_header, shown_at_rest, some_also, some_is}
+
+-- ---- counts of faults
+
+pub rose_from : (a b c : ℕ) → a ≤ b → Rose b c → Rose a c
+rose_from a b c le rose =
+    let most : min (a + 1) (2 ^ 64 - 1) ≤ b + 1 = omega (arith, min-le_left (a + 1) (2 ^ 64 - 1)) in
+    let mono : min (a + 1) (2 ^ 64 - 1) ≤ min (b + 1) (2 ^ 64 - 1) = le-min most (min-le_right (a + 1) (2 ^ 64 - 1)) in
+    omega (arith, mono, rose)
+
+pub rose_above : (a b : ℕ) → a < 2 ^ 64 → Rose a b → a ≤ b
+rose_above a b few rose =
+    let last : a ≤ 2 ^ 64 - 1 = omega arith in
+    let here : a ≤ a + 1 = omega arith in
+    let le : a ≤ min (a + 1) (2 ^ 64 - 1) = le-min here last in
+    omega (arith, le, rose)
+
+-- ---- journals
+
+pub not_still : (s : Standing) → s ≢ Still → false ≡ is_still s
+not_still Bare going = refl
+not_still Ready going = refl
+not_still Still going = absurd (going refl)
+
+-- one with a header, or that stopped, isn't bare
+ready_apart : Ready ≡ Bare → ⊥
+ready_apart is = cc is
+
+still_apart : Still ≡ Bare → ⊥
+still_apart is = cc is
+
+pub ready_headed : (s : Standing) → s ≡ Ready → s ≢ Bare
+ready_headed s ready bare = ready_apart (sym ready ∙ bare)
+
+pub still_headed : (s : Standing) → s ≡ Still → s ≢ Bare
+still_headed s still bare = still_apart (sym still ∙ bare)
+
+-- a store failed exactly where its journal stopped
+pub none_of_going : (failed : Option Event) (s : Standing) → is_some failed ≡ is_still s → s ≢ Still → failed ≡ None
+none_of_going None s is going = refl
+none_of_going (Some e) s is going = absurd (true≢false (is ∙ sym (not_still s going)))
+
+pub some_of_still : (failed : Option Event) (s : Standing) → is_some failed ≡ is_still s → s ≡ Still → is_some failed ≡ true
+some_of_still failed s is still = is ∙ ap is_still still
+
+-- ---- histories
+
+pub seen_push : (events : List Event) (e : Event) → history_of (events ++ (e ∷ [])) ≡ (history_of events ▸ e)
+seen_push events e = followed_push start events e
+
+-- an opening stays the same
+pub opening_stays : (g h : History) (opened : ℕ) → Begins g h → opened ≤ position g → prefix h opened ≡ prefix g opened
+opening_stays g h opened goes le = prefix_stays opened goes le
+
+pub rose_none : (failed : Option Event) (a b : ℕ) → failed ≡ None → IsTrue (is_some failed) → Rose a b
+rose_none failed a b none some = absurd (true≢false (sym (subst (λ (o : Option Event). is_some o ≡ true) none some)))
+
+module _ {D : Type 0} (bytes : D → Option (List ℕ)) (may_leave : D → List ℕ → Type 0) (moment : D → ℕ) (left_since : D → ℕ → List ℕ → Type 0) (faults : D → ℕ) where
+  abbrev Kept : StoreValue D → Type 0
+  Kept s = IsKept bytes may_leave moment left_since faults s
+
+  abbrev Safe : StoreValue D → StoreValue D → Type 0
+  Safe old new = IsSafe bytes may_leave moment left_since old new
+
+  -- a call is safe whose images are those of the history at entry, or of the one with its event
+  pub safe_of : (old new : StoreValue D) → (Rests bytes may_leave old → LeavesOnly moment left_since old.journal.disk new.journal.disk (StandsForEither (seen old) (latest (seen new) new.failed)))
+      → Begins (seen old) (seen new) → (Rests bytes may_leave old → new.failed ≡ None → Rests bytes may_leave new)
+      → (seen new ≡ seen old → new.failed ≡ old.failed → new.journal ≡ old.journal) → Safe old new
+  safe_of old new run goes rests untouched = record {
+    any_moment = run;
+    earlier = λ t h rest begins le begin.
+        begin_on bytes may_leave moment left_since old.journal.disk new.journal.disk (StandsForEither (seen old) (latest (seen new) new.failed)) t h (run rest)
+        (λ c either. either_more h (seen old) (latest (seen new) new.failed) c begins (begins_trans begins (begins_trans goes (begins_latest (seen new) new.failed))) either)
+        le begin;
+    rests = rests;
+    untouched = untouched;
+  }
+
+  -- nothing happened on the disk: it leaves what it left
+  pub stood : (disk : D) (P : List ℕ → Type 0) → ((c : List ℕ) → left_since disk (moment disk) c → P c) → LeavesOnly moment left_since disk disk P
+  stood disk P here = record { later = omega arith; each = here; before = λ t c le left. inl left; keeps = λ t c le left. left }
+
+  -- a call that leaves events, journal and failure as they were
+  pub safe_same : ((disk : D) (c : List ℕ) → left_since disk (moment disk) c → may_leave disk c) → (old new : StoreValue D) → IsSound (seen old)
+      → new.engine.events ≡ old.engine.events → new.journal ≡ old.journal → new.failed ≡ old.failed → Safe old new
+  safe_same only_now old new sound events journal failed =
+      let same_history : seen new ≡ seen old = ap history_of events in
+      let run : Rests bytes may_leave old → LeavesOnly moment left_since old.journal.disk old.journal.disk (StandsForEither (seen old) (latest (seen new) new.failed)) = λ rest.
+      stood old.journal.disk (StandsForEither (seen old) (latest (seen new) new.failed))
+      (λ c left. inl (subst (λ (file : List ℕ). Stands file (seen old)) (sym (rest.durable c (only_now old.journal.disk c left))) (stands_at_rest old sound rest))) in
+      safe_of old new
+      (λ rest. subst (λ (j : Logged D). LeavesOnly moment left_since old.journal.disk j.disk (StandsForEither (seen old) (latest (seen new) new.failed))) (sym journal) (run rest))
+      (subst (λ (h : History). Begins (seen old) h) (sym same_history) same)
+      (λ rest none. subst (λ (h : History). IsAtRest bytes may_leave new.journal (payloads_of h)) (sym same_history) (subst (λ (j : Logged D). IsAtRest bytes may_leave j (payloads_of (seen old))) (sym journal) rest))
+      (λ _ _. journal)
+    where
+      stands_at_rest : (s : StoreValue D) (sound : IsSound (seen s)) (rest : Rests bytes may_leave s) → Stands rest.file (seen s)
+      stands_at_rest s sound rest = record { holds = lies_stands s.journal.standing rest.file s.journal.end (payloads_of (seen s)) rest.lies; sound = sound }
+
+  -- ---- what is true of a store stays so over a call whose images are those of the history at entry, or of the one with its event
+
+  pub kept_after : (old new : StoreValue D) → Kept old → old.failed ≡ None
+      → (Rests bytes may_leave old → LeavesOnly moment left_since old.journal.disk new.journal.disk (StandsForEither (seen old) (latest (seen new) new.failed)))
+      → (Rests bytes may_leave old → new.failed ≡ None → Rests bytes may_leave new) → new.begun ≡ old.begun → new.opened ≡ old.opened
+      → Begins (seen old) (seen new) → IsSound (seen new) → length old.engine.events ≤ length new.engine.events
+      → faults old.begun ≤ faults new.journal.disk → (IsTrue (is_some new.failed) → Rose (faults old.begun) (faults new.journal.disk))
+      → is_some new.failed ≡ is_still new.journal.standing → (new.armed ≡ true → old.armed ≡ true) → (old.journal.standing ≢ Bare → new.journal.standing ≢ Bare)
+      → (Rests bytes may_leave old → IsSomeAnd (bytes new.journal.disk) (StandsForEither (seen new) (latest (seen new) new.failed)))
+      → Kept new
+  kept_after old new kept going runs rested_on begun opened goes sound longer counted fell still armed headed shown =
+      let durable : IsDurable bytes may_leave new.begun → IsDurable bytes may_leave old.begun = subst (λ (d : D). IsDurable bytes may_leave d) begun in
+      let rested : IsDurable bytes may_leave new.begun → Rests bytes may_leave old = λ d. kept.rests (durable d) going in
+      let within : old.opened ≤ position (seen old) = omega (arith, kept.from, position_of old.engine.events) in
+      let same_opening : opening new ≡ opening old = ap (λ (n : ℕ). prefix (seen new) n) opened ∙ opening_stays (seen old) (seen new) old.opened goes within in
+      record {
+        sound = sound;
+        from = omega (arith, opened, kept.from, longer);
+        bounded = subst (λ (d : D). faults d < 2 ^ 64) (sym begun) kept.bounded;
+        counted = subst (λ (d : D). faults d ≤ faults new.journal.disk) (sym begun) counted;
+        fell = λ some. subst (λ (d : D). Rose (faults d) (faults new.journal.disk)) (sym begun) (fell some);
+        still = still;
+        headed = λ is. headed (kept.headed (armed is));
+        later = λ d. subst (λ (b : D). moment b ≤ moment new.journal.disk) (sym begun) (omega (arith, kept.later (durable d), (runs (rested d)).later));
+        rests = λ d none. rested_on (rested d) none;
+        shown = λ d. shown (rested d);
+        images = λ d c left.
+            let run = runs (rested d) in
+            let since : left_since new.journal.disk (moment old.begun) c = subst (λ (b : D). left_since new.journal.disk (moment b) c) begun left in
+            ⊎_elim
+            (λ past. between_on (opening old) (opening new) (seen old) (seen new) new.failed c same_opening goes
+            (subst (λ (o : Option Event). IsBetween (opening old) (seen old) o c) going (kept.images (durable d) c past)))
+            (λ now. between_either (opening new) (seen old) (seen new) new.failed c (subst (λ (h : History). Begins h (seen old)) (sym same_opening) (begins_prefix (seen old) old.opened)) goes now)
+            (run.before (moment old.begun) c (kept.later (durable d)) since);
+      }
+
+  -- only the room of its engine changed
+  pub kept_room : (s : StoreValue D) (engine : EngineValue) → engine.events ≡ s.engine.events → Kept s → Kept (record s { engine = engine })
+  kept_room s engine is kept =
+      let P : List Event → Type 0 = λ events. Kept (record s { engine = record { events = events; room = engine.room } }) in
+      subst P (sym is) (record {
+        sound = kept.sound;
+        from = kept.from;
+        bounded = kept.bounded;
+        counted = kept.counted;
+        fell = kept.fell;
+        still = kept.still;
+        headed = kept.headed;
+        later = kept.later;
+        rests = kept.rests;
+        shown = kept.shown;
+        images = kept.images;
+      })
+
+  -- it was armed
+  pub kept_armed_now : (s : StoreValue D) (armed : Bool) → (armed ≡ true → s.journal.standing ≢ Bare) → Kept s → Kept (record s { armed = armed })
+  kept_armed_now s armed headed kept = record {
+    sound = kept.sound;
+    from = kept.from;
+    bounded = kept.bounded;
+    counted = kept.counted;
+    fell = kept.fell;
+    still = kept.still;
+    headed = headed;
+    later = kept.later;
+    rests = kept.rests;
+    shown = kept.shown;
+    images = kept.images;
+  }
+
+  -- what reads give of a journal with a header
+  pub shows_header : (s : StoreValue D) → Kept s → s.armed ≡ true → s.failed ≡ None → IsDurable bytes may_leave s.begun → IsSomeAnd (bytes s.journal.disk) HasHeader
+  shows_header s kept armed going durable =
+      let rest = kept.rests durable going in
+      some_is (bytes s.journal.disk) rest.file HasHeader rest.told (holds_header rest.file (payloads_of (seen s)) (lies_ready s.journal.standing rest.file s.journal.end (payloads_of (seen s)) (kept.headed armed) rest.lies).0)
+
+  -- ---- the start
+
+  pub kept_at_start : ((disk : D) (c : List ℕ) → left_since disk (moment disk) c → may_leave disk c) → (begun : D) (journal : Logged D) (engine : EngineValue)
+      → faults begun < 2 ^ 64 → Keeps bytes may_leave moment left_since begun journal.disk → faults journal.disk ≡ faults begun → IsSound (history_of engine.events) → journal.standing ≢ Still
+      → ((file : List ℕ) → bytes begun ≡ Some file → Stands file (history_of engine.events))
+      → ((file : List ℕ) → bytes begun ≡ Some file → Only file (may_leave begun) → IsAtRest bytes may_leave journal (payloads_of (history_of engine.events)))
+      → Kept (record { engine = engine; journal = journal; failed = None; begun = begun; opened = length engine.events; armed = false })
+  kept_at_start only_now begun journal engine few keeps count sound goes_on stands at_rest =
+      let h = history_of engine.events in
+      let opened_is : prefix (history_of engine.events) (length engine.events) ≡ history_of engine.events = prefix_end (history_of engine.events) (length engine.events) (omega (arith, position_of engine.events)) in
+      record {
+        sound = sound;
+        from = omega arith;
+        bounded = few;
+        counted = omega (arith, count);
+        fell = λ failed. absurd (true≢false (sym failed));
+        still = not_still journal.standing goes_on;
+        headed = λ is. absurd (true≢false (sym is));
+        later = λ d. omega (arith, keeps.at_moment);
+        rests = λ d none. at_rest d.file d.told d.durable;
+        shown = λ d. some_also (bytes journal.disk) (λ file. Stands file (history_of engine.events)) (StandsForEither (history_of engine.events) (history_of engine.events)) (λ file is. inl is)
+            (shown_at_rest bytes may_leave moment left_since journal (history_of engine.events) sound (at_rest d.file d.told d.durable));
+        images = λ d c left.
+            let was : left_since begun (moment begun) c = keeps.past (moment begun) c left in
+            let is : c ≡ d.file = d.durable c (only_now begun c was) in
+            record {
+              history = history_of engine.events;
+              stands = subst (λ (file : List ℕ). Stands file (history_of engine.events)) (sym is) (stands d.file d.told);
+              from = subst (λ (g : History). Begins g (history_of engine.events)) (sym opened_is) same;
+              upto = inl same;
+            };
+      }

@@ -1,0 +1,12 @@
+pub mod NoteLaws
+pub mod HistoryLaws
+pub mod ImageLaws
+pub mod DraftLaws
+pub mod AppendLaws
+pub mod KeptLaws
+pub mod CallLaws
+pub mod RecordLaws
+pub mod ReplayLaws
+pub mod StartLaws
+pub mod StandsLaws
+pub mod JudgedLaws

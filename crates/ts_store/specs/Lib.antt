@@ -1,0 +1,11 @@
+pub mod Notes
+pub mod Stands
+pub mod Images
+pub mod Arming
+pub mod Stores
+pub mod Safe
+pub mod Recorders
+pub mod Drafts
+pub mod Takes
+pub mod Starts
+pub mod Laws

@@ -1,0 +1,105 @@
+-- What contracts see of a store.
+use Rattle.std.specs.Prelude.{◌≡◌, ◌≢◌, ℕ, suc, ◌≤◌, ◌<◌, ◌^◌, Bool, true, false, cond, nat_lt, List, [], ◌∷◌, ◌++◌, length, Option, Some, None, Result, is_some, IfOk, IsTrue, IsSomeAnd}
+use Rattle.ts_schema.specs.Faults.{Rose}
+use Rattle.ts_schema.specs.declared.memory.NoMemory.{NoMemory}
+use Rattle.ts_model.specs.Allowed.{all_allowed}
+use Rattle.engine_state.specs.Stands.{StateValue, StandsFor}
+use Rattle.ts_model.specs.declared.events.Event.{Event}
+use Rattle.ts_model.specs.declared.outcomes.Outcome.{Outcome}
+use Rattle.ts_model.specs.Calls.{Act, Called}
+use Rattle.ts_model.specs.History.{History, start, ◌▸◌, position, prefix}
+use Rattle.ts_model.specs.States.{Origin, State}
+use Rattle.engine_core.specs.Histories.{history_of}
+use Rattle.engine_core.specs.Values.{EngineValue}
+use Rattle.txn_journal.specs.Calls.{Logged, IsAtRest}
+use Rattle.txn_journal.specs.declared.journals.Standing.{Standing}
+use Rattle.txn_journal.specs.declared.journals.Standing.TheVariants.{Bare, Ready, Still}
+use Rattle.ts_store.specs.Images.{IsDurable, IsBetween, StandsForEither, latest}
+use Rattle.ts_store.specs.Stands.{IsSound, payloads_of}
+
+-- a store: its engine, its journal, the event at which the disk failed, the disk as it was at the start, how many events were read from it, and whether it was armed since
+pub record StoreValue (D : Type 0) : Type 0 where
+  pub engine : EngineValue
+  pub journal : Logged D
+  pub failed : Option Event
+  pub begun : D
+  pub opened : ℕ
+  pub armed : Bool
+
+-- a store at its start, with an engine and the journal that its events were read from
+abbrev pub store_at_start : {D : Type 0} → EngineValue → Logged D → D → StoreValue D
+store_at_start engine journal begun = record { engine = engine; journal = journal; failed = None; begun = begun; opened = length engine.events; armed = false }
+
+-- what its owner knows a store by: the disk as it was at the start, and whether the store was armed since
+pub record Known (D : Type 0) : Type 0 where
+  pub disk : D
+  pub armed : Bool
+
+abbrev pub known_of : {D : Type 0} → StoreValue D → Known D
+known_of s = record { disk = s.begun; armed = s.armed }
+
+-- its history
+abbrev pub seen : {D : Type 0} → StoreValue D → History
+seen s = history_of s.engine.events
+
+-- the history that it was opened with
+abbrev pub opening : {D : Type 0} → StoreValue D → History
+opening s = prefix (seen s) s.opened
+
+-- the numbers of the events of a history above a position, in order
+abbrev pub numbers_above : ℕ → History → List ℕ
+numbers_above p start = []
+numbers_above p (h ▸ e) = cond (nat_lt (position h) p) [] (numbers_above p h ++ (suc (position h) ∷ []))
+
+-- the moment of its origin is that of the disk at the start, and its count of faults is the disk's
+abbrev pub origin_of : {D : Type 0} → (D → ℕ) → (D → ℕ) → StoreValue D → Origin
+origin_of faults moment s = record { faults = faults s.begun; opening = opening s; moment = moment s.begun }
+
+-- the position at which it stands still, if it does
+abbrev pub stop_at : History → Option Event → Option ℕ
+stop_at h failed = cond (is_some failed) (Some (position h)) None
+
+-- its state: it has made each event after those that it was opened with
+abbrev pub state_of : {D : Type 0} → (D → ℕ) → (D → ℕ) → StoreValue D → State
+state_of faults moment s = record {
+  history = seen s;
+  failed = s.failed;
+  faults = faults s.journal.disk;
+  made = numbers_above s.opened (seen s);
+  origin = origin_of faults moment s;
+}
+
+-- a journal stopped
+abbrev pub is_still : Standing → Bool
+is_still Bare = false
+is_still Ready = false
+is_still Still = true
+
+-- its journal didn't stop, and all of it is on the disk: the events of the history
+abbrev pub Rests : {D : Type 0} → (D → Option (List ℕ)) → (D → List ℕ → Type 0) → StoreValue D → Type 0
+Rests bytes may_leave s = IsAtRest bytes may_leave s.journal (payloads_of (seen s))
+
+-- what is true of each store. Where all was on the disk at the start, it tells of each image since then
+pub record IsKept {D : Type 0} (bytes : D → Option (List ℕ)) (may_leave : D → List ℕ → Type 0) (moment : D → ℕ) (left_since : D → ℕ → List ℕ → Type 0) (faults : D → ℕ) (s : StoreValue D) : Type 0 where
+  pub sound : IsSound (seen s)
+  pub from : s.opened ≤ length s.engine.events
+  -- the count is a number of 64 bits, it hasn't fallen, and it rose where the store stands still
+  pub bounded : faults s.begun < 2 ^ 64
+  pub counted : faults s.begun ≤ faults s.journal.disk
+  pub fell : IsTrue (is_some s.failed) → Rose (faults s.begun) (faults s.journal.disk)
+  pub still : is_some s.failed ≡ is_still s.journal.standing
+  -- where it was armed, its journal has a header
+  pub headed : s.armed ≡ true → s.journal.standing ≢ Bare
+  pub later : IsDurable bytes may_leave s.begun → moment s.begun ≤ moment s.journal.disk
+  pub rests : IsDurable bytes may_leave s.begun → s.failed ≡ None → Rests bytes may_leave s
+  -- what reads give
+  pub shown : IsDurable bytes may_leave s.begun → IsSomeAnd (bytes s.journal.disk) (StandsForEither (seen s) (latest (seen s) s.failed))
+  pub images : IsDurable bytes may_leave s.begun → (c : List ℕ) → left_since s.journal.disk (moment s.begun) c → IsBetween (opening s) (seen s) s.failed c
+
+-- a snapshot that was made is of this history, which is an allowed one
+abbrev pub Shows : Result StateValue NoMemory → History → Type 0
+Shows result h = IsTrue (all_allowed h) × IfOk result (λ shot. StandsFor h shot)
+
+-- a call that does this, on a store that nobody else changes
+abbrev pub Does : {D A : Type 0} → (D → ℕ) → (D → ℕ) → (History → Act A) → StoreValue D → Outcome A → StoreValue D → Type 0
+Does faults moment act old outcome new = Called true (state_of faults moment old) act outcome (state_of faults moment new)

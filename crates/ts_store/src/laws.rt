@@ -1,0 +1,10 @@
+//! Laws of what journals stand for, as clauses of functions that do nothing.
+ghost use Rattle.ts_store.specs.Laws.{StandsOnce, StandsOrDamaged, DamagedOnce, EachIsJudged};
+
+/// Each journal stands for one history or is damaged at one place, and never both.
+pub fn journals_stand_for_one_history()
+    ensures one { StandsOnce }
+    ensures apart { StandsOrDamaged }
+    ensures one_damage { DamagedOnce }
+    ensures judged { EachIsJudged }
+{}

@@ -1,0 +1,21 @@
+//! A store: an engine, and a journal of its events on a disk. Each event stands on the disk before it
+//! counts, and a start reads them again.
+//!
+//! - `starts`: from a disk to a store, or to the place at which its journal is damaged.
+//! - `stores`: a store, and how it makes an event.
+//! - `backends`: the calls of a store.
+//! - `laws`: each journal stands for one history, or is damaged at one place.
+#![tactic(auto)]
+
+mod appends;
+mod backends;
+mod begun;
+mod drafts;
+pub mod laws;
+mod recorders;
+mod replays;
+mod starts;
+mod stores;
+
+pub use starts::Started;
+pub use stores::Store;

@@ -1,0 +1,162 @@
+//! An engine with the journal of its events.
+ghost use Rattle.std.specs.Prelude.{◌≡◌, ◌≢◌, ◌<◌, None, is_some, IsTrue};
+ghost use Rattle.ts_model.specs.Allowed.{allowed};
+ghost use Rattle.ts_model.specs.Calls.{refusal, stopped};
+ghost use Rattle.ts_model.specs.Sound.{sound};
+ghost use Rattle.refresh_build.specs.Fitting.{JobIsFor};
+ghost use Rattle.engine_core.specs.Acts.{making_event};
+ghost use Rattle.engine_core.specs.Histories.{history_of};
+ghost use Rattle.txn_journal.specs.Calls.{IfStopped, IsCounted};
+ghost use Rattle.txn_journal.specs.declared.journals.Standing.TheVariants.{Bare};
+ghost use Rattle.ts_store.specs.Recorders.{ArmsSafely, DoesKept, IsSafeIn, StaysKept};
+ghost use Rattle.ts_store.specs.Drafts.{IsDraft};
+ghost use Rattle.ts_store.specs.Safe.{StopsBy};
+ghost use Rattle.ts_store.specs.Stands.{IsSound};
+ghost use Rattle.ts_store.specs.Stores.{is_still, stop_at};
+
+use crate::appends::append_armed;
+use crate::drafts::{Draft, draft_of};
+use engine_core::Engine;
+use refresh_build::Job;
+use std::alloc::Global;
+use ts_disk::Disk;
+use ts_model::{Committed, Event, Outcome, Refusal};
+use ts_schema::NoMemory;
+use txn_journal::{Append, Journal};
+
+/// An event would be made, and the store stands still.
+const STOPPED: u8 = 24;
+
+/// An engine, the journal of its events, and the event at whose append the disk failed, if it did.
+#[derive(Drop)]
+pub(crate) struct Recorder<D: Disk> {
+    pub engine: Engine,
+    pub journal: Journal<D>,
+    /// Where the disk failed at the header, it is one that is never allowed.
+    pub failed: Option<Event>,
+}
+
+impl<D: Disk> Recorder<D> {
+    /// Writes and syncs the header of the journal where there is none.
+    pub(crate) fn arm(&mut self) -> Append
+        requires sound { IsSound (history_of self.old.engine.events) }
+        requires still { is_some self.old.failed ≡ is_still self.old.journal.standing }
+        ensures engine { self.new.engine ≡ self.old.engine }
+        ensures ends { StopsBy result self.old.failed self.new.failed }
+        ensures armed { self.new.journal.standing ≢ Bare }
+        ensures arms { ArmsSafely D.bytes D.may_leave D.moment D.left_since result self.old self.new }
+        ensures kept { StaysKept D.bytes D.may_leave D.moment D.left_since D.faults self.old self.new }
+        ensures stopped { IfStopped result (self.new ≡ self.old) }
+        ensures counted { IsCounted result (D.faults self.old.journal.disk) (D.faults self.new.journal.disk) }
+    {
+        match self.journal.arm() {
+            Append::Done => Append::Done,
+            Append::DiskFault => {
+                // No event was to be appended. No refresh has the number 0, so this one is never allowed.
+                self.failed = Some(Event::Built { cut: 0, snap: 0 });
+                Append::DiskFault
+            }
+            Append::Stopped => Append::Stopped,
+        }
+    }
+
+    /// Makes an event, unless its call is refused. The job of a finish is given up on every answer.
+    pub(crate) fn make(
+        &mut self,
+        alloc: Global,
+        event: Event,
+        job: Option<Job>,
+    ) -> Outcome<Committed>
+        requires history { IsSound (history_of self.old.engine.events) }
+        requires sound { IsTrue (sound (history_of self.old.engine.events) event) }
+        requires job { JobIsFor (history_of self.old.engine.events) event job }
+        ensures does { DoesKept D.bytes D.may_leave D.moment D.left_since D.faults (making_event event)
+            self.old result self.new }
+        ensures kept { StaysKept D.bytes D.may_leave D.moment D.left_since D.faults self.old self.new }
+        ensures safe { IsSafeIn D.bytes D.may_leave D.moment D.left_since self.old self.new }
+    {
+        match self.engine.check(&event) {
+            Err(refusal) => Outcome::Refused(refusal),
+            Ok(()) => self.make_allowed(alloc, event, job),
+        }
+    }
+
+    /// Makes an event that is allowed next, unless the journal stopped.
+    fn make_allowed(&mut self, alloc: Global, event: Event, job: Option<Job>) -> Outcome<Committed>
+        requires history { IsSound (history_of self.old.engine.events) }
+        requires allowed { IsTrue (allowed (history_of self.old.engine.events) event) }
+        requires job { JobIsFor (history_of self.old.engine.events) event job }
+        ensures does { DoesKept D.bytes D.may_leave D.moment D.left_since D.faults (making_event event)
+            self.old result self.new }
+        ensures kept { StaysKept D.bytes D.may_leave D.moment D.left_since D.faults self.old self.new }
+        ensures safe { IsSafeIn D.bytes D.may_leave D.moment D.left_since self.old self.new }
+    {
+        match self.failed {
+            Some(_) => Outcome::Refused(self.stop_refusal()),
+            None => self.make_going(alloc, event, job),
+        }
+    }
+
+    /// Makes an event that is allowed next, where the journal didn't stop.
+    fn make_going(&mut self, alloc: Global, event: Event, job: Option<Job>) -> Outcome<Committed>
+        requires history { IsSound (history_of self.old.engine.events) }
+        requires allowed { IsTrue (allowed (history_of self.old.engine.events) event) }
+        requires job { JobIsFor (history_of self.old.engine.events) event job }
+        requires goes_on { self.old.failed ≡ None }
+        ensures does { DoesKept D.bytes D.may_leave D.moment D.left_since D.faults (making_event event)
+            self.old result self.new }
+        ensures kept { StaysKept D.bytes D.may_leave D.moment D.left_since D.faults self.old self.new }
+        ensures safe { IsSafeIn D.bytes D.may_leave D.moment D.left_since self.old self.new }
+    {
+        match draft_of(alloc, &mut self.engine, event, job) {
+            Ok(draft) => self.put(draft),
+            Err(NoMemory) => Outcome::NoMemory,
+        }
+    }
+
+    /// Puts an event onto the disk, and then lets it count. It takes no memory.
+    fn put(&mut self, draft: Draft) -> Outcome<Committed>
+        requires history { IsSound (history_of self.old.engine.events) }
+        requires draft { IsDraft (history_of self.old.engine.events) draft.prepared.event draft }
+        requires room { 0 < self.old.engine.room }
+        requires goes_on { self.old.failed ≡ None }
+        ensures does { DoesKept D.bytes D.may_leave D.moment D.left_since D.faults (making_event draft.prepared.event)
+            self.old result self.new }
+        ensures kept { StaysKept D.bytes D.may_leave D.moment D.left_since D.faults self.old self.new }
+        ensures safe { IsSafeIn D.bytes D.may_leave D.moment D.left_since self.old self.new }
+    {
+        let effect = draft.prepared.effect();
+        match append_armed(&mut self.journal, &draft.frame) {
+            Append::Done => {
+                self.engine.install(draft.prepared);
+                Outcome::Done(effect)
+            }
+            Append::DiskFault => {
+                self.failed = Some(draft.prepared.into_event());
+                Outcome::DiskFault
+            }
+            Append::Stopped => Outcome::Refused(self.stop_refusal()),
+        }
+    }
+
+    /// The refusal of an event where the store stands still.
+    fn stop_refusal(&self) -> Refusal
+        ensures { result ≡ refusal stopped (history_of self.now.engine.events) 0 }
+    {
+        Refusal {
+            code: STOPPED,
+            pos: self.engine.length(),
+            mark: 0,
+        }
+    }
+
+    /// The position at which the store stands still, if it does.
+    pub(crate) fn stop(&self) -> Option<u64>
+        ensures { result ≡ stop_at (history_of self.now.engine.events) self.now.failed }
+    {
+        match self.failed {
+            Some(_) => Some(self.engine.length()),
+            None => None,
+        }
+    }
+}

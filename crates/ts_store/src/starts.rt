@@ -1,0 +1,89 @@
+//! From a disk to a store.
+ghost use Rattle.std.specs.Prelude.{◌≡◌, ℕ, ◌<◌, ◌^◌, List, Some};
+ghost use Rattle.std.specs.Thread.{IsSync};
+ghost use Rattle.ts_disk.specs.CrashImage.{Only};
+ghost use Rattle.ts_disk.specs.Disk.{Keeps};
+ghost use Rattle.ts_store.specs.Starts.{CountsReplayed, CountsStarted, GoesOn, IfReady, IsNew, Replays, RestsReplayed, SoundReplayed};
+ghost use Rattle.ts_store.specs.Starts.{Starts, disk_of, disk_of_replayed};
+ghost use Rattle.ts_store.specs.Stores.{Rests};
+
+use crate::begun::Begun;
+use crate::replays::{Replayed, replay};
+use crate::stores::Store;
+use engine_core::Engine;
+use std::alloc::Global;
+use std::thread::Threads;
+use ts_disk::Disk;
+use ts_schema::NoMemory;
+use txn_journal::{Opened, Reader};
+
+/// What the start of a store found.
+#[derive(Drop)]
+pub enum Started<D: Disk> {
+    /// A store of the history that its journal stands for.
+    Ready(Store<D>),
+    /// The journal stands for no history. This is its least damaged place: its magic bytes, or an open
+    /// gate behind which the file is too short, or behind which stand other bytes than those of an event
+    /// that may come next.
+    Damaged { disk: D, at: u64 },
+    /// The disk failed.
+    DiskFault(D),
+    /// There is no memory.
+    NoMemory(D),
+}
+
+impl<D: Disk> Store<D> {
+    /// Reads the journal on a disk, event by event. It writes nothing.
+    pub fn start<R: Threads + Sync>(rt: &R, alloc: Global, disk: D) -> Started<D>
+        requires sync { IsSync R.row }
+        ensures starts { (file : List ℕ) → D.bytes disk ≡ Some file → Starts result file }
+        ensures rests { (file : List ℕ) → D.bytes disk ≡ Some file → Only file (D.may_leave disk)
+            → IfReady result (Rests D.bytes D.may_leave) }
+        ensures new { IfReady result (IsNew disk) }
+        ensures kept { Keeps D.bytes D.may_leave D.moment D.left_since disk (disk_of result) }
+        ensures counted { CountsStarted result (D.faults disk) (D.faults (disk_of result)) }
+    {
+        let begun = Begun::of(&disk);
+        // A count that is read has 64 bits.
+        let _faults = disk.faults();
+        let Ok(engine) = Engine::new(alloc) else {
+            return Started::NoMemory(disk);
+        };
+        match Reader::open(alloc, disk) {
+            Opened::Reading(reader) => from_replayed(
+                alloc,
+                begun,
+                replay(rt, alloc, reader, engine),
+            ),
+            Opened::Damaged { disk, at } => Started::Damaged { disk, at },
+            Opened::DiskFault(disk) => Started::DiskFault(disk),
+        }
+    }
+}
+
+/// What the start of a store found, on a disk whose journal was read so.
+fn from_replayed<D: Disk>(alloc: Global, begun: Begun<D>, replayed: Replayed<D>) -> Started<D>
+    requires bounded { D.faults begun < 2 ^ 64 }
+    requires replays { (file : List ℕ) → D.bytes begun ≡ Some file → Replays replayed file }
+    requires at_rest { (file : List ℕ) → D.bytes begun ≡ Some file → Only file (D.may_leave begun)
+        → RestsReplayed D.bytes D.may_leave replayed }
+    requires sound { SoundReplayed replayed }
+    requires goes_on { GoesOn replayed }
+    requires kept { Keeps D.bytes D.may_leave D.moment D.left_since begun (disk_of_replayed replayed) }
+    requires counted { CountsReplayed replayed (D.faults begun) (D.faults (disk_of_replayed replayed)) }
+    ensures starts { (file : List ℕ) → D.bytes begun ≡ Some file → Starts result file }
+    ensures rests { (file : List ℕ) → D.bytes begun ≡ Some file → Only file (D.may_leave begun)
+        → IfReady result (Rests D.bytes D.may_leave) }
+    ensures new { IfReady result (IsNew begun) }
+    ensures kept { Keeps D.bytes D.may_leave D.moment D.left_since begun (disk_of result) }
+    ensures counted { CountsStarted result (D.faults begun) (D.faults (disk_of result)) }
+{
+    match replayed {
+        Replayed::Ready { journal, engine } => {
+            Started::Ready(Store::new(alloc, engine, journal, begun))
+        }
+        Replayed::Damaged { disk, at } => Started::Damaged { disk, at },
+        Replayed::DiskFault(disk) => Started::DiskFault(disk),
+        Replayed::NoMemory(disk) => Started::NoMemory(disk),
+    }
+}

@@ -1,0 +1,161 @@
+//! A store.
+ghost use Rattle.std.specs.Prelude.{◌≡◌, ℕ, ◌≤◌, List, None, IsTrue, IsSomeAnd, true};
+ghost use Rattle.ts_disk.specs.CrashImage.{LeavesOnly};
+ghost use Rattle.ts_model.specs.History.{History, Begins};
+ghost use Rattle.ts_model.specs.Sound.{sound};
+ghost use Rattle.refresh_build.specs.Fitting.{JobIsFor};
+ghost use Rattle.engine_core.specs.Acts.{making_event};
+ghost use Rattle.txn_journal.specs.Calls.{IfDone, IfStopped, IsCounted};
+ghost use Rattle.ts_store.specs.Arming.{armed_after};
+ghost use Rattle.ts_store.specs.Images.{BeginSince, HasHeader, IsBetween, IsDurable, StandsForEither, latest};
+ghost use Rattle.ts_store.specs.Safe.{IsSafe, StopsBy};
+ghost use Rattle.ts_store.specs.Stands.{Stands};
+ghost use Rattle.ts_store.specs.Stores.{Does, IsKept, Rests, known_of, opening, seen, stop_at, store_at_start};
+
+use crate::begun::Begun;
+use crate::recorders::Recorder;
+use engine_core::Engine;
+use refresh_build::Job;
+use std::alloc::Global;
+use std::marker::Model;
+use ts_disk::Disk;
+use ts_model::{Committed, Event, Outcome};
+use txn_journal::{Append, Journal};
+
+/// A store on a disk, which nobody else changes. Each event is put into the journal before it counts.
+/// After a fault of the disk the store stands still, since what the disk holds is then the history with
+/// the last event or without it.
+#[derive(Drop)]
+pub struct Store<D: Disk> {
+    alloc: Global,
+    recorder: Recorder<D>,
+    /// The disk as it was at the start.
+    begun: Begun<D>,
+    /// How many events were read at the start.
+    opened: u64,
+    /// Whether the header stands on the disk since a call of `arm`.
+    armed: bool,
+}
+
+impl<D: Disk> Model for Store<D> {
+    ghost use Rattle.ts_store.specs.Recorders.{IsKeptIn, store_of};
+    ghost use Rattle.ts_store.specs.Stores.{StoreValue};
+
+    ghost Value = { StoreValue D };
+
+    ghost view = { λ s. store_of s.recorder s.begun s.opened s.armed };
+
+    ghost invariant = { λ s. IsKeptIn D.bytes D.may_leave D.moment D.left_since D.faults s.recorder s.begun s.opened s.armed };
+}
+
+impl<D: Disk> Store<D> {
+    /// The store of an engine and of the journal that its events were read from.
+    pub(crate) fn new(
+        alloc: Global,
+        engine: Engine,
+        journal: Journal<D>,
+        begun: Begun<D>,
+    ) -> Store<D>
+        requires kept { IsKept D.bytes D.may_leave D.moment D.left_since D.faults (store_at_start engine journal begun) }
+        ensures made { result ≡ store_at_start engine journal begun }
+    {
+        let opened = engine.length();
+        let recorder = Recorder {
+            engine,
+            journal,
+            failed: None,
+        };
+        Store {
+            alloc,
+            recorder,
+            begun,
+            opened,
+            armed: false,
+        }
+    }
+
+    /// The engine.
+    pub fn engine(&self) -> &Engine
+        ensures engine { result.now ≡ self.now.engine }
+    {
+        &self.recorder.engine
+    }
+
+    /// Writes and syncs the header of the journal where there is none. On `DiskFault` the store stands
+    /// still from now on. After `Done` the store is armed.
+    pub fn arm(&mut self) -> Append
+        ensures engine { self.new.engine ≡ self.old.engine }
+        ensures begun { self.new.begun ≡ self.old.begun }
+        ensures opened { self.new.opened ≡ self.old.opened }
+        ensures done { Rests D.bytes D.may_leave self.old → IfDone result (Rests D.bytes D.may_leave self.new) }
+        // A crash at any moment leaves a file that stands for the history.
+        ensures any_moment { Rests D.bytes D.may_leave self.old
+            → LeavesOnly D.moment D.left_since self.old.journal.disk self.new.journal.disk
+            (λ file. Stands file (seen self.old)) }
+        // And since each earlier moment at which there was this one, it leaves one that begins with it.
+        ensures earlier { (t : ℕ) (h : History) → Rests D.bytes D.may_leave self.old → Begins h (seen self.old)
+            → t ≤ D.moment self.old.journal.disk
+            → BeginSince D.left_since self.old.journal.disk t h → BeginSince D.left_since self.new.journal.disk t h }
+        ensures ends { StopsBy result self.old.failed self.new.failed }
+        ensures armed { IfDone result (self.new.armed ≡ true) }
+        ensures stays_armed { self.old.armed ≡ true → self.new.armed ≡ true }
+        ensures stopped { IfStopped result (self.new ≡ self.old) }
+        ensures counted { IsCounted result (D.faults self.old.journal.disk) (D.faults self.new.journal.disk) }
+    {
+        let answer = self.recorder.arm();
+        self.armed = is_armed_after(self.armed, answer);
+        answer
+    }
+
+    /// The disk.
+    pub fn close(self) -> D
+        ensures disk { result ≡ self.journal.disk }
+        // Where all was on the disk at the start, this is what reads give.
+        ensures shown { IsDurable D.bytes D.may_leave self.begun
+            → IsSomeAnd (D.bytes result) (StandsForEither (seen self) (latest (seen self) self.failed)) }
+        // Where the store was armed, that begins with the header.
+        ensures header { self.armed ≡ true → self.failed ≡ None → IsDurable D.bytes D.may_leave self.begun
+            → IsSomeAnd (D.bytes result) HasHeader }
+        // And this is what a crash at each moment since then might have left.
+        ensures images { IsDurable D.bytes D.may_leave self.begun
+            → (c : List ℕ) → D.left_since result (D.moment self.begun) c
+            → IsBetween (opening self) (seen self) self.failed c }
+    {
+        self.recorder.journal.close()
+    }
+
+    /// Makes an event, unless its call is refused. The job of a finish is given up on every answer.
+    pub(crate) fn make(&mut self, event: Event, job: Option<Job>) -> Outcome<Committed>
+        requires sound { IsTrue (sound (seen self.old) event) }
+        requires job { JobIsFor (seen self.old) event job }
+        ensures does { Does D.faults D.moment (making_event event) self.old result self.new }
+        ensures known { known_of self.new ≡ known_of self.old }
+        ensures safe { IsSafe D.bytes D.may_leave D.moment D.left_since self.old self.new }
+    {
+        self.recorder.make(self.alloc, event, job)
+    }
+
+    /// States what is true of each store. It does nothing.
+    pub(crate) fn store_law(&self)
+        ensures kept { IsKept D.bytes D.may_leave D.moment D.left_since D.faults self.now }
+    {
+        let _opened = self.opened;
+    }
+
+    /// The position at which the store stands still, if it does.
+    pub(crate) fn stop(&self) -> Option<u64>
+        ensures { result ≡ stop_at (seen self.now) self.now.failed }
+    {
+        self.recorder.stop()
+    }
+}
+
+/// Whether a store is armed after its header was asked for.
+fn is_armed_after(armed: bool, answer: Append) -> bool
+    ensures { result ≡ armed_after armed answer }
+{
+    match answer {
+        Append::Done => true,
+        Append::DiskFault | Append::Stopped => armed,
+    }
+}
