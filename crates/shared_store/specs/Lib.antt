@@ -1,0 +1,6 @@
+pub mod Histories
+pub mod Wrapped
+pub mod Stores
+pub mod Making
+pub mod Turns
+pub mod Desks

@@ -1,0 +1,30 @@
+-- A shared store and its passes.
+use Rattle.std.specs.Prelude.{◌≡◌, ℕ, Some}
+use Rattle.std.specs.declared.snapshot.Snapshot.{Snapshot}
+use Rattle.atomic_table.specs.Seated.{TableId}
+use Rattle.ts_model.specs.declared.events.Event.{Event}
+use Rattle.ts_model.specs.History.{History, ◌▸▸◌}
+use Rattle.ts_model.specs.States.{State}
+use Rattle.turn_lock.specs.Pass.{Carried, IsIdle, base_of, seen_of}
+use Rattle.shared_store.specs.Wrapped.{Wrapped}
+
+-- a pass of a shared store as clauses see it
+abbrev pub Ticket : Type 0 → Type 0
+Ticket B = Carried (Wrapped B) (Snapshot B) Event
+
+-- a shared store as clauses see it: its lock, the backend that it was made with, and the number of shares
+pub record Shared (B : Type 0) : Type 0 where
+  pub lock : TableId
+  pub opened : Snapshot B
+  pub shares : ℕ
+
+module _ {B : Type 0} where
+  -- the pass came from the store, and holds no turn
+  pub record IsPassOf (store : Shared B) (pass : Ticket B) : Type 0 where
+    pub lock : pass.lock ≡ store.lock
+    pub base : base_of pass ≡ Some store.opened
+    pub idle : IsIdle pass
+
+  -- the history that a pass of the store has seen
+  abbrev pub history_of : (B → State) → Shared B → Ticket B → History
+  history_of state store pass = (state store.opened.value).history ▸▸ seen_of pass

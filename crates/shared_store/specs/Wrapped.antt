@@ -1,0 +1,42 @@
+-- A backend inside the lock.
+use Rattle.std.specs.Prelude.{◌≡◌, Bool, List, ◌++◌, None, IsTrue}
+use Rattle.std.specs.declared.snapshot.Snapshot.{Snapshot}
+use Rattle.ts_schema.specs.Faults.{Rose}
+use Rattle.ts_model.specs.declared.events.Event.{Event}
+use Rattle.ts_model.specs.History.{position, Begins}
+use Rattle.ts_model.specs.States.{State, stands_still}
+use Rattle.turn_lock.specs.Positions.{positions_between}
+use Rattle.shared_store.specs.Histories.{events_after}
+
+-- a backend as clauses see it: as it is, and as it was when it came into the lock
+pub record Wrapped (B : Type 0) : Type 0 where
+  pub backend : B
+  pub opened : Snapshot B
+
+-- how an alone backend went on from its state at the start, when it did not stand still
+pub record GoesOn (first now : State) : Type 0 where
+  pub went : first.failed ≡ None
+  pub begins : Begins first.history now.history
+  -- it made each event since then
+  pub made : now.made ≡ first.made ++ positions_between (position first.history) (position now.history)
+  pub origin : now.origin ≡ first.origin
+  -- its count rose exactly where it stands still
+  pub counted : now.failed ≡ None → now.faults ≡ first.faults
+  pub fell : IsTrue (stands_still now) → Rose first.faults now.faults
+
+module _ {B K : Type 0} (alone : Bool) (state : B → State) (kin : B → K) where
+  -- the backend is alone, went on since it came into the lock, and is known by the same
+  pub record IsKept (k : Wrapped B) : Type 0 where
+    pub is_alone : IsTrue alone
+    pub goes_on : GoesOn (state k.opened.value) (state k.backend)
+    pub same_kin : kin k.backend ≡ kin k.opened.value
+
+  -- a call left it in the lock
+  pub record StaysKept (old new : Wrapped B) : Type 0 where
+    pub opened : new.opened ≡ old.opened
+    pub before : IsKept old
+    pub after : IsKept new
+
+-- its events since it came into the lock
+abbrev pub events_in : {B : Type 0} → (B → State) → Wrapped B → List Event
+events_in state k = events_after (state k.opened.value).history (state k.backend).history

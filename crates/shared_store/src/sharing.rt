@@ -1,0 +1,72 @@
+//! Passes that are split and joined, and how a shared store ends.
+ghost use Rattle.std.specs.Prelude.{◌≡◌, ◌+◌, ◌-◌, ◌<◌, ◌++◌, [], All, IsPermutation, flat_map, sum_by};
+ghost use mathlib.Core.List.{IsPrefix};
+ghost use Rattle.ts_model.specs.History.{position};
+ghost use Rattle.turn_lock.specs.Pass.{shares_of, seen_of, closed_of, made_of, with_shares, longer, longest_seen, any_closed, either, StaysIn};
+ghost use Rattle.turn_lock.specs.Positions.{positions_between};
+ghost use Rattle.shared_store.specs.Stores.{IsPassOf, history_of};
+ghost use Rattle.shared_store.specs.Wrapped.{GoesOn};
+
+use crate::store::{Pass, SharedStore};
+use ts_model::Backend;
+
+impl<B: Backend> SharedStore<B> {
+    /// Moves shares to a new pass, which has seen as much and has made nothing.
+    pub fn split(&self, pass: &mut Pass<B>, shares: u32) -> Pass<B>
+        requires pass { IsPassOf self.now pass.old }
+        requires shares { (0 < shares) × (shares < shares_of pass.old) }
+        ensures kept { pass.new ≡ with_shares (shares_of pass.old - shares) pass.old }
+        ensures old { IsPassOf self.now pass.new }
+        ensures pass { IsPassOf self.now result }
+        ensures shares { shares_of result ≡ shares }
+        ensures seen { seen_of result ≡ seen_of pass.old }
+        ensures closed { closed_of result ≡ closed_of pass.old }
+        ensures made { made_of result ≡ [] }
+    {
+        self.lock.split(pass, shares)
+    }
+
+    /// One pass of two. It has seen the longer history, which both began, and has made what both made.
+    pub fn join(&self, a: Pass<B>, b: Pass<B>) -> Pass<B>
+        requires first { IsPassOf self.now a }
+        requires second { IsPassOf self.now b }
+        ensures pass { IsPassOf self.now result }
+        ensures shares { shares_of result ≡ shares_of a + shares_of b }
+        ensures seen { seen_of result ≡ longer (seen_of a) (seen_of b) }
+        ensures begins { IsPrefix (seen_of a) (seen_of result) × IsPrefix (seen_of b) (seen_of result) }
+        ensures closed { closed_of result ≡ either (closed_of a) (closed_of b) }
+        ensures stays { StaysIn result a × StaysIn result b }
+        ensures made { made_of result ≡ made_of a ++ made_of b }
+    {
+        self.lock.join(a, b)
+    }
+
+    /// One pass of many. It has seen the longest history, which all began, and has made what all made.
+    pub fn gather(&self, first: Pass<B>, others: Vec<Pass<B>>) -> Pass<B>
+        requires first { IsPassOf self.now first }
+        requires others { All (IsPassOf self.now) others.items }
+        ensures pass { IsPassOf self.now result }
+        ensures shares { shares_of result ≡ shares_of first + sum_by shares_of others.items }
+        ensures seen { seen_of result ≡ longest_seen first others.items }
+        ensures begins { IsPrefix (seen_of first) (seen_of result) × All (λ pass. IsPrefix (seen_of pass) (seen_of result)) others.items }
+        ensures closed { closed_of result ≡ any_closed first others.items }
+        ensures stays { StaysIn result first × All (StaysIn result) others.items }
+        ensures made { made_of result ≡ made_of first ++ flat_map made_of others.items }
+    {
+        self.lock.gather(first, others)
+    }
+
+    /// The backend, for the pass that has all the shares. It holds what the pass has seen, and the pass has made each event since the start once.
+    pub fn close(self, pass: Pass<B>) -> B
+        requires pass { IsPassOf self pass }
+        requires all { shares_of pass ≡ self.shares }
+        ensures history { (B.state result).history ≡ history_of B.state self pass }
+        ensures failed { (B.state result).failed ≡ closed_of pass }
+        ensures goes_on { GoesOn (B.state self.opened.value) (B.state result) }
+        ensures kin { B.kin result ≡ B.kin self.opened.value }
+        ensures made { IsPermutation (made_of pass) (positions_between (position (B.state self.opened.value).history) (position (B.state result).history)) }
+    {
+        let Self { lock } = self;
+        lock.close(pass).into_backend()
+    }
+}
