@@ -13,8 +13,6 @@ mod clones;
 mod iter;
 mod lists;
 mod runs;
-#[cfg(test)]
-mod tests;
 
 pub use blocks::BLOCK_LEN;
 pub use builders::Builder;

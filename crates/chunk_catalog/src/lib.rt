@@ -10,8 +10,6 @@ mod chunk;
 mod parts;
 mod piles;
 mod reach;
-#[cfg(test)]
-mod tests;
 mod trees;
 
 pub use catalog::{Chunks, KilledChunks};

@@ -17,6 +17,3 @@ mod tables;
 mod views;
 
 pub use events::{Decoded, decode, encode, put_event_bytes};
-
-#[cfg(test)]
-mod tests;

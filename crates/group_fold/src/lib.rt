@@ -24,6 +24,3 @@ pub use folds::fold;
 pub use joins::join_parts;
 pub use pieces::fold_pieces;
 pub use results::{cells, put_values};
-
-#[cfg(test)]
-mod tests;

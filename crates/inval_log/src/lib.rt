@@ -3,8 +3,6 @@
 
 mod entries;
 mod logs;
-#[cfg(test)]
-mod tests;
 
 pub use entries::Entry;
 pub use logs::InvalLog;

@@ -3,7 +3,5 @@
 #![tactic(auto)]
 
 mod cuts;
-#[cfg(test)]
-mod tests;
 
 pub use cuts::{CutParts, cut};

@@ -6,15 +6,11 @@
 mod answers;
 pub mod codes;
 mod events;
-#[cfg(test)]
-mod log_tests;
 mod pieces;
 mod refusals;
 mod replies;
 mod spans;
 mod summaries;
-#[cfg(test)]
-mod tests;
 
 pub use answers::put_answer;
 pub use events::{put_event, put_history, put_pending};

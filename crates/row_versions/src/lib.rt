@@ -7,8 +7,6 @@
 mod effects;
 pub mod laws;
 mod tables;
-#[cfg(test)]
-mod tests;
 
 pub use effects::Effect;
 pub use tables::{Applied, Table};

@@ -11,8 +11,6 @@ mod kills;
 mod lives;
 mod scans;
 mod segments;
-#[cfg(test)]
-mod tests;
 
 pub use hulls::{join_hulls, row_hull};
 pub use scans::{is_no_later, later};

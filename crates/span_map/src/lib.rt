@@ -9,8 +9,6 @@ mod maps;
 mod parts;
 mod pieces;
 mod rules;
-#[cfg(test)]
-mod tests;
 
 pub use maps::SpanMap;
 pub use pieces::Piece;

@@ -11,8 +11,6 @@ mod refusals;
 mod relations;
 mod statements;
 mod tables;
-#[cfg(test)]
-mod tests;
 
 pub use actions::{Action, Checked};
 pub use codes::numbers_law;

@@ -5,8 +5,6 @@
 mod buckets;
 mod chunks;
 mod spans;
-#[cfg(test)]
-mod tests;
 mod times;
 mod whole_spans;
 mod widths;

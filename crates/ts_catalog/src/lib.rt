@@ -3,8 +3,6 @@
 
 mod columns;
 mod relations;
-#[cfg(test)]
-mod tests;
 
 pub use columns::{column, column_place, name_place, view_column};
 pub use relations::{Found, find};

@@ -15,6 +15,3 @@ pub use disks::{Disk, Failed, MOST_BYTES};
 pub use fail_disks::{FailDisk, Kind, Plan};
 pub use file_disks::FileDisk;
 pub use mem_disks::MemDisk;
-
-#[cfg(test)]
-mod tests;

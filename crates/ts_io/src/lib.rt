@@ -22,6 +22,3 @@ pub use sinks::{Put, Sink};
 pub use sources::{Got, Source};
 pub use standard::{StdinSource, StdoutSink};
 pub use whole::{AllEnd, WriteFault, read_all, write_whole};
-
-#[cfg(test)]
-mod tests;

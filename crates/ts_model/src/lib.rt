@@ -27,6 +27,3 @@ pub use scans::RowsAt;
 pub use snapshots::Shown;
 pub use tables::{Hyper, TableDef, TableInfo};
 pub use views::{Agg, Fold, ViewDef};
-
-#[cfg(test)]
-mod tests;

@@ -9,8 +9,6 @@ mod names;
 mod rows;
 mod sequences;
 mod steps;
-#[cfg(test)]
-mod tests;
 
 pub use columns::Column;
 pub use conditions::{Cmp, Test, passes};

@@ -13,8 +13,6 @@ mod pass;
 mod plays;
 mod sharing;
 mod steps;
-#[cfg(test)]
-mod tests;
 mod turns;
 mod view;
 

@@ -1,0 +1,272 @@
+use std::alloc::Global;
+use std::test::Fail;
+use ts_disk::{Disk, FailDisk, Kind, MemDisk};
+use ts_schema::{NoMemory, Seq};
+use txn_journal::*;
+
+/// The journal of one event, a table with two columns.
+const ONE: [u8; 27] = [
+    0x54, 0x53, 0x43, 0x54, 0x4c, 0x4a, 0x30, 0x31, 0x01, 0x0d, 0x00, 0x00, 0x00, 0x01, 0x01, 0x6d,
+    0x02, 0x04, 0x74, 0x69, 0x6d, 0x65, 0x01, 0x01, 0x76, 0x00, 0x00,
+];
+
+/// The bytes that `ONE` gets where a second event of 17 bytes is appended.
+const MORE: [u8; 22] = [
+    0x11, 0x00, 0x00, 0x00, 0x02, 0x00, 0x00, 0x00, 0x00, 0x00, 0x00, 0x00, 0x00, 0x64, 0x00, 0x00,
+    0x00, 0x00, 0x00, 0x00, 0x00, 0x00,
+];
+
+/// How many payloads a journal has, and where it is damaged.
+#[derive(Clone, Copy, Debug, PartialEq, Eq)]
+struct Found {
+    payloads: usize,
+    damaged: Option<u64>,
+}
+
+/// What is found where nothing is damaged.
+fn sound(payloads: usize) -> Found {
+    Found {
+        payloads,
+        damaged: None,
+    }
+}
+
+/// What is found where the file is damaged at a place.
+fn broken(payloads: usize, at: u64) -> Found {
+    Found {
+        payloads,
+        damaged: Some(at),
+    }
+}
+
+/// Reads a journal of these bytes.
+fn read(alloc: Global, bytes: &[u8]) -> Result<Found, NoMemory> {
+    let disk = MemDisk::new(alloc, Vec::from_slice(alloc, bytes)?);
+    match recover(alloc, disk) {
+        Recovered::Ready { payloads, .. } => Ok(sound(payloads.len())),
+        Recovered::Damaged { payloads, at, .. } => Ok(broken(payloads.len(), at)),
+        Recovered::DiskFault(_) | Recovered::NoMemory(_) => Err(NoMemory),
+    }
+}
+
+/// The bytes of two events, with a byte changed.
+fn changed(alloc: Global, at: usize, byte: u8) -> Result<Vec<u8>, NoMemory> {
+    let mut bytes = Vec::from_slice(alloc, &ONE)?;
+    bytes.extend_from_slice(&MORE)?;
+    if let Some(place) = bytes.get_mut(26) {
+        *place = 1;
+    }
+    if let Some(place) = bytes.get_mut(at) {
+        *place = byte;
+    }
+    Ok(bytes)
+}
+
+#[test]
+fn an_event_is_appended_to_an_empty_disk(rt: HostRuntime) -> Result<(), Fail> {
+    let alloc = rt.alloc();
+    let disk = MemDisk::new(alloc, Vec::new(alloc));
+    let Recovered::Ready {
+        mut journal,
+        payloads,
+    } = recover(alloc, disk)
+    else {
+        return Err(Fail::new("the disk is empty"));
+    };
+    assert_eq!(rt; payloads.len(), 0);
+    let armed = journal.arm();
+    assert_eq!(rt; armed, Append::Done);
+    let payload = Seq::of(Vec::from_slice(alloc, &ONE[13..26])?);
+    let framed = frame(alloc, &payload)?;
+    let appended = journal.append(&framed);
+    assert_eq!(rt; appended, Append::Done);
+    let disk = journal.close();
+    assert_eq!(rt; disk.bytes(), ONE.as_slice());
+    Ok(())
+}
+
+#[test]
+fn a_cut_journal_is_damaged_at_its_open_gate(rt: HostRuntime) -> Result<(), Fail> {
+    let mut shut = ONE;
+    shut[8] = 0;
+    for len in 0..=ONE.len() {
+        let open = read(rt.alloc(), &ONE[..len])?;
+        let want = match len {
+            0..=9 => sound(0),
+            27 => sound(1),
+            _ => broken(0, 8),
+        };
+        assert_eq!(rt; open, want, "{len} bytes");
+        let closed = read(rt.alloc(), &shut[..len])?;
+        assert_eq!(rt; closed, sound(0));
+    }
+    Ok(())
+}
+
+#[test]
+fn a_changed_byte_is_found_where_frames_tell_it(rt: HostRuntime) -> Result<(), Fail> {
+    for (at, byte, want) in [
+        (100, 0, sound(2)),
+        (0, 0, broken(0, 0)),
+        (7, 0x32, broken(0, 0)),
+        (8, 0, sound(0)),
+        (9, 36, broken(0, 8)),
+        (12, 1, broken(0, 8)),
+        (26, 2, sound(1)),
+        (27, 18, broken(1, 26)),
+        (31, 8, sound(2)),
+        (48, 1, broken(2, 48)),
+    ] {
+        let bytes = changed(rt.alloc(), at, byte)?;
+        let found = read(rt.alloc(), &bytes)?;
+        assert_eq!(rt; found, want, "byte {at} is {byte}");
+    }
+    Ok(())
+}
+
+#[test]
+fn payloads_are_read_one_at_a_time(rt: HostRuntime) -> Result<(), Fail> {
+    let alloc = rt.alloc();
+    let disk = MemDisk::new(alloc, changed(alloc, 100, 0)?);
+    let Opened::Reading(mut reader) = Reader::open(alloc, disk) else {
+        return Err(Fail::new("it begins as a journal"));
+    };
+    let first = reader.next();
+    assert_eq!(rt; first, Next::Payload(8));
+    assert_eq!(rt; reader.payload(), &ONE[13..26]);
+    let second = reader.next();
+    assert_eq!(rt; second, Next::Payload(26));
+    assert_eq!(rt; reader.payload(), &MORE[4..21]);
+    let end = reader.next();
+    assert_eq!(rt; end, Next::End);
+    Ok(())
+}
+
+/// The frame of `n` bytes `n`.
+fn frame_of(alloc: Global, n: u8) -> Result<Frame, NoMemory> {
+    frame(alloc, &Seq::of(vec![in alloc; n; n as usize]?))
+}
+
+/// Ten payloads of nought to nine bytes, appended to a disk, with what each call answered last.
+fn append_ten<D: Disk + Drop>(alloc: Global, disk: D) -> Result<(D, Append), NoMemory> {
+    let mut journal = match recover(alloc, disk) {
+        Recovered::Ready { journal, .. } => journal,
+        Recovered::Damaged { disk, .. } => return Ok((disk, Append::Stopped)),
+        Recovered::DiskFault(disk) => return Ok((disk, Append::DiskFault)),
+        Recovered::NoMemory(_) => return Err(NoMemory),
+    };
+    let mut last = journal.arm();
+    for n in 0..10 {
+        let framed = frame_of(alloc, n)?;
+        if last == Append::Done {
+            last = journal.append(&framed);
+        }
+    }
+    Ok((journal.close(), last))
+}
+
+/// What is found in so many of the first bytes of ten payloads.
+fn found_in(len: usize) -> Found {
+    match len {
+        0..=9 => sound(0),
+        10..=13 => broken(0, 8),
+        14..=19 => broken(1, 13),
+        20..=26 => broken(2, 19),
+        27..=34 => broken(3, 26),
+        35..=43 => broken(4, 34),
+        44..=53 => broken(5, 43),
+        54..=64 => broken(6, 53),
+        65..=76 => broken(7, 64),
+        77..=89 => broken(8, 76),
+        90..=103 => broken(9, 89),
+        _ => sound(10),
+    }
+}
+
+#[test]
+fn every_cut_of_ten_payloads_keeps_those_before_it(rt: HostRuntime) -> Result<(), Fail> {
+    let alloc = rt.alloc();
+    let (disk, last) = append_ten(alloc, MemDisk::new(alloc, Vec::new(alloc)))?;
+    assert_eq!(rt; last, Append::Done);
+    let whole = disk.bytes();
+    assert_eq!(rt; whole.len(), 104);
+    for len in 0..105 {
+        if let Some(cut) = whole.get(..len) {
+            let found = read(alloc, cut)?;
+            assert_eq!(rt; found, found_in(len), "{len} bytes");
+        }
+    }
+    Ok(())
+}
+
+/// Whether each of eight images of a disk stands for some first ones of the ten payloads.
+fn images_are_read(alloc: Global, disk: &MemDisk) -> Result<bool, NoMemory> {
+    for pick in 0..4 {
+        for half in [0, 1 << 63] {
+            let mut image = Vec::new(alloc);
+            disk.crash(pick + half, &mut image)?;
+            if read(alloc, &image)?.damaged.is_some() {
+                return Ok(false);
+            }
+        }
+    }
+    Ok(true)
+}
+
+#[test]
+fn a_failing_call_of_each_kind_leaves_a_sound_journal(rt: HostRuntime) -> Result<(), Fail> {
+    let alloc = rt.alloc();
+    for kind in [Kind::Len, Kind::Read, Kind::Write, Kind::Sync] {
+        for nth in 1..24 {
+            let disk = FailDisk::new(alloc, Vec::new(alloc), kind, nth);
+            let (disk, last) = append_ten(alloc, disk)?;
+            let want = if disk.faults() == 0 {
+                Append::Done
+            } else {
+                Append::DiskFault
+            };
+            assert_eq!(rt; last, want, "call {nth}");
+            let sound = images_are_read(alloc, disk.inner())?;
+            assert_eq!(rt; sound, true);
+        }
+    }
+    Ok(())
+}
+
+#[test]
+fn a_stop_after_each_call_leaves_a_sound_journal(rt: HostRuntime) -> Result<(), Fail> {
+    let alloc = rt.alloc();
+    for calls in 0..46 {
+        let disk = FailDisk::stop_after(alloc, Vec::new(alloc), calls);
+        let (disk, _last) = append_ten(alloc, disk)?;
+        let sound = images_are_read(alloc, disk.inner())?;
+        assert_eq!(rt; sound, true, "after {calls} calls");
+    }
+    Ok(())
+}
+
+#[test]
+fn a_journal_that_stopped_takes_nothing(rt: HostRuntime) -> Result<(), Fail> {
+    let alloc = rt.alloc();
+    let disk = FailDisk::new(alloc, Vec::new(alloc), Kind::Sync, 2);
+    let Recovered::Ready { mut journal, .. } = recover(alloc, disk) else {
+        return Err(Fail::new("the disk is empty"));
+    };
+    let framed = frame(alloc, &Seq::of(Vec::new(alloc)))?;
+    let answers = [
+        journal.arm(),
+        journal.append(&framed),
+        journal.append(&framed),
+        journal.arm(),
+    ];
+    assert_eq!(rt;
+        answers,
+        [
+            Append::Done,
+            Append::DiskFault,
+            Append::Stopped,
+            Append::Stopped
+        ]
+    );
+    Ok(())
+}
