@@ -1,1 +1,3 @@
-mod EndingLaws
+mod StoryLaws
+mod LogLaws
+mod PrintLaws

@@ -1,6 +1,9 @@
 //! How a call ended.
 ghost use Rattle.std.specs.Prelude.{◌≡◌};
-ghost use Rattle.ts_top.specs.Endings.{exit_status};
+ghost use Rattle.ts_top.specs.Endings.{exit_status, status_of as status_of_run};
+
+use script_run::RunEnd;
+use ts_disk::Disk;
 
 /// How the top call ended.
 #[derive(Clone, Copy, Debug, PartialEq, Eq)]
@@ -15,10 +18,26 @@ pub enum Status {
     ReadFault,
     /// The sink failed, and its count of faults rose.
     WriteFault,
+    /// The disk failed, and its count of faults rose.
+    DiskFault,
+    /// The journal stands for no history. This is its first damaged place.
+    Damaged(u64),
     /// There was no memory.
     NoMemory,
     /// The source gave a byte beyond the limit. The lines that end within it were executed.
     InputLong,
+}
+
+/// The end of the top call: how it ended, the disk that it was given, and how many stored rows its
+/// answers and refreshes looked at.
+#[derive(Drop)]
+pub struct Ended<D: Disk> {
+    /// How it ended.
+    pub status: Status,
+    /// The disk.
+    pub disk: D,
+    /// How many stored rows were looked at. At `u64::MAX` the count stands still.
+    pub reads: u64,
 }
 
 impl Status {
@@ -32,8 +51,25 @@ impl Status {
             Status::BadWords => 2,
             Status::ReadFault => 3,
             Status::WriteFault => 4,
+            Status::DiskFault => 5,
+            Status::Damaged(_) => 6,
             Status::NoMemory => 7,
             Status::InputLong => 8,
         }
+    }
+}
+
+/// How the call ends whose script ended so.
+pub(crate) fn status_of(end: RunEnd) -> Status
+    ensures { result ≡ status_of_run end }
+{
+    match end {
+        RunEnd::Done => Status::Done,
+        RunEnd::Refused => Status::Refused,
+        RunEnd::ReadFault => Status::ReadFault,
+        RunEnd::WriteFault => Status::WriteFault,
+        RunEnd::DiskFault => Status::DiskFault,
+        RunEnd::NoMemory => Status::NoMemory,
+        RunEnd::InputLong => Status::InputLong,
     }
 }

@@ -1,81 +1,59 @@
 //! The top call.
-ghost use Rattle.std.specs.Prelude.{◌≡◌, ◌≢◌, ◌↔◌, false, None, IfSome, map, string_bytes};
-ghost use Rattle.std.specs.Thread.{IsSync};
+ghost use Rattle.std.specs.Prelude.{◌≡◌, ◌↔◌, false, None, map, string_bytes, IsSomeAnd};
+ghost use Rattle.ts_disk.specs.Disk.{Keeps};
 ghost use Rattle.ts_io.specs.Faults.{Counted};
+ghost use Rattle.ts_store.specs.Images.{HasHeader, IsDurable};
 ghost use Rattle.ts_top.specs.Commands.{command_of};
-ghost use Rattle.ts_top.specs.Endings.{Ran, IfBadWords, is_read_fault, is_write_fault, status_of as status_of_run};
+ghost use Rattle.ts_top.specs.Endings.{is_disk_fault, is_read_fault, is_write_fault};
+ghost use Rattle.ts_top.specs.Stories.{IfReading, IfRuns, ToldOf};
 
 use crate::commands::{Command, command_of};
-use crate::endings::Status;
-use plain_store::{PlainShot, PlainStore};
-use script_run::RunEnd;
+use crate::endings::{Ended, Status};
+use crate::prints::print;
+use crate::scripts::run;
 use std::alloc::Global;
 use std::thread::Threads;
+use ts_disk::Disk;
 use ts_io::{Sink, Source};
-use ts_schema::Steps;
-use ts_sessions::Session;
 
-/// What the program counts: the rows that its answers read.
-#[derive(Drop)]
-struct Reads;
-
-/// Does what the words ask for: `run`, with or without `--` before it, runs the lines of the source
-/// in order and writes their replies to the sink. The source is one that hasn't told its end.
-#[tactic(auto, using(crate::proofs::EndingLaws::not_bad))]
-pub fn run_words<R: Threads + Sync, S: Source, K: Sink>(
+/// Does what the words ask for, with or without `--` before them: `run` runs the lines of the source in
+/// order over the history of the journal on the disk, and writes their replies to the sink; `log` and
+/// `check` print what stands in the journal. The source is one that hasn't told its end.
+pub fn run_words<R: Threads + Sync, S: Source, K: Sink, D: Disk>(
     rt: &R,
     alloc: Global,
     words: &[String],
     source: &mut S,
     sink: &mut K,
-) -> Status
+    disk: D,
+) -> Ended<D>
     requires untold { S.ended source.old ≡ false }
-    ensures words { (result ≡ Status.BadWords) ↔ (command_of (map string_bytes words.now) ≡ None) }
-    ensures untouched { IfBadWords result ((source.new ≡ source.old) × (sink.new ≡ sink.old)) }
-    ensures ran { IfSome (S.left source.old) (λ input. Ran result input (S.left source.new) (K.written sink.old) (K.written sink.new)) }
-    ensures reads { Counted (S.faults source.old) (S.faults source.new) (is_read_fault result) }
-    ensures writes { Counted (K.faults sink.old) (K.faults sink.new) (is_write_fault result) }
+    ensures words { (result.status ≡ Status.BadWords) ↔ (command_of (map string_bytes words.now) ≡ None) }
+    ensures told { ToldOf (command_of (map string_bytes words.now)) result.status (IsDurable D.bytes D.may_leave disk)
+        (D.left_since result.disk (D.moment disk)) (source.new ≡ source.old) (sink.new ≡ sink.old)
+        (Keeps D.bytes D.may_leave D.moment D.left_since disk result.disk)
+        (record {
+          input = S.left source.old;
+          rest = S.left source.new;
+          written_before = K.written sink.old;
+          written = K.written sink.new;
+          file_before = D.bytes disk;
+          file = D.bytes result.disk;
+          reads = result.reads;
+        }) }
+    ensures header { IfRuns (command_of (map string_bytes words.now)) (IfReading result.status
+        (IsDurable D.bytes D.may_leave disk → IsSomeAnd (D.bytes result.disk) HasHeader)) }
+    ensures reads { Counted (S.faults source.old) (S.faults source.new) (is_read_fault result.status) }
+    ensures writes { Counted (K.faults sink.old) (K.faults sink.new) (is_write_fault result.status) }
+    ensures disk { Counted (D.faults disk) (D.faults result.disk) (is_disk_fault result.status) }
 {
     match command_of(words) {
-        Some(Command::Run) => run(rt, alloc, source, sink),
-        None => Status::BadWords,
-    }
-}
-
-/// Runs the lines of the source in order, over a store in memory that is empty at first.
-#[tactic(auto, using(crate::proofs::EndingLaws::runs, crate::proofs::EndingLaws::same_read_faults, crate::proofs::EndingLaws::same_write_faults))]
-fn run<R: Threads + Sync, S: Source, K: Sink>(
-    rt: &R,
-    alloc: Global,
-    source: &mut S,
-    sink: &mut K,
-) -> Status
-    requires untold { S.ended source.old ≡ false }
-    ensures runs { result ≢ Status.BadWords }
-    ensures ran { IfSome (S.left source.old) (λ input. Ran result input (S.left source.new) (K.written sink.old) (K.written sink.new)) }
-    ensures reads { Counted (S.faults source.old) (S.faults source.new) (is_read_fault result) }
-    ensures writes { Counted (K.faults sink.old) (K.faults sink.new) (is_write_fault result) }
-{
-    let mut store = PlainStore::new(alloc);
-    let mut steps = Steps::new(Reads);
-    let end = script_run::run::<Session<PlainShot>, R, PlainStore, S, K, Reads>(
-        rt, alloc, &mut store, source, sink, &mut steps,
-    );
-    status_of(end)
-}
-
-/// How the call ends whose script ended so.
-fn status_of(end: RunEnd) -> Status
-    ensures { result ≡ status_of_run end }
-{
-    match end {
-        RunEnd::Done => Status::Done,
-        RunEnd::Refused => Status::Refused,
-        RunEnd::ReadFault => Status::ReadFault,
-        RunEnd::WriteFault => Status::WriteFault,
-        // A store in memory has no disk that could fail.
-        RunEnd::DiskFault => Status::NoMemory,
-        RunEnd::NoMemory => Status::NoMemory,
-        RunEnd::InputLong => Status::InputLong,
+        Some(Command::Run) => run(rt, alloc, source, sink, disk),
+        Some(Command::Print(text)) => print(rt, alloc, sink, disk, text),
+        None => Ended {
+            status: Status::BadWords,
+            disk,
+            reads: 0,
+        },
     }
 }

@@ -4,9 +4,51 @@ ghost use Rattle.std.specs.Prelude.{◌<◌};
 use super::*;
 use std::test::Fail;
 use std::thread::Threads;
+use ts_disk::MemDisk;
 use ts_io::{MemSink, MemSource};
 
-/// What a run gives whose source and sink move at most `most` bytes a call and fail at these calls.
+/// What a call gave: how it ended, what it printed, and the journal that it left.
+#[derive(Drop)]
+pub(crate) struct Ran {
+    pub(crate) status: Status,
+    pub(crate) text: Vec<u8>,
+    pub(crate) journal: Vec<u8>,
+    pub(crate) reads: u64,
+}
+
+/// What a call gives over a disk with these bytes, whose source and sink move at most `most` bytes a call
+/// and fail at these calls.
+pub(crate) fn call<R: Threads + Sync + AllocGlobal>(
+    rt: &R,
+    words: &[&str],
+    script: &[u8],
+    most: usize,
+    fails: (&[u64], &[u64]),
+    journal: &[u8],
+) -> Result<Ran, Fail>
+    requires { 0 < most }
+{
+    let mut texts = Vec::new(rt.alloc());
+    for word in words {
+        texts.push(String::from_str(rt.alloc(), word)?)?;
+    }
+    let mut source = MemSource::new(
+        script.to_vec(rt.alloc())?,
+        most,
+        fails.0.to_vec(rt.alloc())?,
+    );
+    let mut sink = MemSink::new(rt.alloc(), most, fails.1.to_vec(rt.alloc())?);
+    let disk = MemDisk::new(rt.alloc(), journal.to_vec(rt.alloc())?);
+    let ended = run_words(rt, rt.alloc(), &texts, &mut source, &mut sink, disk);
+    Ok(Ran {
+        status: ended.status,
+        text: sink.bytes().to_vec(rt.alloc())?,
+        journal: ended.disk.bytes().to_vec(rt.alloc())?,
+        reads: ended.reads,
+    })
+}
+
+/// What a call gives over an empty disk.
 fn run_on<R: Threads + Sync + AllocGlobal>(
     rt: &R,
     words: &[&str],
@@ -16,15 +58,8 @@ fn run_on<R: Threads + Sync + AllocGlobal>(
 ) -> Result<(Status, Vec<u8>), Fail>
     requires { 0 < most }
 {
-    let mut texts = Vec::new(rt.alloc());
-    for word in words {
-        texts.push(String::from_str(rt.alloc(), word)?)?;
-    }
-    let bytes = script.to_vec(rt.alloc())?;
-    let mut source = MemSource::new(bytes, most, fails.0.to_vec(rt.alloc())?);
-    let mut sink = MemSink::new(rt.alloc(), most, fails.1.to_vec(rt.alloc())?);
-    let status = run_words(rt, rt.alloc(), &texts, &mut source, &mut sink);
-    Ok((status, sink.bytes().to_vec(rt.alloc())?))
+    let ran = call(rt, words, script, most, fails, b"")?;
+    Ok((ran.status, ran.text))
 }
 
 /// Whether a script has this status and these replies.
@@ -221,8 +256,10 @@ fn each_refusal_has_its_reply(rt: HostRuntime) -> Result<(), Fail> {
 
 #[test]
 fn the_words_are_run_with_or_without_dashes(rt: HostRuntime) -> Result<(), Fail> {
-    let rows: [(&[&str], Status); 6] = [
+    let rows: [(&[&str], Status); 8] = [
         (&["run"], Status::Done),
+        (&["par"], Status::BadWords),
+        (&["log", "check"], Status::BadWords),
         (&["--", "run"], Status::Done),
         (&[], Status::BadWords),
         (&["--", "--", "run"], Status::BadWords),
@@ -301,6 +338,8 @@ fn each_ending_has_its_exit_status(rt: HostRuntime) {
         (Status::BadWords, 2),
         (Status::ReadFault, 3),
         (Status::WriteFault, 4),
+        (Status::DiskFault, 5),
+        (Status::Damaged(9), 6),
         (Status::NoMemory, 7),
         (Status::InputLong, 8),
     ];

@@ -1,22 +1,30 @@
-//! The program: standard input and standard output handed to the top call, and its ending told by the
-//! exit status and a line on standard error.
+//! The program: standard input, standard output and the journal's file handed to the top call, and its
+//! ending told by the exit status and a line on standard error.
 #![tactic(auto)]
 
 use std::env;
+use std::fs::{File, Files};
 use std::io::{self, ErrorKind};
+use std::os::unix::fs::FileExt;
 use std::process::ExitCode;
 use std::rt::Env;
 use std::thread::Threads;
+use ts_disk::{Disk, FailDisk, FileDisk, MemDisk};
 use ts_io::{StdinSource, StdoutSink};
-use ts_top::{Status, run_words};
+use ts_top::{Command, Status, command_of, run_words};
 
-/// What standard error is told of an ending.
+/// The journal, in the folder that the program runs in.
+const JOURNAL: &str = "tsctl.journal";
+
+/// What standard error is told of an ending but that of a damaged journal, whose line names a place.
 fn message(status: Status) -> Option<&'static str> {
     match status {
         Status::Done | Status::Refused => None,
         Status::BadWords => Some("tsctl: usage: tsctl run | par | log | check | demo N"),
         Status::ReadFault => Some("tsctl: read fault"),
         Status::WriteFault => Some("tsctl: write fault"),
+        Status::DiskFault => Some("tsctl: disk fault"),
+        Status::Damaged(_) => None,
         Status::NoMemory => Some("tsctl: no memory"),
         Status::InputLong => Some("tsctl: input too long"),
     }
@@ -27,14 +35,56 @@ fn words<R: Env + AllocGlobal>(rt: &R) -> io::Result<Vec<String>> {
     Ok(env::args(rt)?.skip(1).collect(rt.alloc())?)
 }
 
-/// Does what the words ask for. Words that are no text ask for nothing.
-fn run<R: Env + Input + Print + Threads + Sync + AllocGlobal>(rt: &R) -> Status {
+/// The file of the journal. One is made where there is none for a command that writes, and only read for
+/// others.
+fn open<R: Files>(rt: &R, writes: bool) -> io::Result<R::File> {
+    let mut options = File::options();
+    options.read(true).write(writes).create(writes);
+    options.open(rt, JOURNAL)
+}
+
+/// Does what the words ask for over this disk.
+fn run_over<R: Input + Print + Threads + Sync + AllocGlobal, D: Disk + Drop>(
+    rt: &R,
+    words: &[String],
+    disk: D,
+) -> Status {
+    let mut source = StdinSource::new(rt.reader());
+    let mut sink = StdoutSink::new(io::writer(rt));
+    run_words(rt, rt.alloc(), words, &mut source, &mut sink, disk).status
+}
+
+/// Does what the words ask for over the journal's file. One that isn't there is an empty disk for a command
+/// that only reads, and one that can't be opened a disk whose every call fails and is counted.
+fn run<R>(rt: &R, words: &[String]) -> Status
+where
+    R: Input + Print + Threads + Sync + Files + AllocGlobal,
+    R::File: FileExt,
+{
+    let writes = command_of(words) == Some(Command::Run);
+    match open(rt, writes) {
+        Ok(file) => run_over(rt, words, FileDisk::new(file)),
+        Err(e) if !writes && e.kind() == ErrorKind::NotFound => run_over(
+            rt,
+            words,
+            MemDisk::new(rt.alloc(), Vec::new(rt.alloc())),
+        ),
+        Err(_) => run_over(
+            rt,
+            words,
+            FailDisk::stop_after(rt.alloc(), Vec::new(rt.alloc()), 0),
+        ),
+    }
+}
+
+/// Does what the words of the command line ask for. Words that are no text ask for nothing.
+fn run_command_line<R>(rt: &R) -> Status
+where
+    R: Env + Input + Print + Threads + Sync + Files + AllocGlobal,
+    R::File: FileExt,
+{
     match words(rt) {
-        Ok(words) => {
-            let mut source = StdinSource::new(rt.reader());
-            let mut sink = StdoutSink::new(io::writer(rt));
-            run_words(rt, rt.alloc(), &words, &mut source, &mut sink)
-        }
+        Ok(words) => run(rt, &words),
         Err(e) => match e.kind() {
             ErrorKind::OutOfMemory => Status::NoMemory,
             _ => Status::BadWords,
@@ -43,7 +93,10 @@ fn run<R: Env + Input + Print + Threads + Sync + AllocGlobal>(rt: &R) -> Status 
 }
 
 fn main(rt: HostRuntime) -> ExitCode {
-    let status = run(&rt);
+    let status = run_command_line(&rt);
+    if let Status::Damaged(at) = status {
+        let _ = eprintln!(rt; "tsctl: journal damaged at {at}");
+    }
     if let Some(line) = message(status) {
         let _ = rt.eprintln(line);
     }
@@ -65,6 +118,7 @@ mod tests {
             ),
             (Status::ReadFault, Some("tsctl: read fault")),
             (Status::WriteFault, Some("tsctl: write fault")),
+            (Status::DiskFault, Some("tsctl: disk fault")),
             (Status::NoMemory, Some("tsctl: no memory")),
             (Status::InputLong, Some("tsctl: input too long")),
         ];

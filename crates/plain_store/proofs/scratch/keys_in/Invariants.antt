@@ -1,6 +1,0 @@
-use Rattle.std.proofs.Common.{◌≡◌, map, take}
-use Rattle.ts_schema.specs.Rows.{field_of}
-use Rattle.plain_store.proofs.scratch.keys_in.Given as goal
-
-abbrev pub invariant-loop-col : goal.invariant-loop-col
-invariant-loop-col l = l.keys.items ≡ map (field_of l.row) (take l.col-index l.cols)

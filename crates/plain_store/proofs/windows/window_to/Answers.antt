@@ -1,5 +1,0 @@
-use Rattle.plain_store.proofs.Timed.{near_time}
-use Rattle.plain_store.proofs.windows.window_to.Goals as goal
-
-pub inscribe-requires-clause-low : goal.inscribe-requires-clause-low
-inscribe-requires-clause-low c = λ x e. near_time x (c.requires.low x e)

@@ -1,0 +1,61 @@
+-- What a script did over a store whose journal has its header, by how it ended and what the closed store says of its disk.
+use Rattle.std.proofs.Common.{◌≡◌, ℕ, List, Option, true, false, IfSome, sym, ap, ◌∙◌, subst}
+use Rattle.std.specs.Prelude.{IsSomeAnd}
+use Rattle.ts_io.specs.Faults.{Counted}
+use Rattle.ts_model.specs.History.{History}
+use Rattle.ts_model.specs.States.{State}
+use Rattle.ts_sessions.specs.Script.{session_play}
+use Rattle.ts_store.specs.Images.{HasHeader, IsBetween, IsDurable}
+use Rattle.ts_store.specs.Stores.{StoreValue, Known, known_of, opening, seen, state_of}
+use Rattle.script_run.specs.Runs.{Ran as RanScript}
+use Rattle.ts_top.specs.Endings.{is_disk_fault, is_read_fault, is_write_fault}
+use Rattle.ts_top.specs.Stories.{IfReading, Outside, RanTo}
+use Rattle.ts_top.proofs.StoryLaws.{Closed, headed, none_there, same_disk_fault, same_read_fault, same_write_fault, told_run}
+use Rattle.ts_top.proofs.scripts.run_lines.Goals as goal
+
+pub returns-clause-told : goal.returns-clause-told
+returns-clause-told g c before stood =
+    let D = g.D.Disk in
+    let K = g.K.Sink in
+    let S = g.S.Source in
+    let old = c.args.store in
+    let new = c.run-end.new.backend in
+    let state = state_of D.faults D.moment new in
+    let known : known_of new ≡ known_of old = c.run-end.ensures.kin in
+    let begun : new.begun ≡ old.begun = ap (λ k. k.disk) known in
+    let from : opening new ≡ seen old = ap (λ o. o.opening) c.run-end.ensures.origin ∙ c.requires.whole in
+    let durable : Type 0 = IsDurable D.bytes D.may_leave old.begun in
+    let left : List ℕ → Type 0 = D.left_since c.close.result (D.moment old.begun) in
+    let still_durable : durable → IsDurable D.bytes D.may_leave new.begun = λ d. subst (λ disk. IsDurable D.bytes D.may_leave disk) (sym begun) d in
+    let closed : Closed durable left (seen old) state (D.bytes c.close.result) = record {
+      shown = λ d. c.close.ensures.shown (still_durable d);
+      images = λ d x image. subst (λ h. IsBetween h (seen new) new.failed x) from (c.close.ensures.images (still_durable d) x (subst (λ disk. D.left_since c.close.result (D.moment disk) x) (sym begun) image));
+    } in
+    let o : Outside = record { input = S.left c.args.source.now; rest = S.left c.run-end.new.source; written_before = K.written c.args.sink.now; written = K.written c.run-end.new.sink; file_before = before; file = D.bytes c.close.result; reads = c.count.result } in
+    let RanFrom : ℕ → ℕ → Type 0 = λ r s. IfSome o.input (λ input. RanScript c.run-end.result session_play (seen old) input o.rest (record { store = state; written_before = o.written_before; written = o.written; read_before = r; read = s })) in
+    let ran : RanFrom 0 c.count.result = subst (λ s. RanFrom 0 s) (sym c.count.ensures.count) (subst (λ r. RanFrom r c.run-end.new.steps) c.new-steps.ensures.zero c.run-end.ensures.ran) in
+    subst (λ status. RanTo status durable left ⊥ o) (sym c.status_of.ensures) (told_run durable left ⊥ o (seen old) state closed c.run-end.result c.run-end.ensures.still stood ran)
+
+pub returns-clause-header : goal.returns-clause-header
+returns-clause-header g c =
+    let D = g.D.Disk in
+    let old = c.args.store in
+    let new = c.run-end.new.backend in
+    let known : known_of new ≡ known_of old = c.run-end.ensures.kin in
+    let begun : new.begun ≡ old.begun = ap (λ k. k.disk) known in
+    let armed : new.armed ≡ true = ap (λ k. k.armed) known ∙ c.requires.armed in
+    let Header : Type 0 = IsDurable D.bytes D.may_leave old.begun → IsSomeAnd (D.bytes c.close.result) HasHeader in
+    subst (λ status. IfReading status Header) (sym c.status_of.ensures)
+    (headed c.run-end.result Header (λ going d. c.close.ensures.header armed (none_there new.failed (c.run-end.ensures.still ∙ going)) (subst (λ disk. IsDurable D.bytes D.may_leave disk) (sym begun) d)))
+
+pub returns-clause-reads : goal.returns-clause-reads
+returns-clause-reads g c = subst (λ fault. Counted (g.S.Source.faults c.args.source.now) (g.S.Source.faults c.run-end.new.source) fault) (same_read_fault c.run-end.result ∙ ap is_read_fault (sym c.status_of.ensures)) c.run-end.ensures.reads
+
+pub returns-clause-writes : goal.returns-clause-writes
+returns-clause-writes g c = subst (λ fault. Counted (g.K.Sink.faults c.args.sink.now) (g.K.Sink.faults c.run-end.new.sink) fault) (same_write_fault c.run-end.result ∙ ap is_write_fault (sym c.status_of.ensures)) c.run-end.ensures.writes
+
+pub returns-clause-disk : goal.returns-clause-disk
+returns-clause-disk g c =
+    let D = g.D.Disk in
+    subst (λ disk. Counted (D.faults c.args.store.journal.disk) (D.faults disk) (is_disk_fault c.status_of.result)) (sym c.close.ensures.disk)
+    (subst (λ fault. Counted (D.faults c.args.store.journal.disk) (D.faults c.run-end.new.backend.journal.disk) fault) (same_disk_fault c.run-end.result ∙ ap is_disk_fault (sym c.status_of.ensures)) c.run-end.ensures.disk)

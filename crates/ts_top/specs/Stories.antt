@@ -1,0 +1,165 @@
+-- What the top call has written, kept and counted, by how it ended.
+use Rattle.std.specs.Prelude.{◌≡◌, ◌⊎◌, ℕ, ◌<◌, ◌≤◌, Bool, true, false, List, [], ◌∷◌, ◌++◌, Option, None, Some, length, take, ⊤, IfSome, IsSomeAnd}
+use Rattle.std.specs.Io.KnownBytes.{Appends}
+use Rattle.ts_io.specs.Whole.{AppendsPart}
+use Rattle.ts_io.specs.declared.limits.TheConstants.{INPUT_LIMIT}
+use Rattle.ts_model.specs.History.{History, Begins}
+use Rattle.ts_schema.specs.Counts.{raised_by}
+use Rattle.ts_store.specs.Stands.{Stands, IsDamagedAt}
+use Rattle.script_run.specs.Runs.{ReadWhole, executed}
+use Rattle.ts_top.specs.Scripts.{replies_of, reply_after, history_after, rows_read, is_faulted}
+use Rattle.ts_top.specs.Logs.{text_of}
+use Rattle.ts_top.specs.declared.commands.Command.{Command}
+use Rattle.ts_top.specs.declared.commands.Command.TheVariants.{Run, Print}
+use Rattle.ts_top.specs.declared.endings.Status.{Status}
+use Rattle.ts_top.specs.declared.endings.Status.TheVariants.{Done, Refused, BadWords, ReadFault, WriteFault, DiskFault, Damaged, NoMemory, InputLong}
+
+-- what stands outside of the call, before it and after it, where it is told: the bytes that the source has left, those that the sink has written, those that reads of the disk give; and how many stored rows were looked at
+pub record Outside : Type 0 where
+  pub input : Option (List ℕ)
+  pub rest : Option (List ℕ)
+  pub written_before : Option (List ℕ)
+  pub written : Option (List ℕ)
+  pub file_before : Option (List ℕ)
+  pub file : Option (List ℕ)
+  pub reads : ℕ
+
+-- ---- the journal
+
+-- a file stands for a history on the way from one to another
+pub record StandsBetween (from to : History) (file : List ℕ) : Type 0 where
+  pub history : History
+  pub stands : Stands file history
+  pub began : Begins from history
+  pub within : Begins history to
+
+-- what a crash at any moment of the call might have left stands for a history on the way from the opening one
+abbrev pub ImagesUpTo : (List ℕ → Type 0) → History → History → Type 0
+ImagesUpTo left opening to = (c : List ℕ) → left c → StandsBetween opening to c
+
+-- reads give a file that stands for this history
+abbrev pub Holds : Option (List ℕ) → History → Type 0
+Holds file h = IsSomeAnd file (λ bytes. Stands bytes h)
+
+-- reads give a file that stands for a history on the way from one to another
+abbrev pub HoldsBetween : Option (List ℕ) → History → History → Type 0
+HoldsBetween file from to = IsSomeAnd file (StandsBetween from to)
+
+-- ---- scripts, over a history. What is said of the journal holds where all of it was on the disk at first
+
+-- the lines were run to the last, and their replies written
+pub record RanWhole (durable : Type 0) (left : List ℕ → Type 0) (h : History) (lines : List (List ℕ)) (o : Outside) : Type 0 where
+  pub wrote : Appends o.written_before o.written (replies_of h lines)
+  pub holds : durable → Holds o.file (history_after h lines)
+  pub images : durable → ImagesUpTo left h (history_after h lines)
+  pub counted : o.reads ≡ raised_by (rows_read h lines) 0
+
+-- some first lines were run, their replies written, and nothing done of the others
+pub record RanBefore (durable : Type 0) (left : List ℕ → Type 0) (h : History) (lines : List (List ℕ)) (o : Outside) : Type 0 where
+  pub done : List (List ℕ)
+  pub rest : List (List ℕ)
+  pub split : lines ≡ done ++ rest
+  pub ran : RanWhole durable left h done o
+
+-- the replies to some first lines were written, and nothing of the next one's, of which the first events may stand
+pub record RanWithin (durable : Type 0) (left : List ℕ → Type 0) (h : History) (lines : List (List ℕ)) (o : Outside) : Type 0 where
+  pub done : List (List ℕ)
+  pub rest : List (List ℕ)
+  pub split : lines ≡ done ++ rest
+  pub wrote : Appends o.written_before o.written (replies_of h done)
+  pub holds : durable → HoldsBetween o.file (history_after h done) (history_after h (done ++ take 1 rest))
+  pub images : durable → ImagesUpTo left h (history_after h (done ++ take 1 rest))
+  pub counted : raised_by (rows_read h done) 0 ≤ o.reads
+
+-- the replies to some first lines were written, and the next line was run, of whose reply a part was written
+pub record RanWriting (durable : Type 0) (left : List ℕ → Type 0) (h : History) (lines : List (List ℕ)) (o : Outside) : Type 0 where
+  pub done : List (List ℕ)
+  pub line : List ℕ
+  pub rest : List (List ℕ)
+  pub part : List ℕ
+  pub todo : List ℕ
+  pub split : lines ≡ done ++ line ∷ rest
+  pub reply : reply_after h done line ≡ part ++ todo
+  pub wrote : Appends o.written_before o.written (replies_of h done ++ part)
+  pub holds : durable → Holds o.file (history_after h (done ++ line ∷ []))
+  pub images : durable → ImagesUpTo left h (history_after h (done ++ line ∷ []))
+  pub counted : o.reads ≡ raised_by (rows_read h (done ++ line ∷ [])) 0
+
+-- ---- the opening history
+
+-- the call ran over the history that the journal stood for
+pub record Over (o : Outside) (Ran : History → Type 0) : Type 0 where
+  pub opening : History
+  pub stood : IfSome o.file_before (λ file. Stands file opening)
+  pub ran : Ran opening
+
+-- and of the script, where the source tells its bytes
+abbrev pub OverScript : Outside → (History → List ℕ → Type 0) → Type 0
+OverScript o Ran = Over o (λ h. IfSome o.input (Ran h))
+
+-- nothing was read, nothing was printed, and the disk stayed as it was
+abbrev pub Untouched : Type 0 → Type 0 → Type 0 → Type 0
+Untouched unread unprinted kept = unread × unprinted × kept
+
+-- and this is where the file is damaged, so that it stands for no history
+abbrev pub IsDamaged : ℕ → Outside → Type 0
+IsDamaged at o = IfSome o.file_before (λ file. IsDamagedAt file at)
+
+-- what a run that ended so has done
+abbrev pub RanTo : Status → Type 0 → (List ℕ → Type 0) → Type 0 → Outside → Type 0
+RanTo Done durable left untouched o = OverScript o (λ h input. ReadWhole input o.rest × (is_faulted h input ≡ false) × RanWhole durable left h (executed input) o)
+RanTo Refused durable left untouched o = OverScript o (λ h input. ReadWhole input o.rest × (is_faulted h input ≡ true) × RanWhole durable left h (executed input) o)
+RanTo BadWords durable left untouched o = ⊥
+RanTo ReadFault durable left untouched o = OverScript o (λ h input. RanBefore durable left h (executed input) o)
+RanTo WriteFault durable left untouched o = OverScript o (λ h input. RanWriting durable left h (executed input) o)
+RanTo DiskFault durable left untouched o = untouched ⊎ OverScript o (λ h input. RanWithin durable left h (executed input) o)
+RanTo (Damaged at) durable left untouched o = untouched × IsDamaged at o
+RanTo NoMemory durable left untouched o = untouched ⊎ OverScript o (λ h input. RanWithin durable left h (executed input) o)
+RanTo InputLong durable left untouched o = OverScript o (λ h input. (INPUT_LIMIT < length input) × RanWhole durable left h (executed input) o)
+
+-- P where the source was read: the header is on the disk before that
+abbrev pub IfReading : Status → Type 0 → Type 0
+IfReading Done P = P
+IfReading Refused P = P
+IfReading BadWords P = ⊤
+IfReading ReadFault P = P
+IfReading WriteFault P = P
+IfReading DiskFault P = ⊤
+IfReading (Damaged at) P = ⊤
+IfReading NoMemory P = ⊤
+IfReading InputLong P = P
+
+-- P of a call that runs a script
+abbrev pub IfRuns : Option Command → Type 0 → Type 0
+IfRuns None P = ⊤
+IfRuns (Some Run) P = P
+IfRuns (Some (Print text)) P = ⊤
+
+-- the text of a history was printed, or a part of it
+abbrev pub Printed : (History → List ℕ) → Outside → Type 0
+Printed text o = Over o (λ h. Appends o.written_before o.written (text h))
+
+abbrev pub PrintedPart : (History → List ℕ) → Outside → Type 0
+PrintedPart text o = Over o (λ h. AppendsPart o.written_before o.written (text h))
+
+-- what a call that prints this text of its journal, and ended so, has printed
+abbrev pub PrintedTo : (History → List ℕ) → Status → Type 0 → Outside → Type 0
+PrintedTo text Done unprinted o = Printed text o
+PrintedTo text Refused unprinted o = ⊥
+PrintedTo text BadWords unprinted o = ⊥
+PrintedTo text ReadFault unprinted o = ⊥
+PrintedTo text WriteFault unprinted o = PrintedPart text o
+PrintedTo text DiskFault unprinted o = unprinted
+PrintedTo text (Damaged at) unprinted o = unprinted × IsDamaged at o
+PrintedTo text NoMemory unprinted o = unprinted ⊎ PrintedPart text o
+PrintedTo text InputLong unprinted o = ⊥
+
+-- what a call with this command has done: one that prints reads no input, and leaves the disk as it was
+abbrev pub Told : Command → Status → Type 0 → (List ℕ → Type 0) → Type 0 → Type 0 → Type 0 → Outside → Type 0
+Told Run status durable left unread unprinted kept o = RanTo status durable left (Untouched unread unprinted kept) o
+Told (Print text) status durable left unread unprinted kept o = unread × kept × PrintedTo (text_of text) status unprinted o
+
+-- what a call with these words has done: where they ask for nothing, that is all
+abbrev pub ToldOf : Option Command → Status → Type 0 → (List ℕ → Type 0) → Type 0 → Type 0 → Type 0 → Outside → Type 0
+ToldOf None status durable left unread unprinted kept o = (status ≡ BadWords) × Untouched unread unprinted kept
+ToldOf (Some command) status durable left unread unprinted kept o = Told command status durable left unread unprinted kept o

@@ -1,0 +1,209 @@
+//! What is printed of a journal.
+ghost use Rattle.std.specs.Prelude.{◌≡◌, ◌++◌, ℕ, List, Option, IfOk, OnErr, OnOk};
+ghost use Rattle.std.specs.Io.KnownBytes.{Appends};
+ghost use Rattle.ts_disk.specs.Disk.{Keeps};
+ghost use Rattle.ts_io.specs.Faults.{Counted};
+ghost use Rattle.ts_io.specs.Whole.{AppendsPart};
+ghost use Rattle.engine_core.specs.Histories.{history_of};
+ghost use Rattle.result_text.specs.Events.{log_text};
+ghost use Rattle.ts_model.specs.Roster.{view_of};
+ghost use Rattle.ts_top.specs.Endings.{is_disk_fault, is_write_fault};
+ghost use Rattle.ts_top.specs.Logs.{check_of, log_of, text_of, waiting_text, waiting_texts};
+ghost use Rattle.ts_top.specs.Stops.{failed_writing, status_of_print};
+ghost use Rattle.ts_top.specs.Stories.{PrintedTo};
+
+use crate::commands::Text;
+use crate::endings::{Ended, Status};
+use engine_core::Engine;
+use result_text::{put_event, put_history, put_pending};
+use std::alloc::Global;
+use std::thread::Threads;
+use ts_bucket::first;
+use ts_disk::Disk;
+use ts_io::{Sink, WriteFault, write_whole};
+use ts_model::{Event, Roster, Shown, Waiting};
+use ts_schema::NoMemory;
+use ts_store::{Started, Store};
+
+/// Why printing stopped.
+#[derive(Clone, Copy, Debug, PartialEq, Eq)]
+enum Stop {
+    /// The sink failed, and its count of faults rose.
+    WriteFault,
+    /// There was no memory.
+    NoMemory,
+}
+
+impl From<NoMemory> for Stop {
+    ghost use Rattle.ts_top.specs.declared.prints.Stop.TheVariants as stops;
+
+    ghost from_gives = { λ _ e. e ≡ stops.NoMemory };
+
+    fn from(_refused: NoMemory) -> Stop {
+        Stop::NoMemory
+    }
+}
+
+impl From<WriteFault> for Stop {
+    ghost use Rattle.ts_top.specs.declared.prints.Stop.TheVariants as stops;
+
+    ghost from_gives = { λ _ e. e ≡ stops.WriteFault };
+
+    fn from(_failed: WriteFault) -> Stop {
+        Stop::WriteFault
+    }
+}
+
+/// Prints a line of the log.
+fn print_event<K: Sink>(
+    alloc: Global,
+    sink: &mut K,
+    number: u64,
+    event: &Event,
+    names: &Roster,
+) -> Result<(), Stop>
+    ensures done { OnOk result (Appends (K.written sink.old) (K.written sink.new) (log_text number names.now event.now)) }
+    ensures part { OnErr result (AppendsPart (K.written sink.old) (K.written sink.new) (log_text number names.now event.now)) }
+    ensures counted { Counted (K.faults sink.old) (K.faults sink.new) (failed_writing result) }
+{
+    let mut line = Vec::new(alloc);
+    put_event(number, event, names, &mut line)?;
+    write_whole(sink, &line)?;
+    Ok(())
+}
+
+/// Prints the log of an engine's history.
+fn print_log<K: Sink>(alloc: Global, sink: &mut K, engine: &Engine) -> Result<(), Stop>
+    ensures done { OnOk result (Appends (K.written sink.old) (K.written sink.new) (log_of (history_of engine.now.events))) }
+    ensures part { OnErr result (AppendsPart (K.written sink.old) (K.written sink.new) (log_of (history_of engine.now.events))) }
+    ensures counted { Counted (K.faults sink.old) (K.faults sink.new) (failed_writing result) }
+{
+    let shot = engine.shot()?;
+    for place in 0..engine.length() {
+        match engine.event(place + 1) {
+            Some(event) => print_event(alloc, sink, place + 1, event, shot.roster())?,
+            None => {}
+        }
+    }
+    Ok(())
+}
+
+/// Appends the line of a refresh that waits.
+fn put_waiting(refresh: &Waiting, names: &Roster, out: &mut Vec<u8>) -> Result<(), NoMemory>
+    ensures appended { IfOk result (λ _. out.new.items ≡ out.old.items ++ waiting_text refresh.now (view_of names.now refresh.now.view)) }
+{
+    match names.views.items().get(refresh.view as usize) {
+        None => Ok(()),
+        Some(def) => put_pending(
+            refresh.cut,
+            &def.name,
+            refresh.span,
+            first(def.fold.width),
+            out,
+        ),
+    }
+}
+
+/// Appends the lines of refreshes that wait.
+fn put_all_waiting(refreshes: &[Waiting], names: &Roster, out: &mut Vec<u8>) -> Result<(), NoMemory>
+    ensures appended { IfOk result (λ _. out.new.items ≡ out.old.items ++ waiting_texts names.now refreshes.now) }
+{
+    for refresh in refreshes {
+        put_waiting(refresh, names, out)?;
+    }
+    Ok(())
+}
+
+/// The position of an engine's history, and the refreshes that wait.
+fn check_text(alloc: Global, engine: &Engine) -> Result<Vec<u8>, NoMemory>
+    ensures text { IfOk result (λ text. text.items ≡ check_of (history_of engine.now.events)) }
+{
+    let mut text = Vec::new(alloc);
+    put_history(engine.length(), &mut text)?;
+    let shot = engine.shot()?;
+    put_all_waiting(engine.waiting()?.items(), shot.roster(), &mut text)?;
+    Ok(text)
+}
+
+/// Prints the position of an engine's history, and the refreshes that wait.
+fn print_check<K: Sink>(alloc: Global, sink: &mut K, engine: &Engine) -> Result<(), Stop>
+    ensures done { OnOk result (Appends (K.written sink.old) (K.written sink.new) (check_of (history_of engine.now.events))) }
+    ensures part { OnErr result (AppendsPart (K.written sink.old) (K.written sink.new) (check_of (history_of engine.now.events))) }
+    ensures counted { Counted (K.faults sink.old) (K.faults sink.new) (failed_writing result) }
+{
+    let text = check_text(alloc, engine)?;
+    write_whole(sink, &text)?;
+    Ok(())
+}
+
+/// Prints a text of an engine's history.
+fn print_text<K: Sink>(alloc: Global, sink: &mut K, engine: &Engine, text: Text) -> Result<(), Stop>
+    ensures done { OnOk result (Appends (K.written sink.old) (K.written sink.new) (text_of text (history_of engine.now.events))) }
+    ensures part { OnErr result (AppendsPart (K.written sink.old) (K.written sink.new) (text_of text (history_of engine.now.events))) }
+    ensures counted { Counted (K.faults sink.old) (K.faults sink.new) (failed_writing result) }
+{
+    match text {
+        Text::Log => print_log(alloc, sink, engine),
+        Text::Check => print_check(alloc, sink, engine),
+    }
+}
+
+/// How the call ends whose printing ended so.
+fn status_of_print(printed: Result<(), Stop>) -> Status
+    ensures { result ≡ status_of_print printed }
+{
+    match printed {
+        Ok(()) => Status::Done,
+        Err(Stop::WriteFault) => Status::WriteFault,
+        Err(Stop::NoMemory) => Status::NoMemory,
+    }
+}
+
+/// Prints a text of the journal on the disk, and leaves the disk as it was.
+pub(crate) fn print<R: Threads + Sync, K: Sink, D: Disk>(
+    rt: &R,
+    alloc: Global,
+    sink: &mut K,
+    disk: D,
+    text: Text,
+) -> Ended<D>
+    ensures told { (input rest : Option (List ℕ)) → PrintedTo (text_of text) result.status (sink.new ≡ sink.old)
+        (record {
+          input = input;
+          rest = rest;
+          written_before = K.written sink.old;
+          written = K.written sink.new;
+          file_before = D.bytes disk;
+          file = D.bytes result.disk;
+          reads = result.reads;
+        }) }
+    ensures kept { Keeps D.bytes D.may_leave D.moment D.left_since disk result.disk }
+    ensures writes { Counted (K.faults sink.old) (K.faults sink.new) (is_write_fault result.status) }
+    ensures disk { Counted (D.faults disk) (D.faults result.disk) (is_disk_fault result.status) }
+{
+    match Store::start(rt, alloc, disk) {
+        Started::Ready(store) => {
+            let printed = print_text(alloc, sink, store.engine(), text);
+            Ended {
+                status: status_of_print(printed),
+                disk: store.close(),
+                reads: 0,
+            }
+        }
+        Started::Damaged { disk, at } => Ended {
+            status: Status::Damaged(at),
+            disk,
+            reads: 0,
+        },
+        Started::DiskFault(disk) => Ended {
+            status: Status::DiskFault,
+            disk,
+            reads: 0,
+        },
+        Started::NoMemory(disk) => Ended {
+            status: Status::NoMemory,
+            disk,
+            reads: 0,
+        },
+    }
+}
