@@ -5,7 +5,7 @@ use Rattle.atomic_table.specs.Seated.{TableId}
 use Rattle.ts_model.specs.declared.events.Event.{Event}
 use Rattle.ts_model.specs.History.{History, ◌▸▸◌}
 use Rattle.ts_model.specs.States.{State}
-use Rattle.turn_lock.specs.Pass.{Carried, IsIdle, base_of, seen_of}
+use Rattle.turn_lock.specs.Pass.{Carried, Guarded, IsIdle, base_of, seen_of}
 use Rattle.shared_store.specs.Wrapped.{Wrapped}
 
 -- a pass of a shared store as clauses see it
@@ -19,6 +19,10 @@ pub record Shared (B : Type 0) : Type 0 where
   pub shares : ℕ
 
 module _ {B : Type 0} where
+  -- the store with this lock
+  abbrev pub shared_of : Guarded (Wrapped B) → Shared B
+  shared_of lock = record { lock = lock.lock; opened = lock.opened.opened; shares = lock.shares }
+
   -- the pass came from the store, and holds no turn
   pub record IsPassOf (store : Shared B) (pass : Ticket B) : Type 0 where
     pub lock : pass.lock ≡ store.lock

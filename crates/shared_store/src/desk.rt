@@ -1,45 +1,37 @@
 //! A desk, through which one thread uses the store.
 ghost use Rattle.std.specs.Prelude.{◌≡◌, Some};
 ghost use Rattle.turn_lock.specs.Pass.{shares_of};
-ghost use Rattle.shared_store.specs.Stores.{IsPassOf};
-ghost use Rattle.shared_store.specs.Desks.{fresh_desk};
+ghost use Rattle.shared_store.specs.Stores.{IsPassOf, shared_of};
+ghost use Rattle.shared_store.specs.Desks.{fresh_desk, IsLast};
 
-use crate::kept::Kept;
-use crate::store::{Pass, SharedStore};
+use crate::store::{Pass, SharedStore, StoreLock};
 use crate::turns::{self, Left};
 use std::marker::Model;
-use std::snapshot::Snapshot;
 use std::sync::Wait;
 use std::thread::Threads;
-use ts_model::{Backend, Committed, CutDone, Event, Hyper, Op, Outcome, Shown, TableDef, ViewDef};
+use ts_model::{Backend, Committed, CutDone, Hyper, Op, Outcome, Shown, TableDef, ViewDef};
 use ts_schema::{NoMemory, Seq};
-use turn_lock::Grown;
 
 /// A place at a shared store for one holder of a pass. It is a store: each call but `position` and
 /// `stopped` takes the turn of its pass, for which it may wait.
 #[derive(Drop)]
-pub struct Desk<'a, B: Backend, R: Threads + Wait>
-where
-    Kept<B>: Grown<Base = Snapshot<B>, Entry = Event>,
-{
-    store: &'a SharedStore<B>,
+pub struct Desk<'a, B: Backend, R: Threads + Wait> {
+    lock: &'a StoreLock<B>,
     rt: &'a R,
     pass: Pass<B>,
     // What the last call left.
     last: Option<Left<B>>,
 }
 
-impl<'a, B: Backend, R: Threads + Wait> Model for Desk<'a, B, R>
-where
-    Kept<B>: Grown<Base = Snapshot<B>, Entry = Event>,
-{
+impl<'a, B: Backend, R: Threads + Wait> Model for Desk<'a, B, R> {
+    ghost use Rattle.shared_store.specs.Stores.{shared_of};
     ghost use Rattle.shared_store.specs.Desks.{AtDesk, IsDesk};
 
     ghost Value = { AtDesk B };
 
-    ghost view = { λ d. record { store = d.store.now; pass = d.pass; last = d.last } };
+    ghost view = { λ d. record { store = shared_of d.lock.now; pass = d.pass; last = d.last } };
 
-    ghost invariant = { λ d. IsDesk B.state (record { store = d.store.now; pass = d.pass; last = d.last }) };
+    ghost invariant = { λ d. IsDesk B.state (record { store = shared_of d.lock.now; pass = d.pass; last = d.last }) };
 }
 
 impl<B: Backend> SharedStore<B> {
@@ -48,12 +40,24 @@ impl<B: Backend> SharedStore<B> {
         requires { IsPassOf self.now pass }
         ensures { result ≡ fresh_desk self.now pass }
     {
-        Desk {
-            store: self,
-            rt,
-            pass,
-            last: None,
-        }
+        desk_at(&self.lock, rt, pass)
+    }
+}
+
+/// A desk for the holder of the pass, by the lock of its store.
+pub fn desk_at<'a, B: Backend, R: Threads + Wait>(
+    lock: &'a StoreLock<B>,
+    rt: &'a R,
+    pass: Pass<B>,
+) -> Desk<'a, B, R>
+    requires { IsPassOf (shared_of lock.now) pass }
+    ensures { result ≡ fresh_desk (shared_of lock.now) pass }
+{
+    Desk {
+        lock,
+        rt,
+        pass,
+        last: None,
     }
 }
 
@@ -62,9 +66,10 @@ impl<'a, B: Backend, R: Threads + Wait> Desk<'a, B, R> {
     pub fn leave(self) -> Pass<B>
         ensures pass { result ≡ self.entry.pass }
         ensures store { IsPassOf self.entry.store result }
+        ensures last { IsLast B.state self.entry self.entry.last }
     {
         let Self {
-            store: _,
+            lock: _,
             rt: _,
             pass,
             last: _,
@@ -88,58 +93,58 @@ impl<'a, B: Backend, R: Threads + Wait> Backend for Desk<'a, B, R> {
     ghost kin = { place_of };
 
     fn snap(&mut self) -> Result<B::Shot, NoMemory> {
-        let mut held = turns::begin(self.store, self.rt, &mut self.pass);
+        let mut held = turns::begin(self.lock, self.rt, &mut self.pass);
         let shot = held.value.snap();
-        self.last = Some(turns::end(self.store, &mut self.pass, held));
+        self.last = Some(turns::end(self.lock, &mut self.pass, held));
         shot
     }
 
     fn make_table(&mut self, def: TableDef) -> Outcome<u64> {
-        let mut held = turns::begin(self.store, self.rt, &mut self.pass);
+        let mut held = turns::begin(self.lock, self.rt, &mut self.pass);
         let outcome = held.value.make_table(def);
-        self.last = Some(turns::end(self.store, &mut self.pass, held));
+        self.last = Some(turns::end(self.lock, &mut self.pass, held));
         outcome
     }
 
     fn make_hyper(&mut self, table: u32, hyper: Hyper) -> Outcome<u64> {
-        let mut held = turns::begin(self.store, self.rt, &mut self.pass);
+        let mut held = turns::begin(self.lock, self.rt, &mut self.pass);
         let outcome = held.value.make_hyper(table, hyper);
-        self.last = Some(turns::end(self.store, &mut self.pass, held));
+        self.last = Some(turns::end(self.lock, &mut self.pass, held));
         outcome
     }
 
     fn make_view(&mut self, def: ViewDef) -> Outcome<u64> {
-        let mut held = turns::begin(self.store, self.rt, &mut self.pass);
+        let mut held = turns::begin(self.lock, self.rt, &mut self.pass);
         let outcome = held.value.make_view(def);
-        self.last = Some(turns::end(self.store, &mut self.pass, held));
+        self.last = Some(turns::end(self.lock, &mut self.pass, held));
         outcome
     }
 
     fn set_mode(&mut self, view: u32, only: bool) -> Outcome<u64> {
-        let mut held = turns::begin(self.store, self.rt, &mut self.pass);
+        let mut held = turns::begin(self.lock, self.rt, &mut self.pass);
         let outcome = held.value.set_mode(view, only);
-        self.last = Some(turns::end(self.store, &mut self.pass, held));
+        self.last = Some(turns::end(self.lock, &mut self.pass, held));
         outcome
     }
 
     fn commit(&mut self, ops: Seq<Op>) -> Outcome<Committed> {
-        let mut held = turns::begin(self.store, self.rt, &mut self.pass);
+        let mut held = turns::begin(self.lock, self.rt, &mut self.pass);
         let outcome = held.value.commit(ops);
-        self.last = Some(turns::end(self.store, &mut self.pass, held));
+        self.last = Some(turns::end(self.lock, &mut self.pass, held));
         outcome
     }
 
     fn cut(&mut self, view: u32, lo: Option<i64>, hi: Option<i64>) -> Outcome<CutDone> {
-        let mut held = turns::begin(self.store, self.rt, &mut self.pass);
+        let mut held = turns::begin(self.lock, self.rt, &mut self.pass);
         let outcome = held.value.cut(view, lo, hi);
-        self.last = Some(turns::end(self.store, &mut self.pass, held));
+        self.last = Some(turns::end(self.lock, &mut self.pass, held));
         outcome
     }
 
     fn finish(&mut self, job: <B::Shot as Shown>::Job) -> Outcome<u64> {
-        let mut held = turns::begin(self.store, self.rt, &mut self.pass);
+        let mut held = turns::begin(self.lock, self.rt, &mut self.pass);
         let outcome = held.value.finish(job);
-        self.last = Some(turns::end(self.store, &mut self.pass, held));
+        self.last = Some(turns::end(self.lock, &mut self.pass, held));
         outcome
     }
 

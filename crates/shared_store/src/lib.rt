@@ -10,7 +10,7 @@ mod sharing;
 mod store;
 mod turns;
 
-pub use desk::Desk;
+pub use desk::{Desk, desk_at};
 pub use kept::Kept;
 pub use making::MadeStore;
-pub use store::{Pass, SharedStore};
+pub use store::{Pass, SharedStore, StoreLock};

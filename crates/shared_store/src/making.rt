@@ -6,15 +6,12 @@ use crate::kept::Kept;
 use crate::store::{Pass, SharedStore};
 use std::alloc::Global;
 use std::snapshot::Snapshot;
-use ts_model::{Backend, Event};
-use turn_lock::{Grown, MadeLock, TurnLock};
+use ts_model::Backend;
+use turn_lock::{MadeLock, TurnLock};
 
 /// A shared store with its first pass, or the backend back where memory ran out.
 #[derive(Drop)]
-pub enum MadeStore<B: Backend>
-where
-    Kept<B>: Grown<Base = Snapshot<B>, Entry = Event>,
-{
+pub enum MadeStore<B: Backend> {
     Made {
         store: SharedStore<B>,
         pass: Pass<B>,

@@ -1,26 +1,25 @@
 //! The shared store.
+ghost use Rattle.std.specs.Prelude.{◌≡◌};
+ghost use Rattle.shared_store.specs.Stores.{shared_of};
+
 use crate::kept::Kept;
 use std::marker::Model;
-use std::snapshot::Snapshot;
-use ts_model::{Backend, Event};
-use turn_lock::{Grown, TurnLock};
+use ts_model::Backend;
+use turn_lock::TurnLock;
 
 /// What one holder carries: shares of the right to the whole, the history that it has seen, and the numbers of the events that it made.
 pub type Pass<B> = turn_lock::Pass<Kept<B>>;
 
+/// The lock of a store, which threads share.
+pub type StoreLock<B> = TurnLock<Kept<B>>;
+
 /// An alone backend behind a lock, which the holders of its passes use in turn.
 #[derive(Drop)]
-pub struct SharedStore<B: Backend>
-where
-    Kept<B>: Grown<Base = Snapshot<B>, Entry = Event>,
-{
-    pub(crate) lock: TurnLock<Kept<B>>,
+pub struct SharedStore<B: Backend> {
+    pub(crate) lock: StoreLock<B>,
 }
 
-impl<B: Backend> Model for SharedStore<B>
-where
-    Kept<B>: Grown<Base = Snapshot<B>, Entry = Event>,
-{
+impl<B: Backend> Model for SharedStore<B> {
     ghost use Rattle.std.specs.Prelude.{◌≡◌};
     ghost use Rattle.shared_store.specs.Stores.{Shared};
 
@@ -29,4 +28,13 @@ where
     ghost view = { λ s. record { lock = s.lock.lock; opened = s.lock.opened.opened; shares = s.lock.shares } };
 
     ghost invariant = { λ s. s.lock.opened.backend ≡ s.lock.opened.opened.value };
+}
+
+impl<B: Backend> SharedStore<B> {
+    /// Its lock.
+    pub fn lock(&self) -> &StoreLock<B>
+        ensures { shared_of result.now ≡ self.now }
+    {
+        &self.lock
+    }
 }

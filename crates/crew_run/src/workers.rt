@@ -1,0 +1,26 @@
+//! Who works at a store.
+use std::thread::Threads;
+use ts_model::{Backend, Shown};
+
+/// One who works at a store that others may use too.
+pub trait Worker {
+    ghost use Rattle.std.specs.Prelude.{◌≡◌, Bool};
+    ghost use Rattle.std.specs.Thread.{IsSync};
+    ghost use Rattle.ts_model.specs.States.{State};
+
+    /// The snapshots of the stores at which it works.
+    type Shot: Shown;
+
+    // That it may begin.
+    ghost ready: { Self → Type 0 };
+
+    // What it did at a store that is alone or not: what it was and the state that it found, what it is then and the state that it left.
+    ghost did: { Bool → Self → State → Self → State → Type 0 };
+
+    /// Does its work.
+    fn work<R: Threads + Sync, B: Backend<Shot = Self::Shot>>(&mut self, rt: &R, backend: &mut B)
+        requires sync { IsSync R.row }
+        requires ready { Self.ready self.old }
+        ensures did { Self.did B.alone self.old (B.state backend.old) self.new (B.state backend.new) }
+        ensures kin { B.kin backend.new ≡ B.kin backend.old };
+}
