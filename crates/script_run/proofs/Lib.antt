@@ -1,8 +1,8 @@
-pub mod CastLaws
+pub mod SessionLaws
 pub mod Counting
 pub mod LineLaws
 pub mod Progress
 pub mod ScriptLaws
-pub mod SpokenLaws
-pub mod Telling
+pub mod StatementLineLaws
+pub mod RunLaws
 pub mod WalkedAlone

@@ -1,4 +1,4 @@
--- How a deed goes over a store that is alone and goes on.
+-- How a procedure goes over a store that is alone and goes on.
 use Rattle.std.proofs.Common.{◌≡◌, Bool, true, false, None, sym, refl, ap, ◌∙◌, subst, inl, inr}
 use Rattle.std.specs.Prelude.{IsTrue, is_some, ◌⊎◌}
 use Rattle.std.proofs.lemmas.Bool.{true≢false}
@@ -7,7 +7,7 @@ use Rattle.ts_model.specs.declared.events.Event.{Event}
 use Rattle.ts_model.specs.History.{History, ◌▸◌, Begins, same, further}
 use Rattle.ts_model.specs.States.{State, Makes, Fails, stands_still}
 use Rattle.ts_model.proofs.HistoryLaws.{begins_trans}
-use Rattle.ts_sessions.specs.Deeds.{Deed, sees, adds, ends}
+use Rattle.ts_sessions.specs.Procedures.{Procedure, sees, adds, ends}
 use Rattle.ts_sessions.specs.Walks.{Walks, Breaks, Sees, history_after, ending}
 use Rattle.script_run.specs.Went.{WentOn, IsBetween, FailedBetween}
 
@@ -43,7 +43,7 @@ seen_alone old found (inr f) = f.alone_found refl
 still_none : {X : Type 0} (s : State) → IsTrue (stands_still s) → s.failed ≡ None → X
 still_none s still none = absurd (true≢false (sym (subst (λ x. IsTrue (is_some x)) none still)))
 
-still_walks : {A : Type 0} (old : State) (deed : Deed A) (new : State) (y : A) → IsTrue (stands_still old) → Walks true false old deed new y → new ≡ old
+still_walks : {A : Type 0} (old : State) (procedure : Procedure A) (new : State) (y : A) → IsTrue (stands_still old) → Walks true false old procedure new y → new ≡ old
 still_walks old (sees shown f) new y s w =
     still_walks old (f old.history) new y s (subst (λ m. Walks true false m (f m.history) new y) (seen_alone old w.mid w.first) w.rest)
 still_walks old (adds e next stop) new y s (inl w) = still_walks old stop new y s w.1
@@ -51,7 +51,7 @@ still_walks old (adds e next stop) new y s (inr (inl w)) = still_none old s w.fi
 still_walks old (adds e next stop) new y s (inr (inr w)) = absurd (true≢false (sym w.0))
 still_walks old (ends a) new y s w = w.1
 
-still_breaks : {A : Type 0} (old : State) (deed : Deed A) (new : State) → IsTrue (stands_still old) → Breaks true old deed new → new ≡ old
+still_breaks : {A : Type 0} (old : State) (procedure : Procedure A) (new : State) → IsTrue (stands_still old) → Breaks true old procedure new → new ≡ old
 still_breaks old (sees shown f) new s b =
     still_breaks old (f old.history) new s (subst (λ m. Breaks true m (f m.history) new) (seen_alone old b.mid b.first) b.rest)
 still_breaks old (adds e next stop) new s (inl b) = b
@@ -60,31 +60,31 @@ still_breaks old (adds e next stop) new s (inr (inr (inl b))) = still_none old s
 still_breaks old (adds e next stop) new s (inr (inr (inr b))) = still_none old s b.first.went_on
 still_breaks old (ends a) new s b = b
 
--- ---- what a deed leaves
+-- ---- what a procedure leaves
 
 -- it begins with what it found
-pub begins_after : {A : Type 0} (deed : Deed A) (h : History) → Begins h (history_after deed h)
+pub begins_after : {A : Type 0} (procedure : Procedure A) (h : History) → Begins h (history_after procedure h)
 begins_after (sees shown f) h = begins_after (f h) h
 begins_after (adds e next stop) h = begins_trans (further same) (begins_after next (h ▸ e))
 begins_after (ends a) h = same
 
--- a deed came to its end
-pub record WalkedWhole {A : Type 0} (deed : Deed A) (old new : State) (y : A) : Type 0 where
-  pub history : new.history ≡ history_after deed old.history
-  pub end : y ≡ ending deed old.history
+-- a procedure came to its end
+pub record WalkedWhole {A : Type 0} (procedure : Procedure A) (old new : State) (y : A) : Type 0 where
+  pub history : new.history ≡ history_after procedure old.history
+  pub end : y ≡ ending procedure old.history
   pub went : WentOn false old new
 
 -- the disk failed at one of its events
-pub record WalkedFailed {A : Type 0} (deed : Deed A) (old new : State) : Type 0 where
-  pub failed : FailedBetween old.history (history_after deed old.history) new
+pub record WalkedFailed {A : Type 0} (procedure : Procedure A) (old new : State) : Type 0 where
+  pub failed : FailedBetween old.history (history_after procedure old.history) new
   pub went : WentOn true old new
 
 -- it was broken off
-pub record WalkedBroken {A : Type 0} (deed : Deed A) (old new : State) : Type 0 where
-  pub between : IsBetween old.history (history_after deed old.history) new
+pub record WalkedBroken {A : Type 0} (procedure : Procedure A) (old new : State) : Type 0 where
+  pub between : IsBetween old.history (history_after procedure old.history) new
   pub went : WentOn false old new
 
-module _ {A : Type 0} (e : Event) (next stop : Deed A) (old mid new : State) where
+module _ {A : Type 0} (e : Event) (next stop : Procedure A) (old mid new : State) where
   -- an event was made, and the rest went on from there
   made_whole : (y : A) → Makes e old mid → WalkedWhole next mid new y → WalkedWhole (adds e next stop) old new y
   made_whole y m w = record {
@@ -114,8 +114,8 @@ module _ {A : Type 0} (e : Event) (next stop : Deed A) (old mid new : State) whe
   }
 
   -- the disk failed at the event, and the store was left as it stood still
-  fell_here : Fails e old mid → new ≡ mid → WalkedFailed (adds e next stop) old new
-  fell_here f left =
+  failed_here : Fails e old mid → new ≡ mid → WalkedFailed (adds e next stop) old new
+  failed_here f left =
       let there : new.history ≡ old.history = ap (λ s. s.history) left ∙ f.history in
       record {
         failed = record {
@@ -127,20 +127,20 @@ module _ {A : Type 0} (e : Event) (next stop : Deed A) (old mid new : State) whe
         went = subst (λ s. WentOn true old s) (sym left) (went_failed e old mid f);
       }
 
-  fell_still : Fails e old mid → IsTrue (stands_still mid)
-  fell_still f = ap is_some f.failed
+  failed_still : Fails e old mid → IsTrue (stands_still mid)
+  failed_still f = ap is_some f.failed
 
 -- it wasn't begun, or came to nothing
-not_gone : {A : Type 0} (old : State) (deed : Deed A) (new : State) → stands_still old ≡ false → new ≡ old → WalkedBroken deed old new
-not_gone old deed new going e = record {
+not_gone : {A : Type 0} (old : State) (procedure : Procedure A) (new : State) → stands_still old ≡ false → new ≡ old → WalkedBroken procedure old new
+not_gone old procedure new going e = record {
   between = record {
     began = subst (λ s. Begins old.history s.history) (sym e) same;
-    within = subst (λ s. Begins s.history (history_after deed old.history)) (sym e) (begins_after deed old.history);
+    within = subst (λ s. Begins s.history (history_after procedure old.history)) (sym e) (begins_after procedure old.history);
   };
   went = went_same old new going e;
 }
 
-pub walks_whole : {A : Type 0} (old : State) (deed : Deed A) (new : State) (y : A) → stands_still old ≡ false → Walks true false old deed new y → WalkedWhole deed old new y
+pub walks_whole : {A : Type 0} (old : State) (procedure : Procedure A) (new : State) (y : A) → stands_still old ≡ false → Walks true false old procedure new y → WalkedWhole procedure old new y
 walks_whole old (sees shown f) new y going w =
     let r = walks_whole old (f old.history) new y going (subst (λ m. Walks true false m (f m.history) new y) (seen_alone old w.mid w.first) w.rest) in
     record { history = r.history; end = r.end; went = r.went }
@@ -150,7 +150,7 @@ walks_whole old (adds e next stop) new y going (inr (inl w)) =
 walks_whole old (adds e next stop) new y going (inr (inr w)) = absurd (true≢false (sym w.0))
 walks_whole old (ends a) new y going w = record { history = ap (λ s. s.history) w.1; end = w.2; went = went_same old new going w.1 }
 
-pub walks_failed : {A : Type 0} (old : State) (deed : Deed A) (new : State) (y : A) → stands_still old ≡ false → Walks true true old deed new y → WalkedFailed deed old new
+pub walks_failed : {A : Type 0} (old : State) (procedure : Procedure A) (new : State) (y : A) → stands_still old ≡ false → Walks true true old procedure new y → WalkedFailed procedure old new
 walks_failed old (sees shown f) new y going w =
     let r = walks_failed old (f old.history) new y going (subst (λ m. Walks true true m (f m.history) new y) (seen_alone old w.mid w.first) w.rest) in
     record { failed = r.failed; went = r.went }
@@ -158,10 +158,10 @@ walks_failed old (adds e next stop) new y going (inl w) = goes going w.0
 walks_failed old (adds e next stop) new y going (inr (inl w)) =
     made_failed e next stop old w.mid new w.first (walks_failed w.mid next new y (ap is_some w.first.failed) w.rest)
 walks_failed old (adds e next stop) new y going (inr (inr w)) =
-    fell_here e next stop old w.1.mid new w.1.first (still_walks w.1.mid stop new y (fell_still e next stop old w.1.mid new w.1.first) w.1.rest)
+    failed_here e next stop old w.1.mid new w.1.first (still_walks w.1.mid stop new y (failed_still e next stop old w.1.mid new w.1.first) w.1.rest)
 walks_failed old (ends a) new y going w = absurd (true≢false w.0)
 
-pub breaks_alone : {A : Type 0} (old : State) (deed : Deed A) (new : State) → stands_still old ≡ false → Breaks true old deed new → WalkedBroken deed old new ⊎ WalkedFailed deed old new
+pub breaks_alone : {A : Type 0} (old : State) (procedure : Procedure A) (new : State) → stands_still old ≡ false → Breaks true old procedure new → WalkedBroken procedure old new ⊎ WalkedFailed procedure old new
 breaks_alone old (sees shown f) new going b =
     seen_too (breaks_alone old (f old.history) new going (subst (λ m. Breaks true m (f m.history) new) (seen_alone old b.mid b.first) b.rest))
   where
@@ -176,5 +176,5 @@ breaks_alone old (adds e next stop) new going (inr (inr (inl b))) = made_too (br
     made_too (inl r) = inl (made_broken e next stop old b.mid new b.first r)
     made_too (inr r) = inr (made_failed e next stop old b.mid new b.first r)
 breaks_alone old (adds e next stop) new going (inr (inr (inr b))) =
-    inr (fell_here e next stop old b.mid new b.first (still_breaks b.mid stop new (fell_still e next stop old b.mid new b.first) b.rest))
+    inr (failed_here e next stop old b.mid new b.first (still_breaks b.mid stop new (failed_still e next stop old b.mid new b.first) b.rest))
 breaks_alone old (ends a) new going b = inl (not_gone old (ends a) new going b)

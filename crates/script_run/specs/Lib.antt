@@ -1,6 +1,6 @@
-pub mod Casts
+pub mod Sessions
 pub mod Went
-pub mod Plays
+pub mod LineEnds
 pub mod Runs
 pub mod Stops
 pub mod Stopped

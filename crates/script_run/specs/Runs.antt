@@ -6,7 +6,7 @@ use Rattle.ts_io.specs.Lines.{lines_within}
 use Rattle.ts_io.specs.declared.limits.TheConstants.{INPUT_LIMIT}
 use Rattle.ts_model.specs.History.{History}
 use Rattle.ts_model.specs.States.{State}
-use Rattle.ts_sessions.specs.Script.{Play, Played, Scene, plays, output, is_refused, reads_in, final_scene, opening_scene}
+use Rattle.ts_sessions.specs.Script.{Semantics, LineResult, ScriptState, executes, output, is_refused, reads_in, final_script_state, opening_script_state}
 use Rattle.script_run.specs.declared.ends.RunEnd.{RunEnd}
 use Rattle.script_run.specs.declared.ends.RunEnd.TheVariants.{Done, Refused, ReadFault, WriteFault, DiskFault, NoMemory, InputLong}
 use Rattle.script_run.specs.Went.{IsBetween, FailedBetween}
@@ -18,27 +18,27 @@ executed input = lines_within INPUT_LIMIT input
 -- ---- a script over a history, whose lines count from 1
 
 -- where it comes to
-abbrev pub scene_after : {P : Type 0} → Play P → History → List (List ℕ) → Scene P
-scene_after play h lines = final_scene play (opening_scene h) 1 lines
+abbrev pub script_state_after : {P : Type 0} → Semantics P → History → List (List ℕ) → ScriptState P
+script_state_after semantics h lines = final_script_state semantics (opening_script_state h) 1 lines
 
-abbrev pub history_of : {P : Type 0} → Play P → History → List (List ℕ) → History
-history_of play h lines = (scene_after play h lines).history
+abbrev pub history_of : {P : Type 0} → Semantics P → History → List (List ℕ) → History
+history_of semantics h lines = (script_state_after semantics h lines).history
 
 -- its text
-abbrev pub output_of : {P : Type 0} → Play P → History → List (List ℕ) → List ℕ
-output_of play h lines = output play (opening_scene h) 1 lines
+abbrev pub output_of : {P : Type 0} → Semantics P → History → List (List ℕ) → List ℕ
+output_of semantics h lines = output semantics (opening_script_state h) 1 lines
 
 -- a reply is a FAULT
-abbrev pub has_fault : {P : Type 0} → Play P → History → List (List ℕ) → Bool
-has_fault play h lines = is_refused play (opening_scene h) 1 lines
+abbrev pub has_fault : {P : Type 0} → Semantics P → History → List (List ℕ) → Bool
+has_fault semantics h lines = is_refused semantics (opening_script_state h) 1 lines
 
 -- how many stored rows it looks at
-abbrev pub reads_of : {P : Type 0} → Play P → History → List (List ℕ) → ℕ
-reads_of play h lines = reads_in play (opening_scene h) 1 lines
+abbrev pub reads_of : {P : Type 0} → Semantics P → History → List (List ℕ) → ℕ
+reads_of semantics h lines = reads_in semantics (opening_script_state h) 1 lines
 
 -- what a line comes to that follows these
-abbrev pub played_after : {P : Type 0} → Play P → History → List (List ℕ) → List ℕ → Played P
-played_after play h lines line = plays play (scene_after play h lines) (suc (length lines)) line
+abbrev pub result_after : {P : Type 0} → Semantics P → History → List (List ℕ) → List ℕ → LineResult P
+result_after semantics h lines line = executes semantics (script_state_after semantics h lines) (suc (length lines)) line
 
 -- ---- what a run left
 
@@ -56,59 +56,59 @@ pub record ReadWhole (input : List ℕ) (rest : Option (List ℕ)) : Type 0 wher
   pub at_end : IsAtEnd rest
 
 -- the lines were executed to the last, and their replies written
-pub record Executed {P : Type 0} (play : Play P) (h : History) (lines : List (List ℕ)) (left : Left) : Type 0 where
-  pub history : left.store.history ≡ history_of play h lines
-  pub wrote : Appends left.written_before left.written (output_of play h lines)
-  pub counted : left.read ≡ raised_by (reads_of play h lines) left.read_before
+pub record Executed {P : Type 0} (semantics : Semantics P) (h : History) (lines : List (List ℕ)) (left : Left) : Type 0 where
+  pub history : left.store.history ≡ history_of semantics h lines
+  pub wrote : Appends left.written_before left.written (output_of semantics h lines)
+  pub counted : left.read ≡ raised_by (reads_of semantics h lines) left.read_before
 
 -- some first lines were executed, and their replies written, and nothing was done of the others
-pub record StoppedBefore {P : Type 0} (play : Play P) (h : History) (lines : List (List ℕ)) (left : Left) : Type 0 where
+pub record StoppedBefore {P : Type 0} (semantics : Semantics P) (h : History) (lines : List (List ℕ)) (left : Left) : Type 0 where
   pub done : List (List ℕ)
   pub rest : List (List ℕ)
   pub split : lines ≡ done ++ rest
-  pub executed_first : Executed play h done left
+  pub executed_first : Executed semantics h done left
 
 -- the replies to some first lines were written, and the next line was executed, of whose reply a part was written
-pub record StoppedWriting {P : Type 0} (play : Play P) (h : History) (lines : List (List ℕ)) (left : Left) : Type 0 where
+pub record StoppedWriting {P : Type 0} (semantics : Semantics P) (h : History) (lines : List (List ℕ)) (left : Left) : Type 0 where
   pub done : List (List ℕ)
   pub line : List ℕ
   pub rest : List (List ℕ)
   pub part : List ℕ
   pub todo : List ℕ
   pub split : lines ≡ done ++ line ∷ rest
-  pub reply : (played_after play h done line).text ≡ part ++ todo
-  pub wrote : Appends left.written_before left.written (output_of play h done ++ part)
-  pub history : left.store.history ≡ history_of play h (done ++ line ∷ [])
-  pub counted : left.read ≡ raised_by (reads_of play h (done ++ line ∷ [])) left.read_before
+  pub reply : (result_after semantics h done line).text ≡ part ++ todo
+  pub wrote : Appends left.written_before left.written (output_of semantics h done ++ part)
+  pub history : left.store.history ≡ history_of semantics h (done ++ line ∷ [])
+  pub counted : left.read ≡ raised_by (reads_of semantics h (done ++ line ∷ [])) left.read_before
 
 -- the replies to some first lines were written, and nothing of the next one's, at an event of which the disk failed
-pub record StoppedAtEvent {P : Type 0} (play : Play P) (h : History) (lines : List (List ℕ)) (left : Left) : Type 0 where
+pub record StoppedAtEvent {P : Type 0} (semantics : Semantics P) (h : History) (lines : List (List ℕ)) (left : Left) : Type 0 where
   pub done : List (List ℕ)
   pub line : List ℕ
   pub rest : List (List ℕ)
   pub split : lines ≡ done ++ line ∷ rest
-  pub wrote : Appends left.written_before left.written (output_of play h done)
-  pub failed : FailedBetween (history_of play h done) (history_of play h (done ++ line ∷ [])) left.store
-  pub counted : raised_by (reads_of play h done) left.read_before ≤ left.read
+  pub wrote : Appends left.written_before left.written (output_of semantics h done)
+  pub failed : FailedBetween (history_of semantics h done) (history_of semantics h (done ++ line ∷ [])) left.store
+  pub counted : raised_by (reads_of semantics h done) left.read_before ≤ left.read
 
 -- the replies to some first lines were written, and nothing of the next one's, of which the first events may stand
-pub record StoppedWithin {P : Type 0} (play : Play P) (h : History) (lines : List (List ℕ)) (left : Left) : Type 0 where
+pub record StoppedWithin {P : Type 0} (semantics : Semantics P) (h : History) (lines : List (List ℕ)) (left : Left) : Type 0 where
   pub done : List (List ℕ)
   pub rest : List (List ℕ)
   pub split : lines ≡ done ++ rest
-  pub wrote : Appends left.written_before left.written (output_of play h done)
-  pub between : IsBetween (history_of play h done) (history_of play h (done ++ take 1 rest)) left.store
-  pub counted : raised_by (reads_of play h done) left.read_before ≤ left.read
+  pub wrote : Appends left.written_before left.written (output_of semantics h done)
+  pub between : IsBetween (history_of semantics h done) (history_of semantics h (done ++ take 1 rest)) left.store
+  pub counted : raised_by (reads_of semantics h done) left.read_before ≤ left.read
 
 -- what a run that ended so over a history has read of an input, executed of its lines, and written of their replies
-abbrev pub Ran : {P : Type 0} → RunEnd → Play P → History → List ℕ → Option (List ℕ) → Left → Type 0
-Ran Done play h input rest left = ReadWhole input rest × Executed play h (executed input) left × (has_fault play h (executed input) ≡ false)
-Ran Refused play h input rest left = ReadWhole input rest × Executed play h (executed input) left × (has_fault play h (executed input) ≡ true)
-Ran ReadFault play h input rest left = StoppedBefore play h (executed input) left
-Ran WriteFault play h input rest left = StoppedWriting play h (executed input) left
-Ran DiskFault play h input rest left = StoppedAtEvent play h (executed input) left
-Ran NoMemory play h input rest left = StoppedWithin play h (executed input) left
-Ran InputLong play h input rest left = (INPUT_LIMIT < length input) × Executed play h (executed input) left
+abbrev pub Ran : {P : Type 0} → RunEnd → Semantics P → History → List ℕ → Option (List ℕ) → Left → Type 0
+Ran Done semantics h input rest left = ReadWhole input rest × Executed semantics h (executed input) left × (has_fault semantics h (executed input) ≡ false)
+Ran Refused semantics h input rest left = ReadWhole input rest × Executed semantics h (executed input) left × (has_fault semantics h (executed input) ≡ true)
+Ran ReadFault semantics h input rest left = StoppedBefore semantics h (executed input) left
+Ran WriteFault semantics h input rest left = StoppedWriting semantics h (executed input) left
+Ran DiskFault semantics h input rest left = StoppedAtEvent semantics h (executed input) left
+Ran NoMemory semantics h input rest left = StoppedWithin semantics h (executed input) left
+Ran InputLong semantics h input rest left = (INPUT_LIMIT < length input) × Executed semantics h (executed input) left
 
 -- ---- faults
 

@@ -2,8 +2,8 @@
 use Rattle.std.specs.Prelude.{Bool, true, false}
 use Rattle.script_run.specs.declared.ends.RunEnd.{RunEnd}
 use Rattle.script_run.specs.declared.ends.RunEnd.TheVariants as ends
-use Rattle.script_run.specs.declared.stages.Stop.{Stop}
-use Rattle.script_run.specs.declared.stages.Stop.TheVariants.{WriteFault, DiskFault, NoMemory}
+use Rattle.script_run.specs.declared.scripts.Stop.{Stop}
+use Rattle.script_run.specs.declared.scripts.Stop.TheVariants.{WriteFault, DiskFault, NoMemory}
 
 abbrev pub end_of_stop : Stop → RunEnd
 end_of_stop WriteFault = ends.WriteFault

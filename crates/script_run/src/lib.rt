@@ -3,18 +3,18 @@
 //!
 //! - `runs`: the loop.
 //! - `ends`: how a run ends.
-//! - `stages`: where a script has come to.
+//! - `scripts`: where a script has come to.
 //! - `lines`: what a line comes to.
-//! - `casts`: those who take part, by the names of their sessions.
+//! - `sessions`: the sessions that have appeared, by their names.
 //! - `replies`: replies to lines that no session answers.
 #![tactic(auto)]
 
-mod casts;
 mod ends;
 mod lines;
 mod replies;
 mod runs;
-mod stages;
+mod scripts;
+mod sessions;
 
 pub use ends::RunEnd;
 pub use runs::run;

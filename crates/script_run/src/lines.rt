@@ -3,13 +3,13 @@ ghost use Rattle.std.specs.Prelude.{◌≡◌, ◌+◌, ◌<◌, ◌≤◌, ◌^
 ghost use Rattle.std.specs.Thread.{IsSync};
 ghost use Rattle.ts_model.specs.States.{stands_still};
 ghost use Rattle.ts_sessions.specs.Held.{most_queued};
-ghost use Rattle.ts_sessions.specs.Script.{plays, plays_as, places_of, session_name};
+ghost use Rattle.ts_sessions.specs.Script.{executes, executes_as, places_of, session_name};
 ghost use Rattle.ts_sessions.specs.Sessions.{IfAnswered};
-ghost use Rattle.script_run.specs.Casts.{scene_of, waiting_in, IsCast};
-ghost use Rattle.script_run.specs.Plays.{IsSpoken, LinePlayed};
+ghost use Rattle.script_run.specs.Sessions.{script_state_of, waiting_in, AreSessions};
+ghost use Rattle.script_run.specs.LineEnds.{IsStatementLine, LineExecuted};
 
-use crate::casts::{Cast, play_session};
 use crate::replies::{ending, refuse_line, silence};
+use crate::sessions::{Sessions, execute_in_session};
 use result_text::codes;
 use std::alloc::Global;
 use std::thread::Threads;
@@ -19,11 +19,11 @@ use ts_schema::Steps;
 use ts_sessions::{Actor, StepEnd};
 
 /// What a line comes to, which has this number and at most 65,536 bytes.
-pub(crate) fn play_line<A, R, B, L>(
+pub(crate) fn execute_line<A, R, B, L>(
     rt: &R,
     alloc: Global,
     backend: &mut B,
-    cast: &mut Cast<A>,
+    sessions: &mut Sessions<A>,
     number: u64,
     line: &[u8],
     steps: &mut Steps<L>,
@@ -37,14 +37,14 @@ where
     requires going { stands_still (B.state backend.old) ≡ false }
     requires counts { steps.old < 2 ^ 64 }
     requires short { length line.now ≤ 65536 }
-    requires cast { IsCast A.named A.numbered A.holds (B.state backend.old) cast.old.entries }
-    requires room { waiting_in A.waiting cast.old.entries + length line.now ≤ most_queued }
-    ensures plays { LinePlayed result
-        (plays A.play (scene_of A.places (B.state backend.old).history cast.old.entries) number line.now)
+    requires sessions { AreSessions A.named A.numbered A.holds (B.state backend.old) sessions.old.entries }
+    requires room { waiting_in A.waiting sessions.old.entries + length line.now ≤ most_queued }
+    ensures executes { LineExecuted result
+        (executes A.semantics (script_state_of A.places (B.state backend.old).history sessions.old.entries) number line.now)
         (B.state backend.old) (B.state backend.new)
-        (scene_of A.places (B.state backend.new).history cast.new.entries) steps.old steps.new }
-    ensures cast { IfAnswered result (IsCast A.named A.numbered A.holds (B.state backend.new) cast.new.entries) }
-    ensures waiting { waiting_in A.waiting cast.new.entries ≤ waiting_in A.waiting cast.old.entries + length line.now }
+        (script_state_of A.places (B.state backend.new).history sessions.new.entries) steps.old steps.new }
+    ensures sessions { IfAnswered result (AreSessions A.named A.numbered A.holds (B.state backend.new) sessions.new.entries) }
+    ensures waiting { waiting_in A.waiting sessions.new.entries ≤ waiting_in A.waiting sessions.old.entries + length line.now }
     ensures kin { B.kin backend.new ≡ B.kin backend.old }
 {
     match split_line(line) {
@@ -55,17 +55,19 @@ where
             name_len,
             skip,
             end,
-        } => play_statement(rt, alloc, backend, cast, line, name_len, skip, end, steps),
+        } => execute_statement(
+            rt, alloc, backend, sessions, line, name_len, skip, end, steps,
+        ),
     }
 }
 
 /// What a line of a session comes to, by the length of the session's name, and by how many bytes stand
 /// before its statement and before its comment.
-fn play_statement<A, R, B, L>(
+fn execute_statement<A, R, B, L>(
     rt: &R,
     alloc: Global,
     backend: &mut B,
-    cast: &mut Cast<A>,
+    sessions: &mut Sessions<A>,
     line: &[u8],
     name_len: u32,
     skip: u32,
@@ -81,22 +83,22 @@ where
     requires going { stands_still (B.state backend.old) ≡ false }
     requires counts { steps.old < 2 ^ 64 }
     requires short { length line.now ≤ 65536 }
-    requires spoken { IsSpoken line.now name_len skip end }
-    requires cast { IsCast A.named A.numbered A.holds (B.state backend.old) cast.old.entries }
-    requires room { waiting_in A.waiting cast.old.entries + length line.now ≤ most_queued }
-    ensures plays { let scene = scene_of A.places (B.state backend.old).history cast.old.entries in
+    requires statement_line { IsStatementLine line.now name_len skip end }
+    requires sessions { AreSessions A.named A.numbered A.holds (B.state backend.old) sessions.old.entries }
+    requires room { waiting_in A.waiting sessions.old.entries + length line.now ≤ most_queued }
+    ensures executes { let script_state = script_state_of A.places (B.state backend.old).history sessions.old.entries in
         let name = session_name line.now name_len skip in
-        LinePlayed result (plays_as A.play scene name (take end line.now) skip (places_of name scene.cast))
+        LineExecuted result (executes_as A.semantics script_state name (take end line.now) skip (places_of name script_state.sessions))
         (B.state backend.old) (B.state backend.new)
-        (scene_of A.places (B.state backend.new).history cast.new.entries) steps.old steps.new }
-    ensures cast { IfAnswered result (IsCast A.named A.numbered A.holds (B.state backend.new) cast.new.entries) }
-    ensures waiting { waiting_in A.waiting cast.new.entries ≤ waiting_in A.waiting cast.old.entries + length line.now }
+        (script_state_of A.places (B.state backend.new).history sessions.new.entries) steps.old steps.new }
+    ensures sessions { IfAnswered result (AreSessions A.named A.numbered A.holds (B.state backend.new) sessions.new.entries) }
+    ensures waiting { waiting_in A.waiting sessions.new.entries ≤ waiting_in A.waiting sessions.old.entries + length line.now }
     ensures kin { B.kin backend.new ≡ B.kin backend.old }
 {
     let from = skip as usize - 1 - name_len as usize;
     let name = name_at(line, from, name_len as usize);
     let text = &line[..end as usize];
-    play_session(rt, alloc, backend, cast, name, text, skip, steps)
+    execute_in_session(rt, alloc, backend, sessions, name, text, skip, steps)
 }
 
 /// So many bytes of a line from this place on.

@@ -3,7 +3,7 @@ ghost use Rattle.std.specs.Prelude.{◌≡◌, [], true, false, IfOk, Ok};
 ghost use Rattle.result_text.specs.declared.replies.Said.TheVariants.{Fault};
 ghost use Rattle.result_text.specs.Replies.{line_fault_text, reply_text};
 ghost use Rattle.ts_sessions.specs.Step.{bare as bare_refusal};
-ghost use Rattle.script_run.specs.Plays.{RepliesWith, Replies, ends_with};
+ghost use Rattle.script_run.specs.LineEnds.{RepliesWith, Replies, ends_with};
 
 use result_text::{Said, put_line_fault, put_reply};
 use std::alloc::Global;

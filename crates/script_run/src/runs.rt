@@ -7,7 +7,7 @@ ghost use Rattle.script_run.specs.Runs.{Ran, is_read_fault, is_write_fault, is_d
 ghost use Rattle.script_run.specs.Stopped.{end_of_stop, end_of_input};
 
 use crate::ends::RunEnd;
-use crate::stages::{Stage, Stop};
+use crate::scripts::{Script, Stop};
 use std::alloc::Global;
 use std::thread::Threads;
 use ts_io::{LineEnd, Lines, Sink, Source};
@@ -15,7 +15,7 @@ use ts_model::Backend;
 use ts_schema::{NoMemory, Steps};
 use ts_sessions::Actor;
 
-/// Runs the lines of a source in order over a store that is alone and goes on: each is read, played by
+/// Runs the lines of a source in order over a store that is alone and goes on: each is read, executed by
 /// its session, and answered before the next one is read. Sessions are made by `A::begin` as they appear.
 pub fn run<A, R, B, S, K, L>(
     rt: &R,
@@ -35,7 +35,7 @@ where
     requires alone { IsTrue B.alone }
     requires going { stands_still (B.state backend.old) ≡ false }
     requires untold { S.ended source.old ≡ false }
-    ensures ran { IfSome (S.left source.old) (λ input. Ran result A.play (B.state backend.old).history input (S.left source.new)
+    ensures ran { IfSome (S.left source.old) (λ input. Ran result A.semantics (B.state backend.old).history input (S.left source.new)
         (record { store = B.state backend.new; written_before = K.written sink.old; written = K.written sink.new; read_before = steps.old; read = steps.new })) }
     ensures reads { Counted (S.faults source.old) (S.faults source.new) (is_read_fault result) }
     ensures writes { Counted (K.faults sink.old) (K.faults sink.new) (is_write_fault result) }
@@ -49,18 +49,18 @@ where
         Ok(lines) => lines,
         Err(NoMemory) => return RunEnd::NoMemory,
     };
-    let mut stage: Stage<A> = Stage::new(alloc);
+    let mut script: Script<A> = Script::new(alloc);
     loop {
         match lines.next(source) {
-            LineEnd::Line => match stage.play(rt, alloc, backend, lines.line(), sink, steps) {
+            LineEnd::Line => match script.execute(rt, alloc, backend, lines.line(), sink, steps) {
                 Ok(()) => {}
                 Err(stop) => return stopped(stop),
             },
-            LineEnd::LineLong => match stage.refuse_long(alloc, sink) {
+            LineEnd::LineLong => match script.refuse_long(alloc, sink) {
                 Ok(()) => {}
                 Err(stop) => return stopped(stop),
             },
-            LineEnd::End => return ended(stage.refused),
+            LineEnd::End => return ended(script.refused),
             LineEnd::InputLong => return RunEnd::InputLong,
             LineEnd::ReadFault => return RunEnd::ReadFault,
         }

@@ -1,4 +1,4 @@
--- A call of a store is the walk of its deed, whatever it answers.
+-- A call of a store is the walk of its procedure, whatever it answers.
 use Rattle.std.proofs.Common.{◌≡◌, ℕ, Bool, true, false, List, sym, refl, ap, subst, inl, inr}
 use Rattle.std.specs.Prelude.{Result, Ok, Err}
 use Rattle.ts_schema.specs.declared.memory.NoMemory.{NoMemory}
@@ -10,12 +10,12 @@ use Rattle.ts_model.specs.States.{State}
 use Rattle.ts_model.specs.Calls.{Act, refuses, says, makes, Answered, Called}
 use Rattle.result_text.specs.declared.replies.Said.{Said}
 use Rattle.ts_sessions.specs.declared.changes.Change.{Change}
-use Rattle.ts_sessions.specs.declared.changes.Told.{Told}
+use Rattle.ts_sessions.specs.declared.changes.Completion.{Completion}
 use Rattle.ts_sessions.specs.declared.tries.Tried.{Tried}
 use Rattle.ts_sessions.specs.declared.tries.Tried.TheVariants as tried
-use Rattle.ts_sessions.specs.Deeds.{Deed, ending_as, tries, tries_at}
+use Rattle.ts_sessions.specs.Procedures.{Procedure, ending_as, tries, tries_at}
 use Rattle.ts_sessions.specs.Places.{Places, Turn}
-use Rattle.ts_sessions.specs.Sessions.{EndsAt, Says, Tries, came, changed, has_fallen, turn_of}
+use Rattle.ts_sessions.specs.Sessions.{EndsAt, Completes, Tries, came, changed, has_failed, turn_of}
 use Rattle.ts_sessions.specs.Tried.{IsTried, stopped_at}
 use Rattle.ts_sessions.specs.Walks.{Walks, Breaks}
 use Rattle.ts_sessions.proofs.StateLaws.{kept}
@@ -33,10 +33,10 @@ tries_refused alone (refuses r) found q new w = (refl, kept found new w.1, ap Er
 tries_refused alone (says b) found q new w = absurd w
 tries_refused alone (makes e b) found q new w = inl (w.0, (refl, kept found new w.2, ap Err w.1))
 
-tries_fell : {A : Type 0} (alone : Bool) (act : Act A) (found new : State) → Answered act found outcomes.DiskFault new → Walks alone true found (tries_at found.history act) new (Err (stopped_at (position new.history)))
-tries_fell alone (refuses r) found new w = absurd w
-tries_fell alone (says b) found new w = absurd w
-tries_fell alone (makes e b) found new w = inr (inr (refl, record { mid = new; first = w; rest = (refl, refl, ap (λ h. Err (stopped_at (position h))) w.history) }))
+tries_failed : {A : Type 0} (alone : Bool) (act : Act A) (found new : State) → Answered act found outcomes.DiskFault new → Walks alone true found (tries_at found.history act) new (Err (stopped_at (position new.history)))
+tries_failed alone (refuses r) found new w = absurd w
+tries_failed alone (says b) found new w = absurd w
+tries_failed alone (makes e b) found new w = inr (inr (refl, record { mid = new; first = w; rest = (refl, refl, ap (λ h. Err (stopped_at (position h))) w.history) }))
 
 tries_broken : {A : Type 0} (alone : Bool) (act : Act A) (found new : State) → Answered act found outcomes.NoMemory new → Breaks alone found (tries_at found.history act) new
 tries_broken alone (refuses r) found new w = kept found new w
@@ -44,11 +44,11 @@ tries_broken alone (says b) found new w = kept found new w
 tries_broken alone (makes e b) found new w = inl (kept found new w)
 
 pub answered_tries : {A : Type 0} (alone : Bool) (act : Act A) (found : State) (outcome : Outcome A) (new : State) (result : Result (Tried A) NoMemory) → Answered act found outcome new → IsTried (position new.history) outcome result → Tries alone found (tries_at found.history act) result new
-answered_tries alone act found (outcomes.Done a) new (Ok t) w i = subst (λ x. Walks alone (has_fallen x) found (tries_at found.history act) new (came x)) (sym i) (tries_done alone act found a new w)
+answered_tries alone act found (outcomes.Done a) new (Ok t) w i = subst (λ x. Walks alone (has_failed x) found (tries_at found.history act) new (came x)) (sym i) (tries_done alone act found a new w)
 answered_tries alone act found (outcomes.Done a) new (Err e) w i = absurd i
-answered_tries alone act found (outcomes.Refused r) new (Ok t) w i = subst (λ x. Walks alone (has_fallen x) found (tries_at found.history act) new (came x)) (sym i) (tries_refused alone act found r new w)
+answered_tries alone act found (outcomes.Refused r) new (Ok t) w i = subst (λ x. Walks alone (has_failed x) found (tries_at found.history act) new (came x)) (sym i) (tries_refused alone act found r new w)
 answered_tries alone act found (outcomes.Refused r) new (Err e) w i = absurd i
-answered_tries alone act found outcomes.DiskFault new (Ok t) w i = subst (λ x. Walks alone (has_fallen x) found (tries_at found.history act) new (came x)) (sym i) (tries_fell alone act found new w)
+answered_tries alone act found outcomes.DiskFault new (Ok t) w i = subst (λ x. Walks alone (has_failed x) found (tries_at found.history act) new (came x)) (sym i) (tries_failed alone act found new w)
 answered_tries alone act found outcomes.DiskFault new (Err e) w i = absurd i
 answered_tries alone act found outcomes.NoMemory new (Ok t) w i = absurd i
 answered_tries alone act found outcomes.NoMemory new (Err e) w i = tries_broken alone act found new w
@@ -62,41 +62,41 @@ called_tries alone old act outcome new (Err e) c i = record { mid = c.found; fir
 -- ---- what is said of it
 
 -- a walk whose end is said so
-pub says_walk : {T J : Type 0} (alone fell : Bool) (old : State) (deed : Deed (Turn Places)) (new : State) (p : Places) (read : ℕ) (said : List Said) (change : Change T J) (result : Result (Told T J) NoMemory) → Walks alone fell old deed new (record { places = changed change p; said = said; reads = read }) → Says said change fell result → EndsAt alone old deed p read result new
-says_walk alone fell old deed new p read said change (Ok t) w s =
-    subst (λ x. Walks alone x old deed new (turn_of p read t)) (sym s.2)
-    (subst (λ x. Walks alone fell old deed new (record { places = changed x p; said = t.said; reads = read })) (sym s.1)
-    (subst (λ x. Walks alone fell old deed new (record { places = changed change p; said = x; reads = read })) (sym s.0) w))
-says_walk alone fell old deed new p read said change (Err e) w s = walks_break alone fell old deed new (record { places = changed change p; said = said; reads = read }) w
+pub completes_walk : {T J : Type 0} (alone failed : Bool) (old : State) (procedure : Procedure (Turn Places)) (new : State) (p : Places) (read : ℕ) (said : List Said) (change : Change T J) (result : Result (Completion T J) NoMemory) → Walks alone failed old procedure new (record { places = changed change p; said = said; reads = read }) → Completes said change failed result → EndsAt alone old procedure p read result new
+completes_walk alone failed old procedure new p read said change (Ok t) w s =
+    subst (λ x. Walks alone x old procedure new (turn_of p read t)) (sym s.2)
+    (subst (λ x. Walks alone failed old procedure new (record { places = changed x p; said = t.said; reads = read })) (sym s.1)
+    (subst (λ x. Walks alone failed old procedure new (record { places = changed change p; said = x; reads = read })) (sym s.0) w))
+completes_walk alone failed old procedure new p read said change (Err e) w s = walks_break alone failed old procedure new (record { places = changed change p; said = said; reads = read }) w
 
 -- what came of a call is said in this way
-pub says_ends : {A T J : Type 0} (g : Result A Refusal → Turn Places) (alone : Bool) (old : State) (deed : Deed (Result A Refusal)) (t : Tried A) (new : State) (p : Places) (read : ℕ) (said : List Said) (change : Change T J) (result : Result (Told T J) NoMemory) → Tries alone old deed (Ok t) new → g (came t) ≡ record { places = changed change p; said = said; reads = read } → Says said change (has_fallen t) result → EndsAt alone old (ending_as g deed) p read result new
-says_ends g alone old deed t new p read said change result w e s =
-    says_walk alone (has_fallen t) old (ending_as g deed) new p read said change result
-    (subst (λ y. Walks alone (has_fallen t) old (ending_as g deed) new y) e (walks_as g alone (has_fallen t) old deed new (came t) w)) s
+pub completes_ends : {A T J : Type 0} (g : Result A Refusal → Turn Places) (alone : Bool) (old : State) (procedure : Procedure (Result A Refusal)) (t : Tried A) (new : State) (p : Places) (read : ℕ) (said : List Said) (change : Change T J) (result : Result (Completion T J) NoMemory) → Tries alone old procedure (Ok t) new → g (came t) ≡ record { places = changed change p; said = said; reads = read } → Completes said change (has_failed t) result → EndsAt alone old (ending_as g procedure) p read result new
+completes_ends g alone old procedure t new p read said change result w e s =
+    completes_walk alone (has_failed t) old (ending_as g procedure) new p read said change result
+    (subst (λ y. Walks alone (has_failed t) old (ending_as g procedure) new y) e (walks_as g alone (has_failed t) old procedure new (came t) w)) s
 
 -- the three answers of a call that was asked for its position, each with its line
-pub done_ends : {A T J : Type 0} (g : Result A Refusal → Turn Places) (alone : Bool) (old : State) (act : History → Act A) (outcome : Outcome A) (pos : ℕ) (t : Tried A) (a : A) (new : State) (p : Places) (read : ℕ) (said : List Said) (change : Change T J) (result : Result (Told T J) NoMemory) → Called alone old act outcome new → pos ≡ position new.history → IsTried pos outcome (Ok t) → t ≡ tried.Done a → Says said change false result → g (Ok a) ≡ record { places = changed change p; said = said; reads = read } → EndsAt alone old (ending_as g (tries act)) p read result new
+pub done_ends : {A T J : Type 0} (g : Result A Refusal → Turn Places) (alone : Bool) (old : State) (act : History → Act A) (outcome : Outcome A) (pos : ℕ) (t : Tried A) (a : A) (new : State) (p : Places) (read : ℕ) (said : List Said) (change : Change T J) (result : Result (Completion T J) NoMemory) → Called alone old act outcome new → pos ≡ position new.history → IsTried pos outcome (Ok t) → t ≡ tried.Done a → Completes said change false result → g (Ok a) ≡ record { places = changed change p; said = said; reads = read } → EndsAt alone old (ending_as g (tries act)) p read result new
 done_ends g alone old act outcome pos t a new p read said change result c e i j s f =
     let w = called_tries alone old act outcome new (Ok t) c (subst (λ x. IsTried x outcome (Ok t)) e i) in
-    says_ends g alone old (tries act) (tried.Done a) new p read said change result (subst (λ y. Tries alone old (tries act) (Ok y) new) j w) f s
+    completes_ends g alone old (tries act) (tried.Done a) new p read said change result (subst (λ y. Tries alone old (tries act) (Ok y) new) j w) f s
 
-pub refused_ends : {A T J : Type 0} (g : Result A Refusal → Turn Places) (alone : Bool) (old : State) (act : History → Act A) (outcome : Outcome A) (pos : ℕ) (t : Tried A) (r : Refusal) (new : State) (p : Places) (read : ℕ) (said : List Said) (change : Change T J) (result : Result (Told T J) NoMemory) → Called alone old act outcome new → pos ≡ position new.history → IsTried pos outcome (Ok t) → t ≡ tried.Refused r → Says said change false result → g (Err r) ≡ record { places = changed change p; said = said; reads = read } → EndsAt alone old (ending_as g (tries act)) p read result new
+pub refused_ends : {A T J : Type 0} (g : Result A Refusal → Turn Places) (alone : Bool) (old : State) (act : History → Act A) (outcome : Outcome A) (pos : ℕ) (t : Tried A) (r : Refusal) (new : State) (p : Places) (read : ℕ) (said : List Said) (change : Change T J) (result : Result (Completion T J) NoMemory) → Called alone old act outcome new → pos ≡ position new.history → IsTried pos outcome (Ok t) → t ≡ tried.Refused r → Completes said change false result → g (Err r) ≡ record { places = changed change p; said = said; reads = read } → EndsAt alone old (ending_as g (tries act)) p read result new
 refused_ends g alone old act outcome pos t r new p read said change result c e i j s f =
     let w = called_tries alone old act outcome new (Ok t) c (subst (λ x. IsTried x outcome (Ok t)) e i) in
-    says_ends g alone old (tries act) (tried.Refused r) new p read said change result (subst (λ y. Tries alone old (tries act) (Ok y) new) j w) f s
+    completes_ends g alone old (tries act) (tried.Refused r) new p read said change result (subst (λ y. Tries alone old (tries act) (Ok y) new) j w) f s
 
-pub fell_ends : {A T J : Type 0} (g : Result A Refusal → Turn Places) (alone : Bool) (old : State) (act : History → Act A) (outcome : Outcome A) (pos : ℕ) (t : Tried A) (r : Refusal) (new : State) (p : Places) (read : ℕ) (said : List Said) (change : Change T J) (result : Result (Told T J) NoMemory) → Called alone old act outcome new → pos ≡ position new.history → IsTried pos outcome (Ok t) → t ≡ tried.Fell r → Says said change true result → g (Err r) ≡ record { places = changed change p; said = said; reads = read } → EndsAt alone old (ending_as g (tries act)) p read result new
-fell_ends g alone old act outcome pos t r new p read said change result c e i j s f =
+pub failed_ends : {A T J : Type 0} (g : Result A Refusal → Turn Places) (alone : Bool) (old : State) (act : History → Act A) (outcome : Outcome A) (pos : ℕ) (t : Tried A) (r : Refusal) (new : State) (p : Places) (read : ℕ) (said : List Said) (change : Change T J) (result : Result (Completion T J) NoMemory) → Called alone old act outcome new → pos ≡ position new.history → IsTried pos outcome (Ok t) → t ≡ tried.Failed r → Completes said change true result → g (Err r) ≡ record { places = changed change p; said = said; reads = read } → EndsAt alone old (ending_as g (tries act)) p read result new
+failed_ends g alone old act outcome pos t r new p read said change result c e i j s f =
     let w = called_tries alone old act outcome new (Ok t) c (subst (λ x. IsTried x outcome (Ok t)) e i) in
-    says_ends g alone old (tries act) (tried.Fell r) new p read said change result (subst (λ y. Tries alone old (tries act) (Ok y) new) j w) f s
+    completes_ends g alone old (tries act) (tried.Failed r) new p read said change result (subst (λ y. Tries alone old (tries act) (Ok y) new) j w) f s
 
--- the three answers of a call whose deed was walked, each with its line
-pub says_done : {A T J : Type 0} (g : Result A Refusal → Turn Places) (alone : Bool) (old : State) (deed : Deed (Result A Refusal)) (t : Tried A) (a : A) (new : State) (p : Places) (read : ℕ) (said : List Said) (change : Change T J) (result : Result (Told T J) NoMemory) → Tries alone old deed (Ok t) new → t ≡ tried.Done a → Says said change false result → g (Ok a) ≡ record { places = changed change p; said = said; reads = read } → EndsAt alone old (ending_as g deed) p read result new
-says_done g alone old deed t a new p read said change result w j s e = says_ends g alone old deed (tried.Done a) new p read said change result (subst (λ y. Tries alone old deed (Ok y) new) j w) e s
+-- the three answers of a call whose procedure was walked, each with its line
+pub completes_done : {A T J : Type 0} (g : Result A Refusal → Turn Places) (alone : Bool) (old : State) (procedure : Procedure (Result A Refusal)) (t : Tried A) (a : A) (new : State) (p : Places) (read : ℕ) (said : List Said) (change : Change T J) (result : Result (Completion T J) NoMemory) → Tries alone old procedure (Ok t) new → t ≡ tried.Done a → Completes said change false result → g (Ok a) ≡ record { places = changed change p; said = said; reads = read } → EndsAt alone old (ending_as g procedure) p read result new
+completes_done g alone old procedure t a new p read said change result w j s e = completes_ends g alone old procedure (tried.Done a) new p read said change result (subst (λ y. Tries alone old procedure (Ok y) new) j w) e s
 
-pub says_refused : {A T J : Type 0} (g : Result A Refusal → Turn Places) (alone : Bool) (old : State) (deed : Deed (Result A Refusal)) (t : Tried A) (r : Refusal) (new : State) (p : Places) (read : ℕ) (said : List Said) (change : Change T J) (result : Result (Told T J) NoMemory) → Tries alone old deed (Ok t) new → t ≡ tried.Refused r → Says said change false result → g (Err r) ≡ record { places = changed change p; said = said; reads = read } → EndsAt alone old (ending_as g deed) p read result new
-says_refused g alone old deed t r new p read said change result w j s e = says_ends g alone old deed (tried.Refused r) new p read said change result (subst (λ y. Tries alone old deed (Ok y) new) j w) e s
+pub completes_refused : {A T J : Type 0} (g : Result A Refusal → Turn Places) (alone : Bool) (old : State) (procedure : Procedure (Result A Refusal)) (t : Tried A) (r : Refusal) (new : State) (p : Places) (read : ℕ) (said : List Said) (change : Change T J) (result : Result (Completion T J) NoMemory) → Tries alone old procedure (Ok t) new → t ≡ tried.Refused r → Completes said change false result → g (Err r) ≡ record { places = changed change p; said = said; reads = read } → EndsAt alone old (ending_as g procedure) p read result new
+completes_refused g alone old procedure t r new p read said change result w j s e = completes_ends g alone old procedure (tried.Refused r) new p read said change result (subst (λ y. Tries alone old procedure (Ok y) new) j w) e s
 
-pub says_fell : {A T J : Type 0} (g : Result A Refusal → Turn Places) (alone : Bool) (old : State) (deed : Deed (Result A Refusal)) (t : Tried A) (r : Refusal) (new : State) (p : Places) (read : ℕ) (said : List Said) (change : Change T J) (result : Result (Told T J) NoMemory) → Tries alone old deed (Ok t) new → t ≡ tried.Fell r → Says said change true result → g (Err r) ≡ record { places = changed change p; said = said; reads = read } → EndsAt alone old (ending_as g deed) p read result new
-says_fell g alone old deed t r new p read said change result w j s e = says_ends g alone old deed (tried.Fell r) new p read said change result (subst (λ y. Tries alone old deed (Ok y) new) j w) e s
+pub completes_failed : {A T J : Type 0} (g : Result A Refusal → Turn Places) (alone : Bool) (old : State) (procedure : Procedure (Result A Refusal)) (t : Tried A) (r : Refusal) (new : State) (p : Places) (read : ℕ) (said : List Said) (change : Change T J) (result : Result (Completion T J) NoMemory) → Tries alone old procedure (Ok t) new → t ≡ tried.Failed r → Completes said change true result → g (Err r) ≡ record { places = changed change p; said = said; reads = read } → EndsAt alone old (ending_as g procedure) p read result new
+completes_failed g alone old procedure t r new p read said change result w j s e = completes_ends g alone old procedure (tried.Failed r) new p read said change result (subst (λ y. Tries alone old procedure (Ok y) new) j w) e s

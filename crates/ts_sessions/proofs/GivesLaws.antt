@@ -1,4 +1,4 @@
--- Laws of what deeds give over whole histories.
+-- Laws of what procedures give over whole histories.
 use Rattle.std.proofs.Common.{◌≡◌, ℕ, suc, ◌≤◌, ◌==◌, max, Bool, true, false, cond, nat_lt, List, [], ◌∷◌, ◌++◌, Option, Some, None, inl, inr, sym, refl, ap, ◌∙◌, subst, arith}
 use Rattle.std.specs.Prelude.{is_some}
 use Rattle.std.specs.List.{AllByRecursion}
@@ -7,7 +7,7 @@ use Rattle.std.proofs.lemmas.Bool.Decides.{nat_tests}
 use Rattle.ts_model.specs.declared.events.Event.{Event}
 use Rattle.ts_model.specs.History.{History, start, ◌▸◌, event_at, position, prefix, Begins, same, further}
 use Rattle.ts_model.proofs.HistoryLaws.{begins_prefix, begins_trans, position_begins, position_prefix, prefix_end, prefix_stays}
-use Rattle.ts_sessions.specs.Deeds.{Deed, sees, adds, ends}
+use Rattle.ts_sessions.specs.Procedures.{Procedure, sees, adds, ends}
 use Rattle.ts_sessions.specs.Gives.{AreEvents, Gives, StopsAtEnd, StopsLater, last_of, numbers, printed}
 use Rattle.ts_sessions.specs.Laws.{SameReading}
 use Rattle.ts_sessions.specs.Steady.{IsEnded, Steady}
@@ -42,23 +42,23 @@ begins_within : {base all : History} (p : ℕ) → Begins base all → position 
 begins_within {base} p same le = subst (λ h. Begins base h) (sym (prefix_end base p le)) same
 begins_within {base} p (further {h} {e} b) le = elim (nat_lt (position h) p) as (λ t. Begins base (cond t (h ▸ e) (prefix h p))) [ true ↦ further b | false ↦ begins_within p b le ]
 
--- ---- steady deeds
+-- ---- steady procedures
 
 -- what is steady from a history on is so from each longer one on
-pub steady_later : {A : Type 0} (fresh : Bool) (base later : History) (deed : Deed A) → Begins base later → Steady fresh base deed → Steady fresh later deed
+pub steady_later : {A : Type 0} (fresh : Bool) (base later : History) (procedure : Procedure A) → Begins base later → Steady fresh base procedure → Steady fresh later procedure
 steady_later fresh base later (sees shown f) on s = λ h b. s h (begins_trans on b)
 steady_later fresh base later (adds e next stop) on s = (s.0, steady_later true base later next on s.1, steady_later fresh base later stop on s.2)
 steady_later fresh base later (ends a) on s = tt
 
--- a deed that has ended gives the same over each history
-ended_gives : {A : Type 0} (all longer : History) (stop later : Option ℕ) (at : ℕ) (so_far : List (ℕ × Event)) (deed : Deed A) (looks : List (Option ℕ)) (last : ℕ) (given : List (ℕ × Event)) (y : A) → IsEnded deed → Gives all stop at so_far deed looks last given y → Gives longer later at so_far deed looks last given y
+-- a procedure that has ended gives the same over each history
+ended_gives : {A : Type 0} (all longer : History) (stop later : Option ℕ) (at : ℕ) (so_far : List (ℕ × Event)) (procedure : Procedure A) (looks : List (Option ℕ)) (last : ℕ) (given : List (ℕ × Event)) (y : A) → IsEnded procedure → Gives all stop at so_far procedure looks last given y → Gives longer later at so_far procedure looks last given y
 ended_gives all longer stop later at so_far (sees shown f) looks last given y i g = absurd i
 ended_gives all longer stop later at so_far (adds e next stopped) looks last given y i g = absurd i
 ended_gives all longer stop later at so_far (ends a) [] last given y i g = g
 ended_gives all longer stop later at so_far (ends a) (p ∷ ps) last given y i g = absurd g
 
 -- it looks no more
-ended_looks : {A : Type 0} (all : History) (stop : Option ℕ) (at : ℕ) (so_far : List (ℕ × Event)) (deed : Deed A) (looks : List (Option ℕ)) (last : ℕ) (given : List (ℕ × Event)) (y : A) → IsEnded deed → Gives all stop at so_far deed looks last given y → printed looks ≡ []
+ended_looks : {A : Type 0} (all : History) (stop : Option ℕ) (at : ℕ) (so_far : List (ℕ × Event)) (procedure : Procedure A) (looks : List (Option ℕ)) (last : ℕ) (given : List (ℕ × Event)) (y : A) → IsEnded procedure → Gives all stop at so_far procedure looks last given y → printed looks ≡ []
 ended_looks all stop at so_far (sees shown f) looks last given y i g = absurd i
 ended_looks all stop at so_far (adds e next stopped) looks last given y i g = absurd i
 ended_looks all stop at so_far (ends a) [] last given y i g = refl
@@ -71,7 +71,7 @@ all_above p q [] le a = tt
 all_above p q (x ∷ ps) le a = (omega (arith, le, a.0), all_above p q ps le a.1)
 
 -- looks never fall
-pub looks_above : {A : Type 0} (all : History) (stop : Option ℕ) (at : ℕ) (so_far : List (ℕ × Event)) (deed : Deed A) (looks : List (Option ℕ)) (last : ℕ) (given : List (ℕ × Event)) (y : A) → Gives all stop at so_far deed looks last given y → AllByRecursion (λ p. at ≤ p) (printed looks)
+pub looks_above : {A : Type 0} (all : History) (stop : Option ℕ) (at : ℕ) (so_far : List (ℕ × Event)) (procedure : Procedure A) (looks : List (Option ℕ)) (last : ℕ) (given : List (ℕ × Event)) (y : A) → Gives all stop at so_far procedure looks last given y → AllByRecursion (λ p. at ≤ p) (printed looks)
 looks_above all stop at so_far (sees shown f) [] last given y g = absurd g
 looks_above all stop at so_far (sees shown f) (None ∷ ps) last given y g = looks_above all stop at so_far (f all) ps last given y g.1
 looks_above all stop at so_far (sees shown f) (Some p ∷ ps) last given y g = (g.0, all_above at p (printed ps) g.0 (looks_above all stop p so_far (f (prefix all p)) ps last given y g.3))
@@ -87,7 +87,7 @@ stopped_later : (stop later : Option ℕ) (at : ℕ) → StopsLater stop later �
 stopped_later None later at s e = absurd (true≢false (sym (ap is_some e)))
 stopped_later (Some p) later at s e = s ∙ e
 
-pub gives_longer : {A : Type 0} (fresh : Bool) (base all longer : History) (stop later : Option ℕ) (at : ℕ) (so_far : List (ℕ × Event)) (deed : Deed A) (looks : List (Option ℕ)) (last : ℕ) (given : List (ℕ × Event)) (y : A) → Steady fresh base deed → Begins base all → AllByRecursion (λ p. position base ≤ p) (printed looks) → Begins all longer → StopsLater stop later → Gives all stop at so_far deed looks last given y → Gives longer later at so_far deed looks last given y
+pub gives_longer : {A : Type 0} (fresh : Bool) (base all longer : History) (stop later : Option ℕ) (at : ℕ) (so_far : List (ℕ × Event)) (procedure : Procedure A) (looks : List (Option ℕ)) (last : ℕ) (given : List (ℕ × Event)) (y : A) → Steady fresh base procedure → Begins base all → AllByRecursion (λ p. position base ≤ p) (printed looks) → Begins all longer → StopsLater stop later → Gives all stop at so_far procedure looks last given y → Gives longer later at so_far procedure looks last given y
 gives_longer fresh base all longer stop later at so_far (sees shown f) [] last given y s b above on st g = absurd g
 gives_longer fresh base all longer stop later at so_far (sees shown f) (None ∷ ps) last given y s b above on st g =
     let rest = (s all b).1 g.0 in
@@ -122,7 +122,7 @@ record LastAt (from at : ℕ) (so_far : List (ℕ × Event)) (looks : List (Opti
   last_is : last ≡ max (last_of at (printed looks)) (last_of from (numbers given))
   rises : last_of from (numbers so_far) ≤ last_of from (numbers given)
 
-last_at : {A : Type 0} (all : History) (stop : Option ℕ) (from at : ℕ) (so_far : List (ℕ × Event)) (deed : Deed A) (looks : List (Option ℕ)) (last : ℕ) (given : List (ℕ × Event)) (y : A) → last_of from (numbers so_far) ≤ at → Gives all stop at so_far deed looks last given y → LastAt from at so_far looks last given
+last_at : {A : Type 0} (all : History) (stop : Option ℕ) (from at : ℕ) (so_far : List (ℕ × Event)) (procedure : Procedure A) (looks : List (Option ℕ)) (last : ℕ) (given : List (ℕ × Event)) (y : A) → last_of from (numbers so_far) ≤ at → Gives all stop at so_far procedure looks last given y → LastAt from at so_far looks last given
 last_at all stop from at so_far (sees shown f) [] last given y le g = absurd g
 last_at all stop from at so_far (sees shown f) (None ∷ ps) last given y le g =
     let rest = last_at all stop from at so_far (f all) ps last given y le g.1 in
@@ -142,8 +142,8 @@ last_at all stop from at so_far (ends a) [] last given y le g =
     subst P (sym g.1) (record { last_is = omega (arith, there, le); rises = omega arith })
 last_at all stop from at so_far (ends a) (p ∷ ps) last given y le g = absurd g
 
-pub last_is_printed : {A : Type 0} (all : History) (stop : Option ℕ) (at : ℕ) (deed : Deed A) (looks : List (Option ℕ)) (last : ℕ) (given : List (ℕ × Event)) (y : A) → Gives all stop at [] deed looks last given y → last ≡ max (last_of at (printed looks)) (last_of at (numbers given))
-last_is_printed all stop at deed looks last given y g = (last_at all stop at at [] deed looks last given y (omega arith) g).last_is
+pub last_is_printed : {A : Type 0} (all : History) (stop : Option ℕ) (at : ℕ) (procedure : Procedure A) (looks : List (Option ℕ)) (last : ℕ) (given : List (ℕ × Event)) (y : A) → Gives all stop at [] procedure looks last given y → last ≡ max (last_of at (printed looks)) (last_of at (numbers given))
+last_is_printed all stop at procedure looks last given y g = (last_at all stop at at [] procedure looks last given y (omega arith) g).last_is
 
 -- ---- the events given
 
@@ -155,7 +155,7 @@ events_more : (all : History) (from at : ℕ) (es : List (ℕ × Event)) (e : Ev
 events_more all from at [] e is a = (omega (arith, a), is, omega arith)
 events_more all from at (x ∷ es) e is a = (a.0, a.1, events_more all x.0 at es e is a.2)
 
-events_given : {A : Type 0} (all : History) (stop : Option ℕ) (from at : ℕ) (so_far : List (ℕ × Event)) (deed : Deed A) (looks : List (Option ℕ)) (last : ℕ) (given : List (ℕ × Event)) (y : A) → AreEvents all from so_far at → Gives all stop at so_far deed looks last given y → AreEvents all from given last
+events_given : {A : Type 0} (all : History) (stop : Option ℕ) (from at : ℕ) (so_far : List (ℕ × Event)) (procedure : Procedure A) (looks : List (Option ℕ)) (last : ℕ) (given : List (ℕ × Event)) (y : A) → AreEvents all from so_far at → Gives all stop at so_far procedure looks last given y → AreEvents all from given last
 events_given all stop from at so_far (sees shown f) [] last given y a g = absurd g
 events_given all stop from at so_far (sees shown f) (None ∷ ps) last given y a g = events_given all stop from at so_far (f all) ps last given y a g.1
 events_given all stop from at so_far (sees shown f) (Some p ∷ ps) last given y a g = events_given all stop from p so_far (f (prefix all p)) ps last given y (events_up all from at p so_far g.0 a) g.3
@@ -165,8 +165,8 @@ events_given all stop from at so_far (adds e next stopped) ps last given y a (in
 events_given all stop from at so_far (ends x) [] last given y a g = subst (λ k. AreEvents all from given k) (sym g.0) (subst (λ es. AreEvents all from es at) (sym g.1) a)
 events_given all stop from at so_far (ends x) (p ∷ ps) last given y a g = absurd g
 
-pub gives_events : {A : Type 0} (all : History) (stop : Option ℕ) (at : ℕ) (deed : Deed A) (looks : List (Option ℕ)) (last : ℕ) (given : List (ℕ × Event)) (y : A) → Gives all stop at [] deed looks last given y → AreEvents all at given last
-gives_events all stop at deed looks last given y g = events_given all stop at at [] deed looks last given y (omega arith) g
+pub gives_events : {A : Type 0} (all : History) (stop : Option ℕ) (at : ℕ) (procedure : Procedure A) (looks : List (Option ℕ)) (last : ℕ) (given : List (ℕ × Event)) (y : A) → Gives all stop at [] procedure looks last given y → AreEvents all at given last
+gives_events all stop at procedure looks last given y g = events_given all stop at at [] procedure looks last given y (omega arith) g
 
 -- ---- determined by printed looks
 
@@ -187,15 +187,15 @@ none_after all (Some p) at e i s is =
     let within : suc at ≤ position all = numbered all (suc at) e is in
     absurd (omega (arith, i, there, within))
 
--- two readings of a deed that has ended
-ended_same : {A : Type 0} (all : History) (stop : Option ℕ) (at too : ℕ) (so_far : List (ℕ × Event)) (deed : Deed A) (looks looks_too : List (Option ℕ)) (last last_too : ℕ) (given given_too : List (ℕ × Event)) (y z : A) → IsEnded deed → Gives all stop at so_far deed looks last given y → Gives all stop too so_far deed looks_too last_too given_too z → SameReading y z given given_too
+-- two readings of a procedure that has ended
+ended_same : {A : Type 0} (all : History) (stop : Option ℕ) (at too : ℕ) (so_far : List (ℕ × Event)) (procedure : Procedure A) (looks looks_too : List (Option ℕ)) (last last_too : ℕ) (given given_too : List (ℕ × Event)) (y z : A) → IsEnded procedure → Gives all stop at so_far procedure looks last given y → Gives all stop too so_far procedure looks_too last_too given_too z → SameReading y z given given_too
 ended_same all stop at too so_far (sees shown f) looks looks_too last last_too given given_too y z i g h = absurd i
 ended_same all stop at too so_far (adds e next stopped) looks looks_too last last_too given given_too y z i g h = absurd i
 ended_same all stop at too so_far (ends a) [] [] last last_too given given_too y z i g h = record { end = h.2 ∙ sym g.2; events = h.1 ∙ sym g.1 }
 ended_same all stop at too so_far (ends a) [] (q ∷ qs) last last_too given given_too y z i g h = absurd h
 ended_same all stop at too so_far (ends a) (p ∷ ps) looks_too last last_too given given_too y z i g h = absurd g
 
-same_reading : {A : Type 0} (fresh : Bool) (base all : History) (stop : Option ℕ) (at too : ℕ) (so_far : List (ℕ × Event)) (deed : Deed A) (looks looks_too : List (Option ℕ)) (last last_too : ℕ) (given given_too : List (ℕ × Event)) (y z : A) → Steady fresh base deed → Begins base all → AllByRecursion (λ p. position base ≤ p) (printed looks) → (fresh ≡ true → too ≡ at) → StopsAtEnd all stop → printed looks_too ≡ printed looks → Gives all stop at so_far deed looks last given y → Gives all stop too so_far deed looks_too last_too given_too z → SameReading y z given given_too
+same_reading : {A : Type 0} (fresh : Bool) (base all : History) (stop : Option ℕ) (at too : ℕ) (so_far : List (ℕ × Event)) (procedure : Procedure A) (looks looks_too : List (Option ℕ)) (last last_too : ℕ) (given given_too : List (ℕ × Event)) (y z : A) → Steady fresh base procedure → Begins base all → AllByRecursion (λ p. position base ≤ p) (printed looks) → (fresh ≡ true → too ≡ at) → StopsAtEnd all stop → printed looks_too ≡ printed looks → Gives all stop at so_far procedure looks last given y → Gives all stop too so_far procedure looks_too last_too given_too z → SameReading y z given given_too
 same_reading fresh base all stop at too so_far (sees shown f) [] looks_too last last_too given given_too y z s b above same_at st e g h = absurd g
 same_reading fresh base all stop at too so_far (sees shown f) (p ∷ ps) [] last last_too given given_too y z s b above same_at st e g h = absurd h
 same_reading fresh base all stop at too so_far (sees shown f) (None ∷ ps) (None ∷ qs) last last_too given given_too y z s b above same_at st e g h =
@@ -221,5 +221,5 @@ same_reading fresh base all stop at too so_far (adds x next stopped) ps qs last 
     (subst (λ k. Gives all stop (suc k) (so_far ++ (suc k, x) ∷ []) next qs last_too given_too z) (same_at s.0) h.1)
 same_reading fresh base all stop at too so_far (ends a) ps qs last last_too given given_too y z s b above same_at st e g h = ended_same all stop at too so_far (ends a) ps qs last last_too given given_too y z tt g h
 
-pub printed_looks_determine : {A : Type 0} (base all : History) (stop : Option ℕ) (at too : ℕ) (deed : Deed A) (looks looks_too : List (Option ℕ)) (last last_too : ℕ) (given given_too : List (ℕ × Event)) (y z : A) → Steady false base deed → Begins base all → AllByRecursion (λ p. position base ≤ p) (printed looks) → StopsAtEnd all stop → printed looks_too ≡ printed looks → Gives all stop at [] deed looks last given y → Gives all stop too [] deed looks_too last_too given_too z → SameReading y z given given_too
-printed_looks_determine base all stop at too deed looks looks_too last last_too given given_too y z s b above st e g h = same_reading false base all stop at too [] deed looks looks_too last last_too given given_too y z s b above (λ f. absurd (true≢false (sym f))) st e g h
+pub printed_looks_determine : {A : Type 0} (base all : History) (stop : Option ℕ) (at too : ℕ) (procedure : Procedure A) (looks looks_too : List (Option ℕ)) (last last_too : ℕ) (given given_too : List (ℕ × Event)) (y z : A) → Steady false base procedure → Begins base all → AllByRecursion (λ p. position base ≤ p) (printed looks) → StopsAtEnd all stop → printed looks_too ≡ printed looks → Gives all stop at [] procedure looks last given y → Gives all stop too [] procedure looks_too last_too given_too z → SameReading y z given given_too
+printed_looks_determine base all stop at too procedure looks looks_too last last_too given given_too y z s b above st e g h = same_reading false base all stop at too [] procedure looks looks_too last last_too given given_too y z s b above (λ f. absurd (true≢false (sym f))) st e g h

@@ -13,18 +13,18 @@ use Rattle.ts_sessions.specs.declared.blocks.Open.{Open}
 use Rattle.ts_sessions.specs.declared.blocks.Open.TheVariants as opens
 use Rattle.ts_sessions.specs.declared.changes.Change.{Change}
 use Rattle.ts_sessions.specs.declared.changes.Change.TheVariants as changes
-use Rattle.ts_sessions.specs.declared.changes.Told.{Told}
-use Rattle.ts_sessions.specs.Deeds.{Deed}
+use Rattle.ts_sessions.specs.declared.changes.Completion.{Completion}
+use Rattle.ts_sessions.specs.Procedures.{Procedure}
 use Rattle.ts_sessions.specs.Held.{GoesOn, HoldsBlock, block_of, most_queued, queued}
 use Rattle.ts_sessions.specs.Places.{Block, none, writing, reading, Places, Turn}
-use Rattle.ts_sessions.specs.Sessions.{BringsLittle, BringsNothing, ChangeFits, ChangeHolds, Ends, EndsAt, Says, changed, queued_on, turn_of}
+use Rattle.ts_sessions.specs.Sessions.{BringsLittle, BringsNothing, ChangeFits, ChangeHolds, Ends, EndsAt, Completes, changed, queued_on, turn_of}
 use Rattle.ts_sessions.proofs.WalkLaws.{goes_breaks, goes_walks}
 
 -- ---- what statements bring
 
-pub says_holds : {T J : Type 0} (stands : T → History → Type 0) (fits : J → History → Type 0) (cut_of snap_of : J → ℕ) (bytes : ℕ) (h : History) (said : List Said) (change : Change T J) (fell : Bool) (result : Result (Told T J) NoMemory) → Says said change fell result → ChangeHolds stands fits cut_of snap_of bytes change h → IfOk result (λ t. ChangeHolds stands fits cut_of snap_of bytes t.change h)
-says_holds stands fits cut_of snap_of bytes h said change fell (Ok t) s k = subst (λ c. ChangeHolds stands fits cut_of snap_of bytes c h) (sym s.1) k
-says_holds stands fits cut_of snap_of bytes h said change fell (Err e) s k = tt
+pub completes_holds : {T J : Type 0} (stands : T → History → Type 0) (fits : J → History → Type 0) (cut_of snap_of : J → ℕ) (bytes : ℕ) (h : History) (said : List Said) (change : Change T J) (failed : Bool) (result : Result (Completion T J) NoMemory) → Completes said change failed result → ChangeHolds stands fits cut_of snap_of bytes change h → IfOk result (λ t. ChangeHolds stands fits cut_of snap_of bytes t.change h)
+completes_holds stands fits cut_of snap_of bytes h said change failed (Ok t) s k = subst (λ c. ChangeHolds stands fits cut_of snap_of bytes c h) (sym s.1) k
+completes_holds stands fits cut_of snap_of bytes h said change failed (Err e) s k = tt
 
 nothing_holds : {T J : Type 0} (stands : T → History → Type 0) (fits : J → History → Type 0) (cut_of snap_of : J → ℕ) (bytes : ℕ) (h : History) (c : Change T J) → BringsNothing c → ChangeHolds stands fits cut_of snap_of bytes c h
 nothing_holds stands fits cut_of snap_of bytes h changes.Nothing b = tt
@@ -34,7 +34,7 @@ nothing_holds stands fits cut_of snap_of bytes h (changes.GivesUp c) b = tt
 nothing_holds stands fits cut_of snap_of bytes h (changes.Enters o) b = absurd b
 nothing_holds stands fits cut_of snap_of bytes h (changes.Queues op more) b = absurd b
 
-pub brings_nothing : {T J : Type 0} (stands : T → History → Type 0) (fits : J → History → Type 0) (cut_of snap_of : J → ℕ) (bytes : ℕ) (h : History) (result : Result (Told T J) NoMemory) → IfOk result (λ t. BringsNothing t.change) → IfOk result (λ t. ChangeHolds stands fits cut_of snap_of bytes t.change h)
+pub brings_nothing : {T J : Type 0} (stands : T → History → Type 0) (fits : J → History → Type 0) (cut_of snap_of : J → ℕ) (bytes : ℕ) (h : History) (result : Result (Completion T J) NoMemory) → IfOk result (λ t. BringsNothing t.change) → IfOk result (λ t. ChangeHolds stands fits cut_of snap_of bytes t.change h)
 brings_nothing stands fits cut_of snap_of bytes h (Ok t) b = nothing_holds stands fits cut_of snap_of bytes h t.change b
 brings_nothing stands fits cut_of snap_of bytes h (Err e) b = tt
 
@@ -51,7 +51,7 @@ little_holds stands fits cut_of snap_of bytes h (changes.GivesUp c) b = tt
 little_holds stands fits cut_of snap_of bytes h (changes.Enters o) b = out_holds stands h o b
 little_holds stands fits cut_of snap_of bytes h (changes.Queues op more) b = absurd b
 
-pub brings_little : {T J : Type 0} (stands : T → History → Type 0) (fits : J → History → Type 0) (cut_of snap_of : J → ℕ) (bytes : ℕ) (h : History) (result : Result (Told T J) NoMemory) → IfOk result (λ t. BringsLittle t.change) → IfOk result (λ t. ChangeHolds stands fits cut_of snap_of bytes t.change h)
+pub brings_little : {T J : Type 0} (stands : T → History → Type 0) (fits : J → History → Type 0) (cut_of snap_of : J → ℕ) (bytes : ℕ) (h : History) (result : Result (Completion T J) NoMemory) → IfOk result (λ t. BringsLittle t.change) → IfOk result (λ t. ChangeHolds stands fits cut_of snap_of bytes t.change h)
 brings_little stands fits cut_of snap_of bytes h (Ok t) b = little_holds stands fits cut_of snap_of bytes h t.change b
 brings_little stands fits cut_of snap_of bytes h (Err e) b = tt
 
@@ -92,9 +92,9 @@ change_queues stands fits cut_of snap_of bytes h (changes.Queues op more) p k = 
 
 -- ---- going on
 
-pub goes_ends : {T J : Type 0} (alone : Bool) (old : State) (deed : Deed (Turn Places)) (p : Places) (read : ℕ) (result : Result (Told T J) NoMemory) (new : State) → EndsAt alone old deed p read result new → GoesOn old new
-goes_ends alone old deed p read (Ok t) new e = goes_walks alone t.fell old deed new (turn_of p read t) e
-goes_ends alone old deed p read (Err x) new e = goes_breaks alone old deed new e
+pub goes_ends : {T J : Type 0} (alone : Bool) (old : State) (procedure : Procedure (Turn Places)) (p : Places) (read : ℕ) (result : Result (Completion T J) NoMemory) (new : State) → EndsAt alone old procedure p read result new → GoesOn old new
+goes_ends alone old procedure p read (Ok t) new e = goes_walks alone t.failed old procedure new (turn_of p read t) e
+goes_ends alone old procedure p read (Err x) new e = goes_breaks alone old procedure new e
 
-pub goes_ended : {T J : Type 0} (alone : Bool) (old : State) (deed : Deed (Turn Places)) (p : Places) (result : Result (Told T J) NoMemory) (new : State) (before after : ℕ) → Ends alone old deed p result new before after → GoesOn old new
-goes_ended alone old deed p result new before after e = goes_ends alone old deed p e.read result new e.ends
+pub goes_ended : {T J : Type 0} (alone : Bool) (old : State) (procedure : Procedure (Turn Places)) (p : Places) (result : Result (Completion T J) NoMemory) (new : State) (before after : ℕ) → Ends alone old procedure p result new before after → GoesOn old new
+goes_ended alone old procedure p result new before after e = goes_ends alone old procedure p e.read result new e.ends

@@ -18,9 +18,9 @@ use Rattle.ts_model.specs.Pending.{finished_by, is_known, pending}
 use Rattle.ts_model.specs.Sound.{finish_fits, sound, sound_at}
 use Rattle.ts_model.specs.Calls.{finish_of, stopped}
 use Rattle.ts_model.proofs.AllowedLaws.{known_stays}
-use Rattle.ts_sessions.specs.declared.changes.Told.{Told}
+use Rattle.ts_sessions.specs.declared.changes.Completion.{Completion}
 use Rattle.ts_sessions.specs.declared.sessions.Snapshot.{Snapshot}
-use Rattle.ts_sessions.specs.Deeds.{looks, ends, ending_as, tries_at}
+use Rattle.ts_sessions.specs.Procedures.{looks, ends, ending_as, tries_at}
 use Rattle.ts_sessions.specs.Held.{GoesOn, HoldsJob, HoldsSnapshots, is_finished, is_lost, positions}
 use Rattle.ts_sessions.specs.Holding.{job_on, lost_stays, snapshots_on}
 use Rattle.ts_sessions.specs.Jobs.{without_job}
@@ -133,30 +133,30 @@ built_finishes h c at k =
     let itself : (c == c) ≡ true = grind (arith, nat_tests) in
     rw itself (finished_now (suc (position h)) (pending h c) k)
 
-finish_lost_at : (alone fell : Bool) (mid : State) (c at : ℕ) (p : Pending) (new : State) (y : Result ℕ Refusal) → pending mid.history c ≡ p → is_known p ≡ true → Walks alone fell mid (tries_at mid.history (finish_of c at mid.history p)) new y → IsTrue (is_lost new c)
-finish_lost_at alone fell mid c at (Waiting n) new y e k (inl w) = lost_still new c (subst (λ s. IsTrue (stands_still s)) (sym w.1.1) w.0)
-finish_lost_at alone fell mid c at (Waiting n) new y e k (inr (inl w)) =
+finish_lost_at : (alone failed : Bool) (mid : State) (c at : ℕ) (p : Pending) (new : State) (y : Result ℕ Refusal) → pending mid.history c ≡ p → is_known p ≡ true → Walks alone failed mid (tries_at mid.history (finish_of c at mid.history p)) new y → IsTrue (is_lost new c)
+finish_lost_at alone failed mid c at (Waiting n) new y e k (inl w) = lost_still new c (subst (λ s. IsTrue (stands_still s)) (sym w.1.1) w.0)
+finish_lost_at alone failed mid c at (Waiting n) new y e k (inr (inl w)) =
     let fin : is_finished (pending (mid.history ▸ Built c at) c) ≡ true = built_finishes mid.history c at (subst (λ p. is_known p ≡ true) (sym e) refl) in
     lost_finished new c (subst (λ s. is_finished (pending s.history c) ≡ true) (sym w.rest.1) (subst (λ h. is_finished (pending h c) ≡ true) (sym w.first.history) fin))
-finish_lost_at alone fell mid c at (Waiting n) new y e k (inr (inr w)) = lost_still new c (subst (λ s. IsTrue (stands_still s)) (sym w.1.rest.1) (subst (λ o. IsTrue (is_some o)) (sym w.1.first.failed) refl))
-finish_lost_at alone fell mid c at (Finished f) new y e k w = lost_finished new c (subst (λ s. is_finished (pending s.history c) ≡ true) (sym w.1) (ap is_finished e))
-finish_lost_at alone fell mid c at Unknown new y e k w = absurd (true≢false (sym k))
+finish_lost_at alone failed mid c at (Waiting n) new y e k (inr (inr w)) = lost_still new c (subst (λ s. IsTrue (stands_still s)) (sym w.1.rest.1) (subst (λ o. IsTrue (is_some o)) (sym w.1.first.failed) refl))
+finish_lost_at alone failed mid c at (Finished f) new y e k w = lost_finished new c (subst (λ s. is_finished (pending s.history c) ≡ true) (sym w.1) (ap is_finished e))
+finish_lost_at alone failed mid c at Unknown new y e k w = absurd (true≢false (sym k))
 
-pub finish_lost : (alone fell : Bool) (old : State) (c at : ℕ) (new : State) (y : Result ℕ Refusal) → is_known (pending old.history c) ≡ true → Walks alone fell old (finishes_refresh c at) new y → IsTrue (is_lost new c)
-finish_lost alone fell old c at new y k w =
-    finish_lost_at alone fell w.mid c at (pending w.mid.history c) new y refl (known_stays c (goes_seen alone old w.mid w.first).begins k) w.rest
+pub finish_lost : (alone failed : Bool) (old : State) (c at : ℕ) (new : State) (y : Result ℕ Refusal) → is_known (pending old.history c) ≡ true → Walks alone failed old (finishes_refresh c at) new y → IsTrue (is_lost new c)
+finish_lost alone failed old c at new y k w =
+    finish_lost_at alone failed w.mid c at (pending w.mid.history c) new y refl (known_stays c (goes_seen alone old w.mid w.first).begins k) w.rest
 
 -- a finish of such a refresh is refused: by its finish, or as an event of a store that stands still
-lost_at : (alone fell : Bool) (mid : State) (p : Places) (c at : ℕ) (q : Pending) (new : State) (y : Turn Places) → (is_finished q || stands_still mid) ≡ true → fell ≡ false → new ≡ mid → y ≡ refuses p (unfinished stopped mid.history q) → Walks alone fell mid (ending_as (finish_turn p c at) (tries_at mid.history (finish_of c at mid.history q))) new y
-lost_at alone fell mid p c at (Waiting n) new y lost f n_is y_is = inl (lost, (f, n_is, y_is))
-lost_at alone fell mid p c at (Finished k) new y lost f n_is y_is = (f, n_is, y_is)
-lost_at alone fell mid p c at Unknown new y lost f n_is y_is = (f, n_is, y_is)
+lost_at : (alone failed : Bool) (mid : State) (p : Places) (c at : ℕ) (q : Pending) (new : State) (y : Turn Places) → (is_finished q || stands_still mid) ≡ true → failed ≡ false → new ≡ mid → y ≡ refuses p (unfinished stopped mid.history q) → Walks alone failed mid (ending_as (finish_turn p c at) (tries_at mid.history (finish_of c at mid.history q))) new y
+lost_at alone failed mid p c at (Waiting n) new y lost f n_is y_is = inl (lost, (f, n_is, y_is))
+lost_at alone failed mid p c at (Finished k) new y lost f n_is y_is = (f, n_is, y_is)
+lost_at alone failed mid p c at Unknown new y lost f n_is y_is = (f, n_is, y_is)
 
-pub lost_refused : {T J : Type 0} (alone : Bool) (old : State) (p : Places) (c at : ℕ) (result : Result (Told T J) NoMemory) (new : State) → IsTrue (is_lost old c) → EndsAt alone old (looks (λ h. ends (refuses p (unfinished stopped h (pending h c))))) p 0 result new → EndsAt alone old (looks (λ h. finishes_held p h c (Some at))) p 0 result new
+pub lost_refused : {T J : Type 0} (alone : Bool) (old : State) (p : Places) (c at : ℕ) (result : Result (Completion T J) NoMemory) (new : State) → IsTrue (is_lost old c) → EndsAt alone old (looks (λ h. ends (refuses p (unfinished stopped h (pending h c))))) p 0 result new → EndsAt alone old (looks (λ h. finishes_held p h c (Some at))) p 0 result new
 lost_refused alone old p c at (Ok t) new lost w = record {
   mid = w.mid;
   first = w.first;
-  rest = lost_at alone t.fell w.mid p c at (pending w.mid.history c) new (turn_of p 0 t) (lost_stays old w.mid c (goes_seen alone old w.mid w.first) lost) w.rest.0 w.rest.1 w.rest.2;
+  rest = lost_at alone t.failed w.mid p c at (pending w.mid.history c) new (turn_of p 0 t) (lost_stays old w.mid c (goes_seen alone old w.mid w.first) lost) w.rest.0 w.rest.1 w.rest.2;
 }
 lost_refused alone old p c at (Err x) new lost w = record {
   mid = w.mid;
@@ -164,7 +164,7 @@ lost_refused alone old p c at (Err x) new lost w = record {
   rest = subst (λ s. Breaks alone w.mid (finishes_held p w.mid.history c (Some at)) s) (sym w.rest) (not_begun alone w.mid (finishes_held p w.mid.history c (Some at)));
 }
 
--- ---- clauses that don't ask what was told
+-- ---- clauses that don't ask how a statement completed
 
 pub always_ok : {A : Type 0} (P : Type 0) (result : Result A NoMemory) → P → OnOk result P
 always_ok P (Ok a) p = p

@@ -1,7 +1,7 @@
 pub mod StateLaws
 pub mod WalkLaws
 pub mod CallWalks
-pub mod LookWalks
+pub mod NameCheckWalks
 pub mod EndLaws
 pub mod ViewWalks
 pub mod SoundLaws

@@ -23,7 +23,7 @@ use Rattle.ts_model.specs.Limits.{most_relations}
 use Rattle.ts_model.specs.Roster.{roster, hyper_of, is_taken, view_of}
 use Rattle.ts_model.specs.Pending.{pending}
 use Rattle.ts_model.specs.Windows.{window}
-use Rattle.ts_model.specs.Calls.{Act, refuses as refuses_call, says as says_call, makes, committing, cut_of_view, cut_over, cutting, finish_of, finishing, making_hyper, making_table, making_view, name_taken, new_relation, numbered, refusal, setting_mode, too_many}
+use Rattle.ts_model.specs.Calls.{Act, refuses as refuses_call, says as completes_call, makes, committing, cut_of_view, cut_over, cutting, finish_of, finishing, making_hyper, making_table, making_view, name_taken, new_relation, numbered, refusal, setting_mode, too_many}
 use Rattle.stmt_reader.specs.declared.faults.Fault.{Fault}
 use Rattle.stmt_reader.specs.declared.statements.Stmt.{Stmt}
 use Rattle.stmt_reader.specs.declared.statements.Stmt.TheVariants as stmts
@@ -34,16 +34,16 @@ use Rattle.stmt_check.specs.declared.actions.Action.TheVariants as actions
 use Rattle.stmt_check.specs.Check.{action_of, refusal_of}
 use Rattle.result_text.specs.declared.replies.Said.{Said}
 use Rattle.result_text.specs.declared.replies.Said.TheVariants as said
-use Rattle.ts_sessions.specs.Deeds.{Deed, sees, adds, ends, ending_as, followed_by, tries_at}
+use Rattle.ts_sessions.specs.Procedures.{Procedure, sees, adds, ends, ending_as, followed_by, tries_at}
 use Rattle.ts_sessions.specs.Made.{made_by, made_in}
 use Rattle.ts_sessions.specs.Places.{Block, none, writing, reading, Places, Turn, cuts, enters, held_for}
-use Rattle.ts_sessions.specs.Step.{Taken, acts, after_cut, after_line, after_snapshot, after_view, block_refusal, changes, closes, commits, committed, cut_turn, finish_turn, finishes, finishes_held, given_up, kind_of, least_start, let_pass, makes_event, named, named_first, named_here, passed, passed_first, performs_in, read_at, reads_as, refresh_meant, refreshed, refreshes, refusal_reading, snap_turn, snaps, step, taken, takes_snapshot, told, view_made}
+use Rattle.ts_sessions.specs.Step.{Taken, acts, after_cut, after_line, after_snapshot, after_view, block_refusal, changes, closes, commits, committed, cut_turn, finish_turn, finishes, finishes_held, given_up, kind_of, least_start, let_pass, makes_event, named, named_first, named_here, passed, passed_first, performs_in, read_at, reads_as, refresh_meant, refreshed, refreshes, refusal_reading, snap_turn, snaps, step, taken, takes_snapshot, reported, view_made}
 use Rattle.ts_sessions.specs.Walks.{Walks, Sees}
 
--- ---- deeds
+-- ---- procedures
 
--- a deed at a history, where these events were made before: what it ends with goes with the numbers of all that were made then
-abbrev Names : {A : Type 0} → (List ℕ → A → Type 0) → List ℕ → History → Deed A → Type 0
+-- a procedure at a history, where these events were made before: what it ends with goes with the numbers of all that were made then
+abbrev Names : {A : Type 0} → (List ℕ → A → Type 0) → List ℕ → History → Procedure A → Type 0
 Names N made h (sees shown f) = (g : History) → Names N made g (f g)
 Names N made h (adds e next stop) = Names N (made ++ suc (position h) ∷ []) (h ▸ e) next × Names N made h stop
 Names N made h (ends a) = N made a
@@ -58,32 +58,32 @@ seen_made : (alone : Bool) (old found : State) → Sees alone old found → foun
 seen_made alone old found (inl e) = ap (λ s. s.made) e
 seen_made alone old found (inr f) = f.made
 
-walks_made : {A : Type 0} (N : List ℕ → A → Type 0) (alone fell : Bool) (old : State) (deed : Deed A) (new : State) (y : A) (base made : List ℕ) → old.made ≡ base ++ made → Names N made old.history deed → Walks alone fell old deed new y → Made N base new.made y
-walks_made N alone fell old (sees shown f) new y base made is n w = walks_made N alone fell w.mid (f w.mid.history) new y base made (seen_made alone old w.mid w.first ∙ is) (n w.mid.history) w.rest
-walks_made N alone fell old (adds e next stop) new y base made is n (inl w) = walks_made N alone fell old stop new y base made is n.1 w.1
-walks_made N alone fell old (adds e next stop) new y base made is n (inr (inl w)) =
+walks_made : {A : Type 0} (N : List ℕ → A → Type 0) (alone failed : Bool) (old : State) (procedure : Procedure A) (new : State) (y : A) (base made : List ℕ) → old.made ≡ base ++ made → Names N made old.history procedure → Walks alone failed old procedure new y → Made N base new.made y
+walks_made N alone failed old (sees shown f) new y base made is n w = walks_made N alone failed w.mid (f w.mid.history) new y base made (seen_made alone old w.mid w.first ∙ is) (n w.mid.history) w.rest
+walks_made N alone failed old (adds e next stop) new y base made is n (inl w) = walks_made N alone failed old stop new y base made is n.1 w.1
+walks_made N alone failed old (adds e next stop) new y base made is n (inr (inl w)) =
     let more : List ℕ = suc (position old.history) ∷ [] in
     let all : w.mid.made ≡ base ++ (made ++ more) = w.first.made ∙ ap (λ l. l ++ more) is ∙ append_assoc base made more in
-    walks_made N alone fell w.mid next new y base (made ++ more) all (subst (λ g. Names N (made ++ more) g next) (sym w.first.history) n.0) w.rest
-walks_made N alone fell old (adds e next stop) new y base made is n (inr (inr w)) =
+    walks_made N alone failed w.mid next new y base (made ++ more) all (subst (λ g. Names N (made ++ more) g next) (sym w.first.history) n.0) w.rest
+walks_made N alone failed old (adds e next stop) new y base made is n (inr (inr w)) =
     walks_made N alone false w.1.mid stop new y base made (w.1.first.made ∙ is) (subst (λ g. Names N made g stop) (sym w.1.first.history) n.1) w.1.rest
-walks_made N alone fell old (ends a) new y base made is n w = record { all = made; is = ap (λ s. s.made) w.1 ∙ is; names = subst (N made) (sym w.2) n }
+walks_made N alone failed old (ends a) new y base made is n w = record { all = made; is = ap (λ s. s.made) w.1 ∙ is; names = subst (N made) (sym w.2) n }
 
--- one deed after another
-names_then : {A B : Type 0} (N : List ℕ → A → Type 0) (M : List ℕ → B → Type 0) (made : List ℕ) (h : History) (first : Deed A) (next : A → Deed B) → Names N made h first → ((all : List ℕ) (g : History) (a : A) → N all a → Names M all g (next a)) → Names M made h (followed_by first next)
+-- one procedure after another
+names_then : {A B : Type 0} (N : List ℕ → A → Type 0) (M : List ℕ → B → Type 0) (made : List ℕ) (h : History) (first : Procedure A) (next : A → Procedure B) → Names N made h first → ((all : List ℕ) (g : History) (a : A) → N all a → Names M all g (next a)) → Names M made h (followed_by first next)
 names_then N M made h (sees shown f) next n k = λ g. names_then N M made g (f g) next (n g) k
 names_then N M made h (adds e go stop) next n k = (names_then N M (made ++ suc (position h) ∷ []) (h ▸ e) go next n.0 k, names_then N M made h stop next n.1 k)
 names_then N M made h (ends a) next n k = k made h a n
 
-names_as : {A B : Type 0} (N : List ℕ → A → Type 0) (M : List ℕ → B → Type 0) (made : List ℕ) (h : History) (deed : Deed A) (g : A → B) → Names N made h deed → ((all : List ℕ) (a : A) → N all a → M all (g a)) → Names M made h (ending_as g deed)
-names_as N M made h deed g n k = names_then N M made h deed (λ a. ends (g a)) n (λ all x a. k all a)
+names_as : {A B : Type 0} (N : List ℕ → A → Type 0) (M : List ℕ → B → Type 0) (made : List ℕ) (h : History) (procedure : Procedure A) (g : A → B) → Names N made h procedure → ((all : List ℕ) (a : A) → N all a → M all (g a)) → Names M made h (ending_as g procedure)
+names_as N M made h procedure g n k = names_then N M made h procedure (λ a. ends (g a)) n (λ all x a. k all a)
 
 -- ---- calls
 
 -- what a call says it made is what it made
 abbrev Numbers : {A : Type 0} → (A → List ℕ) → History → Act A → Type 0
 Numbers of h (refuses_call r) = ⊤
-Numbers of h (says_call a) = of a ≡ []
+Numbers of h (completes_call a) = of a ≡ []
 Numbers of h (makes e a) = of a ≡ suc (position h) ∷ []
 
 abbrev made_of : {A : Type 0} → (A → List ℕ) → Result A Refusal → List ℕ
@@ -100,7 +100,7 @@ Lists before all t = all ≡ before ++ made_in t.said
 
 tries_named : {A : Type 0} (of : A → List ℕ) (before : List ℕ) (h : History) (act : Act A) → Numbers of h act → Names (Adds of before) before h (tries_at h act)
 tries_named of before h (refuses_call r) n = sym (append-nil before)
-tries_named of before h (says_call a) n = sym (ap (λ l. before ++ l) n ∙ append-nil before)
+tries_named of before h (completes_call a) n = sym (ap (λ l. before ++ l) n ∙ append-nil before)
 tries_named of before h (makes e a) n = (ap (λ l. before ++ l) (sym n), sym (append-nil before))
 
 call_named : {A : Type 0} (of : A → List ℕ) (h : History) (act : Act A) (turn : Result A Refusal → Turn Places) → Numbers of h act → ((y : Result A Refusal) → made_in (turn y).said ≡ made_of of y) → Names (Lists []) [] h (ending_as turn (tries_at h act))
@@ -146,22 +146,22 @@ finish_numbers c at h = pending_numbers c at h (pending h c)
 
 -- ---- what is said of one call
 
-told_says : (p : Places) (says : ℕ → Said) → ((k : ℕ) → made_by (says k) ≡ one k) → (y : Result ℕ Refusal) → made_in (told p says y).said ≡ made_of one y
-told_says p says e (Ok k) = ap (λ l. l ++ []) (e k)
-told_says p says e (Err r) = refl
+reported_completes : (p : Places) (line : ℕ → Said) → ((k : ℕ) → made_by (line k) ≡ one k) → (y : Result ℕ Refusal) → made_in (reported p line y).said ≡ made_of one y
+reported_completes p line e (Ok k) = ap (λ l. l ++ []) (e k)
+reported_completes p line e (Err r) = refl
 
-cut_says : (p : Places) (min : ℤ) (y : Result CutDone Refusal) → made_in (cut_turn p min y).said ≡ made_of of_cut y
-cut_says p min (Ok (CutMade c span)) = refl
-cut_says p min (Ok (NothingDone at)) = refl
-cut_says p min (Err r) = refl
+cut_completes : (p : Places) (min : ℤ) (y : Result CutDone Refusal) → made_in (cut_turn p min y).said ≡ made_of of_cut y
+cut_completes p min (Ok (CutMade c span)) = refl
+cut_completes p min (Ok (NothingDone at)) = refl
+cut_completes p min (Err r) = refl
 
-commit_says : (p after : Places) (y : Result Committed Refusal) → made_in (committed p after y).said ≡ made_of of_commit y
-commit_says p after (Ok done) = refl
-commit_says p after (Err r) = refl
+commit_completes : (p after : Places) (y : Result Committed Refusal) → made_in (committed p after y).said ≡ made_of of_commit y
+commit_completes p after (Ok done) = refl
+commit_completes p after (Err r) = refl
 
-finish_says : (p : Places) (c at : ℕ) (y : Result ℕ Refusal) → made_in (finish_turn p c at y).said ≡ made_of one y
-finish_says p c at (Ok k) = refl
-finish_says p c at (Err r) = refl
+finish_completes : (p : Places) (c at : ℕ) (y : Result ℕ Refusal) → made_in (finish_turn p c at y).said ≡ made_of one y
+finish_completes p c at (Ok k) = refl
+finish_completes p c at (Err r) = refl
 
 -- ---- refreshes
 
@@ -202,17 +202,17 @@ after_view_named p n def filled all h (Err r) e = e
 
 -- ---- snapshots and finishes
 
-snap_says : (p : Places) (c : ℕ) (y : Result Taken Refusal) → [] ≡ made_in (snap_turn p c y).said
-snap_says p c (Ok t) = refl
-snap_says p c (Err r) = refl
+snap_completes : (p : Places) (c : ℕ) (y : Result Taken Refusal) → [] ≡ made_in (snap_turn p c y).said
+snap_completes p c (Ok t) = refl
+snap_completes p c (Err r) = refl
 
 snaps_named : (p : Places) (h : History) (o : Option ℕ) → [] ≡ made_in (snaps p h o).said
 snaps_named p h None = refl
-snaps_named p h (Some c) = snap_says p c (taken c h)
+snaps_named p h (Some c) = snap_completes p c (taken c h)
 
 finishes_held_named : (p : Places) (h : History) (c : ℕ) (o : Option ℕ) → Names (Lists []) [] h (finishes_held p h c o)
 finishes_held_named p h c None = refl
-finishes_held_named p h c (Some at) = call_named one h (finishing c at h) (finish_turn p c at) (finish_numbers c at h) (finish_says p c at)
+finishes_held_named p h c (Some at) = call_named one h (finishing c at h) (finish_turn p c at) (finish_numbers c at h) (finish_completes p c at)
 
 finishes_named : (p : Places) (h : History) (o : Option ℕ) → Names (Lists []) [] h (finishes p h o)
 finishes_named p h None = refl
@@ -221,7 +221,7 @@ finishes_named p h (Some c) = finishes_held_named p h c (held_for c p.held)
 -- ---- blocks
 
 commits_named : (p after : Places) (h : History) (ops : List Op) → Names (Lists []) [] h (commits p after h ops)
-commits_named p after h ops = call_named of_commit h (committing ops h) (committed p after) refl (commit_says p after)
+commits_named p after h ops = call_named of_commit h (committing ops h) (committed p after) refl (commit_completes p after)
 
 changes_named : (p : Places) (bytes : ℕ) (h : History) (op : Op) (b : Block) → Names (Lists []) [] h (changes p bytes h op b)
 changes_named p bytes h op none = commits_named p p h (op ∷ [])
@@ -234,31 +234,31 @@ closes_named p h (writing [] n) = refl
 closes_named p h (writing (op ∷ ops) n) = commits_named p (enters none p) h (op ∷ ops)
 closes_named p h (reading at) = refl
 
-given_up_says : (b : Block) → [] ≡ made_in (given_up b ∷ [])
-given_up_says none = refl
-given_up_says (writing ops n) = refl
-given_up_says (reading at) = refl
+given_up_completes : (b : Block) → [] ≡ made_in (given_up b ∷ [])
+given_up_completes none = refl
+given_up_completes (writing ops n) = refl
+given_up_completes (reading at) = refl
 
 -- ---- statements
 
 acts_named : (p : Places) (bytes : ℕ) (h : History) (action : Action) → Names (Lists []) [] h (acts p bytes h action)
-acts_named p bytes h (actions.Table def) = call_named one h (making_table def h) (told p said.Table) (new_numbers h (is_taken (roster h) def.name) (length (roster h).tables) (TableMade def)) (told_says p said.Table (λ k. refl))
-acts_named p bytes h (actions.Hyper t hyper) = call_named one h (making_hyper t hyper h) (told p said.Hypertable) (hyper_numbers t hyper h) (told_says p said.Hypertable (λ k. refl))
+acts_named p bytes h (actions.Table def) = call_named one h (making_table def h) (reported p said.Table) (new_numbers h (is_taken (roster h) def.name) (length (roster h).tables) (TableMade def)) (reported_completes p said.Table (λ k. refl))
+acts_named p bytes h (actions.Hyper t hyper) = call_named one h (making_hyper t hyper h) (reported p said.Hypertable) (hyper_numbers t hyper h) (reported_completes p said.Hypertable (λ k. refl))
 acts_named p bytes h (actions.View def filled) =
     let n = length (roster h).views in
     names_then (Adds one []) (Lists []) [] h (tries_at h (making_view def h)) (after_view p n def filled) (tries_named one [] h (making_view def h) (new_numbers h (is_taken (roster h) def.name) n (ViewMade def))) (λ all g y e. after_view_named p n def filled all g y e)
-acts_named p bytes h (actions.Mode n only) = call_named one h (setting_mode n only h) (told p said.Mode) refl (told_says p said.Mode (λ k. refl))
+acts_named p bytes h (actions.Mode n only) = call_named one h (setting_mode n only h) (reported p said.Mode) refl (reported_completes p said.Mode (λ k. refl))
 acts_named p bytes h (actions.Change op) = changes_named p bytes h op p.block
 acts_named p bytes h (actions.Refresh n lo hi) = cut_then_named [] p n lo hi (least_start (view_of (roster h) n)) h
 acts_named p bytes h (actions.Cut n lo hi) =
     let min = least_start (view_of (roster h) n) in
-    call_named of_cut h (cutting n lo hi h) (cut_turn p min) (cut_numbers n lo hi h) (cut_says p min)
+    call_named of_cut h (cutting n lo hi h) (cut_turn p min) (cut_numbers n lo hi h) (cut_completes p min)
 acts_named p bytes h (actions.Snap cut) = snaps_named p h (refresh_meant p cut)
 acts_named p bytes h (actions.Finish cut) = finishes_named p h (refresh_meant p cut)
 acts_named p bytes h actions.Begin = refl
 acts_named p bytes h actions.BeginRead = refl
 acts_named p bytes h actions.Commit = closes_named p h p.block
-acts_named p bytes h actions.Rollback = given_up_says p.block
+acts_named p bytes h actions.Rollback = given_up_completes p.block
 acts_named p bytes h (actions.Ask q) = refl
 
 passed_named : (p : Places) (bytes : ℕ) (h : History) (stmt : Stmt) (o : Option Refusal) → Names (Lists []) [] h (passed p bytes h stmt o)
@@ -281,7 +281,7 @@ shown_named p bytes g h at (stmts.Finish cut) b e = absurd cc
 shown_named p bytes g h at stmts.Begin b e = absurd cc
 shown_named p bytes g h at stmts.BeginRead b e = absurd cc
 shown_named p bytes g h at stmts.Commit b e = subst (λ x. Names (Lists []) [] g (closes p h x)) (sym b) refl
-shown_named p bytes g h at stmts.Rollback b e = given_up_says p.block
+shown_named p bytes g h at stmts.Rollback b e = given_up_completes p.block
 shown_named p bytes g h at (stmts.Buckets fold) b e = refl
 shown_named p bytes g h at (stmts.Rows table tests) b e = refl
 
@@ -321,7 +321,7 @@ read_named p bytes h (Ok read) = let_pass_named p bytes h read.0 (block_refusal 
 read_named p bytes h (Err f) = refl
 
 -- a line made the events whose numbers its reply names, and no other
-pub step_made : (alone fell : Bool) (old : State) (p : Places) (text : List ℕ) (skip : ℕ) (new : State) (y : Turn Places) → Walks alone fell old (step p text skip) new y → new.made ≡ old.made ++ made_in y.said
-step_made alone fell old p text skip new y w =
-    let m = walks_made (Lists []) alone fell old (step p text skip) new y old.made [] (sym (append-nil old.made)) (read_named p (length text) old.history (statement (stream text skip))) w in
+pub step_made : (alone failed : Bool) (old : State) (p : Places) (text : List ℕ) (skip : ℕ) (new : State) (y : Turn Places) → Walks alone failed old (step p text skip) new y → new.made ≡ old.made ++ made_in y.said
+step_made alone failed old p text skip new y w =
+    let m = walks_made (Lists []) alone failed old (step p text skip) new y old.made [] (sym (append-nil old.made)) (read_named p (length text) old.history (statement (stream text skip))) w in
     m.is ∙ ap (λ l. old.made ++ l) m.names

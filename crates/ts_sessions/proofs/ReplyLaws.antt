@@ -32,11 +32,11 @@ use Rattle.result_text.specs.declared.replies.Said.TheVariants as said
 use Rattle.stmt_check.proofs.FoundLaws.{RelationAt, relation_at}
 use Rattle.stmt_check.proofs.LaterLaws.{HyperLater, plain, hyper, Stays, aggregate_made_later, cut_later, delete_later, drop_later, hyper_made_later, insert_later, mode_later, refresh_later, table_later}
 use Rattle.stmt_check.proofs.StayLaws.{found_is_taken}
-use Rattle.ts_sessions.specs.Deeds.{Deed, looks, ends, followed_by, ending_as, tries_at}
+use Rattle.ts_sessions.specs.Procedures.{Procedure, looks, ends, followed_by, ending_as, tries_at}
 use Rattle.ts_sessions.specs.LineLaws.{NamesStay, StepsAreReplies}
 use Rattle.ts_sessions.specs.Places.{Block, none, writing, reading, Places, Turn, refuses}
 use Rattle.ts_sessions.specs.Replies.{replies_as, replies_in}
-use Rattle.ts_sessions.specs.Step.{acts, after_view, block_refusal, kind_of, let_pass, makes_event, named, named_first, named_here, passed, passed_first, performs_in, read_at, reads_as, told}
+use Rattle.ts_sessions.specs.Step.{acts, after_view, block_refusal, kind_of, let_pass, makes_event, named, named_first, named_here, passed, passed_first, performs_in, read_at, reads_as, reported}
 use Rattle.ts_sessions.specs.Walks.{Walks, Sees, history_after, ending}
 use Rattle.ts_sessions.proofs.StateLaws.{goes_seen, sees_trans}
 use Rattle.ts_sessions.proofs.WalkLaws.{goes_walks}
@@ -48,7 +48,7 @@ pub stays_named : (p : Places) (bytes : ℕ) (stmt : Stmt) (g h : History) → S
 stays_named p bytes stmt g h s = ap (acts p bytes h) (sym s.action) ∙ ap (passed p bytes h stmt) (sym (s.passes (position h)))
 
 -- a relation to be made whose name was taken meanwhile, or that is one too many now: its call and the check of its name refuse it alike
-new_or_refused : (p : Places) (bytes : ℕ) (h : History) (stmt : Stmt) (taken few : Bool) (there : Bool → Bool → Deed (Turn Places)) → there taken few ≡ acts p bytes h (action_of (roster h) stmt) → ((b : Bool) → there true b ≡ ends (refuses p (refusal name_taken h 0))) → there false false ≡ ends (refuses p (refusal too_many h (suc most_relations))) → there taken few ≡ passed p bytes h stmt (refused (position h) name_taken taken ⊳ marked (position h) too_many (suc most_relations) (not few))
+new_or_refused : (p : Places) (bytes : ℕ) (h : History) (stmt : Stmt) (taken few : Bool) (there : Bool → Bool → Procedure (Turn Places)) → there taken few ≡ acts p bytes h (action_of (roster h) stmt) → ((b : Bool) → there true b ≡ ends (refuses p (refusal name_taken h 0))) → there false false ≡ ends (refuses p (refusal too_many h (suc most_relations))) → there taken few ≡ passed p bytes h stmt (refused (position h) name_taken taken ⊳ marked (position h) too_many (suc most_relations) (not few))
 new_or_refused p bytes h stmt true few there here one many = one few
 new_or_refused p bytes h stmt false false there here one many = many
 new_or_refused p bytes h stmt false true there here one many = here
@@ -71,7 +71,7 @@ new_table : (p : Places) (bytes : ℕ) (g h : History) (name : List ℕ) (cols :
 new_table p bytes g h name cols e =
     let stmt = stmts.Table name cols in
     let many = length (roster h).tables in
-    let there : Bool → Bool → Deed (Turn Places) = λ taken few. ending_as (told p said.Table) (tries_at h (cond taken (is_refused (refusal name_taken h 0)) (cond few (numbered h (events.Table (record { name = name; cols = cols }))) (is_refused (refusal too_many h (suc most_relations)))))) in
+    let there : Bool → Bool → Procedure (Turn Places) = λ taken few. ending_as (reported p said.Table) (tries_at h (cond taken (is_refused (refusal name_taken h 0)) (cond few (numbered h (events.Table (record { name = name; cols = cols }))) (is_refused (refusal too_many h (suc most_relations)))))) in
     new_or_refused p bytes h stmt (is_taken (roster h) name) (nat_lt many most_relations) there refl (λ b. refl) refl
     ∙ ap (passed p bytes h stmt) (sym (or_none (name_refusal (position h) (roster h) name many) _ (table_later (position g) (position h) (roster g) name cols e) ∙ name_refused (position h) (roster h) name many))
 
@@ -81,7 +81,7 @@ new_aggregate p bytes g h name only filled fold b e =
     let many = length (roster h).views in
     let later = aggregate_made_later g h (position g) name only filled fold b e in
     let def = aggregate_of (action_of (roster h) stmt) in
-    let there : Bool → Bool → Deed (Turn Places) = λ taken few. followed_by (tries_at h (cond taken (is_refused (refusal name_taken h 0)) (cond few (numbered h (events.View def)) (is_refused (refusal too_many h (suc most_relations)))))) (after_view p many def filled) in
+    let there : Bool → Bool → Procedure (Turn Places) = λ taken few. followed_by (tries_at h (cond taken (is_refused (refusal name_taken h 0)) (cond few (numbered h (events.View def)) (is_refused (refusal too_many h (suc most_relations)))))) (after_view p many def filled) in
     ap (acts p bytes h) (sym later.action)
     ∙ new_or_refused p bytes h stmt (is_taken (roster h) name) (nat_lt many most_relations) there refl (λ b. refl) refl
     ∙ ap (passed p bytes h stmt) (sym (or_none (name_refusal (position h) (roster h) name many) _ (later.passes (position h)) ∙ name_refused (position h) (roster h) name many))
@@ -97,7 +97,7 @@ new_hyper p bytes g h table col interval (hyper n now was) =
     let at = subst (λ f. RelationAt (roster h) f) now (relation_at (roster h) table) in
     let is : is_some (hyper_of (roster h) n) ≡ true = ap (λ o. is_some (option_and_then (λ info. info.hyper) o)) at.at ∙ at.is in
     let made = unwrap_or (column_from col 0 (table_at (roster g) (found_in (roster g) table)).def.cols) 0 in
-    let there : Bool → ℕ → Deed (Turn Places) = λ taken k. ending_as (told p said.Hypertable) (tries_at h (cond taken (is_refused (refusal name_taken h 0)) (numbered h (events.Hyper k (record { at = made; interval = interval }))))) in
+    let there : Bool → ℕ → Procedure (Turn Places) = λ taken k. ending_as (reported p said.Hypertable) (tries_at h (cond taken (is_refused (refusal name_taken h 0)) (numbered h (events.Hyper k (record { at = made; interval = interval }))))) in
     ap (λ k. acts p bytes h (actions.Hyper k (record { at = made; interval = interval }))) was
     ∙ ap (λ t. there t n) is
     ∙ ap (λ f. passed p bytes h stmt (plain_refusal (position h) f ⊳ hyper_refusal (position h) (table_at (roster h) (found_in (roster h) table)).def.cols col interval)) (sym now)
@@ -124,48 +124,48 @@ names_stay p bytes (stmts.Rows table tests) g h b ok makes e = absurd (true≢fa
 -- ---- one look
 
 -- an allowed history was allowed before
-allowed_before : {A : Type 0} (alone fell : Bool) (old : State) (deed : Deed A) (new : State) (y : A) → all_allowed new.history ≡ true → Walks alone fell old deed new y → all_allowed old.history ≡ true
-allowed_before alone fell old deed new y ok w = allowed_begins (goes_walks alone fell old deed new y w).begins ok
+allowed_before : {A : Type 0} (alone failed : Bool) (old : State) (procedure : Procedure A) (new : State) (y : A) → all_allowed new.history ≡ true → Walks alone failed old procedure new y → all_allowed old.history ≡ true
+allowed_before alone failed old procedure new y ok w = allowed_begins (goes_walks alone failed old procedure new y w).begins ok
 
 -- names that passed at a first look, and what follows
-passed_walks : (alone fell : Bool) (old mid : State) (p : Places) (bytes : ℕ) (stmt : Stmt) (new : State) (y : Turn Places) (o : Option Refusal) → makes_event (kind_of stmt) ≡ true → all_allowed new.history ≡ true → Sees alone old mid → refusal_of (position mid.history) (roster mid.history) stmt ≡ o → Walks alone fell mid (passed_first p bytes mid.history stmt o) new y → Walks alone fell old (looks (named p bytes stmt)) new y
-passed_walks alone fell old mid p bytes stmt new y (Some r) makes ok s e w = record { mid = mid; first = s; rest = subst (λ o. Walks alone fell mid (passed p bytes mid.history stmt o) new y) (sym e) w }
-passed_walks alone fell old mid p bytes stmt new y None makes ok s e w =
+passed_walks : (alone failed : Bool) (old mid : State) (p : Places) (bytes : ℕ) (stmt : Stmt) (new : State) (y : Turn Places) (o : Option Refusal) → makes_event (kind_of stmt) ≡ true → all_allowed new.history ≡ true → Sees alone old mid → refusal_of (position mid.history) (roster mid.history) stmt ≡ o → Walks alone failed mid (passed_first p bytes mid.history stmt o) new y → Walks alone failed old (looks (named p bytes stmt)) new y
+passed_walks alone failed old mid p bytes stmt new y (Some r) makes ok s e w = record { mid = mid; first = s; rest = subst (λ o. Walks alone failed mid (passed p bytes mid.history stmt o) new y) (sym e) w }
+passed_walks alone failed old mid p bytes stmt new y None makes ok s e w =
     let seen = (goes_seen alone mid w.mid w.first).begins in
-    let allowed = allowed_before alone fell w.mid (acts p bytes w.mid.history (action_of (roster mid.history) stmt)) new y ok w.rest in
-    record { mid = w.mid; first = sees_trans alone old mid w.mid s w.first; rest = subst (λ d. Walks alone fell w.mid d new y) (names_stay p bytes stmt mid.history w.mid.history seen allowed makes e) w.rest }
+    let allowed = allowed_before alone failed w.mid (acts p bytes w.mid.history (action_of (roster mid.history) stmt)) new y ok w.rest in
+    record { mid = w.mid; first = sees_trans alone old mid w.mid s w.first; rest = subst (λ d. Walks alone failed w.mid d new y) (names_stay p bytes stmt mid.history w.mid.history seen allowed makes e) w.rest }
 
-first_walks : (alone fell : Bool) (old : State) (p : Places) (bytes : ℕ) (stmt : Stmt) (new : State) (y : Turn Places) → makes_event (kind_of stmt) ≡ true → all_allowed new.history ≡ true → Walks alone fell old (named_first p bytes stmt) new y → Walks alone fell old (looks (named p bytes stmt)) new y
-first_walks alone fell old p bytes stmt new y makes ok w = passed_walks alone fell old w.mid p bytes stmt new y (refusal_of (position w.mid.history) (roster w.mid.history) stmt) makes ok w.first refl w.rest
+first_walks : (alone failed : Bool) (old : State) (p : Places) (bytes : ℕ) (stmt : Stmt) (new : State) (y : Turn Places) → makes_event (kind_of stmt) ≡ true → all_allowed new.history ≡ true → Walks alone failed old (named_first p bytes stmt) new y → Walks alone failed old (looks (named p bytes stmt)) new y
+first_walks alone failed old p bytes stmt new y makes ok w = passed_walks alone failed old w.mid p bytes stmt new y (refusal_of (position w.mid.history) (roster w.mid.history) stmt) makes ok w.first refl w.rest
 
 -- outside a block
-outside_walks : (alone fell : Bool) (old : State) (p : Places) (bytes : ℕ) (stmt : Stmt) (new : State) (y : Turn Places) (makes : Bool) → makes_event (kind_of stmt) ≡ makes → all_allowed new.history ≡ true → p.block ≡ none → Walks alone fell old (cond makes (named_first p bytes stmt) (named_here p bytes stmt)) new y → Walks alone fell old (named_here p bytes stmt) new y
-outside_walks alone fell old p bytes stmt new y false makes ok e w = w
-outside_walks alone fell old p bytes stmt new y true makes ok e w =
-    let one = first_walks alone fell old p bytes stmt new y makes ok w in
-    record { mid = one.mid; first = one.first; rest = subst (λ b. Walks alone fell one.mid (named p bytes stmt (read_at b one.mid.history)) new y) (sym e) one.rest }
+outside_walks : (alone failed : Bool) (old : State) (p : Places) (bytes : ℕ) (stmt : Stmt) (new : State) (y : Turn Places) (makes : Bool) → makes_event (kind_of stmt) ≡ makes → all_allowed new.history ≡ true → p.block ≡ none → Walks alone failed old (cond makes (named_first p bytes stmt) (named_here p bytes stmt)) new y → Walks alone failed old (named_here p bytes stmt) new y
+outside_walks alone failed old p bytes stmt new y false makes ok e w = w
+outside_walks alone failed old p bytes stmt new y true makes ok e w =
+    let one = first_walks alone failed old p bytes stmt new y makes ok w in
+    record { mid = one.mid; first = one.first; rest = subst (λ b. Walks alone failed one.mid (named p bytes stmt (read_at b one.mid.history)) new y) (sym e) one.rest }
 
-performs_walks : (alone fell : Bool) (old : State) (p : Places) (bytes : ℕ) (stmt : Stmt) (b : Block) (new : State) (y : Turn Places) → all_allowed new.history ≡ true → p.block ≡ b → Walks alone fell old (performs_in p bytes stmt b) new y → Walks alone fell old (named_here p bytes stmt) new y
-performs_walks alone fell old p bytes stmt none new y ok e w = outside_walks alone fell old p bytes stmt new y (makes_event (kind_of stmt)) refl ok e w
-performs_walks alone fell old p bytes stmt (writing ops n) new y ok e w = w
-performs_walks alone fell old p bytes stmt (reading at) new y ok e w = w
+performs_walks : (alone failed : Bool) (old : State) (p : Places) (bytes : ℕ) (stmt : Stmt) (b : Block) (new : State) (y : Turn Places) → all_allowed new.history ≡ true → p.block ≡ b → Walks alone failed old (performs_in p bytes stmt b) new y → Walks alone failed old (named_here p bytes stmt) new y
+performs_walks alone failed old p bytes stmt none new y ok e w = outside_walks alone failed old p bytes stmt new y (makes_event (kind_of stmt)) refl ok e w
+performs_walks alone failed old p bytes stmt (writing ops n) new y ok e w = w
+performs_walks alone failed old p bytes stmt (reading at) new y ok e w = w
 
-pass_walks : (alone fell : Bool) (old : State) (p : Places) (bytes : ℕ) (stmt : Stmt) (o : Option Refusal) (new : State) (y : Turn Places) → all_allowed new.history ≡ true → Walks alone fell old (let_pass p bytes stmt o) new y → Walks alone fell old (replies_in p bytes stmt o) new y
-pass_walks alone fell old p bytes stmt (Some r) new y ok w = w
-pass_walks alone fell old p bytes stmt None new y ok w = performs_walks alone fell old p bytes stmt p.block new y ok refl w
+pass_walks : (alone failed : Bool) (old : State) (p : Places) (bytes : ℕ) (stmt : Stmt) (o : Option Refusal) (new : State) (y : Turn Places) → all_allowed new.history ≡ true → Walks alone failed old (let_pass p bytes stmt o) new y → Walks alone failed old (replies_in p bytes stmt o) new y
+pass_walks alone failed old p bytes stmt (Some r) new y ok w = w
+pass_walks alone failed old p bytes stmt None new y ok w = performs_walks alone failed old p bytes stmt p.block new y ok refl w
 
-read_walks : (alone fell : Bool) (old : State) (p : Places) (bytes : ℕ) (r : Result (Stmt × Stream) Fault) (new : State) (y : Turn Places) → all_allowed new.history ≡ true → Walks alone fell old (reads_as p bytes r) new y → Walks alone fell old (replies_as p bytes r) new y
-read_walks alone fell old p bytes (Ok read) new y ok w = pass_walks alone fell old p bytes read.0 (block_refusal p.block (kind_of read.0)) new y ok w
-read_walks alone fell old p bytes (Err f) new y ok w = w
+read_walks : (alone failed : Bool) (old : State) (p : Places) (bytes : ℕ) (r : Result (Stmt × Stream) Fault) (new : State) (y : Turn Places) → all_allowed new.history ≡ true → Walks alone failed old (reads_as p bytes r) new y → Walks alone failed old (replies_as p bytes r) new y
+read_walks alone failed old p bytes (Ok read) new y ok w = pass_walks alone failed old p bytes read.0 (block_refusal p.block (kind_of read.0)) new y ok w
+read_walks alone failed old p bytes (Err f) new y ok w = w
 
 -- ---- alone
 
--- a deed comes to the same over a history that nobody else changes
-record SameAlone {A : Type 0} (h : History) (d e : Deed A) : Type 0 where
+-- a procedure comes to the same over a history that nobody else changes
+record SameAlone {A : Type 0} (h : History) (d e : Procedure A) : Type 0 where
   history : history_after d h ≡ history_after e h
   end : ending d h ≡ ending e h
 
-alone_same : {A : Type 0} (h : History) (d e : Deed A) → d ≡ e → SameAlone h d e
+alone_same : {A : Type 0} (h : History) (d e : Procedure A) → d ≡ e → SameAlone h d e
 alone_same h d e i = record { history = ap (λ x. history_after x h) i; end = ap (λ x. ending x h) i }
 
 passed_alone : (p : Places) (bytes : ℕ) (stmt : Stmt) (h : History) (o : Option Refusal) → SameAlone h (passed p bytes h stmt o) (passed_first p bytes h stmt o)
@@ -194,7 +194,7 @@ read_alone p bytes (Err f) h = record { history = refl; end = refl }
 
 pub steps_are_replies : StepsAreReplies
 steps_are_replies = record {
-  walks = λ alone fell old p text skip new y ok w. read_walks alone fell old p (length text) (statement (stream text skip)) new y ok w;
+  walks = λ alone failed old p text skip new y ok w. read_walks alone failed old p (length text) (statement (stream text skip)) new y ok w;
   history = λ p text skip h. (read_alone p (length text) (statement (stream text skip)) h).history;
   end = λ p text skip h. (read_alone p (length text) (statement (stream text skip)) h).end;
 }

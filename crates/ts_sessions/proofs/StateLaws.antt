@@ -39,11 +39,11 @@ sees_trans alone a b c (inr f) (inl e) = subst (λ x. Sees alone a x) (sym e) (i
 sees_trans alone a b c (inr f) (inr g) = inr (found_trans alone a b c f g)
 
 -- a call that only looks leaves what it found
-pub sees_looked : (alone : Bool) (old : State) (Tells : History → Type 0) (new : State) → Looked alone old Tells new → Sees alone old new
-sees_looked alone old Tells new l = inr (subst (λ s. Found alone old s) (sym (kept l.found new l.keeps)) l.finds)
+pub sees_looked : (alone : Bool) (old : State) (Reports : History → Type 0) (new : State) → Looked alone old Reports new → Sees alone old new
+sees_looked alone old Reports new l = inr (subst (λ s. Found alone old s) (sym (kept l.found new l.keeps)) l.finds)
 
-pub looked_tells : (alone : Bool) (old : State) (Tells : History → Type 0) (new : State) → Looked alone old Tells new → Tells new.history
-looked_tells alone old Tells new l = subst Tells (sym l.keeps.history) l.tells
+pub looked_reports : (alone : Bool) (old : State) (Reports : History → Type 0) (new : State) → Looked alone old Reports new → Reports new.history
+looked_reports alone old Reports new l = subst Reports (sym l.keeps.history) l.tells
 
 -- ---- going on
 

@@ -24,19 +24,19 @@ use Rattle.stmt_check.specs.Check.{action_of, refusal_of}
 use Rattle.stmt_check.proofs.LaterLaws.{Stays, delete_later, drop_later, insert_later}
 use Rattle.result_text.specs.declared.replies.Said.TheVariants as said
 use Rattle.ts_sessions.specs.declared.kinds.Kind.TheVariants as kinds
-use Rattle.ts_sessions.specs.Deeds.{Deed, sees, adds, ends, followed_by, ending_as, tries, tries_at}
+use Rattle.ts_sessions.specs.Procedures.{Procedure, sees, adds, ends, followed_by, ending_as, tries, tries_at}
 use Rattle.ts_sessions.specs.LineLaws.{ReadsWithin, RepliesAreSteady}
 use Rattle.ts_sessions.specs.Places.{Block, none, writing, reading, Places, Turn, cuts, enters, held_for, turns}
 use Rattle.ts_sessions.specs.Replies.{replies_as, replies_in}
 use Rattle.ts_sessions.specs.Steady.{IsEnded, SameLater, Steady}
-use Rattle.ts_sessions.specs.Step.{Taken, acts, begins, committed, cut_turn, finish_turn, refreshed, told, after_cut, after_line, after_snapshot, after_view, block_refusal, changes, closes, commits, finishes, finishes_held, kind_of, least_start, named, named_here, passed, prints, prints_writing, read_at, refresh_meant, refreshes, taken, view_made}
+use Rattle.ts_sessions.specs.Step.{Taken, acts, begins, committed, cut_turn, finish_turn, refreshed, reported, after_cut, after_line, after_snapshot, after_view, block_refusal, changes, closes, commits, finishes, finishes_held, kind_of, least_start, named, named_here, passed, prints, prints_writing, read_at, refresh_meant, refreshes, taken, view_made}
 use Rattle.ts_sessions.proofs.BlockWalks.{block_is}
 use Rattle.ts_sessions.proofs.ReplyLaws.{stays_named}
 
--- ---- deeds one after the other
+-- ---- procedures one after the other
 
 -- a call after a look, or after an event, and what follows
-steady_tries : {A B : Type 0} (base h : History) (act : Act A) (then : Result A Refusal → Deed B) → ((r : Result A Refusal) → Steady true base (then r)) → Steady true base (followed_by (tries_at h act) then)
+steady_tries : {A B : Type 0} (base h : History) (act : Act A) (then : Result A Refusal → Procedure B) → ((r : Result A Refusal) → Steady true base (then r)) → Steady true base (followed_by (tries_at h act) then)
 steady_tries base h (is_refused r) then s = s (Err r)
 steady_tries base h (says a) then s = s (Ok a)
 steady_tries base h (makes e a) then s = (refl, s (Ok a), s (Err _))
@@ -48,16 +48,16 @@ steady_said base h (says a) g = tt
 steady_said base h (makes e a) g = (refl, tt, tt)
 
 -- a call with a look of its own
-steady_call : {A B : Type 0} (fresh : Bool) (base : History) (act : History → Act A) (then : Result A Refusal → Deed B) → ((h : History) (r : Result A Refusal) → Steady true h (then r)) → Steady fresh base (followed_by (tries act) then)
+steady_call : {A B : Type 0} (fresh : Bool) (base : History) (act : History → Act A) (then : Result A Refusal → Procedure B) → ((h : History) (r : Result A Refusal) → Steady true h (then r)) → Steady fresh base (followed_by (tries act) then)
 steady_call fresh base act then s = λ h b. (λ _. steady_tries h h (act h) then (s h), λ no_look. absurd (true≢false no_look))
 
-ended_as : {A B : Type 0} (g : A → B) (deed : Deed A) → IsEnded deed → IsEnded (ending_as g deed)
+ended_as : {A B : Type 0} (g : A → B) (procedure : Procedure A) → IsEnded procedure → IsEnded (ending_as g procedure)
 ended_as g (sees shown f) i = absurd i
 ended_as g (adds e next stop) i = absurd i
 ended_as g (ends a) i = tt
 
 -- whatever is said of its end
-steady_as : {A B : Type 0} (g : A → B) (fresh : Bool) (base : History) (deed : Deed A) → Steady fresh base deed → Steady fresh base (ending_as g deed)
+steady_as : {A B : Type 0} (g : A → B) (fresh : Bool) (base : History) (procedure : Procedure A) → Steady fresh base procedure → Steady fresh base (ending_as g procedure)
 steady_as g fresh base (sees shown f) s = λ h b. (λ look. steady_as g true h (f h) ((s h b).0 look), λ hidden. (λ l c. ((((s h b).1 hidden).0 l c).0, ap (ending_as g) (((s h b).1 hidden).0 l c).1), ended_as g (f h) ((s h b).1 hidden).1))
 steady_as g fresh base (adds e next stop) s = (s.0, steady_as g true base next s.1, steady_as g fresh base stop s.2)
 steady_as g fresh base (ends a) s = tt
@@ -109,10 +109,10 @@ steady_finishes h l p None = tt
 steady_finishes h l p (Some c) = steady_held h l p c (held_for c p.held)
 
 steady_acts : (h l : History) (p : Places) (bytes : ℕ) (a : Action) → Steady true h (acts p bytes l a)
-steady_acts h l p bytes (actions.Table def) = steady_said h l (making_table def l) (told p said.Table)
-steady_acts h l p bytes (actions.Hyper t hyper) = steady_said h l (making_hyper t hyper l) (told p said.Hypertable)
+steady_acts h l p bytes (actions.Table def) = steady_said h l (making_table def l) (reported p said.Table)
+steady_acts h l p bytes (actions.Hyper t hyper) = steady_said h l (making_hyper t hyper l) (reported p said.Hypertable)
 steady_acts h l p bytes (actions.View def filled) = steady_tries h l (making_view def l) (after_view p (length (roster l).views) def filled) (λ r. steady_view h p (length (roster l).views) def filled r)
-steady_acts h l p bytes (actions.Mode n only) = steady_said h l (setting_mode n only l) (told p said.Mode)
+steady_acts h l p bytes (actions.Mode n only) = steady_said h l (setting_mode n only l) (reported p said.Mode)
 steady_acts h l p bytes (actions.Change op) = steady_changes h l p bytes op p.block
 steady_acts h l p bytes (actions.Refresh n lo hi) = steady_tries h l (cutting n lo hi l) (after_cut p (least_start (view_of (roster l) n))) (λ r. steady_cut h p (least_start (view_of (roster l) n)) r)
 steady_acts h l p bytes (actions.Cut n lo hi) = steady_said h l (cutting n lo hi l) (cut_turn p (least_start (view_of (roster l) n)))

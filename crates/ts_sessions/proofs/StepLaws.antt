@@ -6,15 +6,15 @@ use Rattle.ts_model.specs.History.{History, Begins}
 use Rattle.ts_model.specs.States.{State}
 use Rattle.result_text.specs.declared.replies.Said.{Said}
 use Rattle.ts_sessions.specs.declared.changes.Change.{Change}
-use Rattle.ts_sessions.specs.declared.changes.Told.{Told}
+use Rattle.ts_sessions.specs.declared.changes.Completion.{Completion}
 use Rattle.ts_sessions.specs.declared.replies.Reply.{Reply as ReplyMade}
 use Rattle.ts_sessions.specs.declared.replies.StepEnd.{StepEnd}
 use Rattle.ts_sessions.specs.declared.replies.StepEnd.TheVariants as steps
 use Rattle.ts_sessions.specs.declared.sessions.Session.{Session}
-use Rattle.ts_sessions.specs.Deeds.{Deed}
+use Rattle.ts_sessions.specs.Procedures.{Procedure}
 use Rattle.ts_sessions.specs.Held.{Carries, HoldsOf, places_in, queued}
 use Rattle.ts_sessions.specs.Places.{Places, Turn}
-use Rattle.ts_sessions.specs.Sessions.{AnswersSo, ChangeHolds, Ends, IfAnswered, IfNoMemory, IsReplied, IsReply, Spares, Stepped, Tells, changed, turn_of, without}
+use Rattle.ts_sessions.specs.Sessions.{AnswersSo, ChangeHolds, Ends, IfAnswered, IfNoMemory, IsReplied, IsReply, Spares, Stepped, Reports, changed, turn_of, without}
 use Rattle.ts_sessions.specs.Step.{step}
 use Rattle.ts_sessions.specs.Walks.{Walks}
 use Rattle.ts_sessions.proofs.EndLaws.{raised_up}
@@ -27,8 +27,8 @@ use Rattle.ts_sessions.proofs.WalkLaws.{walks_break}
 
 module _ {T J : Type 0} (stands : T → History → Type 0) (fits : J → History → Type 0) (cut_of snap_of : J → ℕ) (fits_on : (job : J) (g h : History) → Begins g h → fits job g → fits job h) where
   -- a session that a statement leaves as it is
-  pub ended_held : (s : Session T J) (alone : Bool) (old : State) (deed : Deed (Turn Places)) (p : Places) (result : Result (Told T J) NoMemory) (new : State) (before after : ℕ) → Ends alone old deed p result new before after → HoldsOf stands fits cut_of snap_of s old → HoldsOf stands fits cut_of snap_of s new
-  ended_held s alone old deed p result new before after e k = kept_held stands fits cut_of snap_of fits_on s s old new refl refl (goes_ended alone old deed p result new before after e) k
+  pub ended_held : (s : Session T J) (alone : Bool) (old : State) (procedure : Procedure (Turn Places)) (p : Places) (result : Result (Completion T J) NoMemory) (new : State) (before after : ℕ) → Ends alone old procedure p result new before after → HoldsOf stands fits cut_of snap_of s old → HoldsOf stands fits cut_of snap_of s new
+  ended_held s alone old procedure p result new before after e k = kept_held stands fits cut_of snap_of fits_on s s old new refl refl (goes_ended alone old procedure p result new before after e) k
 
 -- ---- answers
 
@@ -37,41 +37,41 @@ if_answered (steps.Reply r) P p = p
 if_answered (steps.DiskFault r) P p = p
 if_answered steps.NoMemory P p = tt
 
-pub if_replied : (fell : Bool) (r : ReplyMade) (end : StepEnd) (P : Type 0) → IsReplied fell r end → IfNoMemory end P
-if_replied fell r (steps.Reply q) P e = tt
-if_replied fell r (steps.DiskFault q) P e = tt
-if_replied fell r steps.NoMemory P e = absurd e
+pub if_replied : (failed : Bool) (r : ReplyMade) (end : StepEnd) (P : Type 0) → IsReplied failed r end → IfNoMemory end P
+if_replied failed r (steps.Reply q) P e = tt
+if_replied failed r (steps.DiskFault q) P e = tt
+if_replied failed r steps.NoMemory P e = absurd e
 
-pub answered_so : (name : List ℕ) (said : List Said) (fell : Bool) (r : ReplyMade) (end : StepEnd) → IsReply name said r → IfAnswered end (IsReplied fell r end) → AnswersSo name said fell end
-answered_so name said fell r (steps.Reply q) is e = (e.0, subst (IsReply name said) (sym e.1) is)
-answered_so name said fell r (steps.DiskFault q) is e = (e.0, subst (IsReply name said) (sym e.1) is)
-answered_so name said fell r steps.NoMemory is e = tt
+pub answered_so : (name : List ℕ) (said : List Said) (failed : Bool) (r : ReplyMade) (end : StepEnd) → IsReply name said r → IfAnswered end (IsReplied failed r end) → AnswersSo name said failed end
+answered_so name said failed r (steps.Reply q) is e = (e.0, subst (IsReply name said) (sym e.1) is)
+answered_so name said failed r (steps.DiskFault q) is e = (e.0, subst (IsReply name said) (sym e.1) is)
+answered_so name said failed r steps.NoMemory is e = tt
 
 -- ---- lines
 
-tells_so : {T J : Type 0} (alone fell : Bool) (old : State) (p : Places) (text : List ℕ) (skip : ℕ) (name : List ℕ) (told : Told T J) (r : ReplyMade) (new : State) (q : Places) (before after : ℕ) → Ends alone old (step p text skip) p (Ok told) new before after → told.fell ≡ fell → IsReply name told.said r → q ≡ changed told.change p → Tells alone fell old (step p text skip) name r new q before after
-tells_so alone fell old p text skip name told r new q before after e f is places =
-    let y : Turn Places = record { places = q; said = told.said; reads = e.read } in
-    let w : Walks alone fell old (step p text skip) new y =
-    subst (λ x. Walks alone fell old (step p text skip) new (record { places = x; said = told.said; reads = e.read })) (sym places) (subst (λ x. Walks alone x old (step p text skip) new (turn_of p e.read told)) f e.ends)
+reports_so : {T J : Type 0} (alone failed : Bool) (old : State) (p : Places) (text : List ℕ) (skip : ℕ) (name : List ℕ) (completion : Completion T J) (r : ReplyMade) (new : State) (q : Places) (before after : ℕ) → Ends alone old (step p text skip) p (Ok completion) new before after → completion.failed ≡ failed → IsReply name completion.said r → q ≡ changed completion.change p → Reports alone failed old (step p text skip) name r new q before after
+reports_so alone failed old p text skip name completion r new q before after e f is places =
+    let y : Turn Places = record { places = q; said = completion.said; reads = e.read } in
+    let w : Walks alone failed old (step p text skip) new y =
+    subst (λ x. Walks alone failed old (step p text skip) new (record { places = x; said = completion.said; reads = e.read })) (sym places) (subst (λ x. Walks alone x old (step p text skip) new (turn_of p e.read completion)) f e.ends)
     in
     record {
-      said = told.said;
+      said = completion.said;
       read = e.read;
       walks = w;
       text = is.text;
       fault = is.fault;
       names = is.names;
-      made = step_made alone fell old p text skip new y w ∙ ap (λ l. old.made ++ l) (sym is.names);
+      made = step_made alone failed old p text skip new y w ∙ ap (λ l. old.made ++ l) (sym is.names);
       counted = e.counted;
     }
 
 -- a line whose statement ended so, and whose answer was written or not
-pub stepped : {T J : Type 0} (alone : Bool) (old : State) (p : Places) (text : List ℕ) (skip : ℕ) (name : List ℕ) (told : Told T J) (end : StepEnd) (new : State) (q : Places) (before after : ℕ) → before < 2 ^ 64 → Ends alone old (step p text skip) p (Ok told) new before after → AnswersSo name told.said told.fell end → IfAnswered end (q ≡ changed told.change p) → Stepped alone old (step p text skip) name end new q before after
-stepped alone old p text skip name told (steps.Reply r) new q before after short e a places = tells_so alone false old p text skip name told r new q before after e a.0 a.1 places
-stepped alone old p text skip name told (steps.DiskFault r) new q before after short e a places = tells_so alone true old p text skip name told r new q before after e a.0 a.1 places
-stepped alone old p text skip name told steps.NoMemory new q before after short e a places =
-    (walks_break alone told.fell old (step p text skip) new (turn_of p e.read told) e.ends, subst (λ m. before ≤ m) (sym e.counted) (raised_up e.read before short))
+pub stepped : {T J : Type 0} (alone : Bool) (old : State) (p : Places) (text : List ℕ) (skip : ℕ) (name : List ℕ) (completion : Completion T J) (end : StepEnd) (new : State) (q : Places) (before after : ℕ) → before < 2 ^ 64 → Ends alone old (step p text skip) p (Ok completion) new before after → AnswersSo name completion.said completion.failed end → IfAnswered end (q ≡ changed completion.change p) → Stepped alone old (step p text skip) name end new q before after
+stepped alone old p text skip name completion (steps.Reply r) new q before after short e a places = reports_so alone false old p text skip name completion r new q before after e a.0 a.1 places
+stepped alone old p text skip name completion (steps.DiskFault r) new q before after short e a places = reports_so alone true old p text skip name completion r new q before after e a.0 a.1 places
+stepped alone old p text skip name completion steps.NoMemory new q before after short e a places =
+    (walks_break alone completion.failed old (step p text skip) new (turn_of p e.read completion) e.ends, subst (λ m. before ≤ m) (sym e.counted) (raised_up e.read before short))
 
 -- a line without memory for its answer leaves its session
 pub spares_then : {T J : Type 0} (s t : Session T J) (p : Places) (end : StepEnd) → places_in s ≡ p → IfNoMemory end (Carries s t) → IfNoMemory end (Spares p (places_in t))

@@ -28,18 +28,18 @@ use Rattle.ts_model.specs.Laws.{KeepsView}
 use Rattle.ts_model.proofs.RosterLaws.{relations_stay}
 use Rattle.result_text.specs.declared.replies.Said.{Said}
 use Rattle.ts_sessions.specs.declared.changes.Change.{Change}
-use Rattle.ts_sessions.specs.declared.changes.Told.{Told}
+use Rattle.ts_sessions.specs.declared.changes.Completion.{Completion}
 use Rattle.ts_sessions.specs.declared.tries.Tried.{Tried}
 use Rattle.ts_sessions.specs.declared.tries.Tried.TheVariants as tried
-use Rattle.ts_sessions.specs.Deeds.{Deed, looks, ends, ending_as, followed_by, tries_at}
+use Rattle.ts_sessions.specs.Procedures.{Procedure, looks, ends, ending_as, followed_by, tries_at}
 use Rattle.ts_sessions.specs.Places.{Places, Turn}
-use Rattle.ts_sessions.specs.Sessions.{Ends, EndsAt, Says, changed, has_fallen, came, turn_of}
+use Rattle.ts_sessions.specs.Sessions.{Ends, EndsAt, Completes, changed, has_failed, came, turn_of}
 use Rattle.ts_sessions.specs.Step.{after_line, after_view, view_made}
 use Rattle.ts_sessions.specs.Sound.{number_from, view_number}
 use Rattle.ts_sessions.specs.Tried.{IsTried}
 use Rattle.ts_sessions.specs.Walks.{Walks, Breaks}
 use Rattle.ts_sessions.proofs.CallWalks.{answered_tries}
-use Rattle.ts_sessions.proofs.EndLaws.{quiet, raised_up, says_then, then_at}
+use Rattle.ts_sessions.proofs.EndLaws.{quiet, raised_up, completes_then, then_at}
 use Rattle.ts_sessions.proofs.WalkLaws.{breaks_first, walks_as, walks_break}
 
 -- ---- the number of an aggregate
@@ -121,12 +121,12 @@ was_made def found k mid w =
 -- ---- the statement
 
 -- a statement at the history that its call found
-at_found : {T J : Type 0} (alone : Bool) (old found : State) (f : History → Deed (Turn Places)) (p : Places) (read : ℕ) (result : Result (Told T J) NoMemory) (new : State) → Found alone old found → EndsAt alone found (f found.history) p read result new → EndsAt alone old (looks f) p read result new
+at_found : {T J : Type 0} (alone : Bool) (old found : State) (f : History → Procedure (Turn Places)) (p : Places) (read : ℕ) (result : Result (Completion T J) NoMemory) (new : State) → Found alone old found → EndsAt alone found (f found.history) p read result new → EndsAt alone old (looks f) p read result new
 at_found alone old found f p read (Ok t) new i e = record { mid = found; first = inr i; rest = e }
 at_found alone old found f p read (Err x) new i e = record { mid = found; first = inr i; rest = e }
 
 -- the aggregate was made, and its refresh went on
-pub made_then : {T J : Type 0} (alone : Bool) (old : State) (def : ViewDef) (k : ℕ) (mid : State) (next : ℕ → Result ℕ Refusal → Deed (Turn Places)) (p : Places) (result : Result (Told T J) NoMemory) (new : State) (before after : ℕ) → Called alone old (making_view def) (outcomes.Done k) mid → ((n : ℕ) → WasMade def n mid.history → Ends alone mid (next n (Ok k)) p result new before after) → Ends alone old (looks (λ h. followed_by (tries_at h (making_view def h)) (next (length (roster h).views)))) p result new before after
+pub made_then : {T J : Type 0} (alone : Bool) (old : State) (def : ViewDef) (k : ℕ) (mid : State) (next : ℕ → Result ℕ Refusal → Procedure (Turn Places)) (p : Places) (result : Result (Completion T J) NoMemory) (new : State) (before after : ℕ) → Called alone old (making_view def) (outcomes.Done k) mid → ((n : ℕ) → WasMade def n mid.history → Ends alone mid (next n (Ok k)) p result new before after) → Ends alone old (looks (λ h. followed_by (tries_at h (making_view def h)) (next (length (roster h).views)))) p result new before after
 made_then alone old def k mid next p result new before after c e =
     let h = c.found.history in
     let n = length (roster h).views in
@@ -140,22 +140,22 @@ made_then alone old def k mid next p result new before after c e =
     }
 
 -- the call ended so, and the statement ends with these lines
-pub view_says : {T J : Type 0} (alone : Bool) (old : State) (def : ViewDef) (outcome : Outcome ℕ) (pos : ℕ) (t : Tried ℕ) (fell : Bool) (new : State) (next : ℕ → Result ℕ Refusal → Deed (Turn Places)) (p : Places) (said : List Said) (change : Change T J) (result : Result (Told T J) NoMemory) (m : ℕ) → m < 2 ^ 64 → Called alone old (making_view def) outcome new → pos ≡ position new.history → IsTried pos outcome (Ok t) → fell ≡ has_fallen t → ((n : ℕ) → next n (came t) ≡ ends (record { places = changed change p; said = said; reads = 0 })) → Says said change fell result → Ends alone old (looks (λ h. followed_by (tries_at h (making_view def h)) (next (length (roster h).views)))) p result new m m
-view_says alone old def outcome pos t fell new next p said change result m short c e i f y s =
+pub view_completes : {T J : Type 0} (alone : Bool) (old : State) (def : ViewDef) (outcome : Outcome ℕ) (pos : ℕ) (t : Tried ℕ) (failed : Bool) (new : State) (next : ℕ → Result ℕ Refusal → Procedure (Turn Places)) (p : Places) (said : List Said) (change : Change T J) (result : Result (Completion T J) NoMemory) (m : ℕ) → m < 2 ^ 64 → Called alone old (making_view def) outcome new → pos ≡ position new.history → IsTried pos outcome (Ok t) → failed ≡ has_failed t → ((n : ℕ) → next n (came t) ≡ ends (record { places = changed change p; said = said; reads = 0 })) → Completes said change failed result → Ends alone old (looks (λ h. followed_by (tries_at h (making_view def h)) (next (length (roster h).views)))) p result new m m
+view_completes alone old def outcome pos t failed new next p said change result m short c e i f y s =
     let h = c.found.history in
     let w = answered_tries alone (making_view def h) c.found outcome new (Ok t) c.answered (subst (λ x. IsTried x outcome (Ok t)) e i) in
     quiet alone old (looks (λ g. followed_by (tries_at g (making_view def g)) (next (length (roster g).views)))) p result new m short
     (at_found alone old c.found (λ g. followed_by (tries_at g (making_view def g)) (next (length (roster g).views))) p 0 result new c.finds
-    (says_then alone (has_fallen t) c.found (tries_at h (making_view def h)) (came t) new (next (length (roster h).views)) p said change result w (y (length (roster h).views)) (subst (λ x. Says said change x result) f s)))
+    (completes_then alone (has_failed t) c.found (tries_at h (making_view def h)) (came t) new (next (length (roster h).views)) p said change result w (y (length (roster h).views)) (subst (λ x. Completes said change x result) f s)))
 
-pub view_done : {T J : Type 0} (alone : Bool) (old : State) (def : ViewDef) (outcome : Outcome ℕ) (pos : ℕ) (t : Tried ℕ) (k : ℕ) (new : State) (next : ℕ → Result ℕ Refusal → Deed (Turn Places)) (p : Places) (said : List Said) (change : Change T J) (result : Result (Told T J) NoMemory) (m : ℕ) → m < 2 ^ 64 → Called alone old (making_view def) outcome new → pos ≡ position new.history → IsTried pos outcome (Ok t) → t ≡ tried.Done k → Says said change false result → ((n : ℕ) → next n (Ok k) ≡ ends (record { places = changed change p; said = said; reads = 0 })) → Ends alone old (looks (λ h. followed_by (tries_at h (making_view def h)) (next (length (roster h).views)))) p result new m m
-view_done alone old def outcome pos t k new next p said change result m short c e i j s y = view_says alone old def outcome pos (tried.Done k) false new next p said change result m short c e (subst (λ x. IsTried pos outcome (Ok x)) j i) refl y s
+pub view_done : {T J : Type 0} (alone : Bool) (old : State) (def : ViewDef) (outcome : Outcome ℕ) (pos : ℕ) (t : Tried ℕ) (k : ℕ) (new : State) (next : ℕ → Result ℕ Refusal → Procedure (Turn Places)) (p : Places) (said : List Said) (change : Change T J) (result : Result (Completion T J) NoMemory) (m : ℕ) → m < 2 ^ 64 → Called alone old (making_view def) outcome new → pos ≡ position new.history → IsTried pos outcome (Ok t) → t ≡ tried.Done k → Completes said change false result → ((n : ℕ) → next n (Ok k) ≡ ends (record { places = changed change p; said = said; reads = 0 })) → Ends alone old (looks (λ h. followed_by (tries_at h (making_view def h)) (next (length (roster h).views)))) p result new m m
+view_done alone old def outcome pos t k new next p said change result m short c e i j s y = view_completes alone old def outcome pos (tried.Done k) false new next p said change result m short c e (subst (λ x. IsTried pos outcome (Ok x)) j i) refl y s
 
-pub view_refused : {T J : Type 0} (alone : Bool) (old : State) (def : ViewDef) (outcome : Outcome ℕ) (pos : ℕ) (t : Tried ℕ) (r : Refusal) (new : State) (next : ℕ → Result ℕ Refusal → Deed (Turn Places)) (p : Places) (said : List Said) (change : Change T J) (result : Result (Told T J) NoMemory) (m : ℕ) → m < 2 ^ 64 → Called alone old (making_view def) outcome new → pos ≡ position new.history → IsTried pos outcome (Ok t) → t ≡ tried.Refused r → Says said change false result → ((n : ℕ) → next n (Err r) ≡ ends (record { places = changed change p; said = said; reads = 0 })) → Ends alone old (looks (λ h. followed_by (tries_at h (making_view def h)) (next (length (roster h).views)))) p result new m m
-view_refused alone old def outcome pos t r new next p said change result m short c e i j s y = view_says alone old def outcome pos (tried.Refused r) false new next p said change result m short c e (subst (λ x. IsTried pos outcome (Ok x)) j i) refl y s
+pub view_refused : {T J : Type 0} (alone : Bool) (old : State) (def : ViewDef) (outcome : Outcome ℕ) (pos : ℕ) (t : Tried ℕ) (r : Refusal) (new : State) (next : ℕ → Result ℕ Refusal → Procedure (Turn Places)) (p : Places) (said : List Said) (change : Change T J) (result : Result (Completion T J) NoMemory) (m : ℕ) → m < 2 ^ 64 → Called alone old (making_view def) outcome new → pos ≡ position new.history → IsTried pos outcome (Ok t) → t ≡ tried.Refused r → Completes said change false result → ((n : ℕ) → next n (Err r) ≡ ends (record { places = changed change p; said = said; reads = 0 })) → Ends alone old (looks (λ h. followed_by (tries_at h (making_view def h)) (next (length (roster h).views)))) p result new m m
+view_refused alone old def outcome pos t r new next p said change result m short c e i j s y = view_completes alone old def outcome pos (tried.Refused r) false new next p said change result m short c e (subst (λ x. IsTried pos outcome (Ok x)) j i) refl y s
 
-pub view_fell : {T J : Type 0} (alone : Bool) (old : State) (def : ViewDef) (outcome : Outcome ℕ) (pos : ℕ) (t : Tried ℕ) (r : Refusal) (new : State) (next : ℕ → Result ℕ Refusal → Deed (Turn Places)) (p : Places) (said : List Said) (change : Change T J) (result : Result (Told T J) NoMemory) (m : ℕ) → m < 2 ^ 64 → Called alone old (making_view def) outcome new → pos ≡ position new.history → IsTried pos outcome (Ok t) → t ≡ tried.Fell r → Says said change true result → ((n : ℕ) → next n (Err r) ≡ ends (record { places = changed change p; said = said; reads = 0 })) → Ends alone old (looks (λ h. followed_by (tries_at h (making_view def h)) (next (length (roster h).views)))) p result new m m
-view_fell alone old def outcome pos t r new next p said change result m short c e i j s y = view_says alone old def outcome pos (tried.Fell r) true new next p said change result m short c e (subst (λ x. IsTried pos outcome (Ok x)) j i) refl y s
+pub view_failed : {T J : Type 0} (alone : Bool) (old : State) (def : ViewDef) (outcome : Outcome ℕ) (pos : ℕ) (t : Tried ℕ) (r : Refusal) (new : State) (next : ℕ → Result ℕ Refusal → Procedure (Turn Places)) (p : Places) (said : List Said) (change : Change T J) (result : Result (Completion T J) NoMemory) (m : ℕ) → m < 2 ^ 64 → Called alone old (making_view def) outcome new → pos ≡ position new.history → IsTried pos outcome (Ok t) → t ≡ tried.Failed r → Completes said change true result → ((n : ℕ) → next n (Err r) ≡ ends (record { places = changed change p; said = said; reads = 0 })) → Ends alone old (looks (λ h. followed_by (tries_at h (making_view def h)) (next (length (roster h).views)))) p result new m m
+view_failed alone old def outcome pos t r new next p said change result m short c e i j s y = view_completes alone old def outcome pos (tried.Failed r) true new next p said change result m short c e (subst (λ x. IsTried pos outcome (Ok x)) j i) refl y s
 
 -- it did what it is for only where its call did
 done_outcome : (pos : ℕ) (outcome : Outcome ℕ) (k : ℕ) → IsTried pos outcome (Ok (tried.Done k)) → outcome ≡ outcomes.Done k
@@ -168,7 +168,7 @@ done_outcome pos outcomes.DiskFault k i = absurd cc
 done_outcome pos outcomes.NoMemory k i = absurd i
 
 -- the aggregate was made, and its refresh went on
-pub made_on : {T J : Type 0} (alone : Bool) (old : State) (def : ViewDef) (outcome : Outcome ℕ) (pos : ℕ) (t : Tried ℕ) (k : ℕ) (mid : State) (next : ℕ → Result ℕ Refusal → Deed (Turn Places)) (p : Places) (result : Result (Told T J) NoMemory) (new : State) (before after : ℕ) → Called alone old (making_view def) outcome mid → IsTried pos outcome (Ok t) → t ≡ tried.Done k → ((n : ℕ) → WasMade def n mid.history → Ends alone mid (next n (Ok k)) p result new before after) → Ends alone old (looks (λ h. followed_by (tries_at h (making_view def h)) (next (length (roster h).views)))) p result new before after
+pub made_on : {T J : Type 0} (alone : Bool) (old : State) (def : ViewDef) (outcome : Outcome ℕ) (pos : ℕ) (t : Tried ℕ) (k : ℕ) (mid : State) (next : ℕ → Result ℕ Refusal → Procedure (Turn Places)) (p : Places) (result : Result (Completion T J) NoMemory) (new : State) (before after : ℕ) → Called alone old (making_view def) outcome mid → IsTried pos outcome (Ok t) → t ≡ tried.Done k → ((n : ℕ) → WasMade def n mid.history → Ends alone mid (next n (Ok k)) p result new before after) → Ends alone old (looks (λ h. followed_by (tries_at h (making_view def h)) (next (length (roster h).views)))) p result new before after
 made_on alone old def outcome pos t k mid next p result new before after c i j e =
     made_then alone old def k mid next p result new before after
     (subst (λ o. Called alone old (making_view def) o mid) (done_outcome pos outcome k (subst (λ x. IsTried pos outcome (Ok x)) j i)) c) e
@@ -179,7 +179,7 @@ made_named alone old def outcome pos t k mid c i j =
     let d = subst (λ o. Called alone old (making_view def) o mid) (done_outcome pos outcome k (subst (λ x. IsTried pos outcome (Ok x)) j i)) c in
     (length (roster d.found.history).views, was_made def d.found k mid d.answered)
 
-pub view_broken : {A : Type 0} (alone : Bool) (old : State) (def : ViewDef) (outcome : Outcome ℕ) (pos : ℕ) (e : NoMemory) (new : State) (next : ℕ → Result ℕ Refusal → Deed A) → Called alone old (making_view def) outcome new → IsTried pos outcome (Err e) → Breaks alone old (looks (λ h. followed_by (tries_at h (making_view def h)) (next (length (roster h).views)))) new
+pub view_broken : {A : Type 0} (alone : Bool) (old : State) (def : ViewDef) (outcome : Outcome ℕ) (pos : ℕ) (e : NoMemory) (new : State) (next : ℕ → Result ℕ Refusal → Procedure A) → Called alone old (making_view def) outcome new → IsTried pos outcome (Err e) → Breaks alone old (looks (λ h. followed_by (tries_at h (making_view def h)) (next (length (roster h).views)))) new
 view_broken alone old def (outcomes.Done a) pos e new next c i = absurd i
 view_broken alone old def (outcomes.Refused r) pos e new next c i = absurd i
 view_broken alone old def outcomes.DiskFault pos e new next c i = absurd i
@@ -202,27 +202,27 @@ pub view_stays : (g h : History) (n : ℕ) → Begins g h → IsSome (view_of (r
 view_stays g h n b i = there_on (roster g) (roster h) n (view_of (roster g) n) refl i ((relations_stay g h b).views n)
 
 -- a line comes before those of a turn
-pub led : {T J : Type 0} (alone : Bool) (old : State) (deed : Deed (Turn Places)) (line : Said) (p : Places) (told led_told : Told T J) (new : State) (before after : ℕ) → Ends alone old deed p (Ok told) new before after → led_told.said ≡ line ∷ told.said → led_told.change ≡ told.change → led_told.fell ≡ told.fell → Ends alone old (ending_as (after_line line) deed) p (Ok led_told) new before after
-led alone old deed line p told l new before after e s c f = record {
+pub led : {T J : Type 0} (alone : Bool) (old : State) (procedure : Procedure (Turn Places)) (line : Said) (p : Places) (completion led_told : Completion T J) (new : State) (before after : ℕ) → Ends alone old procedure p (Ok completion) new before after → led_told.said ≡ line ∷ completion.said → led_told.change ≡ completion.change → led_told.failed ≡ completion.failed → Ends alone old (ending_as (after_line line) procedure) p (Ok led_told) new before after
+led alone old procedure line p completion l new before after e s c f = record {
   read = e.read;
   ends =
-      let w = walks_as (after_line line) alone told.fell old deed new (turn_of p e.read told) e.ends in
-      let y : after_line line (turn_of p e.read told) ≡ turn_of p e.read l = sym (ap (λ lines. record { places = changed l.change p; said = lines; reads = e.read }) s ∙ ap (λ x. record { places = changed x p; said = line ∷ told.said; reads = e.read }) c) in
-      subst (λ x. Walks alone x old (ending_as (after_line line) deed) new (turn_of p e.read l)) (sym f) (subst (λ z. Walks alone told.fell old (ending_as (after_line line) deed) new z) y w);
+      let w = walks_as (after_line line) alone completion.failed old procedure new (turn_of p e.read completion) e.ends in
+      let y : after_line line (turn_of p e.read completion) ≡ turn_of p e.read l = sym (ap (λ lines. record { places = changed l.change p; said = lines; reads = e.read }) s ∙ ap (λ x. record { places = changed x p; said = line ∷ completion.said; reads = e.read }) c) in
+      subst (λ x. Walks alone x old (ending_as (after_line line) procedure) new (turn_of p e.read l)) (sym f) (subst (λ z. Walks alone completion.failed old (ending_as (after_line line) procedure) new z) y w);
   counted = e.counted;
 }
 
-pub unled : {T J : Type 0} (alone : Bool) (old : State) (deed : Deed (Turn Places)) (line : Said) (p : Places) (result : Result (Told T J) NoMemory) (f : NoMemory) (new : State) (before after : ℕ) → before < 2 ^ 64 → Ends alone old deed p result new before after → Ends {T = T} {J = J} alone old (ending_as (after_line line) deed) p (Err f) new before after
-unled alone old deed line p (Ok t) f new before after short e = record {
+pub unled : {T J : Type 0} (alone : Bool) (old : State) (procedure : Procedure (Turn Places)) (line : Said) (p : Places) (result : Result (Completion T J) NoMemory) (f : NoMemory) (new : State) (before after : ℕ) → before < 2 ^ 64 → Ends alone old procedure p result new before after → Ends {T = T} {J = J} alone old (ending_as (after_line line) procedure) p (Err f) new before after
+unled alone old procedure line p (Ok t) f new before after short e = record {
   read = 0;
-  ends = breaks_first alone old deed (λ a. ends (after_line line a)) new (walks_break alone t.fell old deed new (turn_of p e.read t) e.ends);
+  ends = breaks_first alone old procedure (λ a. ends (after_line line a)) new (walks_break alone t.failed old procedure new (turn_of p e.read t) e.ends);
   counted = subst (λ m. before ≤ m) (sym e.counted) (raised_up e.read before short);
 }
-unled alone old deed line p (Err x) f new before after short e = record { read = 0; ends = breaks_first alone old deed (λ a. ends (after_line line a)) new e.ends; counted = e.counted }
+unled alone old procedure line p (Err x) f new before after short e = record { read = 0; ends = breaks_first alone old procedure (λ a. ends (after_line line a)) new e.ends; counted = e.counted }
 
-pub led_by : {T J : Type 0} (alone : Bool) (old : State) (deed : Deed (Turn Places)) (line : Said) (p : Places) (told : Told T J) (result : Result (Told T J) NoMemory) (new : State) (before after : ℕ) → before < 2 ^ 64 → Ends alone old deed p (Ok told) new before after → IfOk result (λ t. t.said ≡ line ∷ told.said) → IfOk result (λ t. t.change ≡ told.change) → IfOk result (λ t. t.fell ≡ told.fell) → Ends alone old (ending_as (after_line line) deed) p result new before after
-led_by alone old deed line p told (Ok t) new before after short e s c f = led alone old deed line p told t new before after e s c f
-led_by alone old deed line p told (Err x) new before after short e s c f = unled alone old deed line p (Ok told) x new before after short e
+pub led_by : {T J : Type 0} (alone : Bool) (old : State) (procedure : Procedure (Turn Places)) (line : Said) (p : Places) (completion : Completion T J) (result : Result (Completion T J) NoMemory) (new : State) (before after : ℕ) → before < 2 ^ 64 → Ends alone old procedure p (Ok completion) new before after → IfOk result (λ t. t.said ≡ line ∷ completion.said) → IfOk result (λ t. t.change ≡ completion.change) → IfOk result (λ t. t.failed ≡ completion.failed) → Ends alone old (ending_as (after_line line) procedure) p result new before after
+led_by alone old procedure line p completion (Ok t) new before after short e s c f = led alone old procedure line p completion t new before after e s c f
+led_by alone old procedure line p completion (Err x) new before after short e s c f = unled alone old procedure line p (Ok completion) x new before after short e
 
 -- the number under a name, as a snapshot's roster has it
 pub number_in : (r : Roster) (views : List ViewDef) (g h : History) (name : List ℕ) (v n : ℕ) → v ≡ number_from name 0 views → views ≡ r.views → r ≡ roster h → Begins g h → view_named (roster g) name ≡ Some n → v ≡ n
@@ -247,13 +247,13 @@ made_is_named alone old def outcome pos t k mid name c i j e =
     subst (λ x. IsNamed (roster mid.history) x) (sym e) (was_named def w.0 mid.history w.1)
 
 -- the statement went on after its aggregate was made
-pub made_goes_on : {T J : Type 0} (alone : Bool) (old : State) (def : ViewDef) (filled : Bool) (outcome : Outcome ℕ) (pos : ℕ) (t : Tried ℕ) (k : ℕ) (mid : State) (name : List ℕ) (min : ℤ) (p : Places) (result : Result (Told T J) NoMemory) (new : State) (before after : ℕ) → Called alone old (making_view def) outcome mid → IsTried pos outcome (Ok t) → t ≡ tried.Done k → name ≡ def.name → min ≡ first_of def.fold.width → Ends alone mid (view_made p (view_number (roster mid.history) name) min k filled) p result new before after → Ends alone old (looks (λ h. followed_by (tries_at h (making_view def h)) (after_view p (length (roster h).views) def filled))) p result new before after
+pub made_goes_on : {T J : Type 0} (alone : Bool) (old : State) (def : ViewDef) (filled : Bool) (outcome : Outcome ℕ) (pos : ℕ) (t : Tried ℕ) (k : ℕ) (mid : State) (name : List ℕ) (min : ℤ) (p : Places) (result : Result (Completion T J) NoMemory) (new : State) (before after : ℕ) → Called alone old (making_view def) outcome mid → IsTried pos outcome (Ok t) → t ≡ tried.Done k → name ≡ def.name → min ≡ first_of def.fold.width → Ends alone mid (view_made p (view_number (roster mid.history) name) min k filled) p result new before after → Ends alone old (looks (λ h. followed_by (tries_at h (making_view def h)) (after_view p (length (roster h).views) def filled))) p result new before after
 made_goes_on alone old def filled outcome pos t k mid name min p result new before after c i j e f ends_so =
     made_on alone old def outcome pos t k mid (λ n. after_view p n def filled) p result new before after c i j
     (λ n w. subst (λ m. Ends alone mid (view_made p m (first_of def.fold.width) k filled) p result new before after)
     (ap (view_number (roster mid.history)) e ∙ number_named (roster mid.history) def.name n w.named)
     (subst (λ m. Ends alone mid (view_made p (view_number (roster mid.history) name) m k filled) p result new before after) f ends_so))
 
-pub err_led : {T J : Type 0} (alone : Bool) (old : State) (deed : Deed (Turn Places)) (line : Said) (p : Places) (x : NoMemory) (result : Result (Told T J) NoMemory) (new : State) (before after : ℕ) → before < 2 ^ 64 → IsErr result → Ends {T = T} {J = J} alone old deed p (Err x) new before after → Ends alone old (ending_as (after_line line) deed) p result new before after
-err_led alone old deed line p x (Ok t) new before after short i e = absurd (true≢false (sym i))
-err_led {T = T} {J = J} alone old deed line p x (Err y) new before after short i e = unled {T = T} {J = J} alone old deed line p (Err x) y new before after short e
+pub err_led : {T J : Type 0} (alone : Bool) (old : State) (procedure : Procedure (Turn Places)) (line : Said) (p : Places) (x : NoMemory) (result : Result (Completion T J) NoMemory) (new : State) (before after : ℕ) → before < 2 ^ 64 → IsErr result → Ends {T = T} {J = J} alone old procedure p (Err x) new before after → Ends alone old (ending_as (after_line line) procedure) p result new before after
+err_led alone old procedure line p x (Ok t) new before after short i e = absurd (true≢false (sym i))
+err_led {T = T} {J = J} alone old procedure line p x (Err y) new before after short i e = unled {T = T} {J = J} alone old procedure line p (Err x) y new before after short e

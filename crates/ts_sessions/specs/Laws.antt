@@ -1,54 +1,54 @@
--- Laws of deeds, each in one sentence. They hold whatever a deed ends with, and so for turns of any kind of place.
+-- Laws of procedures, each in one sentence. They hold whatever a procedure ends with, and so for turns of any kind of place.
 use Rattle.std.specs.Prelude.{◌≡◌, ℕ, ◌≤◌, max, Bool, false, ◌||◌, List, [], ◌++◌, Option}
 use Rattle.std.specs.List.{AllByRecursion}
 use Rattle.ts_model.specs.declared.events.Event.{Event}
 use Rattle.ts_model.specs.History.{History, position, Begins}
 use Rattle.ts_model.specs.States.{State, stop_of}
-use Rattle.ts_sessions.specs.Deeds.{Deed, followed_by}
+use Rattle.ts_sessions.specs.Procedures.{Procedure, followed_by}
 use Rattle.ts_sessions.specs.Gives.{AreEvents, Gives, StopsAtEnd, StopsLater, last_of, numbers, printed}
 use Rattle.ts_sessions.specs.Steady.{Steady}
 use Rattle.ts_sessions.specs.Walks.{Walks}
 
 -- ---- one after the other
 
--- a deed that was walked, and then the deed that follows it, are the walk of both, also where the disk failed in the first
+-- a procedure that was walked, and then the procedure that follows it, are the walk of both, also where the disk failed in the first
 abbrev pub PutTogether : (A B : Type 0) → Type 0
-PutTogether A B = (alone fell fell_then : Bool) (old : State) (first : Deed A) (mid : State) (a : A) (next : A → Deed B) (new : State) (y : B) → Walks alone fell old first mid a → Walks alone fell_then mid (next a) new y → Walks alone (fell || fell_then) old (followed_by first next) new y
+PutTogether A B = (alone failed failed_then : Bool) (old : State) (first : Procedure A) (mid : State) (a : A) (next : A → Procedure B) (new : State) (y : B) → Walks alone failed old first mid a → Walks alone failed_then mid (next a) new y → Walks alone (failed || failed_then) old (followed_by first next) new y
 
 -- ---- over a whole history
 
--- what a deed that is steady from a history on gives by looks from there on, it gives over each longer history, also over one whose store stopped later
+-- what a procedure that is steady from a history on gives by looks from there on, it gives over each longer history, also over one whose store stopped later
 abbrev pub GivesOverLonger : (A : Type 0) → Type 0
-GivesOverLonger A = (fresh : Bool) (base all longer : History) (stop later : Option ℕ) (at : ℕ) (so_far : List (ℕ × Event)) (deed : Deed A) (looks : List (Option ℕ)) (last : ℕ) (given : List (ℕ × Event)) (y : A) → Steady fresh base deed → Begins base all → AllByRecursion (λ p. position base ≤ p) (printed looks) → Begins all longer → StopsLater stop later → Gives all stop at so_far deed looks last given y → Gives longer later at so_far deed looks last given y
+GivesOverLonger A = (fresh : Bool) (base all longer : History) (stop later : Option ℕ) (at : ℕ) (so_far : List (ℕ × Event)) (procedure : Procedure A) (looks : List (Option ℕ)) (last : ℕ) (given : List (ℕ × Event)) (y : A) → Steady fresh base procedure → Begins base all → AllByRecursion (λ p. position base ≤ p) (printed looks) → Begins all longer → StopsLater stop later → Gives all stop at so_far procedure looks last given y → Gives longer later at so_far procedure looks last given y
 
--- the last position of a deed is its last printed look, or the number of its last event where that is later. So a look that isn't printed raises nothing
+-- the last position of a procedure is its last printed look, or the number of its last event where that is later. So a look that isn't printed raises nothing
 abbrev pub LastIsPrinted : (A : Type 0) → Type 0
-LastIsPrinted A = (all : History) (stop : Option ℕ) (at : ℕ) (deed : Deed A) (looks : List (Option ℕ)) (last : ℕ) (given : List (ℕ × Event)) (y : A) → Gives all stop at [] deed looks last given y → last ≡ max (last_of at (printed looks)) (last_of at (numbers given))
+LastIsPrinted A = (all : History) (stop : Option ℕ) (at : ℕ) (procedure : Procedure A) (looks : List (Option ℕ)) (last : ℕ) (given : List (ℕ × Event)) (y : A) → Gives all stop at [] procedure looks last given y → last ≡ max (last_of at (printed looks)) (last_of at (numbers given))
 
--- the events that a deed gives are those of the history with their numbers, in order between its first position and its last
+-- the events that a procedure gives are those of the history with their numbers, in order between its first position and its last
 abbrev pub GivesEvents : (A : Type 0) → Type 0
-GivesEvents A = (all : History) (stop : Option ℕ) (at : ℕ) (deed : Deed A) (looks : List (Option ℕ)) (last : ℕ) (given : List (ℕ × Event)) (y : A) → Gives all stop at [] deed looks last given y → AreEvents all at given last
+GivesEvents A = (all : History) (stop : Option ℕ) (at : ℕ) (procedure : Procedure A) (looks : List (Option ℕ)) (last : ℕ) (given : List (ℕ × Event)) (y : A) → Gives all stop at [] procedure looks last given y → AreEvents all at given last
 
--- two readings of a deed came to the same
+-- two readings of a procedure came to the same
 pub record SameReading {A : Type 0} (y z : A) (given given_too : List (ℕ × Event)) : Type 0 where
   pub end : z ≡ y
   pub events : given_too ≡ given
 
--- what a deed gives is determined by its printed looks, wherever its session had looked before
+-- what a procedure gives is determined by its printed looks, wherever its session had looked before
 abbrev pub PrintedLooksDetermine : (A : Type 0) → Type 0
-PrintedLooksDetermine A = (base all : History) (stop : Option ℕ) (at at_too : ℕ) (deed : Deed A) (looks looks_too : List (Option ℕ)) (last last_too : ℕ) (given given_too : List (ℕ × Event)) (y z : A) → Steady false base deed → Begins base all → AllByRecursion (λ p. position base ≤ p) (printed looks) → StopsAtEnd all stop → printed looks_too ≡ printed looks → Gives all stop at [] deed looks last given y → Gives all stop at_too [] deed looks_too last_too given_too z → SameReading y z given given_too
+PrintedLooksDetermine A = (base all : History) (stop : Option ℕ) (at at_too : ℕ) (procedure : Procedure A) (looks looks_too : List (Option ℕ)) (last last_too : ℕ) (given given_too : List (ℕ × Event)) (y z : A) → Steady false base procedure → Begins base all → AllByRecursion (λ p. position base ≤ p) (printed looks) → StopsAtEnd all stop → printed looks_too ≡ printed looks → Gives all stop at [] procedure looks last given y → Gives all stop at_too [] procedure looks_too last_too given_too z → SameReading y z given given_too
 
 -- ---- walks
 
--- what was walked is what the deed gives over the history that was left, to a session that had looked at or before the beginning. Its printed looks are positions that the store had meanwhile, and its events those that were made
-pub record IsGiven {A : Type 0} (old new : State) (at : ℕ) (deed : Deed A) (y : A) : Type 0 where
+-- what was walked is what the procedure gives over the history that was left, to a session that had looked at or before the beginning. Its printed looks are positions that the store had meanwhile, and its events those that were made
+pub record IsGiven {A : Type 0} (old new : State) (at : ℕ) (procedure : Procedure A) (y : A) : Type 0 where
   pub looks : List (Option ℕ)
   pub last : ℕ
   pub given : List (ℕ × Event)
-  pub gives : Gives new.history (stop_of new) at [] deed looks last given y
+  pub gives : Gives new.history (stop_of new) at [] procedure looks last given y
   pub seen : AllByRecursion (λ p. position old.history ≤ p) (printed looks)
   pub made : new.made ≡ old.made ++ numbers given
   pub within : last ≤ position new.history
 
 abbrev pub WalksAreGiven : (A : Type 0) → Type 0
-WalksAreGiven A = (alone fell : Bool) (old : State) (at : ℕ) (deed : Deed A) (new : State) (y : A) → Steady false old.history deed → at ≤ position old.history → Walks alone fell old deed new y → IsGiven old new at deed y
+WalksAreGiven A = (alone failed : Bool) (old : State) (at : ℕ) (procedure : Procedure A) (new : State) (y : A) → Steady false old.history procedure → at ≤ position old.history → Walks alone failed old procedure new y → IsGiven old new at procedure y

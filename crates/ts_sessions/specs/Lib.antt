@@ -1,4 +1,4 @@
-pub mod Deeds
+pub mod Procedures
 pub mod Walks
 pub mod Gives
 pub mod Places

@@ -18,7 +18,7 @@ NamesStay = (p : Places) (bytes : ℕ) (stmt : Stmt) (g h : History) → Begins 
 
 -- a step is what the reply to its line says: over a store that others change, where the history that it left is allowed, and over one that is alone
 pub record StepsAreReplies : Type 0 where
-  pub walks : (alone fell : Bool) (old : State) (p : Places) (text : List ℕ) (skip : ℕ) (new : State) (y : Turn Places) → all_allowed new.history ≡ true → Walks alone fell old (step p text skip) new y → Walks alone fell old (reply_to p text skip) new y
+  pub walks : (alone failed : Bool) (old : State) (p : Places) (text : List ℕ) (skip : ℕ) (new : State) (y : Turn Places) → all_allowed new.history ≡ true → Walks alone failed old (step p text skip) new y → Walks alone failed old (reply_to p text skip) new y
   pub history : (p : Places) (text : List ℕ) (skip : ℕ) (h : History) → history_after (reply_to p text skip) h ≡ history_after (step p text skip) h
   pub end : (p : Places) (text : List ℕ) (skip : ℕ) (h : History) → ending (reply_to p text skip) h ≡ ending (step p text skip) h
 

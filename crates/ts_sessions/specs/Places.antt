@@ -5,7 +5,7 @@ use Rattle.std.specs.Map.{lookup, remove_entry}
 use Rattle.std.specs.BTreeMap.{insert_entry, is_at}
 use Rattle.ts_model.specs.declared.events.Op.{Op}
 use Rattle.ts_model.specs.declared.outcomes.Refusal.{Refusal}
-use Rattle.ts_sessions.specs.declared.blocks.Block.{Block as Stage}
+use Rattle.ts_sessions.specs.declared.blocks.Block.{Block as BlockKind}
 use Rattle.ts_sessions.specs.declared.blocks.Block.TheVariants.{Outside, Write, Read}
 use Rattle.result_text.specs.declared.replies.Said.{Said}
 use Rattle.result_text.specs.declared.replies.Said.TheVariants as said
@@ -17,10 +17,10 @@ pub data Block : Type 0 where
   reading : ℕ → Block
 
 -- which block it is
-abbrev pub stage_of : Block → Stage
-stage_of none = Outside
-stage_of (writing ops bytes) = Write
-stage_of (reading at) = Read
+abbrev pub block_kind : Block → BlockKind
+block_kind none = Outside
+block_kind (writing ops bytes) = Write
+block_kind (reading at) = Read
 
 -- what a session carries from one line to the next
 pub record Places : Type 0 where

@@ -10,7 +10,7 @@ use Rattle.result_text.specs.declared.codes.TheConstants.{LINE_LONG, NOT_ASCII, 
 use Rattle.result_text.specs.declared.replies.Said.{Said}
 use Rattle.result_text.specs.declared.replies.Said.TheVariants as said
 use Rattle.result_text.specs.Replies.{line_fault_text, reply_text}
-use Rattle.ts_sessions.specs.Deeds.{Deed}
+use Rattle.ts_sessions.specs.Procedures.{Procedure}
 use Rattle.ts_sessions.specs.Places.{Places, Turn, no_places}
 use Rattle.ts_sessions.specs.Step.{bare, step}
 use Rattle.ts_sessions.specs.Walks.{history_after, ending}
@@ -22,23 +22,33 @@ line_limit = 65536
 abbrev pub most_sessions : ℕ
 most_sessions = 64
 
--- how sessions play: the places of the session with a number at its first line, and what a line does by its session's places. Sessions are numbered from 0 in order of appearance
-pub record Play (P : Type 0) : Type 0 where
-  pub opening : ℕ → P
-  pub does : P → List ℕ → ℕ → Deed (Turn P)
+-- a line that a session executes: its bytes before the comment, and how many of them stand before its statement
+pub record SessionLine : Type 0 where
+  pub text : List ℕ
+  pub skip : ℕ
 
--- sessions play by their step
-abbrev pub session_play : Play Places
-session_play = record { opening = λ number. no_places; does = step }
+-- what a script has of one session: its name, and its lines in order
+pub record SessionScript : Type 0 where
+  pub name : List ℕ
+  pub lines : List SessionLine
+
+-- what lines mean: the places of the session with a number at its first line, and what a line does by its session's places. Sessions are numbered from 0 in order of appearance
+pub record Semantics (P : Type 0) : Type 0 where
+  pub opening : ℕ → P
+  pub does : P → List ℕ → ℕ → Procedure (Turn P)
+
+-- the lines of a session mean their steps
+abbrev pub session_semantics : Semantics Places
+session_semantics = record { opening = λ number. no_places; does = step }
 
 -- where a script has come to: the history, and the sessions in order of appearance, each with its name and its places
-pub record Scene (P : Type 0) : Type 0 where
+pub record ScriptState (P : Type 0) : Type 0 where
   pub history : History
-  pub cast : List (List ℕ × P)
+  pub sessions : List (List ℕ × P)
 
 -- what a line came to: where the script is then, the text written, whether it is a FAULT, and how many stored rows were looked at
-pub record Played (P : Type 0) : Type 0 where
-  pub scene : Scene P
+pub record LineResult (P : Type 0) : Type 0 where
+  pub script_state : ScriptState P
   pub text : List ℕ
   pub fault : Bool
   pub reads : ℕ
@@ -48,12 +58,12 @@ pub record Played (P : Type 0) : Type 0 where
 -- the places of the session with a name, where it has appeared
 abbrev pub places_of : {P : Type 0} → List ℕ → List (List ℕ × P) → Option P
 places_of name [] = None
-places_of name (entry ∷ cast) = cond (same_name entry.0 name) (Some entry.1) (places_of name cast)
+places_of name (entry ∷ sessions) = cond (same_name entry.0 name) (Some entry.1) (places_of name sessions)
 
 -- the session with a name has these places now; one that is new comes last
 abbrev pub with_places : {P : Type 0} → List ℕ → P → List (List ℕ × P) → List (List ℕ × P)
 with_places name p [] = (name, p) ∷ []
-with_places name p (entry ∷ cast) = cond (same_name entry.0 name) ((name, p) ∷ cast) (entry ∷ with_places name p cast)
+with_places name p (entry ∷ sessions) = cond (same_name entry.0 name) ((name, p) ∷ sessions) (entry ∷ with_places name p sessions)
 
 -- ---- replies
 
@@ -89,70 +99,70 @@ has_fault lines = list_any is_fault lines
 -- ---- lines
 
 -- nothing happens, and this is written
-abbrev pub refused : {P : Type 0} → Scene P → List ℕ → Played P
-refused s text = record { scene = s; text = text; fault = true; reads = 0 }
+abbrev pub refused : {P : Type 0} → ScriptState P → List ℕ → LineResult P
+refused s text = record { script_state = s; text = text; fault = true; reads = 0 }
 
 -- a line that has no session is refused by its number
-abbrev pub refused_line : {P : Type 0} → Scene P → ℕ → ℕ → Played P
+abbrev pub refused_line : {P : Type 0} → ScriptState P → ℕ → ℕ → LineResult P
 refused_line s n code = refused s (line_fault_text n (bare code))
 
 -- a session has taken its turn
-abbrev pub turned : {P : Type 0} → Scene P → List ℕ → History → Turn P → Played P
+abbrev pub turned : {P : Type 0} → ScriptState P → List ℕ → History → Turn P → LineResult P
 turned s name h turn = record {
-  scene = record { history = h; cast = with_places name turn.places s.cast };
+  script_state = record { history = h; sessions = with_places name turn.places s.sessions };
   text = text_of name turn.said;
   fault = has_fault turn.said;
   reads = turn.reads;
 }
 
 -- a session takes its turn
-abbrev pub takes_turn : {P : Type 0} → Scene P → List ℕ → Deed (Turn P) → Played P
-takes_turn s name deed = turned s name (history_after deed s.history) (ending deed s.history)
+abbrev pub takes_turn : {P : Type 0} → ScriptState P → List ℕ → Procedure (Turn P) → LineResult P
+takes_turn s name procedure = turned s name (history_after procedure s.history) (ending procedure s.history)
 
 -- a line of the session with a name: of one that has appeared, or of a new one, where there are fewer than 64
-abbrev pub plays_as : {P : Type 0} → Play P → Scene P → List ℕ → List ℕ → ℕ → Option P → Played P
-plays_as play s name text skip (Some p) = takes_turn s name (play.does p text skip)
-plays_as play s name text skip None =
-    cond (nat_lt (length s.cast) most_sessions) (takes_turn s name (play.does (play.opening (length s.cast)) text skip)) (refused s (reply_text name (said.Fault (bare TOO_MANY_SESSIONS))))
+abbrev pub executes_as : {P : Type 0} → Semantics P → ScriptState P → List ℕ → List ℕ → ℕ → Option P → LineResult P
+executes_as semantics s name text skip (Some p) = takes_turn s name (semantics.does p text skip)
+executes_as semantics s name text skip None =
+    cond (nat_lt (length s.sessions) most_sessions) (takes_turn s name (semantics.does (semantics.opening (length s.sessions)) text skip)) (refused s (reply_text name (said.Fault (bare TOO_MANY_SESSIONS))))
 
 -- the name that stands before the colon, which is the last of the bytes to skip
 abbrev pub session_name : List ℕ → ℕ → ℕ → List ℕ
 session_name text len skip = take len (drop (skip - suc len) text)
 
 -- a line of this kind, which has this number
-abbrev pub plays_kind : {P : Type 0} → Play P → Scene P → ℕ → List ℕ → LineKind → Played P
-plays_kind play s n line Blank = record { scene = s; text = []; fault = false; reads = 0 }
-plays_kind play s n line NotAscii = refused_line s n NOT_ASCII
-plays_kind play s n line NoSession = refused_line s n NO_SESSION
-plays_kind play s n line (Stmt len skip end) =
-    plays_as play s (session_name line len skip) (take end line) skip (places_of (session_name line len skip) s.cast)
+abbrev pub executes_kind : {P : Type 0} → Semantics P → ScriptState P → ℕ → List ℕ → LineKind → LineResult P
+executes_kind semantics s n line Blank = record { script_state = s; text = []; fault = false; reads = 0 }
+executes_kind semantics s n line NotAscii = refused_line s n NOT_ASCII
+executes_kind semantics s n line NoSession = refused_line s n NO_SESSION
+executes_kind semantics s n line (Stmt len skip end) =
+    executes_as semantics s (session_name line len skip) (take end line) skip (places_of (session_name line len skip) s.sessions)
 
 -- a line, which has this number
-abbrev pub plays : {P : Type 0} → Play P → Scene P → ℕ → List ℕ → Played P
-plays play s n line = cond (nat_lt line_limit (length line)) (refused_line s n LINE_LONG) (plays_kind play s n line (line_kind line))
+abbrev pub executes : {P : Type 0} → Semantics P → ScriptState P → ℕ → List ℕ → LineResult P
+executes semantics s n line = cond (nat_lt line_limit (length line)) (refused_line s n LINE_LONG) (executes_kind semantics s n line (line_kind line))
 
--- ---- a script: the lines from line n on, in a scene
+-- ---- a script: the lines from line n on, from a script state on
 
 -- what is written
-abbrev pub output : {P : Type 0} → Play P → Scene P → ℕ → List (List ℕ) → List ℕ
-output play s n [] = []
-output play s n (line ∷ lines) = (plays play s n line).text ++ output play (plays play s n line).scene (suc n) lines
+abbrev pub output : {P : Type 0} → Semantics P → ScriptState P → ℕ → List (List ℕ) → List ℕ
+output semantics s n [] = []
+output semantics s n (line ∷ lines) = (executes semantics s n line).text ++ output semantics (executes semantics s n line).script_state (suc n) lines
 
 -- a reply is a FAULT
-abbrev pub is_refused : {P : Type 0} → Play P → Scene P → ℕ → List (List ℕ) → Bool
-is_refused play s n [] = false
-is_refused play s n (line ∷ lines) = (plays play s n line).fault || is_refused play (plays play s n line).scene (suc n) lines
+abbrev pub is_refused : {P : Type 0} → Semantics P → ScriptState P → ℕ → List (List ℕ) → Bool
+is_refused semantics s n [] = false
+is_refused semantics s n (line ∷ lines) = (executes semantics s n line).fault || is_refused semantics (executes semantics s n line).script_state (suc n) lines
 
 -- how many stored rows are looked at
-abbrev pub reads_in : {P : Type 0} → Play P → Scene P → ℕ → List (List ℕ) → ℕ
-reads_in play s n [] = 0
-reads_in play s n (line ∷ lines) = (plays play s n line).reads + reads_in play (plays play s n line).scene (suc n) lines
+abbrev pub reads_in : {P : Type 0} → Semantics P → ScriptState P → ℕ → List (List ℕ) → ℕ
+reads_in semantics s n [] = 0
+reads_in semantics s n (line ∷ lines) = (executes semantics s n line).reads + reads_in semantics (executes semantics s n line).script_state (suc n) lines
 
 -- where the script comes to
-abbrev pub final_scene : {P : Type 0} → Play P → Scene P → ℕ → List (List ℕ) → Scene P
-final_scene play s n [] = s
-final_scene play s n (line ∷ lines) = final_scene play (plays play s n line).scene (suc n) lines
+abbrev pub final_script_state : {P : Type 0} → Semantics P → ScriptState P → ℕ → List (List ℕ) → ScriptState P
+final_script_state semantics s n [] = s
+final_script_state semantics s n (line ∷ lines) = final_script_state semantics (executes semantics s n line).script_state (suc n) lines
 
--- the scene before the first line: a history, and nobody
-abbrev pub opening_scene : {P : Type 0} → History → Scene P
-opening_scene h = record { history = h; cast = [] }
+-- the state of a script before its first line: a history, and no session
+abbrev pub opening_script_state : {P : Type 0} → History → ScriptState P
+opening_script_state h = record { history = h; sessions = [] }

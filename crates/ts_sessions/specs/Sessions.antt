@@ -10,7 +10,7 @@ use Rattle.stmt_check.specs.Sound.{IsOperation}
 use Rattle.result_text.specs.declared.replies.Said.{Said}
 use Rattle.ts_sessions.specs.declared.changes.Change.{Change}
 use Rattle.ts_sessions.specs.declared.changes.Change.TheVariants as changes
-use Rattle.ts_sessions.specs.declared.changes.Told.{Told}
+use Rattle.ts_sessions.specs.declared.changes.Completion.{Completion}
 use Rattle.ts_sessions.specs.declared.refreshes.Snapped.{Snapped}
 use Rattle.ts_sessions.specs.declared.refreshes.Snapped.TheVariants as snapped
 use Rattle.ts_sessions.specs.declared.tries.Tried.{Tried}
@@ -18,7 +18,7 @@ use Rattle.ts_sessions.specs.declared.tries.Tried.TheVariants as tried
 use Rattle.ts_sessions.specs.declared.replies.Reply.{Reply as ReplyMade}
 use Rattle.ts_sessions.specs.declared.replies.StepEnd.{StepEnd}
 use Rattle.ts_sessions.specs.declared.replies.StepEnd.TheVariants as steps
-use Rattle.ts_sessions.specs.Deeds.{Deed}
+use Rattle.ts_sessions.specs.Procedures.{Procedure}
 use Rattle.ts_sessions.specs.Walks.{Walks, Breaks}
 use Rattle.ts_sessions.specs.Places.{Block, none, writing, reading, Places, Turn, enters, cuts, holds, gives_up}
 use Rattle.ts_sessions.specs.Held.{block_of, queued, most_queued, HoldsBlock}
@@ -32,17 +32,17 @@ use Rattle.ts_sessions.specs.Step.{Taken, takes_snapshot}
 abbrev pub came : {A : Type 0} → Tried A → Result A Refusal
 came (tried.Done a) = Ok a
 came (tried.Refused r) = Err r
-came (tried.Fell r) = Err r
+came (tried.Failed r) = Err r
 
-abbrev pub has_fallen : {A : Type 0} → Tried A → Bool
-has_fallen (tried.Done a) = false
-has_fallen (tried.Refused r) = false
-has_fallen (tried.Fell r) = true
+abbrev pub has_failed : {A : Type 0} → Tried A → Bool
+has_failed (tried.Done a) = false
+has_failed (tried.Refused r) = false
+has_failed (tried.Failed r) = true
 
--- a call ended with the walk of its deed, or broke off for want of memory
-abbrev pub Tries : {A : Type 0} → Bool → State → Deed (Result A Refusal) → Result (Tried A) NoMemory → State → Type 0
-Tries alone old deed (Ok t) new = Walks alone (has_fallen t) old deed new (came t)
-Tries alone old deed (Err e) new = Breaks alone old deed new
+-- a call ended with the walk of its procedure, or broke off for want of memory
+abbrev pub Tries : {A : Type 0} → Bool → State → Procedure (Result A Refusal) → Result (Tried A) NoMemory → State → Type 0
+Tries alone old procedure (Ok t) new = Walks alone (has_failed t) old procedure new (came t)
+Tries alone old procedure (Err e) new = Breaks alone old procedure new
 
 -- what a snapshot for a refresh came to, where so many rows were read
 abbrev pub taken_as : {J : Type 0} → ℕ → Snapped J → Result Taken Refusal
@@ -123,48 +123,48 @@ BringsLittle (changes.Enters b) = block_of b ≡ none
 BringsLittle (changes.Queues op more) = ⊥
 
 -- what a statement came to, with places that it began with, where so many rows were read
-abbrev pub turn_of : {T J : Type 0} → Places → ℕ → Told T J → Turn Places
+abbrev pub turn_of : {T J : Type 0} → Places → ℕ → Completion T J → Turn Places
 turn_of p read t = record { places = changed t.change p; said = t.said; reads = read }
 
--- a statement ended with the walk of its deed, or broke off for want of memory
-abbrev pub EndsAt : {T J : Type 0} → Bool → State → Deed (Turn Places) → Places → ℕ → Result (Told T J) NoMemory → State → Type 0
-EndsAt alone old deed p read (Ok t) new = Walks alone t.fell old deed new (turn_of p read t)
-EndsAt alone old deed p read (Err e) new = Breaks alone old deed new
+-- a statement ended with the walk of its procedure, or broke off for want of memory
+abbrev pub EndsAt : {T J : Type 0} → Bool → State → Procedure (Turn Places) → Places → ℕ → Result (Completion T J) NoMemory → State → Type 0
+EndsAt alone old procedure p read (Ok t) new = Walks alone t.failed old procedure new (turn_of p read t)
+EndsAt alone old procedure p read (Err e) new = Breaks alone old procedure new
 
 abbrev pub Counts : {A : Type 0} → Result A NoMemory → ℕ → ℕ → ℕ → Type 0
 Counts (Ok a) read before after = after ≡ raised_by read before
 Counts (Err e) read before after = before ≤ after
 
 -- and the rows that it read were counted
-pub record Ends {T J : Type 0} (alone : Bool) (old : State) (deed : Deed (Turn Places)) (p : Places) (result : Result (Told T J) NoMemory) (new : State) (before after : ℕ) : Type 0 where
+pub record Ends {T J : Type 0} (alone : Bool) (old : State) (procedure : Procedure (Turn Places)) (p : Places) (result : Result (Completion T J) NoMemory) (new : State) (before after : ℕ) : Type 0 where
   pub read : ℕ
-  pub ends : EndsAt alone old deed p read result new
+  pub ends : EndsAt alone old procedure p read result new
   pub counted : Counts result read before after
 
 -- what a statement says and changes, and whether the disk failed
-abbrev pub Says : {T J : Type 0} → List Said → Change T J → Bool → Result (Told T J) NoMemory → Type 0
-Says said change fell (Ok t) = (t.said ≡ said) × (t.change ≡ change) × (t.fell ≡ fell)
-Says said change fell (Err e) = ⊤
+abbrev pub Completes : {T J : Type 0} → List Said → Change T J → Bool → Result (Completion T J) NoMemory → Type 0
+Completes said change failed (Ok t) = (t.said ≡ said) × (t.change ≡ change) × (t.failed ≡ failed)
+Completes said change failed (Err e) = ⊤
 
 -- ---- lines
 
--- the reply tells of the walk of the line's deed, whose disk failed or not: its text, the numbers of the events that were made, which it names, and the rows read
-pub record Tells {P : Type 0} (alone fell : Bool) (old : State) (deed : Deed (Turn P)) (name : List ℕ) (reply : ReplyMade) (new : State) (places : P) (before after : ℕ) : Type 0 where
+-- the reply reports the walk of the line's procedure, whose disk failed or not: its text, the numbers of the events that were made, which it names, and the rows read
+pub record Reports {P : Type 0} (alone failed : Bool) (old : State) (procedure : Procedure (Turn P)) (name : List ℕ) (reply : ReplyMade) (new : State) (places : P) (before after : ℕ) : Type 0 where
   -- the lines of the reply, and how many rows were read
   pub said : List Said
   pub read : ℕ
-  pub walks : Walks alone fell old deed new (record { places = places; said = said; reads = read })
+  pub walks : Walks alone failed old procedure new (record { places = places; said = said; reads = read })
   pub text : reply.text ≡ text_of name said
   pub fault : reply.fault ≡ has_fault said
   pub names : reply.events ≡ made_in said
   pub made : new.made ≡ old.made ++ reply.events
   pub counted : after ≡ raised_by read before
 
--- a line of the session with a name did this deed: it is told, told up to where the disk failed and on from there, or broken off for want of memory
-abbrev pub Stepped : {P : Type 0} → Bool → State → Deed (Turn P) → List ℕ → StepEnd → State → P → ℕ → ℕ → Type 0
-Stepped alone old deed name (steps.Reply r) new places before after = Tells alone false old deed name r new places before after
-Stepped alone old deed name (steps.DiskFault r) new places before after = Tells alone true old deed name r new places before after
-Stepped alone old deed name steps.NoMemory new places before after = Breaks alone old deed new × (before ≤ after)
+-- a line of the session with a name did this procedure: its reply reports it whole, or with the place where the disk failed, or it broke off for want of memory
+abbrev pub Stepped : {P : Type 0} → Bool → State → Procedure (Turn P) → List ℕ → StepEnd → State → P → ℕ → ℕ → Type 0
+Stepped alone old procedure name (steps.Reply r) new places before after = Reports alone false old procedure name r new places before after
+Stepped alone old procedure name (steps.DiskFault r) new places before after = Reports alone true old procedure name r new places before after
+Stepped alone old procedure name steps.NoMemory new places before after = Breaks alone old procedure new × (before ≤ after)
 
 -- a reply with the text of these lines, the numbers that they name, and whether one of them is a FAULT
 pub record IsReply (name : List ℕ) (said : List Said) (r : ReplyMade) : Type 0 where
@@ -174,15 +174,15 @@ pub record IsReply (name : List ℕ) (said : List Said) (r : ReplyMade) : Type 0
 
 -- these lines were answered, of a disk that failed or not, unless there was no memory
 abbrev pub AnswersSo : List ℕ → List Said → Bool → StepEnd → Type 0
-AnswersSo name said fell (steps.Reply r) = (fell ≡ false) × IsReply name said r
-AnswersSo name said fell (steps.DiskFault r) = (fell ≡ true) × IsReply name said r
-AnswersSo name said fell steps.NoMemory = ⊤
+AnswersSo name said failed (steps.Reply r) = (failed ≡ false) × IsReply name said r
+AnswersSo name said failed (steps.DiskFault r) = (failed ≡ true) × IsReply name said r
+AnswersSo name said failed steps.NoMemory = ⊤
 
 -- this is the answer, of a disk that failed or not
 abbrev pub IsReplied : Bool → ReplyMade → StepEnd → Type 0
-IsReplied fell r (steps.Reply q) = (fell ≡ false) × (q ≡ r)
-IsReplied fell r (steps.DiskFault q) = (fell ≡ true) × (q ≡ r)
-IsReplied fell r steps.NoMemory = ⊥
+IsReplied failed r (steps.Reply q) = (failed ≡ false) × (q ≡ r)
+IsReplied failed r (steps.DiskFault q) = (failed ≡ true) × (q ≡ r)
+IsReplied failed r steps.NoMemory = ⊥
 
 -- P holds where there was no memory
 abbrev pub IfNoMemory : StepEnd → Type 0 → Type 0

@@ -1,21 +1,21 @@
--- Deeds that say the same over each longer history.
+-- Procedures that say the same over each longer history.
 use Rattle.std.specs.Prelude.{◌≡◌, Bool, true, false}
 use Rattle.ts_model.specs.History.{History, Begins}
-use Rattle.ts_sessions.specs.Deeds.{Deed, sees, adds, ends}
+use Rattle.ts_sessions.specs.Procedures.{Procedure, sees, adds, ends}
 
 -- a look at a history that isn't printed finds, and leads to, what it does at each longer one
-abbrev pub SameLater : {A : Type 0} → (History → Bool) → (History → Deed A) → History → Type 0
+abbrev pub SameLater : {A : Type 0} → (History → Bool) → (History → Procedure A) → History → Type 0
 SameLater shown f h = (g : History) → Begins h g → (shown g ≡ false) × (f g ≡ f h)
 
 -- nothing is left to do
-abbrev pub IsEnded : {A : Type 0} → Deed A → Type 0
+abbrev pub IsEnded : {A : Type 0} → Procedure A → Type 0
 IsEnded (sees shown f) = ⊥
 IsEnded (adds e next stop) = ⊥
 IsEnded (ends a) = Unit {0}
 
--- a deed from a history on: what isn't printed stays and comes last, and each event comes directly after a look that is printed, or after an event.
+-- a procedure from a history on: what isn't printed stays and comes last, and each event comes directly after a look that is printed, or after an event.
 -- fresh: so was the last step
-abbrev pub Steady : {A : Type 0} → Bool → History → Deed A → Type 0
+abbrev pub Steady : {A : Type 0} → Bool → History → Procedure A → Type 0
 Steady fresh base (sees shown f) = (h : History) → Begins base h → (shown h ≡ true → Steady true h (f h)) × (shown h ≡ false → SameLater shown f h × IsEnded (f h))
 Steady fresh base (adds e next stop) = (fresh ≡ true) × Steady true base next × Steady fresh base stop
 Steady fresh base (ends a) = Unit {0}

@@ -34,7 +34,7 @@ use Rattle.result_text.specs.declared.replies.Said.TheVariants as said
 use Rattle.ts_sessions.specs.declared.kinds.Kind.{Kind}
 use Rattle.ts_sessions.specs.declared.kinds.Kind.TheVariants as kinds
 use Rattle.ts_sessions.specs.declared.queries.Plan.{Plan}
-use Rattle.ts_sessions.specs.Deeds.{Deed, sees, looks, ends, followed_by, ending_as, tries_at, tries}
+use Rattle.ts_sessions.specs.Procedures.{Procedure, sees, looks, ends, followed_by, ending_as, tries_at, tries}
 use Rattle.ts_sessions.specs.Places.{Block, none, writing, reading, Places, held_for, enters, cuts, holds, gives_up, Turn, turns, refuses}
 
 -- ---- refusals of the text and of the block
@@ -116,9 +116,9 @@ block_refusal (reading at) kind = refusal_reading kind
 -- ---- events
 
 -- what came of it is said in one line, and the session stays as it is
-abbrev pub told : {A : Type 0} → Places → (A → Said) → Result A Refusal → Turn Places
-told p says (Ok a) = turns p (says a)
-told p says (Err r) = refuses p r
+abbrev pub reported : {A : Type 0} → Places → (A → Said) → Result A Refusal → Turn Places
+reported p line (Ok a) = turns p (line a)
+reported p line (Err r) = refuses p r
 
 -- ---- refreshes
 
@@ -142,13 +142,13 @@ abbrev pub taken : ℕ → History → Result Taken Refusal
 taken c h = taken_of h c (pending h c)
 
 -- the three phases of a refresh, each with one look: its cut, a snapshot, and its finish
-abbrev pub cuts_refresh : ℕ → Option ℤ → Option ℤ → Deed (Result CutDone Refusal)
+abbrev pub cuts_refresh : ℕ → Option ℤ → Option ℤ → Procedure (Result CutDone Refusal)
 cuts_refresh n lo hi = tries (cutting n lo hi)
 
-abbrev pub takes_snapshot : ℕ → Deed (Result Taken Refusal)
+abbrev pub takes_snapshot : ℕ → Procedure (Result Taken Refusal)
 takes_snapshot c = looks (λ h. ends (taken c h))
 
-abbrev pub finishes_refresh : ℕ → ℕ → Deed (Result ℕ Refusal)
+abbrev pub finishes_refresh : ℕ → ℕ → Procedure (Result ℕ Refusal)
 finishes_refresh c at = tries (finishing c at)
 
 -- what a cut is said to have done
@@ -167,18 +167,18 @@ refreshed p c span min t (Ok k) = record { places = p; said = said.Refresh c k t
 refreshed p c span min t (Err r) = cut_refused p c span min r t.reads
 
 -- a refresh goes on after its snapshot
-abbrev pub after_snapshot : Places → ℕ → Span → ℤ → Result Taken Refusal → Deed (Turn Places)
+abbrev pub after_snapshot : Places → ℕ → Span → ℤ → Result Taken Refusal → Procedure (Turn Places)
 after_snapshot p c span min (Ok t) = ending_as (refreshed p c span min t) (finishes_refresh c t.at)
 after_snapshot p c span min (Err r) = ends (cut_refused p c span min r 0)
 
 -- and after its cut
-abbrev pub after_cut : Places → ℤ → Result CutDone Refusal → Deed (Turn Places)
+abbrev pub after_cut : Places → ℤ → Result CutDone Refusal → Procedure (Turn Places)
 after_cut p min (Ok (CutMade c span)) = followed_by (takes_snapshot c) (after_snapshot (cuts c p) c span min)
 after_cut p min (Ok (NothingDone at)) = ends (turns p (said.Nothing at))
 after_cut p min (Err r) = ends (refuses p r)
 
 -- a whole refresh: its phases one after the other
-abbrev pub refreshes : Places → ℕ → Option ℤ → Option ℤ → ℤ → Deed (Turn Places)
+abbrev pub refreshes : Places → ℕ → Option ℤ → Option ℤ → ℤ → Procedure (Turn Places)
 refreshes p n lo hi min = followed_by (cuts_refresh n lo hi) (after_cut p min)
 
 -- a line comes before those of a turn
@@ -186,11 +186,11 @@ abbrev pub after_line : Said → Turn Places → Turn Places
 after_line s t = record t { said = s ∷ t.said }
 
 -- an aggregate with this number was made, or not; with data it is refreshed
-abbrev pub view_made : Places → ℕ → ℤ → ℕ → Bool → Deed (Turn Places)
+abbrev pub view_made : Places → ℕ → ℤ → ℕ → Bool → Procedure (Turn Places)
 view_made p n min k false = ends (turns p (said.View k))
 view_made p n min k true = ending_as (after_line (said.View k)) (refreshes p n None None min)
 
-abbrev pub after_view : Places → ℕ → ViewDef → Bool → Result ℕ Refusal → Deed (Turn Places)
+abbrev pub after_view : Places → ℕ → ViewDef → Bool → Result ℕ Refusal → Procedure (Turn Places)
 after_view p n def filled (Ok k) = view_made p n (first_of def.fold.width) k filled
 after_view p n def filled (Err r) = ends (refuses p r)
 
@@ -224,11 +224,11 @@ abbrev pub finish_turn : Places → ℕ → ℕ → Result ℕ Refusal → Turn 
 finish_turn p c at (Ok k) = turns (gives_up c p) (said.Finish c k at)
 finish_turn p c at (Err r) = refuses p r
 
-abbrev pub finishes_held : Places → History → ℕ → Option ℕ → Deed (Turn Places)
+abbrev pub finishes_held : Places → History → ℕ → Option ℕ → Procedure (Turn Places)
 finishes_held p h c None = ends (refuses p (unfinished NO_SNAPSHOT h (pending h c)))
 finishes_held p h c (Some at) = ending_as (finish_turn p c at) (tries_at h (finishing c at h))
 
-abbrev pub finishes : Places → History → Option ℕ → Deed (Turn Places)
+abbrev pub finishes : Places → History → Option ℕ → Procedure (Turn Places)
 finishes p h None = ends (refuses p (refusal no_refresh h 0))
 finishes p h (Some c) = finishes_held p h c (held_for c p.held)
 
@@ -255,17 +255,17 @@ abbrev pub committed : Places → Places → Result Committed Refusal → Turn P
 committed p after (Ok done) = turns after (said.Commit done)
 committed p after (Err r) = refuses p r
 
-abbrev pub commits : Places → Places → History → List Op → Deed (Turn Places)
+abbrev pub commits : Places → Places → History → List Op → Procedure (Turn Places)
 commits p after h ops = ending_as (committed p after) (tries_at h (committing ops h))
 
 -- an operation from a text of so many bytes: it takes effect, or waits for its block to end
-abbrev pub changes : Places → ℕ → History → Op → Block → Deed (Turn Places)
+abbrev pub changes : Places → ℕ → History → Op → Block → Procedure (Turn Places)
 changes p bytes h op none = commits p p h (op ∷ [])
 changes p bytes h op (writing ops n) = ends (turns (enters (writing (ops ++ op ∷ []) (n + bytes)) p) said.Queued)
 changes p bytes h op (reading at) = commits p p h (op ∷ [])
 
 -- a block ends: the operations of a write block take effect as one commit, if there are any
-abbrev pub closes : Places → History → Block → Deed (Turn Places)
+abbrev pub closes : Places → History → Block → Procedure (Turn Places)
 closes p h none = ends (turns (enters none p) said.End)
 closes p h (writing [] n) = ends (turns (enters none p) said.CommitEmpty)
 closes p h (writing (op ∷ ops) n) = commits p (enters none p) h (op ∷ ops)
@@ -280,11 +280,11 @@ given_up (reading at) = said.End
 -- ---- statements
 
 -- an action from a text of so many bytes, at the history that the statement looks at
-abbrev pub acts : Places → ℕ → History → Action → Deed (Turn Places)
-acts p bytes h (actions.Table def) = ending_as (told p said.Table) (tries_at h (making_table def h))
-acts p bytes h (actions.Hyper t hyper) = ending_as (told p said.Hypertable) (tries_at h (making_hyper t hyper h))
+abbrev pub acts : Places → ℕ → History → Action → Procedure (Turn Places)
+acts p bytes h (actions.Table def) = ending_as (reported p said.Table) (tries_at h (making_table def h))
+acts p bytes h (actions.Hyper t hyper) = ending_as (reported p said.Hypertable) (tries_at h (making_hyper t hyper h))
 acts p bytes h (actions.View def filled) = followed_by (tries_at h (making_view def h)) (after_view p (length (roster h).views) def filled)
-acts p bytes h (actions.Mode n only) = ending_as (told p said.Mode) (tries_at h (setting_mode n only h))
+acts p bytes h (actions.Mode n only) = ending_as (reported p said.Mode) (tries_at h (setting_mode n only h))
 acts p bytes h (actions.Change op) = changes p bytes h op p.block
 acts p bytes h (actions.Refresh n lo hi) = followed_by (tries_at h (cutting n lo hi h)) (after_cut p (least_start (view_of (roster h) n)))
 acts p bytes h (actions.Cut n lo hi) = ending_as (cut_turn p (least_start (view_of (roster h) n))) (tries_at h (cutting n lo hi h))
@@ -297,12 +297,12 @@ acts p bytes h actions.Rollback = ends (turns (enters none p) (given_up p.block)
 acts p bytes h (actions.Ask q) = ends (answers p h (plan_of (roster h) q))
 
 -- a statement whose names and values are refused in a history, or not
-abbrev pub passed : Places → ℕ → History → Stmt → Option Refusal → Deed (Turn Places)
+abbrev pub passed : Places → ℕ → History → Stmt → Option Refusal → Procedure (Turn Places)
 passed p bytes h stmt (Some r) = ends (refuses p r)
 passed p bytes h stmt None = acts p bytes h (action_of (roster h) stmt)
 
 -- a statement whose names are looked at in a history
-abbrev pub named : Places → ℕ → Stmt → History → Deed (Turn Places)
+abbrev pub named : Places → ℕ → Stmt → History → Procedure (Turn Places)
 named p bytes stmt h = passed p bytes h stmt (refusal_of (position h) (roster h) stmt)
 
 -- the history that a session reads: in a read block, as it was when the block began
@@ -326,11 +326,11 @@ makes_event kinds.Commits = false
 makes_event kinds.RollsBack = false
 
 -- a statement that makes an event, outside a block: its names are looked at first, and the reply prints where only if they are refused. Then the event has its own look
-abbrev pub passed_first : Places → ℕ → History → Stmt → Option Refusal → Deed (Turn Places)
+abbrev pub passed_first : Places → ℕ → History → Stmt → Option Refusal → Procedure (Turn Places)
 passed_first p bytes g stmt (Some r) = ends (refuses p r)
 passed_first p bytes g stmt None = looks (λ h. acts p bytes h (action_of (roster g) stmt))
 
-abbrev pub named_first : Places → ℕ → Stmt → Deed (Turn Places)
+abbrev pub named_first : Places → ℕ → Stmt → Procedure (Turn Places)
 named_first p bytes stmt = sees (λ h. is_some (refusal_of (position h) (roster h) stmt)) (λ h. passed_first p bytes h stmt (refusal_of (position h) (roster h) stmt))
 
 -- the reply to any other statement outside a block prints its look, unless it only begins a block
@@ -365,27 +365,27 @@ prints (writing ops n) kind r = prints_writing ops kind r
 prints (reading at) kind r = false
 
 -- any other statement: its one look, and what it does there
-abbrev pub named_here : Places → ℕ → Stmt → Deed (Turn Places)
+abbrev pub named_here : Places → ℕ → Stmt → Procedure (Turn Places)
 named_here p bytes stmt = sees (λ h. prints p.block (kind_of stmt) (refusal_of (position h) (roster h) stmt)) (λ h. named p bytes stmt (read_at p.block h))
 
 -- a statement that its session's block lets pass, from a text of so many bytes
-abbrev pub performs_in : Places → ℕ → Stmt → Block → Deed (Turn Places)
+abbrev pub performs_in : Places → ℕ → Stmt → Block → Procedure (Turn Places)
 performs_in p bytes stmt none = cond (makes_event (kind_of stmt)) (named_first p bytes stmt) (named_here p bytes stmt)
 performs_in p bytes stmt (writing ops n) = named_here p bytes stmt
 performs_in p bytes stmt (reading at) = named_here p bytes stmt
 
-abbrev pub performs : Places → ℕ → Stmt → Deed (Turn Places)
+abbrev pub performs : Places → ℕ → Stmt → Procedure (Turn Places)
 performs p bytes stmt = performs_in p bytes stmt p.block
 
-abbrev pub let_pass : Places → ℕ → Stmt → Option Refusal → Deed (Turn Places)
+abbrev pub let_pass : Places → ℕ → Stmt → Option Refusal → Procedure (Turn Places)
 let_pass p bytes stmt (Some r) = ends (refuses p r)
 let_pass p bytes stmt None = performs p bytes stmt
 
 -- what was read of a text of so many bytes
-abbrev pub reads_as : Places → ℕ → Result (Stmt × Stream) Fault → Deed (Turn Places)
+abbrev pub reads_as : Places → ℕ → Result (Stmt × Stream) Fault → Procedure (Turn Places)
 reads_as p bytes (Ok read) = let_pass p bytes read.0 (block_refusal p.block (kind_of read.0))
 reads_as p bytes (Err f) = ends (refuses p (misread f))
 
 -- a line of a session with these places: its text before the comment, in which a statement stands after the first `skip` bytes
-abbrev pub step : Places → List ℕ → ℕ → Deed (Turn Places)
+abbrev pub step : Places → List ℕ → ℕ → Procedure (Turn Places)
 step p text skip = reads_as p (length text) (statement (stream text skip))

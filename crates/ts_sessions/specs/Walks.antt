@@ -1,8 +1,8 @@
--- How a deed goes over a store that others may change too, and what it comes to over one that is alone.
+-- How a procedure goes over a store that others may change too, and what it comes to over one that is alone.
 use Rattle.std.specs.Prelude.{◌≡◌, Bool, true, false, ◌⊎◌, IsTrue}
 use Rattle.ts_model.specs.History.{History, ◌▸◌}
 use Rattle.ts_model.specs.States.{State, Found, Makes, Fails, stands_still}
-use Rattle.ts_sessions.specs.Deeds.{Deed, sees, adds, ends}
+use Rattle.ts_sessions.specs.Procedures.{Procedure, sees, adds, ends}
 
 -- a look finds what was seen last, or what a call finds
 abbrev pub Sees : Bool → State → State → Type 0
@@ -14,18 +14,18 @@ pub record By (First Rest : State → Type 0) : Type 0 where
   pub first : First mid
   pub rest : Rest mid
 
--- a deed that began at a state came to its end, with the state then and what it ended with.
--- fell: the disk failed at one of its events, and from there on the store stood still
-abbrev pub Walks : {A : Type 0} → Bool → Bool → State → Deed A → State → A → Type 0
-Walks alone fell old (sees shown f) new y = By (Sees alone old) (λ found. Walks alone fell found (f found.history) new y)
-Walks alone fell old (adds e next stop) new y =
-    (IsTrue (stands_still old) × Walks alone fell old stop new y)
-    ⊎ By (Makes e old) (λ mid. Walks alone fell mid next new y)
-    ⊎ ((fell ≡ true) × By (Fails e old) (λ mid. Walks alone false mid stop new y))
-Walks alone fell old (ends a) new y = (fell ≡ false) × (new ≡ old) × (y ≡ a)
+-- a procedure that began at a state came to its end, with the state then and what it ended with.
+-- failed: the disk failed at one of its events, and from there on the store stood still
+abbrev pub Walks : {A : Type 0} → Bool → Bool → State → Procedure A → State → A → Type 0
+Walks alone failed old (sees shown f) new y = By (Sees alone old) (λ found. Walks alone failed found (f found.history) new y)
+Walks alone failed old (adds e next stop) new y =
+    (IsTrue (stands_still old) × Walks alone failed old stop new y)
+    ⊎ By (Makes e old) (λ mid. Walks alone failed mid next new y)
+    ⊎ ((failed ≡ true) × By (Fails e old) (λ mid. Walks alone false mid stop new y))
+Walks alone failed old (ends a) new y = (failed ≡ false) × (new ≡ old) × (y ≡ a)
 
--- a deed that broke off for want of memory, whether the disk had failed before or not: the events that it had made stand
-abbrev pub Breaks : {A : Type 0} → Bool → State → Deed A → State → Type 0
+-- a procedure that broke off for want of memory, whether the disk had failed before or not: the events that it had made stand
+abbrev pub Breaks : {A : Type 0} → Bool → State → Procedure A → State → Type 0
 Breaks alone old (sees shown f) new = By (Sees alone old) (λ found. Breaks alone found (f found.history) new)
 Breaks alone old (adds e next stop) new =
     (new ≡ old)
@@ -34,14 +34,14 @@ Breaks alone old (adds e next stop) new =
     ⊎ By (Fails e old) (λ mid. Breaks alone mid stop new)
 Breaks alone old (ends a) new = new ≡ old
 
--- what a deed leaves of a history that nobody else changes
-abbrev pub history_after : {A : Type 0} → Deed A → History → History
+-- what a procedure leaves of a history that nobody else changes
+abbrev pub history_after : {A : Type 0} → Procedure A → History → History
 history_after (sees shown f) h = history_after (f h) h
 history_after (adds e next stop) h = history_after next (h ▸ e)
 history_after (ends a) h = h
 
 -- and what it ends with
-abbrev pub ending : {A : Type 0} → Deed A → History → A
+abbrev pub ending : {A : Type 0} → Procedure A → History → A
 ending (sees shown f) h = ending (f h) h
 ending (adds e next stop) h = ending next (h ▸ e)
 ending (ends a) h = a

@@ -1,4 +1,4 @@
-//! Who takes part in a script.
+//! Who executes the lines of a session.
 use crate::blocks::Block;
 use crate::replies::StepEnd;
 use crate::sessions::Session;
@@ -7,15 +7,15 @@ use std::thread::Threads;
 use ts_model::{Backend, Gate, Shown};
 use ts_schema::{Name, Steps};
 
-/// One who takes part in a script under a name: a session, or whoever else does something at each of
+/// One that executes the lines of a session: a session, or whoever else does something at each of
 /// its lines, over any store with snapshots of this type.
 pub trait Actor {
     ghost use Rattle.std.specs.Prelude.{◌≡◌, ℕ, ◌+◌, ◌≤◌, List, length};
     ghost use Rattle.std.specs.Thread.{IsSync};
     ghost use Rattle.ts_model.specs.States.{State};
     ghost use Rattle.ts_sessions.specs.Held.{GoesOn, most_queued};
-    ghost use Rattle.ts_sessions.specs.Places.{Block as BlockPlace, stage_of};
-    ghost use Rattle.ts_sessions.specs.Script.{Play};
+    ghost use Rattle.ts_sessions.specs.Places.{Block as BlockPlace, block_kind};
+    ghost use Rattle.ts_sessions.specs.Script.{Semantics};
     ghost use Rattle.ts_sessions.specs.Sessions.{IfAnswered, Stepped};
 
     /// The snapshots of the stores that it acts on.
@@ -25,7 +25,7 @@ pub trait Actor {
     ghost Places: { Type 0 };
 
     // What its lines do.
-    ghost play: { Play Self.Places };
+    ghost semantics: { Semantics Self.Places };
 
     ghost places: { Self → Self.Places };
 
@@ -42,12 +42,12 @@ pub trait Actor {
     // What it holds goes with what its store has seen, and with whether that stands still.
     ghost holds: { Self → State → Type 0 };
 
-    /// One that says its first line. Those who take part are numbered from 0 in order of appearance. It
+    /// One before its first line. Sessions are numbered from 0 in order of appearance. It
     /// takes no memory.
     fn begin(alloc: Global, name: Name, number: u32) -> Self
         ensures name { Self.named result ≡ name }
         ensures number { Self.numbered result ≡ number }
-        ensures places { Self.places result ≡ Self.play.opening number }
+        ensures places { Self.places result ≡ Self.semantics.opening number }
         ensures waiting { Self.waiting result ≡ 0 }
         ensures holds { (s : State) → Self.holds result s };
 
@@ -61,7 +61,7 @@ pub trait Actor {
 
     /// The block that it is in.
     fn block(&self) -> Block
-        ensures { result ≡ stage_of (Self.within (Self.places self.now)) };
+        ensures { result ≡ block_kind (Self.within (Self.places self.now)) };
 
     /// Does what a line asks for. `text` is the line before its comment, and its statement stands after
     /// the first `skip` bytes. It may be called again after a disk fault.
@@ -80,7 +80,7 @@ pub trait Actor {
         requires within { skip ≤ length text.now }
         requires room { Self.waiting self.old + length text.now ≤ most_queued }
         requires holds { Self.holds self.old (B.state backend.old) }
-        ensures stepped { Stepped B.alone (B.state backend.old) (Self.play.does (Self.places self.old) text.now skip) (Self.named self.old) result (B.state backend.new) (Self.places self.new) steps.old steps.new }
+        ensures stepped { Stepped B.alone (B.state backend.old) (Self.semantics.does (Self.places self.old) text.now skip) (Self.named self.old) result (B.state backend.new) (Self.places self.new) steps.old steps.new }
         ensures name { Self.named self.new ≡ Self.named self.old }
         ensures number { Self.numbered self.new ≡ Self.numbered self.old }
         ensures waiting { Self.waiting self.new ≤ Self.waiting self.old + length text.now }
@@ -96,14 +96,14 @@ where
 {
     ghost use Rattle.ts_sessions.specs.Held.{HoldsOf, places_in, queued as queued_in};
     ghost use Rattle.ts_sessions.specs.Places.{Places};
-    ghost use Rattle.ts_sessions.specs.Script.{session_play};
+    ghost use Rattle.ts_sessions.specs.Script.{session_semantics};
     ghost use Rattle.ts_sessions.specs.Holding.{holds_on as goes_on};
 
     type Shot = T;
 
     ghost Places = { Places };
 
-    ghost play = { session_play };
+    ghost semantics = { session_semantics };
 
     ghost places = { λ s. places_in s };
 

@@ -1,7 +1,7 @@
 //! Blocks.
 ghost use Rattle.std.specs.Prelude.{◌≡◌, ◌+◌, ◌≤◌, OnOk, OnErr};
 ghost use Rattle.ts_sessions.specs.Held.{block_of, most_queued, pushed, queued as queued_in};
-ghost use Rattle.ts_sessions.specs.Places.{stage_of};
+ghost use Rattle.ts_sessions.specs.Places.{block_kind};
 ghost use Rattle.ts_sessions.specs.Sessions.{queued_on};
 ghost use Rattle.ts_sessions.specs.Step.{block_refusal, refusal_outside, refusal_reading, refusal_writing};
 
@@ -50,7 +50,7 @@ pub enum Open<T> {
 impl<T> Open<T> {
     /// Which block it is.
     pub(crate) fn stage(&self) -> Block
-        ensures { result ≡ stage_of (block_of self.now) }
+        ensures { result ≡ block_kind (block_of self.now) }
     {
         match self {
             Open::Nothing => Block::Outside,

@@ -1,7 +1,7 @@
 //! What statements say, and how they change a session.
 ghost use Rattle.std.specs.Prelude.{◌≡◌, ◌∷◌, [], false, true};
 ghost use Rattle.result_text.specs.declared.replies.Said.TheVariants.{Fault};
-ghost use Rattle.ts_sessions.specs.Sessions.{Says};
+ghost use Rattle.ts_sessions.specs.Sessions.{Completes};
 
 use crate::blocks::Open;
 use result_text::Said;
@@ -31,7 +31,7 @@ where
 
 /// What a statement came to.
 #[derive(Drop)]
-pub(crate) struct Told<T: Shown>
+pub(crate) struct Completion<T: Shown>
 where
     T::Job: Drop,
 {
@@ -40,79 +40,88 @@ where
     /// How it changes its session.
     pub change: Change<T>,
     /// Whether the disk failed at one of its events.
-    pub fell: bool,
+    pub failed: bool,
 }
 
 /// A statement says one line, and changes its session.
-pub(crate) fn says_so<T: Shown + Drop>(
+pub(crate) fn reply_with<T: Shown + Drop>(
     alloc: Global,
     said: Said,
     change: Change<T>,
-) -> Result<Told<T>, NoMemory>
+) -> Result<Completion<T>, NoMemory>
 where
     T::Job: Drop,
-    ensures { Says (said ∷ []) change false result }
+    ensures { Completes (said ∷ []) change false result }
 {
     let mut lines = Seq::new(alloc);
     lines.push(said)?;
-    Ok(Told {
+    Ok(Completion {
         said: lines,
         change,
-        fell: false,
+        failed: false,
     })
 }
 
 /// A statement says one line.
-pub(crate) fn says<T: Shown + Drop>(alloc: Global, said: Said) -> Result<Told<T>, NoMemory>
+pub(crate) fn reply_line<T: Shown + Drop>(
+    alloc: Global,
+    said: Said,
+) -> Result<Completion<T>, NoMemory>
 where
     T::Job: Drop,
-    ensures { Says (said ∷ []) Change.Nothing false result }
+    ensures { Completes (said ∷ []) Change.Nothing false result }
 {
-    says_so(alloc, said, Change::Nothing)
+    reply_with(alloc, said, Change::Nothing)
 }
 
 /// A statement is refused.
-pub(crate) fn refused<T: Shown + Drop>(alloc: Global, refusal: Refusal) -> Result<Told<T>, NoMemory>
+pub(crate) fn refused<T: Shown + Drop>(
+    alloc: Global,
+    refusal: Refusal,
+) -> Result<Completion<T>, NoMemory>
 where
     T::Job: Drop,
-    ensures { Says (Fault refusal ∷ []) Change.Nothing false result }
+    ensures { Completes (Fault refusal ∷ []) Change.Nothing false result }
 {
-    says(alloc, Said::Fault(refusal))
+    reply_line(alloc, Said::Fault(refusal))
 }
 
 /// The disk failed at the event of a statement, and the store stands still.
-pub(crate) fn fell<T: Shown + Drop>(alloc: Global, refusal: Refusal) -> Result<Told<T>, NoMemory>
+pub(crate) fn failed<T: Shown + Drop>(
+    alloc: Global,
+    refusal: Refusal,
+) -> Result<Completion<T>, NoMemory>
 where
     T::Job: Drop,
-    ensures { Says (Fault refusal ∷ []) Change.Nothing true result }
+    ensures { Completes (Fault refusal ∷ []) Change.Nothing true result }
 {
     let mut lines = Seq::new(alloc);
     lines.push(Said::Fault(refusal))?;
-    Ok(Told {
+    Ok(Completion {
         said: lines,
         change: Change::Nothing,
-        fell: true,
+        failed: true,
     })
 }
 
-/// A statement says what it did first, and is then refused, or fell.
+/// A statement says what it did first, and is then refused, or the disk failed.
 pub(crate) fn broken_off<T: Shown + Drop>(
     alloc: Global,
     did: Said,
     refusal: Refusal,
     change: Change<T>,
-    fell: bool,
-) -> Result<Told<T>, NoMemory>
+    failed: bool,
+) -> Result<Completion<T>, NoMemory>
 where
     T::Job: Drop,
-    ensures { Says (did ∷ Fault refusal ∷ []) change fell result }
+    ensures { Completes (did ∷ Fault refusal ∷ []) change failed result }
 {
     let mut lines = Seq::new(alloc);
     lines.push(did)?;
     lines.push(Said::Fault(refusal))?;
-    Ok(Told {
+    Ok(Completion {
         said: lines,
         change,
-        fell,
+        failed,
     })
 }

@@ -6,15 +6,15 @@ ghost use Rattle.ts_model.specs.Calls.{no_refresh, refusal};
 ghost use Rattle.ts_model.specs.States.{State};
 ghost use Rattle.stmt_check.specs.Sound.{IsQueue};
 ghost use Rattle.stmt_reader.specs.declared.statements.Stmt.TheVariants as stmts;
-ghost use Rattle.ts_sessions.specs.Deeds.{ending_as, ends, looks};
+ghost use Rattle.ts_sessions.specs.Procedures.{ending_as, ends, looks};
 ghost use Rattle.ts_sessions.specs.Held.{HoldsBlock, HoldsOf, is_lost, most_queued, places_in};
 ghost use Rattle.ts_sessions.specs.Places.{Places, held_for, none, refuses, writing};
-ghost use Rattle.ts_sessions.specs.Sessions.{BringsLittle, BringsNothing, ChangeHolds, Ends, EndsAt, Says, Spares};
+ghost use Rattle.ts_sessions.specs.Sessions.{BringsLittle, BringsNothing, ChangeHolds, Ends, EndsAt, Completes, Spares};
 ghost use Rattle.ts_sessions.specs.Jobs.{TakesJob, took_of};
 ghost use Rattle.ts_sessions.specs.Step.{finish_turn, finishes, finishes_held, finishes_refresh, performs, refresh_meant, snap_turn, snaps, takes_snapshot, unfinished};
 
 use crate::blocks::{Open, Queue};
-use crate::changes::{Change, Told, fell, refused, says_so};
+use crate::changes::{Change, Completion, failed, refused, reply_with};
 use crate::events::commit;
 use crate::refreshes::{Snapped, finish, take_snapshot};
 use crate::refusals::at;
@@ -38,13 +38,13 @@ enum Held<J> {
 }
 
 /// Begins a write block.
-pub(crate) fn begin<T: Shown + Drop>(alloc: Global) -> Result<Told<T>, NoMemory>
+pub(crate) fn begin<T: Shown + Drop>(alloc: Global) -> Result<Completion<T>, NoMemory>
 where
     T::Job: Drop,
     ensures ends { (alone : Bool) (s : State) (p : Places) (bytes : ℕ) → EndsAt alone s (performs p bytes stmts.Begin) p 0 result s }
     ensures change { (s : State) (bytes : ℕ) → IfOk result (λ t. ChangeHolds T.stands T.fits T.cut_of T.snap_of bytes t.change s.history) }
 {
-    says_so(
+    reply_with(
         alloc,
         Said::Begin,
         Change::Enters(Open::Write(no_queue(alloc))),
@@ -65,7 +65,7 @@ fn no_queue(alloc: Global) -> Queue
 pub(crate) fn begin_read<B: Backend>(
     alloc: Global,
     backend: &mut B,
-) -> Result<Told<B::Shot>, NoMemory>
+) -> Result<Completion<B::Shot>, NoMemory>
 where
     <B::Shot as Shown>::Job: Drop,
     ensures ends { (p : Places) (bytes : ℕ) → p.block ≡ none → EndsAt B.alone (B.state backend.old) (performs p bytes stmts.BeginRead) p 0 result (B.state backend.new) }
@@ -74,7 +74,7 @@ where
 {
     let shot = backend.snap()?;
     let at = shot.position();
-    says_so(
+    reply_with(
         alloc,
         Said::BeginRead(at),
         Change::Enters(Open::Read { at, shot }),
@@ -82,12 +82,12 @@ where
 }
 
 /// What is said where a block is given up or ends with nothing to do.
-fn leaves<T: Shown + Drop>(alloc: Global, said: Said) -> Result<Told<T>, NoMemory>
+fn leaves<T: Shown + Drop>(alloc: Global, said: Said) -> Result<Completion<T>, NoMemory>
 where
     T::Job: Drop,
-    ensures { Says (said ∷ []) (Change.Enters Open.Nothing) false result }
+    ensures { Completes (said ∷ []) (Change.Enters Open.Nothing) false result }
 {
-    says_so(alloc, said, Change::Enters(Open::Nothing))
+    reply_with(alloc, said, Change::Enters(Open::Nothing))
 }
 
 impl<T: Shown + Drop> Session<T>
@@ -99,7 +99,7 @@ where
         &self,
         alloc: Global,
         backend: &mut B,
-    ) -> Result<Told<T>, NoMemory>
+    ) -> Result<Completion<T>, NoMemory>
         requires block { HoldsBlock T.stands self.now.block (B.state backend.old).history }
         ensures ends { (bytes : ℕ) → EndsAt B.alone (B.state backend.old) (performs (places_in self.now) bytes stmts.Commit) (places_in self.now) 0 result (B.state backend.new) }
         ensures change { IfOk result (λ t. BringsLittle t.change) }
@@ -113,7 +113,7 @@ where
     }
 
     /// Gives a block up.
-    pub(crate) fn roll_back(&self, alloc: Global) -> Result<Told<T>, NoMemory>
+    pub(crate) fn roll_back(&self, alloc: Global) -> Result<Completion<T>, NoMemory>
         ensures ends { (alone : Bool) (s : State) (bytes : ℕ) → EndsAt alone s (performs (places_in self.now) bytes stmts.Rollback) (places_in self.now) 0 result s }
         ensures change { IfOk result (λ t. BringsLittle t.change) }
     {
@@ -132,7 +132,7 @@ where
         backend: &mut B,
         number: Option<i64>,
         steps: &mut Steps<L>,
-    ) -> Result<Told<T>, NoMemory>
+    ) -> Result<Completion<T>, NoMemory>
         requires sync { IsSync R.row }
         requires counts { steps.old < 2 ^ 64 }
         ensures ends { Ends B.alone (B.state backend.old) (looks (λ h. ends (snaps (places_in self.now) h (refresh_meant (places_in self.now) number)))) (places_in self.now) result (B.state backend.new) steps.old steps.new }
@@ -152,7 +152,7 @@ where
         backend: &mut B,
         gate: &G,
         number: Option<i64>,
-    ) -> Result<Told<T>, NoMemory>
+    ) -> Result<Completion<T>, NoMemory>
         requires holds { HoldsOf T.stands T.fits T.cut_of T.snap_of self.old (B.state backend.old) }
         ensures ends { EndsAt B.alone (B.state backend.old) (looks (λ h. finishes (places_in self.old) h (refresh_meant (places_in self.old) number))) (places_in self.old) 0 result (B.state backend.new) }
         ensures change { IfOk result (λ t. BringsNothing t.change) }
@@ -176,7 +176,7 @@ where
         backend: &mut B,
         gate: &G,
         cut: u64,
-    ) -> Result<Told<T>, NoMemory>
+    ) -> Result<Completion<T>, NoMemory>
         requires holds { HoldsOf T.stands T.fits T.cut_of T.snap_of self.old (B.state backend.old) }
         ensures ends { EndsAt B.alone (B.state backend.old) (looks (λ h. finishes_held (places_in self.old) h cut (held_for cut (places_in self.old).held))) (places_in self.old) 0 result (B.state backend.new) }
         ensures change { IfOk result (λ t. BringsNothing t.change) }
@@ -190,7 +190,7 @@ where
         match self.take_job(cut) {
             Held::Job { at, job } => {
                 match finish_job(alloc, backend, gate, self.number, cut, at, job) {
-                    Ok(told) => Ok(told),
+                    Ok(completion) => Ok(completion),
                     Err(NoMemory) => {
                         self.forget(cut);
                         Err(NoMemory)
@@ -232,7 +232,7 @@ fn commit_queue<B: Backend>(
     alloc: Global,
     backend: &mut B,
     queue: &Queue,
-) -> Result<Told<B::Shot>, NoMemory>
+) -> Result<Completion<B::Shot>, NoMemory>
 where
     <B::Shot as Shown>::Job: Drop,
     requires sound { IsQueue (B.state backend.old).history queue.now.bytes queue.now.ops }
@@ -252,7 +252,7 @@ fn commit_some<B: Backend>(
     alloc: Global,
     backend: &mut B,
     queue: &Queue,
-) -> Result<Told<B::Shot>, NoMemory>
+) -> Result<Completion<B::Shot>, NoMemory>
 where
     <B::Shot as Shown>::Job: Drop,
     requires sound { IsQueue (B.state backend.old).history queue.now.bytes queue.now.ops }
@@ -266,7 +266,7 @@ where
     match commit(backend, ops)? {
         Tried::Done(done) => leaves(alloc, Said::Commit(done)),
         Tried::Refused(refusal) => refused(alloc, refusal),
-        Tried::Fell(refusal) => fell(alloc, refusal),
+        Tried::Failed(refusal) => failed(alloc, refusal),
     }
 }
 
@@ -277,7 +277,7 @@ fn hold<R: Threads + Sync, B: Backend, L>(
     backend: &mut B,
     cut: u64,
     steps: &mut Steps<L>,
-) -> Result<Told<B::Shot>, NoMemory>
+) -> Result<Completion<B::Shot>, NoMemory>
 where
     <B::Shot as Shown>::Job: Drop,
     requires sync { IsSync R.row }
@@ -289,7 +289,7 @@ where
     match take_snapshot(rt, backend, cut, steps)? {
         Snapped::Taken { at, job } => {
             let said = Said::Snap { cut, snap: at };
-            says_so(alloc, said, Change::Holds { cut, at, job })
+            reply_with(alloc, said, Change::Holds { cut, at, job })
         }
         Snapped::Refused(refusal) => refused(alloc, refusal),
     }
@@ -304,7 +304,7 @@ fn finish_job<B: Backend, G: Gate>(
     cut: u64,
     at: u64,
     job: <B::Shot as Shown>::Job,
-) -> Result<Told<B::Shot>, NoMemory>
+) -> Result<Completion<B::Shot>, NoMemory>
 where
     <B::Shot as Shown>::Job: Drop,
     requires fits { B.Shot.fits job (B.state backend.old).history }
@@ -318,15 +318,18 @@ where
     match finish(backend, gate, session, job)? {
         Tried::Done(pos) => {
             let said = Said::Finish { cut, pos, snap: at };
-            says_so(alloc, said, Change::GivesUp(cut))
+            reply_with(alloc, said, Change::GivesUp(cut))
         }
         Tried::Refused(refusal) => refused(alloc, refusal),
-        Tried::Fell(refusal) => fell(alloc, refusal),
+        Tried::Failed(refusal) => failed(alloc, refusal),
     }
 }
 
 /// A refresh without a number, of a session that has cut none.
-fn refuse_unknown<B: Backend>(alloc: Global, backend: &mut B) -> Result<Told<B::Shot>, NoMemory>
+fn refuse_unknown<B: Backend>(
+    alloc: Global,
+    backend: &mut B,
+) -> Result<Completion<B::Shot>, NoMemory>
 where
     <B::Shot as Shown>::Job: Drop,
     ensures ends { (p : Places) → EndsAt B.alone (B.state backend.old) (looks (λ h. ends (refuses p (refusal no_refresh h 0)))) p 0 result (B.state backend.new) }
@@ -344,7 +347,7 @@ fn refuse_finish<B: Backend>(
     backend: &mut B,
     cut: u64,
     waiting: u8,
-) -> Result<Told<B::Shot>, NoMemory>
+) -> Result<Completion<B::Shot>, NoMemory>
 where
     <B::Shot as Shown>::Job: Drop,
     ensures ends { (p : Places) → EndsAt B.alone (B.state backend.old) (looks (λ h. ends (refuses p (unfinished waiting h (pending h cut))))) p 0 result (B.state backend.new) }

@@ -7,13 +7,13 @@ ghost use Rattle.ts_model.specs.Sound.{sound};
 ghost use Rattle.ts_model.specs.Calls.{committing, making_hyper, making_table, making_view, setting_mode};
 ghost use Rattle.ts_model.specs.Roster.{roster, view_named, view_of};
 ghost use Rattle.result_text.specs.declared.replies.Said.TheVariants as said;
-ghost use Rattle.ts_sessions.specs.Deeds.{ending_as, followed_by, looks, tries, tries_at};
+ghost use Rattle.ts_sessions.specs.Procedures.{ending_as, followed_by, looks, tries, tries_at};
 ghost use Rattle.ts_sessions.specs.Places.{Places};
 ghost use Rattle.ts_sessions.specs.Sessions.{BringsNothing, Ends, EndsAt, Tries};
 ghost use Rattle.ts_sessions.specs.Sound.{number_from, view_number as number_of};
-ghost use Rattle.ts_sessions.specs.Step.{after_line, after_view, committed, refreshes, told, view_made};
+ghost use Rattle.ts_sessions.specs.Step.{after_line, after_view, committed, refreshes, reported, view_made};
 
-use crate::changes::{Change, Told, fell, refused, says};
+use crate::changes::{Change, Completion, failed, refused, reply_line};
 use crate::refreshes::{Asked, refresh};
 use crate::tries::{Tried, answered};
 use result_text::Said;
@@ -24,80 +24,80 @@ use ts_model::{Backend, Committed, Gate, Hyper, Op, Shown, TableDef, ViewDef};
 use ts_schema::{Name, NoMemory, Seq, Steps};
 
 /// Makes a table.
-#[tactic(auto, using(crate::proofs::CallWalks::called_tries, crate::proofs::CallWalks::says_ends, crate::proofs::WalkLaws::breaks_first))]
+#[tactic(auto, using(crate::proofs::CallWalks::called_tries, crate::proofs::CallWalks::completes_ends, crate::proofs::WalkLaws::breaks_first))]
 pub(crate) fn make_table<B: Backend>(
     alloc: Global,
     backend: &mut B,
     def: TableDef,
-) -> Result<Told<B::Shot>, NoMemory>
+) -> Result<Completion<B::Shot>, NoMemory>
 where
     <B::Shot as Shown>::Job: Drop,
     requires { IsTrue (sound (B.state backend.old).history (Table def)) }
-    ensures ends { (p : Places) → EndsAt B.alone (B.state backend.old) (ending_as (told p said.Table) (tries (making_table def))) p 0 result (B.state backend.new) }
+    ensures ends { (p : Places) → EndsAt B.alone (B.state backend.old) (ending_as (reported p said.Table) (tries (making_table def))) p 0 result (B.state backend.new) }
     ensures change { IfOk result (λ t. BringsNothing t.change) }
     ensures kin { B.kin backend.new ≡ B.kin backend.old }
 {
     let outcome = backend.make_table(def);
     match answered(outcome, backend.position())? {
-        Tried::Done(number) => says(alloc, Said::Table(number)),
+        Tried::Done(number) => reply_line(alloc, Said::Table(number)),
         Tried::Refused(refusal) => refused(alloc, refusal),
-        Tried::Fell(refusal) => fell(alloc, refusal),
+        Tried::Failed(refusal) => failed(alloc, refusal),
     }
 }
 
 /// Makes a table a hypertable.
-#[tactic(auto, using(crate::proofs::CallWalks::called_tries, crate::proofs::CallWalks::says_ends, crate::proofs::WalkLaws::breaks_first))]
+#[tactic(auto, using(crate::proofs::CallWalks::called_tries, crate::proofs::CallWalks::completes_ends, crate::proofs::WalkLaws::breaks_first))]
 pub(crate) fn make_hyper<B: Backend>(
     alloc: Global,
     backend: &mut B,
     table: u32,
     hyper: Hyper,
-) -> Result<Told<B::Shot>, NoMemory>
+) -> Result<Completion<B::Shot>, NoMemory>
 where
     <B::Shot as Shown>::Job: Drop,
     requires { IsTrue (sound (B.state backend.old).history (HyperMade table hyper)) }
-    ensures ends { (p : Places) → EndsAt B.alone (B.state backend.old) (ending_as (told p said.Hypertable) (tries (making_hyper table hyper))) p 0 result (B.state backend.new) }
+    ensures ends { (p : Places) → EndsAt B.alone (B.state backend.old) (ending_as (reported p said.Hypertable) (tries (making_hyper table hyper))) p 0 result (B.state backend.new) }
     ensures change { IfOk result (λ t. BringsNothing t.change) }
     ensures kin { B.kin backend.new ≡ B.kin backend.old }
 {
     let outcome = backend.make_hyper(table, hyper);
     match answered(outcome, backend.position())? {
-        Tried::Done(number) => says(alloc, Said::Hypertable(number)),
+        Tried::Done(number) => reply_line(alloc, Said::Hypertable(number)),
         Tried::Refused(refusal) => refused(alloc, refusal),
-        Tried::Fell(refusal) => fell(alloc, refusal),
+        Tried::Failed(refusal) => failed(alloc, refusal),
     }
 }
 
 /// Sets the mode of an aggregate.
-#[tactic(auto, using(crate::proofs::CallWalks::called_tries, crate::proofs::CallWalks::says_ends, crate::proofs::WalkLaws::breaks_first))]
+#[tactic(auto, using(crate::proofs::CallWalks::called_tries, crate::proofs::CallWalks::completes_ends, crate::proofs::WalkLaws::breaks_first))]
 pub(crate) fn set_mode<B: Backend>(
     alloc: Global,
     backend: &mut B,
     view: u32,
     only: bool,
-) -> Result<Told<B::Shot>, NoMemory>
+) -> Result<Completion<B::Shot>, NoMemory>
 where
     <B::Shot as Shown>::Job: Drop,
     requires { IsTrue (sound (B.state backend.old).history (Mode view only)) }
-    ensures ends { (p : Places) → EndsAt B.alone (B.state backend.old) (ending_as (told p said.Mode) (tries (setting_mode view only))) p 0 result (B.state backend.new) }
+    ensures ends { (p : Places) → EndsAt B.alone (B.state backend.old) (ending_as (reported p said.Mode) (tries (setting_mode view only))) p 0 result (B.state backend.new) }
     ensures change { IfOk result (λ t. BringsNothing t.change) }
     ensures kin { B.kin backend.new ≡ B.kin backend.old }
 {
     let outcome = backend.set_mode(view, only);
     match answered(outcome, backend.position())? {
-        Tried::Done(number) => says(alloc, Said::Mode(number)),
+        Tried::Done(number) => reply_line(alloc, Said::Mode(number)),
         Tried::Refused(refusal) => refused(alloc, refusal),
-        Tried::Fell(refusal) => fell(alloc, refusal),
+        Tried::Failed(refusal) => failed(alloc, refusal),
     }
 }
 
 /// Lets one operation take effect.
-#[tactic(auto, using(crate::proofs::CallWalks::says_ends, crate::proofs::WalkLaws::breaks_first, crate::proofs::WalkLaws::not_begun))]
+#[tactic(auto, using(crate::proofs::CallWalks::completes_ends, crate::proofs::WalkLaws::breaks_first, crate::proofs::WalkLaws::not_begun))]
 pub(crate) fn change<B: Backend>(
     alloc: Global,
     backend: &mut B,
     op: Op,
-) -> Result<Told<B::Shot>, NoMemory>
+) -> Result<Completion<B::Shot>, NoMemory>
 where
     <B::Shot as Shown>::Job: Drop,
     requires { IsTrue (sound (B.state backend.old).history (Commit (op ∷ []))) }
@@ -112,12 +112,12 @@ where
 }
 
 /// Lets the operations of a statement outside a block take effect.
-#[tactic(auto, using(crate::proofs::CallWalks::says_ends, crate::proofs::WalkLaws::breaks_first))]
+#[tactic(auto, using(crate::proofs::CallWalks::completes_ends, crate::proofs::WalkLaws::breaks_first))]
 fn commit_alone<B: Backend>(
     alloc: Global,
     backend: &mut B,
     ops: Seq<Op>,
-) -> Result<Told<B::Shot>, NoMemory>
+) -> Result<Completion<B::Shot>, NoMemory>
 where
     <B::Shot as Shown>::Job: Drop,
     requires { IsTrue (sound (B.state backend.old).history (Commit ops)) }
@@ -126,14 +126,14 @@ where
     ensures kin { B.kin backend.new ≡ B.kin backend.old }
 {
     match commit(backend, ops)? {
-        Tried::Done(done) => says(alloc, Said::Commit(done)),
+        Tried::Done(done) => reply_line(alloc, Said::Commit(done)),
         Tried::Refused(refusal) => refused(alloc, refusal),
-        Tried::Fell(refusal) => fell(alloc, refusal),
+        Tried::Failed(refusal) => failed(alloc, refusal),
     }
 }
 
 /// Lets operations take effect.
-#[tactic(auto, using(crate::proofs::CallWalks::called_tries, crate::proofs::CallWalks::says_ends, crate::proofs::WalkLaws::breaks_first))]
+#[tactic(auto, using(crate::proofs::CallWalks::called_tries, crate::proofs::CallWalks::completes_ends, crate::proofs::WalkLaws::breaks_first))]
 pub(crate) fn commit<B: Backend>(
     backend: &mut B,
     ops: Seq<Op>,
@@ -166,7 +166,7 @@ pub(crate) fn make_view<R: Threads + Sync, B: Backend, G: Gate, L>(
     def: ViewDef,
     filled: bool,
     steps: &mut Steps<L>,
-) -> Result<Told<B::Shot>, NoMemory>
+) -> Result<Completion<B::Shot>, NoMemory>
 where
     <B::Shot as Shown>::Job: Drop,
     requires sync { IsSync R.row }
@@ -185,7 +185,7 @@ where
             )
         }
         Tried::Refused(refusal) => refused(alloc, refusal),
-        Tried::Fell(refusal) => fell(alloc, refusal),
+        Tried::Failed(refusal) => failed(alloc, refusal),
     }
 }
 
@@ -220,7 +220,7 @@ fn view_is_made<R: Threads + Sync, B: Backend, G: Gate, L>(
     new: &NewView,
     number: u64,
     steps: &mut Steps<L>,
-) -> Result<Told<B::Shot>, NoMemory>
+) -> Result<Completion<B::Shot>, NoMemory>
 where
     <B::Shot as Shown>::Job: Drop,
     requires sync { IsSync R.row }
@@ -235,7 +235,7 @@ where
 {
     match filled {
         true => fill(rt, alloc, backend, gate, session, new, number, steps),
-        false => says(alloc, Said::View(number)),
+        false => reply_line(alloc, Said::View(number)),
     }
 }
 
@@ -249,7 +249,7 @@ fn fill<R: Threads + Sync, B: Backend, G: Gate, L>(
     new: &NewView,
     number: u64,
     steps: &mut Steps<L>,
-) -> Result<Told<B::Shot>, NoMemory>
+) -> Result<Completion<B::Shot>, NoMemory>
 where
     <B::Shot as Shown>::Job: Drop,
     requires sync { IsSync R.row }
@@ -265,8 +265,8 @@ where
     let shot = backend.snap()?;
     let view = view_number(shot.roster().views.items(), &new.name);
     let asked = all_of(view, &new.width);
-    let told = refresh(rt, alloc, backend, gate, session, &asked, steps)?;
-    lead(told, Said::View(number))
+    let completion = refresh(rt, alloc, backend, gate, session, &asked, steps)?;
+    lead(completion, Said::View(number))
 }
 
 /// A refresh of all that there is, of the aggregate with a number and a width.
@@ -298,19 +298,19 @@ fn view_number(views: &[ViewDef], name: &Name) -> u32
     number
 }
 
-/// What was told, after a line that comes first.
-fn lead<T: Shown + Drop>(told: Told<T>, line: Said) -> Result<Told<T>, NoMemory>
+/// A completion with a line that comes first.
+fn lead<T: Shown + Drop>(completion: Completion<T>, line: Said) -> Result<Completion<T>, NoMemory>
 where
     T::Job: Drop,
-    ensures said { IfOk result (λ t. t.said ≡ line ∷ told.said) }
-    ensures change { IfOk result (λ t. t.change ≡ told.change) }
-    ensures fell { IfOk result (λ t. t.fell ≡ told.fell) }
+    ensures said { IfOk result (λ t. t.said ≡ line ∷ completion.said) }
+    ensures change { IfOk result (λ t. t.change ≡ completion.change) }
+    ensures failed { IfOk result (λ t. t.failed ≡ completion.failed) }
 {
-    let mut lines = told.said.into_items();
+    let mut lines = completion.said.into_items();
     lines.insert(0, line)?;
-    Ok(Told {
+    Ok(Completion {
         said: Seq::of(lines),
-        change: told.change,
-        fell: told.fell,
+        change: completion.change,
+        failed: completion.failed,
     })
 }

@@ -2,33 +2,33 @@
 ghost use Rattle.ts_sessions.specs.LineLaws.{NamesStay, RepliesAreSteady, StepsAreReplies};
 ghost use Rattle.ts_sessions.specs.Laws.{GivesEvents, GivesOverLonger, LastIsPrinted, PrintedLooksDetermine, PutTogether, WalksAreGiven};
 
-/// A deed that was walked, and then the deed that follows it, are the walk of both.
-pub fn deeds_are_put_together<A, B>()
+/// A procedure that was walked, and then the procedure that follows it, are the walk of both.
+pub fn procedures_are_put_together<A, B>()
     ensures { PutTogether A B }
 {}
 
-/// What a deed gives over a history it gives over each longer one, also over one whose store stopped
+/// What a procedure gives over a history it gives over each longer one, also over one whose store stopped
 /// later.
-pub fn deeds_give_the_same_over_longer_histories<A>()
+pub fn procedures_give_the_same_over_longer_histories<A>()
     ensures { GivesOverLonger A }
 {}
 
-/// The last position of a deed is its last printed look, or its last event where that is later.
+/// The last position of a procedure is its last printed look, or its last event where that is later.
 pub fn the_last_position_is_printed<A>()
     ensures { LastIsPrinted A }
 {}
 
-/// The events that a deed gives are those of the history with their numbers, in order.
-pub fn deeds_give_events_of_the_history<A>()
+/// The events that a procedure gives are those of the history with their numbers, in order.
+pub fn procedures_give_events_of_the_history<A>()
     ensures { GivesEvents A }
 {}
 
-/// What a deed gives is determined by its printed looks.
-pub fn printed_looks_determine_deeds<A>()
+/// What a procedure gives is determined by its printed looks.
+pub fn printed_looks_determine_procedures<A>()
     ensures { PrintedLooksDetermine A }
 {}
 
-/// What was walked is what the deed gives over the history that was left.
+/// What was walked is what the procedure gives over the history that was left.
 pub fn walks_are_given<A>()
     ensures { WalksAreGiven A }
 {}

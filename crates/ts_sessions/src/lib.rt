@@ -1,11 +1,11 @@
 //! Sessions: what a line of a script does to a store, and what it says.
 //!
-//! - `actors`: who takes part in a script.
+//! - `actors`: who executes the lines of a session.
 //! - `sessions`: sessions, and what they hold.
 //! - `blocks`: blocks, and the operations that wait for their end.
 //! - `steps`: the step of a session, which is one line.
 //! - `kinds`: the kinds of statements, as blocks let them pass or not.
-//! - `looks`: statements whose names are looked at, and that make events or have operations wait.
+//! - `name_checks`: statements whose names are looked at, and that make events or have operations wait.
 //! - `events`: statements that make one event, or make an aggregate with data.
 //! - `refreshes`: the three phases of refreshes, and whole ones.
 //! - `endings`: statements that begin or end blocks, and snapshots that a session holds.
@@ -23,7 +23,7 @@ mod endings;
 mod events;
 mod kinds;
 pub mod laws;
-mod looks;
+mod name_checks;
 mod queries;
 mod refreshes;
 mod refusals;

@@ -7,14 +7,14 @@ ghost use Rattle.ts_model.specs.Answers.{can_ask};
 ghost use Rattle.result_text.specs.declared.replies.Said.TheVariants.{Answered};
 ghost use Rattle.ts_model.specs.States.{State};
 ghost use Rattle.stmt_check.specs.declared.actions.Action.TheVariants as actions;
-ghost use Rattle.ts_sessions.specs.Deeds.{ends};
+ghost use Rattle.ts_sessions.specs.Procedures.{ends};
 ghost use Rattle.ts_sessions.specs.declared.kinds.Kind.TheVariants.{Asks};
 ghost use Rattle.ts_sessions.specs.Places.{Places};
 ghost use Rattle.ts_sessions.specs.Sessions.{BringsNothing, Ends};
 ghost use Rattle.ts_sessions.specs.Sound.{AsksSoundly, StandsForAllowed, kind_of_action};
 ghost use Rattle.ts_sessions.specs.Step.{answers, asked_start as start_asked, kind_of, least_start as start_of_view, named, plan_of as plan_of_query};
 
-use crate::changes::{Told, refused, says};
+use crate::changes::{Completion, refused, reply_line};
 use result_text::Said;
 use std::alloc::Global;
 use std::thread::Threads;
@@ -40,7 +40,7 @@ pub(crate) fn ask<R: Threads + Sync, T: Shown + Drop, L>(
     shot: &T,
     stmt: &Stmt,
     steps: &mut Steps<L>,
-) -> Result<Told<T>, NoMemory>
+) -> Result<Completion<T>, NoMemory>
 where
     T::Job: Drop,
     requires sync { IsSync R.row }
@@ -68,7 +68,7 @@ fn answer<R: Threads + Sync, T: Shown + Drop, L>(
     shot: &T,
     plan: Plan,
     steps: &mut Steps<L>,
-) -> Result<Told<T>, NoMemory>
+) -> Result<Completion<T>, NoMemory>
 where
     T::Job: Drop,
     requires sync { IsSync R.row }
@@ -78,7 +78,7 @@ where
     ensures change { IfOk result (λ t. BringsNothing t.change) }
 {
     let answer = shot.answer(rt, &plan.query, steps)?;
-    says(alloc, answered(&plan, answer, shot.position()))
+    reply_line(alloc, answered(&plan, answer, shot.position()))
 }
 
 /// What is made of the answer at a position.

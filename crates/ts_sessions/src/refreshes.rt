@@ -5,12 +5,12 @@ ghost use Rattle.std.specs.Thread.{IsSync};
 ghost use Rattle.ts_bucket.specs.Bucket.{is_time};
 ghost use Rattle.ts_model.specs.Roster.{roster, view_of};
 ghost use Rattle.result_text.specs.declared.replies.Said.TheVariants.{Cut, Fault, Refresh};
-ghost use Rattle.ts_sessions.specs.Deeds.{ending_as, followed_by};
+ghost use Rattle.ts_sessions.specs.Procedures.{ending_as, followed_by};
 ghost use Rattle.ts_sessions.specs.Places.{Places, cuts};
-ghost use Rattle.ts_sessions.specs.Sessions.{BringsNothing, Ends, EndsAt, FitsSnapped, Says, SnapEnds, Tries, turn_of};
+ghost use Rattle.ts_sessions.specs.Sessions.{BringsNothing, Ends, EndsAt, FitsSnapped, Completes, SnapEnds, Tries, turn_of};
 ghost use Rattle.ts_sessions.specs.Step.{after_cut, after_snapshot, cut_turn, cuts_refresh, finishes_refresh, refreshed, refreshes, takes_snapshot};
 
-use crate::changes::{Change, Told, broken_off, fell, refused, says, says_so};
+use crate::changes::{Change, Completion, broken_off, failed, refused, reply_line, reply_with};
 use crate::refusals::at;
 use crate::tries::{Tried, answered};
 use result_text::{Said, codes};
@@ -71,7 +71,7 @@ pub fn cut<B: Backend>(
 
 /// Takes a snapshot for the refresh with this number, and makes its job. Whether the refresh still
 /// waits is looked at anew: another session may have finished it.
-#[tactic(auto, using(crate::proofs::LookWalks::snaps_waiting, crate::proofs::LookWalks::snaps_finished, crate::proofs::LookWalks::snaps_unknown, crate::proofs::LookWalks::looked_only, crate::proofs::StateLaws::looked_tells))]
+#[tactic(auto, using(crate::proofs::NameCheckWalks::snaps_waiting, crate::proofs::NameCheckWalks::snaps_finished, crate::proofs::NameCheckWalks::snaps_unknown, crate::proofs::NameCheckWalks::looked_only, crate::proofs::StateLaws::looked_reports))]
 pub fn take_snapshot<R: Threads + Sync, B: Backend, L>(
     rt: &R,
     backend: &mut B,
@@ -102,7 +102,7 @@ pub fn take_snapshot<R: Threads + Sync, B: Backend, L>(
     }
 }
 
-/// Finishes the refresh that the job was made for. The gate is told directly before, by the number of
+/// Finishes the refresh that the job was made for. The gate is called directly before, by the number of
 /// the session. The job is given up on every answer.
 #[tactic(auto, using(crate::proofs::CallWalks::called_tries))]
 pub fn finish<B: Backend, G: Gate>(
@@ -121,7 +121,7 @@ pub fn finish<B: Backend, G: Gate>(
 }
 
 /// Refreshes the whole buckets of a window: a cut, a snapshot and a finish, one after the other.
-#[tactic(auto, using(crate::proofs::EndLaws::done_then, crate::proofs::EndLaws::done_says, crate::proofs::EndLaws::refused_says, crate::proofs::EndLaws::fell_says, crate::proofs::EndLaws::broken_says))]
+#[tactic(auto, using(crate::proofs::EndLaws::done_then, crate::proofs::EndLaws::done_completes, crate::proofs::EndLaws::refused_completes, crate::proofs::EndLaws::failed_completes, crate::proofs::EndLaws::broken_completes))]
 pub(crate) fn refresh<R: Threads + Sync, B: Backend, G: Gate, L>(
     rt: &R,
     alloc: Global,
@@ -130,7 +130,7 @@ pub(crate) fn refresh<R: Threads + Sync, B: Backend, G: Gate, L>(
     session: u32,
     asked: &Asked,
     steps: &mut Steps<L>,
-) -> Result<Told<B::Shot>, NoMemory>
+) -> Result<Completion<B::Shot>, NoMemory>
 where
     <B::Shot as Shown>::Job: Drop,
     requires sync { IsSync R.row }
@@ -145,7 +145,7 @@ where
     match cut(backend, asked.view, asked.lo, asked.hi)? {
         Tried::Done(done) => follow(rt, alloc, backend, gate, session, done, asked, steps),
         Tried::Refused(refusal) => refused(alloc, refusal),
-        Tried::Fell(refusal) => fell(alloc, refusal),
+        Tried::Failed(refusal) => failed(alloc, refusal),
     }
 }
 
@@ -159,7 +159,7 @@ fn follow<R: Threads + Sync, B: Backend, G: Gate, L>(
     done: CutDone,
     asked: &Asked,
     steps: &mut Steps<L>,
-) -> Result<Told<B::Shot>, NoMemory>
+) -> Result<Completion<B::Shot>, NoMemory>
 where
     <B::Shot as Shown>::Job: Drop,
     requires sync { IsSync R.row }
@@ -173,7 +173,7 @@ where
             let begun = Begun { cut: pos, span };
             go_on(rt, alloc, backend, gate, session, &begun, asked, steps)
         }
-        CutDone::Nothing { pos } => says(alloc, Said::Nothing(pos)),
+        CutDone::Nothing { pos } => reply_line(alloc, Said::Nothing(pos)),
     }
 }
 
@@ -188,7 +188,7 @@ fn go_on<R: Threads + Sync, B: Backend, G: Gate, L>(
     begun: &Begun,
     asked: &Asked,
     steps: &mut Steps<L>,
-) -> Result<Told<B::Shot>, NoMemory>
+) -> Result<Completion<B::Shot>, NoMemory>
 where
     <B::Shot as Shown>::Job: Drop,
     requires sync { IsSync R.row }
@@ -206,7 +206,7 @@ where
 }
 
 /// Finishes a refresh that this statement cut.
-#[tactic(auto, using(crate::proofs::CallWalks::says_ends, crate::proofs::WalkLaws::breaks_first))]
+#[tactic(auto, using(crate::proofs::CallWalks::completes_ends, crate::proofs::WalkLaws::breaks_first))]
 fn finish_begun<B: Backend, G: Gate>(
     alloc: Global,
     backend: &mut B,
@@ -216,7 +216,7 @@ fn finish_begun<B: Backend, G: Gate>(
     asked: &Asked,
     at: u64,
     job: <B::Shot as Shown>::Job,
-) -> Result<Told<B::Shot>, NoMemory>
+) -> Result<Completion<B::Shot>, NoMemory>
 where
     <B::Shot as Shown>::Job: Drop,
     requires fits { B.Shot.fits job (B.state backend.old).history }
@@ -229,10 +229,10 @@ where
     match finish(backend, gate, session, job)? {
         Tried::Done(pos) => {
             let said = whole(begun, asked, pos, at);
-            says_so(alloc, said, Change::Cuts(begun.cut))
+            reply_with(alloc, said, Change::Cuts(begun.cut))
         }
         Tried::Refused(refusal) => refuse_begun(alloc, begun, asked, refusal, false),
-        Tried::Fell(refusal) => refuse_begun(alloc, begun, asked, refusal, true),
+        Tried::Failed(refusal) => refuse_begun(alloc, begun, asked, refusal, true),
     }
 }
 
@@ -255,27 +255,27 @@ fn refuse_begun<T: Shown + Drop>(
     begun: &Begun,
     asked: &Asked,
     refusal: Refusal,
-    fell: bool,
-) -> Result<Told<T>, NoMemory>
+    failed: bool,
+) -> Result<Completion<T>, NoMemory>
 where
     T::Job: Drop,
-    ensures { Says (Cut begun.now.cut begun.now.span asked.now.min ∷ Fault refusal ∷ []) (Change.Cuts begun.now.cut) fell result }
+    ensures { Completes (Cut begun.now.cut begun.now.span asked.now.min ∷ Fault refusal ∷ []) (Change.Cuts begun.now.cut) failed result }
 {
     let did = Said::Cut {
         cut: begun.cut,
         span: begun.span,
         min: asked.min,
     };
-    broken_off(alloc, did, refusal, Change::Cuts(begun.cut), fell)
+    broken_off(alloc, did, refusal, Change::Cuts(begun.cut), failed)
 }
 
 /// Begins a refresh, and does no more.
-#[tactic(auto, using(crate::proofs::CallWalks::says_ends, crate::proofs::WalkLaws::breaks_first))]
+#[tactic(auto, using(crate::proofs::CallWalks::completes_ends, crate::proofs::WalkLaws::breaks_first))]
 pub(crate) fn only_cut<B: Backend>(
     alloc: Global,
     backend: &mut B,
     asked: &Asked,
-) -> Result<Told<B::Shot>, NoMemory>
+) -> Result<Completion<B::Shot>, NoMemory>
 where
     <B::Shot as Shown>::Job: Drop,
     requires view { IsSome (view_of (roster (B.state backend.old).history) asked.now.view) }
@@ -288,7 +288,7 @@ where
     match cut(backend, asked.view, asked.lo, asked.hi)? {
         Tried::Done(done) => say_cut(alloc, done, asked),
         Tried::Refused(refusal) => refused(alloc, refusal),
-        Tried::Fell(refusal) => fell(alloc, refusal),
+        Tried::Failed(refusal) => failed(alloc, refusal),
     }
 }
 
@@ -297,11 +297,11 @@ fn say_cut<T: Shown + Drop>(
     alloc: Global,
     done: CutDone,
     asked: &Asked,
-) -> Result<Told<T>, NoMemory>
+) -> Result<Completion<T>, NoMemory>
 where
     T::Job: Drop,
     ensures turn { IfOk result (λ t. (p : Places) → turn_of p 0 t ≡ cut_turn p asked.now.min (Ok done)) }
-    ensures fell { IfOk result (λ t. t.fell ≡ false) }
+    ensures failed { IfOk result (λ t. t.failed ≡ false) }
     ensures change { IfOk result (λ t. BringsNothing t.change) }
 {
     match done {
@@ -311,8 +311,8 @@ where
                 span,
                 min: asked.min,
             };
-            says_so(alloc, said, Change::Cuts(pos))
+            reply_with(alloc, said, Change::Cuts(pos))
         }
-        CutDone::Nothing { pos } => says(alloc, Said::Nothing(pos)),
+        CutDone::Nothing { pos } => reply_line(alloc, Said::Nothing(pos)),
     }
 }

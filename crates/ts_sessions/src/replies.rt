@@ -32,10 +32,10 @@ pub enum StepEnd {
 }
 
 /// The answer with this reply, where the disk failed or not.
-pub(crate) fn replied(reply: Reply, fell: bool) -> StepEnd
-    ensures { IsReplied fell reply result }
+pub(crate) fn replied(reply: Reply, failed: bool) -> StepEnd
+    ensures { IsReplied failed reply result }
 {
-    match fell {
+    match failed {
         true => StepEnd::DiskFault(reply),
         false => StepEnd::Reply(reply),
     }

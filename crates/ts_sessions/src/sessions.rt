@@ -5,7 +5,7 @@ ghost use Rattle.std.specs.Map.{remove_entry};
 ghost use Rattle.std.specs.BTreeMap.{insert_entry, is_at};
 ghost use Rattle.ts_model.specs.States.{State};
 ghost use Rattle.ts_sessions.specs.Held.{Carries, HoldsOf, places_in, queued as queued_in};
-ghost use Rattle.ts_sessions.specs.Places.{no_places, stage_of};
+ghost use Rattle.ts_sessions.specs.Places.{no_places, block_kind};
 ghost use Rattle.ts_sessions.specs.Sessions.{ChangeFits, ChangeHolds, changed};
 ghost use Rattle.ts_sessions.specs.Step.{natural as natural_of, refresh_meant};
 
@@ -16,7 +16,7 @@ use std::collections::BTreeMap;
 use ts_model::Shown;
 use ts_schema::{Name, NoMemory};
 
-/// A session: who speaks in a line, and what it carries from one line to the next.
+/// A session: its name, and what it carries from one line to the next.
 #[derive(Drop)]
 pub struct Session<T: Shown>
 where
@@ -73,7 +73,7 @@ where
 
     /// The block that it is in.
     pub fn block(&self) -> Block
-        ensures { result ≡ stage_of (places_in self.now).block }
+        ensures { result ≡ block_kind (places_in self.now).block }
     {
         self.block.stage()
     }

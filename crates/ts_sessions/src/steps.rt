@@ -9,10 +9,10 @@ ghost use Rattle.ts_sessions.specs.Sound.{AsksSoundly};
 ghost use Rattle.ts_sessions.specs.Step.{block_refusal, kind_of as kind_of_stmt, let_pass, performs, step as step_of};
 
 use crate::blocks::Open;
-use crate::changes::{Change, Told, refused};
+use crate::changes::{Change, Completion, refused};
 use crate::endings::{begin, begin_read};
 use crate::kinds::kind_of;
-use crate::looks::{make, queue};
+use crate::name_checks::{make, queue};
 use crate::queries::ask;
 use crate::refusals::placed;
 use crate::replies::{Reply, StepEnd, replied, write_reply};
@@ -29,7 +29,7 @@ where
     T::Job: Drop,
 {
     /// Does what a line asks for. `text` is the line before its comment, and its statement stands after
-    /// the first `skip` bytes. It is one step of the model: the deed of the line, over whatever history
+    /// the first `skip` bytes. It is one step of the model: the procedure of the line, over whatever history
     /// the store is found at.
     pub fn step<R: Threads + Sync, B: Backend<Shot = T>, G: Gate, L>(
         &mut self,
@@ -56,32 +56,32 @@ where
     {
         let _so_far = steps.count();
         match self.take_line(rt, alloc, backend, gate, text, skip, steps) {
-            Ok(told) => self.answer(alloc, told),
+            Ok(completion) => self.answer(alloc, completion),
             Err(NoMemory) => StepEnd::NoMemory,
         }
     }
 
     /// Writes the reply to what a line came to, and changes as it says. Where there is no memory it stays
     /// as it is.
-    fn answer(&mut self, alloc: Global, told: Told<T>) -> StepEnd
-        requires fits { ChangeFits told.change (places_in self.old).block }
-        ensures answers { AnswersSo self.old.name told.said told.fell result }
-        ensures places { IfAnswered result (places_in self.new ≡ changed told.change (places_in self.old)) }
+    fn answer(&mut self, alloc: Global, completion: Completion<T>) -> StepEnd
+        requires fits { ChangeFits completion.change (places_in self.old).block }
+        ensures answers { AnswersSo self.old.name completion.said completion.failed result }
+        ensures places { IfAnswered result (places_in self.new ≡ changed completion.change (places_in self.old)) }
         ensures kept { IfNoMemory result (Carries self.old self.new) }
         ensures name { self.new.name ≡ self.old.name }
         ensures number { self.new.number ≡ self.old.number }
-        ensures holds { (s : State) (bytes : ℕ) → HoldsOf T.stands T.fits T.cut_of T.snap_of self.old s → ChangeHolds T.stands T.fits T.cut_of T.snap_of bytes told.change s.history → HoldsOf T.stands T.fits T.cut_of T.snap_of self.new s }
+        ensures holds { (s : State) (bytes : ℕ) → HoldsOf T.stands T.fits T.cut_of T.snap_of self.old s → ChangeHolds T.stands T.fits T.cut_of T.snap_of bytes completion.change s.history → HoldsOf T.stands T.fits T.cut_of T.snap_of self.new s }
     {
-        match write_reply(alloc, &self.name, told.said.items()) {
-            Ok(reply) => self.close(told.change, told.fell, reply),
+        match write_reply(alloc, &self.name, completion.said.items()) {
+            Ok(reply) => self.close(completion.change, completion.failed, reply),
             Err(NoMemory) => StepEnd::NoMemory,
         }
     }
 
     /// Changes as a line says whose reply was written.
-    fn close(&mut self, change: Change<T>, fell: bool, reply: Reply) -> StepEnd
+    fn close(&mut self, change: Change<T>, failed: bool, reply: Reply) -> StepEnd
         requires fits { ChangeFits change (places_in self.old).block }
-        ensures replied { IfAnswered result (IsReplied fell reply result) }
+        ensures replied { IfAnswered result (IsReplied failed reply result) }
         ensures places { IfAnswered result (places_in self.new ≡ changed change (places_in self.old)) }
         ensures kept { IfNoMemory result (Carries self.old self.new) }
         ensures name { self.new.name ≡ self.old.name }
@@ -89,7 +89,7 @@ where
         ensures holds { (s : State) (bytes : ℕ) → HoldsOf T.stands T.fits T.cut_of T.snap_of self.old s → ChangeHolds T.stands T.fits T.cut_of T.snap_of bytes change s.history → HoldsOf T.stands T.fits T.cut_of T.snap_of self.new s }
     {
         match self.settle(change) {
-            Ok(()) => replied(reply, fell),
+            Ok(()) => replied(reply, failed),
             Err(NoMemory) => StepEnd::NoMemory,
         }
     }
@@ -104,7 +104,7 @@ where
         text: &[u8],
         skip: u32,
         steps: &mut Steps<L>,
-    ) -> Result<Told<T>, NoMemory>
+    ) -> Result<Completion<T>, NoMemory>
         requires sync { IsSync R.row }
         requires counts { steps.old < 2 ^ 64 }
         requires short { length text.now ≤ 65536 }
@@ -140,7 +140,7 @@ where
         stmt: &Stmt,
         bytes: u64,
         steps: &mut Steps<L>,
-    ) -> Result<Told<T>, NoMemory>
+    ) -> Result<Completion<T>, NoMemory>
         requires sync { IsSync R.row }
         requires counts { steps.old < 2 ^ 64 }
         requires sound { AsksSoundly bytes stmt.now }
@@ -170,7 +170,7 @@ where
         stmt: &Stmt,
         bytes: u64,
         steps: &mut Steps<L>,
-    ) -> Result<Told<T>, NoMemory>
+    ) -> Result<Completion<T>, NoMemory>
         requires sync { IsSync R.row }
         requires counts { steps.old < 2 ^ 64 }
         requires sound { AsksSoundly bytes stmt.now }
@@ -216,7 +216,7 @@ where
         stmt: &Stmt,
         bytes: u64,
         steps: &mut Steps<L>,
-    ) -> Result<Told<T>, NoMemory>
+    ) -> Result<Completion<T>, NoMemory>
         requires sync { IsSync R.row }
         requires counts { steps.old < 2 ^ 64 }
         requires sound { AsksSoundly bytes stmt.now }
@@ -241,7 +241,7 @@ where
         backend: &mut B,
         stmt: &Stmt,
         steps: &mut Steps<L>,
-    ) -> Result<Told<T>, NoMemory>
+    ) -> Result<Completion<T>, NoMemory>
         requires sync { IsSync R.row }
         requires counts { steps.old < 2 ^ 64 }
         requires sound { (bytes : ℕ) × AsksSoundly bytes stmt.now }

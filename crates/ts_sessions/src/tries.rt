@@ -15,7 +15,7 @@ pub enum Tried<T> {
     /// It was refused, and nothing changed.
     Refused(Refusal),
     /// The disk failed at its event, and the store stands still. The refusal is that of an event there.
-    Fell(Refusal),
+    Failed(Refusal),
 }
 
 /// What came of a call that answered so, and left the store at this position.
@@ -25,7 +25,7 @@ pub(crate) fn answered<T: Drop>(outcome: Outcome<T>, position: u64) -> Result<Tr
     match outcome {
         Outcome::Done(done) => Ok(Tried::Done(done)),
         Outcome::Refused(refusal) => Ok(Tried::Refused(refusal)),
-        Outcome::DiskFault => Ok(Tried::Fell(at(codes::STOPPED, position, 0))),
+        Outcome::DiskFault => Ok(Tried::Failed(at(codes::STOPPED, position, 0))),
         Outcome::NoMemory => Err(NoMemory),
     }
 }

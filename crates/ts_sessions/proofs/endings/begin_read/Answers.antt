@@ -4,9 +4,9 @@ use Rattle.stmt_reader.specs.declared.statements.Stmt.TheVariants as stmts
 use Rattle.ts_sessions.proofs.BlockWalks.{read_begun, read_unbegun}
 use Rattle.ts_sessions.specs.declared.blocks.Open.TheVariants as opens
 use Rattle.ts_sessions.specs.declared.changes.Change.TheVariants as changes
-use Rattle.ts_sessions.proofs.HoldLaws.{says_holds, whole_holds}
+use Rattle.ts_sessions.proofs.HoldLaws.{completes_holds, whole_holds}
 use Rattle.ts_sessions.proofs.EndLaws.{broken_at}
-use Rattle.ts_sessions.proofs.StateLaws.{looked_tells}
+use Rattle.ts_sessions.proofs.StateLaws.{looked_reports}
 use Rattle.ts_sessions.proofs.endings.begin_read.Goals as goal
 
 pub returns-in_err-shot-clause-ends : goal.returns-in_err-shot-clause-ends
@@ -18,12 +18,12 @@ pub returns-clause-ends : goal.returns-clause-ends
 returns-clause-ends g c = λ p bytes e.
     let old = g.B.Backend.state c.args.backend.now in
     let mid = g.B.Backend.state c.snap.new.self in
-    let t = looked_tells g.B.Backend.alone old _ mid c.in_ok-shot.ensures.looked in
-    read_begun g.B.Backend.alone old _ mid p bytes c.position-at.result _ c.says_so.result e c.in_ok-shot.ensures.looked (c.position-at.ensures mid.history t.1) refl c.says_so.ensures
+    let t = looked_reports g.B.Backend.alone old _ mid c.in_ok-shot.ensures.looked in
+    read_begun g.B.Backend.alone old _ mid p bytes c.position-at.result _ c.reply_with.result e c.in_ok-shot.ensures.looked (c.position-at.ensures mid.history t.1) refl c.reply_with.ensures
 
 pub returns-clause-change : goal.returns-clause-change
 returns-clause-change g c = λ bytes.
     let mid = g.B.Backend.state c.snap.new.self in
-    let t = looked_tells g.B.Backend.alone (g.B.Backend.state c.args.backend.now) _ mid c.in_ok-shot.ensures.looked in
-    says_holds g.B.Shot.Shown.stands g.B.Shot.Shown.fits g.B.Shot.Shown.cut_of g.B.Shot.Shown.snap_of bytes mid.history _ (changes.Enters (opens.Read c.position-at.result c.in_ok-shot.shot)) _ c.says_so.result c.says_so.ensures
+    let t = looked_reports g.B.Backend.alone (g.B.Backend.state c.args.backend.now) _ mid c.in_ok-shot.ensures.looked in
+    completes_holds g.B.Shot.Shown.stands g.B.Shot.Shown.fits g.B.Shot.Shown.cut_of g.B.Shot.Shown.snap_of bytes mid.history _ (changes.Enters (opens.Read c.position-at.result c.in_ok-shot.shot)) _ c.reply_with.result c.reply_with.ensures
     (whole_holds g.B.Shot.Shown.stands c.in_ok-shot.shot c.position-at.result mid.history t.1 t.0 (c.position-at.ensures mid.history t.1))

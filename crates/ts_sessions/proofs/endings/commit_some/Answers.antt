@@ -5,13 +5,13 @@ use Rattle.ts_model.specs.Sound.{sound}
 use Rattle.ts_model.specs.Calls.{committing}
 use Rattle.stmt_check.proofs.QueueLaws.{queues_are_sound}
 use Rattle.stmt_reader.specs.declared.statements.Stmt.TheVariants as stmts
-use Rattle.ts_sessions.specs.Deeds.{ending_as, ends, tries}
+use Rattle.ts_sessions.specs.Procedures.{ending_as, ends, tries}
 use Rattle.ts_sessions.specs.Places.{enters, none}
 use Rattle.ts_sessions.specs.Sessions.{Tries}
 use Rattle.ts_sessions.specs.Step.{committed, performs}
 use Rattle.ts_sessions.specs.Walks.{Breaks}
 use Rattle.ts_sessions.proofs.BlockWalks.{commits_as, not_performed, some_length}
-use Rattle.ts_sessions.proofs.CallWalks.{says_done, says_refused, says_fell}
+use Rattle.ts_sessions.proofs.CallWalks.{completes_done, completes_refused, completes_failed}
 use Rattle.ts_sessions.proofs.EndLaws.{broken_at}
 use Rattle.ts_sessions.proofs.WalkLaws.{breaks_first}
 use Rattle.ts_sessions.proofs.endings.commit_some.Goals as goal
@@ -42,7 +42,7 @@ returns-in-Done-clause-ends g c = λ p bytes e.
     let new = g.B.Backend.state c.commit.new.backend in
     let w = subst (λ ops. Tries g.B.Backend.alone old (tries (committing ops)) (Ok c.in_ok-done.field-0) new) c.in_ok-ops.ensures.same c.in_ok-done.ensures.tries in
     commits_as g.B.Backend.alone old p bytes c.args.queue.now.ops c.args.queue.now.bytes c.leaves.result new c.requires.some e
-    (says_done (committed p (enters none p)) g.B.Backend.alone old (tries (committing c.args.queue.now.ops)) _ _ new p 0 _ _ c.leaves.result w c.in-Done.is c.leaves.ensures refl)
+    (completes_done (committed p (enters none p)) g.B.Backend.alone old (tries (committing c.args.queue.now.ops)) _ _ new p 0 _ _ c.leaves.result w c.in-Done.is c.leaves.ensures refl)
 
 pub returns-in-Refused-clause-ends : goal.returns-in-Refused-clause-ends
 returns-in-Refused-clause-ends g c = λ p bytes e.
@@ -50,12 +50,12 @@ returns-in-Refused-clause-ends g c = λ p bytes e.
     let new = g.B.Backend.state c.commit.new.backend in
     let w = subst (λ ops. Tries g.B.Backend.alone old (tries (committing ops)) (Ok c.in_ok-done.field-0) new) c.in_ok-ops.ensures.same c.in_ok-done.ensures.tries in
     commits_as g.B.Backend.alone old p bytes c.args.queue.now.ops c.args.queue.now.bytes c.refused.result new c.requires.some e
-    (says_refused (committed p (enters none p)) g.B.Backend.alone old (tries (committing c.args.queue.now.ops)) _ _ new p 0 _ _ c.refused.result w c.in-Refused.is c.refused.ensures refl)
+    (completes_refused (committed p (enters none p)) g.B.Backend.alone old (tries (committing c.args.queue.now.ops)) _ _ new p 0 _ _ c.refused.result w c.in-Refused.is c.refused.ensures refl)
 
-pub returns-in-Fell-clause-ends : goal.returns-in-Fell-clause-ends
-returns-in-Fell-clause-ends g c = λ p bytes e.
+pub returns-in-Failed-clause-ends : goal.returns-in-Failed-clause-ends
+returns-in-Failed-clause-ends g c = λ p bytes e.
     let old = g.B.Backend.state c.args.backend.now in
     let new = g.B.Backend.state c.commit.new.backend in
     let w = subst (λ ops. Tries g.B.Backend.alone old (tries (committing ops)) (Ok c.in_ok-done.field-0) new) c.in_ok-ops.ensures.same c.in_ok-done.ensures.tries in
-    commits_as g.B.Backend.alone old p bytes c.args.queue.now.ops c.args.queue.now.bytes c.fell.result new c.requires.some e
-    (says_fell (committed p (enters none p)) g.B.Backend.alone old (tries (committing c.args.queue.now.ops)) _ _ new p 0 _ _ c.fell.result w c.in-Fell.is c.fell.ensures refl)
+    commits_as g.B.Backend.alone old p bytes c.args.queue.now.ops c.args.queue.now.bytes c.failed.result new c.requires.some e
+    (completes_failed (committed p (enters none p)) g.B.Backend.alone old (tries (committing c.args.queue.now.ops)) _ _ new p 0 _ _ c.failed.result w c.in-Failed.is c.failed.ensures refl)

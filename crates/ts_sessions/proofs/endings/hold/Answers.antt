@@ -2,12 +2,12 @@ use Rattle.std.proofs.Common.{refl, subst, [], ◌∷◌}
 use Rattle.std.specs.Prelude.{Ok}
 use Rattle.result_text.specs.declared.replies.Said.TheVariants as said
 use Rattle.ts_sessions.specs.declared.changes.Change.TheVariants as changes
-use Rattle.ts_sessions.specs.Deeds.{ending_as, ends}
+use Rattle.ts_sessions.specs.Procedures.{ending_as, ends}
 use Rattle.ts_sessions.specs.Sessions.{FitsSnapped}
 use Rattle.ts_sessions.specs.Step.{snap_turn, takes_snapshot}
-use Rattle.ts_sessions.proofs.CallWalks.{says_walk}
+use Rattle.ts_sessions.proofs.CallWalks.{completes_walk}
 use Rattle.ts_sessions.proofs.EndLaws.{broken_by, snap_refused, snapped_then}
-use Rattle.ts_sessions.proofs.HoldLaws.{says_holds}
+use Rattle.ts_sessions.proofs.HoldLaws.{completes_holds}
 use Rattle.ts_sessions.proofs.WalkLaws.{breaks_first}
 use Rattle.ts_sessions.proofs.endings.hold.Goals as goal
 
@@ -21,8 +21,8 @@ returns-in_err-at-clause-ends g c = λ p.
 pub returns-in-Taken-clause-ends : goal.returns-in-Taken-clause-ends
 returns-in-Taken-clause-ends g c = λ p.
     let mid = g.B.Backend.state c.take_snapshot.new.backend in
-    snapped_then _ _ c.args.cut c.in-Taken.at c.in-Taken.job c.in_ok-at.field-0 mid (λ r. ends (snap_turn p c.args.cut r)) p c.says_so.result mid _ _ c.requires.counts c.in_ok-at.ensures.snaps c.in-Taken.is
-    (λ read. says_walk g.B.Backend.alone _ mid (ends (snap_turn p c.args.cut (Ok (record { at = c.in-Taken.at; reads = read })))) mid p read (said.Snap c.args.cut c.in-Taken.at ∷ []) (changes.Holds c.args.cut c.in-Taken.at c.in-Taken.job) c.says_so.result (refl, refl, refl) c.says_so.ensures)
+    snapped_then _ _ c.args.cut c.in-Taken.at c.in-Taken.job c.in_ok-at.field-0 mid (λ r. ends (snap_turn p c.args.cut r)) p c.reply_with.result mid _ _ c.requires.counts c.in_ok-at.ensures.snaps c.in-Taken.is
+    (λ read. completes_walk g.B.Backend.alone _ mid (ends (snap_turn p c.args.cut (Ok (record { at = c.in-Taken.at; reads = read })))) mid p read (said.Snap c.args.cut c.in-Taken.at ∷ []) (changes.Holds c.args.cut c.in-Taken.at c.in-Taken.job) c.reply_with.result (refl, refl, refl) c.reply_with.ensures)
 
 pub returns-in-Refused-clause-ends : goal.returns-in-Refused-clause-ends
 returns-in-Refused-clause-ends g c = λ p.
@@ -32,5 +32,5 @@ pub returns-in-Taken-clause-change : goal.returns-in-Taken-clause-change
 returns-in-Taken-clause-change g c = λ bytes.
     let mid = g.B.Backend.state c.take_snapshot.new.backend in
     let T = g.B.Shot.Shown in
-    says_holds T.stands T.fits T.cut_of T.snap_of bytes mid.history (said.Snap c.args.cut c.in-Taken.at ∷ []) (changes.Holds c.args.cut c.in-Taken.at c.in-Taken.job) _ c.says_so.result c.says_so.ensures
+    completes_holds T.stands T.fits T.cut_of T.snap_of bytes mid.history (said.Snap c.args.cut c.in-Taken.at ∷ []) (changes.Holds c.args.cut c.in-Taken.at c.in-Taken.job) _ c.reply_with.result c.reply_with.ensures
     (subst (λ s. FitsSnapped T.fits T.cut_of T.snap_of c.args.cut mid.history s) c.in-Taken.is c.in_ok-at.ensures.fits)

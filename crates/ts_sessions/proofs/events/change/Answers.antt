@@ -1,6 +1,6 @@
 use Rattle.std.proofs.Common.{subst, [], ◌∷◌}
 use Rattle.ts_model.specs.Calls.{committing}
-use Rattle.ts_sessions.specs.Deeds.{ending_as, tries}
+use Rattle.ts_sessions.specs.Procedures.{ending_as, tries}
 use Rattle.ts_sessions.specs.Places.{Places}
 use Rattle.ts_sessions.specs.Sessions.{EndsAt}
 use Rattle.ts_sessions.specs.Step.{committed}

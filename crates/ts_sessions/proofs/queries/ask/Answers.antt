@@ -2,7 +2,7 @@ use Rattle.std.proofs.Common.{◌∙◌, subst, sym, ap}
 use Rattle.std.specs.Prelude.{IsTrue}
 use Rattle.ts_model.specs.Answers.{can_ask}
 use Rattle.ts_model.specs.Roster.{roster}
-use Rattle.ts_sessions.specs.Deeds.{ends}
+use Rattle.ts_sessions.specs.Procedures.{ends}
 use Rattle.ts_sessions.specs.Sessions.{Ends}
 use Rattle.ts_sessions.specs.Step.{acts, answers, named, plan_of}
 use Rattle.ts_sessions.proofs.NameWalks.{can_ask_at, named_ready, named_refused, refuses_here}

@@ -3,7 +3,7 @@ use Rattle.ts_sessions.specs.Step.{after_snapshot, takes_snapshot}
 use Rattle.std.proofs.Common.{refl}
 use Rattle.ts_sessions.proofs.EndLaws.{broken_by, snap_refused, snapped_then}
 use Rattle.ts_sessions.proofs.WalkLaws.{breaks_first}
-use Rattle.ts_sessions.specs.Deeds.{followed_by}
+use Rattle.ts_sessions.specs.Procedures.{followed_by}
 use Rattle.ts_sessions.proofs.refreshes.go_on.Goals as goal
 
 pub returns-in_err-at-clause-ends : goal.returns-in_err-at-clause-ends

@@ -1,6 +1,6 @@
 use Rattle.std.proofs.Common.{refl, arith}
 use Rattle.ts_sessions.specs.Step.{after_cut, cuts_refresh, refreshes}
-use Rattle.ts_sessions.proofs.EndLaws.{broken_by, done_then, refused_says, fell_says}
+use Rattle.ts_sessions.proofs.EndLaws.{broken_by, done_then, refused_completes, failed_completes}
 use Rattle.ts_sessions.proofs.WalkLaws.{breaks_first}
 use Rattle.ts_sessions.proofs.refreshes.refresh.Goals as goal
 
@@ -13,7 +13,7 @@ pub returns-in-Done-clause-ends : goal.returns-in-Done-clause-ends
 returns-in-Done-clause-ends g c = λ p. done_then _ _ (cuts_refresh c.args.asked.now.view c.args.asked.now.lo c.args.asked.now.hi) _ _ _ (after_cut p c.args.asked.now.min) p _ _ _ _ c.in_ok-done.ensures.tries c.in-Done.is (c.follow.ensures.ends p)
 
 pub returns-in-Refused-clause-ends : goal.returns-in-Refused-clause-ends
-returns-in-Refused-clause-ends g c = λ p. refused_says _ _ (cuts_refresh c.args.asked.now.view c.args.asked.now.lo c.args.asked.now.hi) _ _ _ (after_cut p c.args.asked.now.min) p _ _ _ _ c.requires.counts c.in_ok-done.ensures.tries c.in-Refused.is c.refused.ensures refl
+returns-in-Refused-clause-ends g c = λ p. refused_completes _ _ (cuts_refresh c.args.asked.now.view c.args.asked.now.lo c.args.asked.now.hi) _ _ _ (after_cut p c.args.asked.now.min) p _ _ _ _ c.requires.counts c.in_ok-done.ensures.tries c.in-Refused.is c.refused.ensures refl
 
-pub returns-in-Fell-clause-ends : goal.returns-in-Fell-clause-ends
-returns-in-Fell-clause-ends g c = λ p. fell_says _ _ (cuts_refresh c.args.asked.now.view c.args.asked.now.lo c.args.asked.now.hi) _ _ _ (after_cut p c.args.asked.now.min) p _ _ _ _ c.requires.counts c.in_ok-done.ensures.tries c.in-Fell.is c.fell.ensures refl
+pub returns-in-Failed-clause-ends : goal.returns-in-Failed-clause-ends
+returns-in-Failed-clause-ends g c = λ p. failed_completes _ _ (cuts_refresh c.args.asked.now.view c.args.asked.now.lo c.args.asked.now.hi) _ _ _ (after_cut p c.args.asked.now.min) p _ _ _ _ c.requires.counts c.in_ok-done.ensures.tries c.in-Failed.is c.failed.ensures refl

@@ -1,6 +1,6 @@
 use Rattle.std.proofs.Common.{◌∙◌, sym, subst, refl}
 use Rattle.ts_model.specs.Calls.{no_refresh, refusal}
-use Rattle.ts_sessions.specs.Deeds.{ends, looks}
+use Rattle.ts_sessions.specs.Procedures.{ends, looks}
 use Rattle.ts_sessions.specs.Held.{places_in}
 use Rattle.ts_sessions.specs.Places.{refuses}
 use Rattle.ts_sessions.specs.Sessions.{EndsAt, Spares}
@@ -28,5 +28,5 @@ returns-in-None-clause-holds g c =
     let old = g.B.Backend.state c.args.backend.now in
     let new = g.B.Backend.state c.refuse_unknown.new.backend in
     let p = places_in c.args.self.now in
-    let deed = looks (λ h. ends (refuses p (refusal no_refresh h 0))) in
-    kept_held T.stands T.fits T.cut_of T.snap_of g.met.T.Shown.fits_on c.args.self.now c.args.self.now old new refl refl (goes_ends g.B.Backend.alone old deed p 0 c.refuse_unknown.result new (c.refuse_unknown.ensures.ends p)) c.requires.holds
+    let procedure = looks (λ h. ends (refuses p (refusal no_refresh h 0))) in
+    kept_held T.stands T.fits T.cut_of T.snap_of g.met.T.Shown.fits_on c.args.self.now c.args.self.now old new refl refl (goes_ends g.B.Backend.alone old procedure p 0 c.refuse_unknown.result new (c.refuse_unknown.ensures.ends p)) c.requires.holds

@@ -1,6 +1,6 @@
 use Rattle.std.proofs.Common.{◌≡◌, sym, subst, ap}
 use Rattle.std.specs.Prelude.{Ok}
-use Rattle.ts_sessions.specs.Deeds.{ending_as, ends, looks}
+use Rattle.ts_sessions.specs.Procedures.{ending_as, ends, looks}
 use Rattle.ts_sessions.specs.Held.{places_in, positions}
 use Rattle.ts_sessions.specs.Holding.{lost_stays}
 use Rattle.ts_sessions.specs.Jobs.{TakesJob}
@@ -45,7 +45,7 @@ returns-in-Ok-clause-ends g c =
     let old = g.B.Backend.state c.args.backend.now in
     let took = subst (λ r. TakesJob c.args.cut s.held.entries r t.held.entries) c.in-Job.is c.take_job.ensures.took in
     let new = g.B.Backend.state c.finish_job.new.backend in
-    subst (λ o. EndsAt g.B.Backend.alone old (looks (λ h. finishes_held p h c.args.cut o)) p 0 (Ok c.in-Ok.told) new) (sym (held_at c.args.cut s.held.entries _ took.0)) (c.in-Ok.ensures.ends p)
+    subst (λ o. EndsAt g.B.Backend.alone old (looks (λ h. finishes_held p h c.args.cut o)) p 0 (Ok c.in-Ok.completion) new) (sym (held_at c.args.cut s.held.entries _ took.0)) (c.in-Ok.ensures.ends p)
 
 pub returns-in-Ok-clause-places : goal.returns-in-Ok-clause-places
 returns-in-Ok-clause-places g c =
@@ -68,7 +68,7 @@ returns-in-Ok-clause-holds g c =
     let old = g.B.Backend.state c.args.backend.now in
     let took = subst (λ r. TakesJob c.args.cut s.held.entries r t.held.entries) c.in-Job.is c.take_job.ensures.took in
     let new = g.B.Backend.state c.finish_job.new.backend in
-    let goes = goes_ends g.B.Backend.alone old (ending_as (finish_turn p c.args.cut c.in-Job.at) (finishes_refresh c.args.cut c.in-Job.at)) p 0 (Ok c.in-Ok.told) new (c.in-Ok.ensures.ends p) in
+    let goes = goes_ends g.B.Backend.alone old (ending_as (finish_turn p c.args.cut c.in-Job.at) (finishes_refresh c.args.cut c.in-Job.at)) p 0 (Ok c.in-Ok.completion) new (c.in-Ok.ensures.ends p) in
     taken_held T.stands T.fits T.cut_of T.snap_of on s t c.args.cut c.in-Job.at old new c.take_job.ensures.block took.1 goes c.in-Ok.ensures.lost c.requires.holds
 
 pub returns-in-Err-clause-ends : goal.returns-in-Err-clause-ends

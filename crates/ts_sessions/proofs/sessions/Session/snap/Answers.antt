@@ -1,5 +1,5 @@
 use Rattle.std.proofs.Common.{◌∙◌, sym, subst, None}
-use Rattle.ts_sessions.specs.Deeds.{ends, looks}
+use Rattle.ts_sessions.specs.Procedures.{ends, looks}
 use Rattle.ts_sessions.specs.Held.{places_in}
 use Rattle.ts_sessions.specs.Sessions.{Ends}
 use Rattle.ts_sessions.specs.Step.{snaps}

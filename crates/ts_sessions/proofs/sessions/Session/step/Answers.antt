@@ -11,8 +11,8 @@ returns-in-Ok-clause-stepped g c =
     let p = places_in c.args.self.now in
     let q = places_in c.answer.new.self in
     let name = c.args.self.now.name in
-    let told = c.in-Ok.told in
+    let completion = c.in-Ok.completion in
     let short : c.args.steps.now < 2 ^ 64 = search rules in
-    stepped g.B.Backend.alone old p c.args.text.now c.args.skip name told c.answer.result new q c.args.steps.now c.take_line.new.steps short c.in-Ok.ensures.ends
-    (subst (λ x. AnswersSo x told.said told.fell c.answer.result) c.in-Ok.ensures.name c.answer.ensures.answers)
-    (subst (λ x. IfAnswered c.answer.result (q ≡ changed told.change x)) c.in-Ok.ensures.places c.answer.ensures.places)
+    stepped g.B.Backend.alone old p c.args.text.now c.args.skip name completion c.answer.result new q c.args.steps.now c.take_line.new.steps short c.in-Ok.ensures.ends
+    (subst (λ x. AnswersSo x completion.said completion.failed c.answer.result) c.in-Ok.ensures.name c.answer.ensures.answers)
+    (subst (λ x. IfAnswered c.answer.result (q ≡ changed completion.change x)) c.in-Ok.ensures.places c.answer.ensures.places)

@@ -16,5 +16,5 @@ returns-in-NoMemory-clause-ends g c =
     let alone = g.B.Backend.alone in
     let old = g.B.Backend.state c.args.backend.now in
     let p = places_in c.args.self.now in
-    let deed = step p c.args.text.now c.args.skip in
-    broken alone old deed p _ old _ _ (omega arith) (not_begun alone old deed)
+    let procedure = step p c.args.text.now c.args.skip in
+    broken alone old procedure p _ old _ _ (omega arith) (not_begun alone old procedure)

@@ -1,0 +1,210 @@
+//! The sessions of a script.
+ghost use Rattle.std.specs.Prelude.{◌≡◌, ◌+◌, ◌<◌, ◌≤◌, ◌^◌, false, None, length, IsTrue, IfOk, OnOk};
+ghost use Rattle.std.specs.Thread.{IsSync};
+ghost use Rattle.indexmap.specs.IndexMap.{index_map_len, spare};
+ghost use Rattle.ts_schema.specs.Names.{is_name};
+ghost use Rattle.ts_model.specs.States.{stands_still};
+ghost use Rattle.ts_sessions.specs.Held.{most_queued};
+ghost use Rattle.ts_sessions.specs.Script.{executes_as, places_of, takes_turn};
+ghost use Rattle.ts_sessions.specs.Sessions.{IfAnswered, Stepped};
+ghost use Rattle.script_run.specs.Sessions.{sessions_of, script_state_of, waiting_in, AreSessions};
+ghost use Rattle.script_run.specs.LineEnds.{LineExecuted};
+
+use crate::replies::{ending, refuse_session};
+use indexmap::IndexMap;
+use result_text::codes;
+use std::alloc::Global;
+use std::thread::Threads;
+use ts_model::{Backend, Gate, NoGate};
+use ts_schema::{Name, NoMemory, Steps};
+use ts_sessions::{Actor, StepEnd};
+
+/// How many sessions a script may have.
+pub(crate) const MOST_SESSIONS: usize = 64;
+
+/// The sessions that have appeared, by their names, in order of appearance.
+pub(crate) type Sessions<A> = IndexMap<Vec<u8>, A>;
+
+/// The session with a name has a line: one that has appeared, or a new one.
+pub(crate) fn execute_in_session<A, R, B, L>(
+    rt: &R,
+    alloc: Global,
+    backend: &mut B,
+    sessions: &mut Sessions<A>,
+    name: &[u8],
+    text: &[u8],
+    skip: u32,
+    steps: &mut Steps<L>,
+) -> StepEnd
+where
+    A: Actor<Shot = B::Shot> + Drop,
+    R: Threads + Sync,
+    B: Backend,
+    requires sync { IsSync R.row }
+    requires alone { IsTrue B.alone }
+    requires going { stands_still (B.state backend.old) ≡ false }
+    requires counts { steps.old < 2 ^ 64 }
+    requires name { IsTrue (is_name name.now) }
+    requires short { length text.now ≤ 65536 }
+    requires within { skip ≤ length text.now }
+    requires sessions { AreSessions A.named A.numbered A.holds (B.state backend.old) sessions.old.entries }
+    requires room { waiting_in A.waiting sessions.old.entries + length text.now ≤ most_queued }
+    ensures executes { let script_state = script_state_of A.places (B.state backend.old).history sessions.old.entries in
+        LineExecuted result (executes_as A.semantics script_state name.now text.now skip (places_of name.now script_state.sessions))
+        (B.state backend.old) (B.state backend.new)
+        (script_state_of A.places (B.state backend.new).history sessions.new.entries) steps.old steps.new }
+    ensures sessions { IfAnswered result (AreSessions A.named A.numbered A.holds (B.state backend.new) sessions.new.entries) }
+    ensures waiting { waiting_in A.waiting sessions.new.entries ≤ waiting_in A.waiting sessions.old.entries + length text.now }
+    ensures kin { B.kin backend.new ≡ B.kin backend.old }
+{
+    match sessions.get_index_of(name) {
+        Some(place) => {
+            let (_, actor) = sessions.pair_mut(place);
+            take_turn(rt, alloc, backend, actor, text, skip, steps)
+        }
+        None => meet_session(rt, alloc, backend, sessions, name, text, skip, steps),
+    }
+}
+
+/// A session that has not appeared before has its first line, where there is room for it.
+fn meet_session<A, R, B, L>(
+    rt: &R,
+    alloc: Global,
+    backend: &mut B,
+    sessions: &mut Sessions<A>,
+    name: &[u8],
+    text: &[u8],
+    skip: u32,
+    steps: &mut Steps<L>,
+) -> StepEnd
+where
+    A: Actor<Shot = B::Shot> + Drop,
+    R: Threads + Sync,
+    B: Backend,
+    requires sync { IsSync R.row }
+    requires alone { IsTrue B.alone }
+    requires going { stands_still (B.state backend.old) ≡ false }
+    requires counts { steps.old < 2 ^ 64 }
+    requires name { IsTrue (is_name name.now) }
+    requires short { length text.now ≤ 65536 }
+    requires within { skip ≤ length text.now }
+    requires sessions { AreSessions A.named A.numbered A.holds (B.state backend.old) sessions.old.entries }
+    requires absent { places_of name.now (sessions_of A.places sessions.old.entries) ≡ None }
+    ensures executes { let script_state = script_state_of A.places (B.state backend.old).history sessions.old.entries in
+        LineExecuted result (executes_as A.semantics script_state name.now text.now skip None)
+        (B.state backend.old) (B.state backend.new)
+        (script_state_of A.places (B.state backend.new).history sessions.new.entries) steps.old steps.new }
+    ensures sessions { IfAnswered result (AreSessions A.named A.numbered A.holds (B.state backend.new) sessions.new.entries) }
+    ensures waiting { waiting_in A.waiting sessions.new.entries ≤ waiting_in A.waiting sessions.old.entries + length text.now }
+    ensures kin { B.kin backend.new ≡ B.kin backend.old }
+{
+    let session = match session_name(alloc, name) {
+        Ok(session) => session,
+        Err(NoMemory) => return StepEnd::NoMemory,
+    };
+    if sessions.len() < MOST_SESSIONS {
+        begin_session(rt, alloc, backend, sessions, session, text, skip, steps)
+    } else {
+        ending(refuse_session(alloc, &session, codes::TOO_MANY_SESSIONS))
+    }
+}
+
+/// A new session has its first line. Its number is how many have appeared before it.
+fn begin_session<A, R, B, L>(
+    rt: &R,
+    alloc: Global,
+    backend: &mut B,
+    sessions: &mut Sessions<A>,
+    session: Name,
+    text: &[u8],
+    skip: u32,
+    steps: &mut Steps<L>,
+) -> StepEnd
+where
+    A: Actor<Shot = B::Shot> + Drop,
+    R: Threads + Sync,
+    B: Backend,
+    requires sync { IsSync R.row }
+    requires alone { IsTrue B.alone }
+    requires going { stands_still (B.state backend.old) ≡ false }
+    requires counts { steps.old < 2 ^ 64 }
+    requires short { length text.now ≤ 65536 }
+    requires within { skip ≤ length text.now }
+    requires few { index_map_len sessions.old < 64 }
+    requires sessions { AreSessions A.named A.numbered A.holds (B.state backend.old) sessions.old.entries }
+    requires absent { places_of session (sessions_of A.places sessions.old.entries) ≡ None }
+    ensures executes { let script_state = script_state_of A.places (B.state backend.old).history sessions.old.entries in
+        LineExecuted result (takes_turn script_state session (A.semantics.does (A.semantics.opening (length script_state.sessions)) text.now skip))
+        (B.state backend.old) (B.state backend.new)
+        (script_state_of A.places (B.state backend.new).history sessions.new.entries) steps.old steps.new }
+    ensures sessions { IfAnswered result (AreSessions A.named A.numbered A.holds (B.state backend.new) sessions.new.entries) }
+    ensures waiting { waiting_in A.waiting sessions.new.entries ≤ waiting_in A.waiting sessions.old.entries + length text.now }
+    ensures kin { B.kin backend.new ≡ B.kin backend.old }
+{
+    let number = sessions.len() as u32;
+    let key = match make_room(alloc, sessions, &session) {
+        Ok(key) => key,
+        Err(NoMemory) => return StepEnd::NoMemory,
+    };
+    let mut actor = A::begin(alloc, session, number);
+    let end = take_turn(rt, alloc, backend, &mut actor, text, skip, steps);
+    sessions.insert(key, actor).unwrap();
+    end
+}
+
+/// A session has a line. Lines are executed one after the other, so no gate holds a session back.
+fn take_turn<A, R, B, L>(
+    rt: &R,
+    alloc: Global,
+    backend: &mut B,
+    actor: &mut A,
+    text: &[u8],
+    skip: u32,
+    steps: &mut Steps<L>,
+) -> StepEnd
+where
+    A: Actor<Shot = B::Shot> + Drop,
+    R: Threads + Sync,
+    B: Backend,
+    requires sync { IsSync R.row }
+    requires short { length text.now ≤ 65536 }
+    requires within { skip ≤ length text.now }
+    requires room { A.waiting actor.old + length text.now ≤ most_queued }
+    requires holds { A.holds actor.old (B.state backend.old) }
+    ensures stepped { Stepped B.alone (B.state backend.old) (A.semantics.does (A.places actor.old) text.now skip)
+        (A.named actor.old) result (B.state backend.new) (A.places actor.new) steps.old steps.new }
+    ensures name { A.named actor.new ≡ A.named actor.old }
+    ensures number { A.numbered actor.new ≡ A.numbered actor.old }
+    ensures waiting { A.waiting actor.new ≤ A.waiting actor.old + length text.now }
+    ensures holds { IfAnswered result (A.holds actor.new (B.state backend.new)) }
+    ensures kin { B.kin backend.new ≡ B.kin backend.old }
+{
+    let end = actor.act(rt, alloc, backend, &NoGate, text, skip, steps);
+    NoGate.answered(actor.number());
+    end
+}
+
+/// Room for one session more, and the key that it will have.
+fn make_room<A: Drop>(
+    alloc: Global,
+    sessions: &mut Sessions<A>,
+    session: &Name,
+) -> Result<Vec<u8>, NoMemory>
+    ensures kept { sessions.new.entries ≡ sessions.old.entries }
+    ensures room { OnOk result (0 < spare sessions.new) }
+    ensures key { IfOk result (λ key. key.items ≡ session.now) }
+{
+    sessions.reserve(1)?;
+    Ok(Vec::from_slice(alloc, session.bytes())?)
+}
+
+/// The name of a session.
+fn session_name(alloc: Global, text: &[u8]) -> Result<Name, NoMemory>
+    requires { IsTrue (is_name text.now) }
+    ensures { IfOk result (λ name. name ≡ text.now) }
+{
+    match Name::read(alloc, text)? {
+        Some(name) => Ok(name),
+        None => unreachable!(),
+    }
+}

@@ -1,5 +1,0 @@
-use Rattle.ts_sessions.proofs.WalkLaws.{put_together}
-use Rattle.ts_sessions.proofs.laws.deeds_are_put_together.Goals as goal
-
-pub returns : goal.returns
-returns g c = put_together

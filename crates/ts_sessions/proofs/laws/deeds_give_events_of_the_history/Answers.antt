@@ -1,5 +1,0 @@
-use Rattle.ts_sessions.proofs.GivesLaws.{gives_events}
-use Rattle.ts_sessions.proofs.laws.deeds_give_events_of_the_history.Goals as goal
-
-pub returns : goal.returns
-returns g c = gives_events
