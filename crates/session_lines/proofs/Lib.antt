@@ -1,0 +1,8 @@
+pub mod FirstLines
+pub mod StatementLines
+pub mod Passing
+pub mod Adding
+pub mod Extents
+pub mod NameLaws
+pub mod PhaseLaws
+pub mod SortedLaws

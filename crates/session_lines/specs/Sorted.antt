@@ -1,0 +1,76 @@
+-- The lines of an input, sorted by the sessions that they are of.
+use Rattle.std.specs.Prelude.{ℕ, suc, Bool, ◌||◌, not, cond, nat_lt, List, [], ◌∷◌, ◌++◌, length, take, filter}
+use Rattle.std.specs.List.{list_any}
+use Rattle.ts_io.specs.Lines.{lines_of}
+use Rattle.ts_model.specs.Roster.{same_name}
+use Rattle.stmt_reader.specs.declared.lines.LineKind.{LineKind}
+use Rattle.stmt_reader.specs.declared.lines.LineKind.TheVariants.{Blank, NotAscii, NoSession, Stmt}
+use Rattle.stmt_reader.specs.Lines.{line_kind}
+use Rattle.result_text.specs.declared.codes.TheConstants.{LINE_LONG, NOT_ASCII, NO_SESSION, TOO_MANY_SESSIONS}
+use Rattle.result_text.specs.declared.replies.Said.TheVariants as said
+use Rattle.result_text.specs.Replies.{line_fault_text, reply_text}
+use Rattle.ts_sessions.specs.Script.{SessionLine, SessionScript, line_limit, most_sessions, session_name}
+use Rattle.ts_sessions.specs.Step.{bare}
+
+-- an input, sorted: the refusals of lines that no session answers, in order, and the sessions in order of appearance. Sessions are numbered from 0 in that order
+pub record Sorted : Type 0 where
+  pub refusals : List ℕ
+  pub sessions : List SessionScript
+
+-- ---- one line
+
+abbrev pub refuses : List ℕ → Sorted → Sorted
+refuses text s = record s { refusals = s.refusals ++ text }
+
+-- the line comes last in the session with its name; a session that is new comes last
+abbrev pub with_line : List ℕ → SessionLine → List SessionScript → List SessionScript
+with_line name line [] = record { name = name; lines = line ∷ [] } ∷ []
+with_line name line (script ∷ scripts) = cond (same_name script.name name) (record script { lines = script.lines ++ line ∷ [] } ∷ scripts) (script ∷ with_line name line scripts)
+
+abbrev pub appears_in : List ℕ → List SessionScript → Bool
+appears_in name scripts = list_any (λ script. same_name script.name name) scripts
+
+-- a line of the session with a name: of one that has appeared, or of a new one, where there are fewer than 64
+abbrev pub sorts_as : List ℕ → SessionLine → Sorted → Sorted
+sorts_as name line s =
+    cond (appears_in name s.sessions || nat_lt (length s.sessions) most_sessions)
+    (record s { sessions = with_line name line s.sessions })
+    (refuses (reply_text name (said.Fault (bare TOO_MANY_SESSIONS))) s)
+
+-- a line of this kind, which has this number
+abbrev pub sorts_kind : ℕ → List ℕ → Sorted → LineKind → Sorted
+sorts_kind n line s Blank = s
+sorts_kind n line s NotAscii = refuses (line_fault_text n (bare NOT_ASCII)) s
+sorts_kind n line s NoSession = refuses (line_fault_text n (bare NO_SESSION)) s
+sorts_kind n line s (Stmt len skip end) = sorts_as (session_name line len skip) (record { text = take end line; skip = skip }) s
+
+abbrev pub sorts : ℕ → List ℕ → Sorted → Sorted
+sorts n line s = cond (nat_lt line_limit (length line)) (refuses (line_fault_text n (bare LINE_LONG)) s) (sorts_kind n line s (line_kind line))
+
+-- ---- all lines
+
+-- the lines from line n on
+abbrev pub sorts_all : ℕ → List (List ℕ) → Sorted → Sorted
+sorts_all n [] s = s
+sorts_all n (line ∷ lines) s = sorts_all (suc n) lines (sorts n line s)
+
+-- an input's lines, which count from 1
+abbrev pub sorted : List ℕ → Sorted
+sorted input = sorts_all 1 (lines_of input) (record { refusals = []; sessions = [] })
+
+-- ---- who runs when
+
+-- the names `setup` and `final`
+abbrev pub setup : List ℕ
+setup = 115 ∷ 101 ∷ 116 ∷ 117 ∷ 112 ∷ []
+
+abbrev pub final : List ℕ
+final = 102 ∷ 105 ∷ 110 ∷ 97 ∷ 108 ∷ []
+
+-- the session with this name alone, where it appears
+abbrev pub only : List ℕ → List SessionScript → List SessionScript
+only name scripts = filter (λ script. same_name script.name name) scripts
+
+-- those that run at once, each by a worker of its own: all but `setup`, which runs before them, and `final`, which runs after them
+abbrev pub at_once : List SessionScript → List SessionScript
+at_once scripts = filter (λ script. not (same_name script.name setup || same_name script.name final)) scripts

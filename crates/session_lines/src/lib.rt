@@ -1,0 +1,21 @@
+//! The lines of a whole input, sorted by the sessions that they are of, for a run that gives each
+//! session a worker of its own.
+//!
+//! - `sessions`: a session's lines, by their places in the input.
+//! - `sorting`: sorts the lines of an input.
+//! - `line_ends`: where a line ends.
+//! - `names`: the names of sessions.
+//! - `phases`: which sessions run alone, and which all at once.
+#![tactic(auto)]
+
+mod line_ends;
+mod names;
+mod phases;
+mod sessions;
+mod sorting;
+#[cfg(test)]
+mod tests;
+
+pub use phases::{Phases, into_phases};
+pub use sessions::{LinePlace, SessionLines};
+pub use sorting::{SortedLines, sort_lines};
