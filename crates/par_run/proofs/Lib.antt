@@ -1,0 +1,4 @@
+pub mod ReplyLaws
+pub mod CrewLaws
+pub mod TextLaws
+pub mod RunLaws

@@ -1,0 +1,12 @@
+use Rattle.std.proofs.Common.{◌≡◌, length}
+use Rattle.session_lines.specs.Places.{scripts_of}
+use Rattle.par_run.specs.Crews.{IsCrew}
+use Rattle.par_run.proofs.crews.make_crew.Given as goal
+
+abbrev pub invariant-loop-session : goal.invariant-loop-session
+invariant-loop-session g l = record {
+  can : (goal.iterator-loop-session g).can_next l.session-iterator;
+  finite : (goal.iterator-loop-session g).is_finite l.session-iterator;
+  crew : IsCrew g.B.Shot.Shown.stands g.B.Shot.Shown.fits g.B.Shot.Shown.cut_of g.B.Shot.Shown.snap_of (scripts_of l.input l.yielded) l.crew.items;
+  each : length l.crew.items ≡ length l.yielded;
+}

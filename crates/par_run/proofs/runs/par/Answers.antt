@@ -1,0 +1,25 @@
+use Rattle.std.proofs.Common.{subst, sym}
+use Rattle.shared_store.specs.Wrapped.{GoesOn}
+use Rattle.shared_store.proofs.GoesOnLaws.{goes_nowhere}
+use Rattle.session_lines.specs.Sorted.{at_once, final, only, setup, sorted}
+use Rattle.par_run.specs.Crews.{scripts_in}
+use Rattle.par_run.proofs.RunLaws.{going_on, ran_of_same}
+use Rattle.par_run.proofs.runs.par.Goals as goal
+
+pub run_over-requires-clause-going : goal.run_over-requires-clause-going
+run_over-requires-clause-going g c κs within = going_on (g.B.Backend.state c.args.backend).failed c.requires.going
+
+pub returns-in-Ok-clause-ran : goal.returns-in-Ok-clause-ran
+returns-in-Ok-clause-ran g c = λ other.
+    let crews = c.in-Ok.crews in
+    let sorted_input = sorted c.args.input.now in
+    let end = c.run_over.result in
+    ran_of_same (g.B.Backend.state c.args.backend).history crews.refusals.items sorted_input.refusals
+    (scripts_in crews.setup.items) (only setup sorted_input.sessions) (scripts_in crews.at_once.items) (at_once sorted_input.sessions) (scripts_in crews.last.items) (only final sorted_input.sessions)
+    (g.B.Backend.state end.backend) end.text end.fault
+    c.in-Ok.ensures.lines.refusals c.in-Ok.ensures.lines.setup_is c.in-Ok.ensures.lines.at_once_are c.in-Ok.ensures.lines.last_is (c.run_over.ensures.ran other)
+
+pub returns-in-Err-clause-goes_on : goal.returns-in-Err-clause-goes_on
+returns-in-Err-clause-goes_on g c =
+    let first = g.B.Backend.state c.args.backend in
+    subst (λ b. GoesOn first (g.B.Backend.state b)) (sym c.ended.ensures.backend) (goes_nowhere first (going_on first.failed c.requires.going))

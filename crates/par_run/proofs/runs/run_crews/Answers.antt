@@ -1,0 +1,77 @@
+use Rattle.std.proofs.Common.{◌≡◌, ◌≢◌, ◌∙◌, true, false, map, length, nat_lt, ap, refl, sym, subst, true≢false}
+use Rattle.std.specs.List.{list_any}
+use Rattle.ts_model.specs.States.{stands_still}
+use Rattle.shared_store.specs.Wrapped.{GoesOn}
+use Rattle.crew_run.specs.Slots.{workers_of}
+use Rattle.one_history.proofs.OneHistory.{one_history}
+use Rattle.par_run.specs.declared.ends.ParStop.TheVariants.{NoMemory}
+use Rattle.par_run.specs.Crews.{scripts_in, CrewsRan}
+use Rattle.par_run.specs.Ends.{is_disk_fault, stop_by}
+use Rattle.par_run.specs.Replies.{replies_in, with_all}
+use Rattle.par_run.specs.Workers.{ran_out, replies_of, worker_script}
+use Rattle.par_run.proofs.RunLaws.{HasReplied, enough_is, goes_on_looked, has_replied, looked_allowed, stop_is}
+use Rattle.par_run.proofs.runs.run_crews.Goals as goal
+use Rattle.par_run.proofs.runs.run_crews.Goals.{then-enough, else-enough}
+
+-- where the run didn't end for want of memory, each worker had enough
+replied : (g : _) (c : goal.After-ended g) → c.ended.result.stop ≢ NoMemory
+    → HasReplied (list_any ran_out (workers_of c.run_crew-pass.new.crew.items) ≡ false) (list_any ran_out (workers_of c.run_crew-pass-2.new.crew.items) ≡ false) (list_any ran_out (workers_of c.run_crew-pass-3.new.crew.items) ≡ false)
+    (c.ended.result.stop ≡ stop_by (stands_still (g.B.Backend.state c.snap.new.self)))
+    (λ r. replies_in r ≡ with_all (map replies_of (workers_of c.run_crew-pass-3.new.crew.items)) (with_all (map replies_of (workers_of c.run_crew-pass-2.new.crew.items)) (with_all (map replies_of (workers_of c.run_crew-pass.new.crew.items)) (record { text = c.args.crews.refusals.items; fault = nat_lt 0 (length c.args.crews.refusals.items) }))))
+    (λ r. replies_in r ≡ record { text = c.ended.result.text; fault = c.ended.result.fault })
+replied g c other = has_replied _ _ _ _ _ _ (c.ended.result.stop ≡ NoMemory) c.all_replies.result c.all_replies.ensures.setup c.all_replies.ensures.at_once c.all_replies.ensures.last c.ended.ensures.stop c.all_replies.ensures.replies c.ended.ensures.replies other
+
+pub returns-clause-ran : goal.returns-clause-ran
+returns-clause-ran g c = λ other.
+    let r = replied g c other in
+    let state = g.B.Backend.state in
+    let crews = c.args.crews in
+    let one = c.run_crew-pass in
+    let two = c.run_crew-pass-2 in
+    let three = c.run_crew-pass-3 in
+    let first : c.had_memory-enough.result ≡ true = enough_is c.as_slice.result.now one.new.crew.items c.had_memory-enough.result c.had_memory-enough.ensures c.as_slice.ensures.value r.setup in
+    let second : c.if-enough.enough ≡ true =
+    elim c.if-enough.branch [
+      | then-enough w ↦ w.enough-is ∙ enough_is w.as_slice-then-enough.result.now two.new.crew.items w.had_memory-enough-then-enough.result w.had_memory-enough-then-enough.ensures w.as_slice-then-enough.ensures.value r.at_once
+      | else-enough w ↦ absurd (true≢false (sym first ∙ w.if-enough.false))
+    ] in
+    let same = sym r.ends ∙ r.are in
+    subst (λ b. CrewsRan (state c.args.store.opened.value).history crews (state b) c.ended.result.text c.ended.result.fault) (sym c.ended.ensures.backend)
+    (one_history worker_script replies_of ran_out state c.args.store g.B.Backend.alone crews.refusals.items (scripts_in crews.setup.items) (scripts_in crews.at_once.items) (scripts_in crews.last.items) (state c.snap.new.self) c.ended.result.text c.ended.result.fault
+    (record {
+      start = c.args.pass;
+      middle = one.result;
+      later = two.result;
+      last = three.result;
+      setup_old = workers_of crews.setup.items;
+      setup_new = workers_of one.new.crew.items;
+      others_old = workers_of crews.at_once.items;
+      others_new = workers_of two.new.crew.items;
+      final_old = workers_of crews.last.items;
+      final_new = workers_of three.new.crew.items;
+      start_seen = c.requires.first.pass_seen;
+      start_made = c.requires.first.pass_made;
+      setup_ran = record { begins = one.ensures.begins; stays = one.ensures.stays; ran = one.ensures.ran refl; are = refl; sufficed = r.setup };
+      others_ran = record { begins = two.ensures.begins; stays = two.ensures.stays; ran = two.ensures.ran first; are = refl; sufficed = r.at_once };
+      final_ran = record { begins = three.ensures.begins; stays = three.ensures.stays; ran = three.ensures.ran second; are = refl; sufficed = r.last };
+      closed = state c.close-backend.result;
+      history = c.close-backend.ensures.history;
+      failed = c.close-backend.ensures.failed;
+      made = c.close-backend.ensures.made;
+      is_alone = c.requires.alone;
+      looked = looked_allowed g.B.Backend.alone (state c.close-backend.result) (state c.snap.new.self) c.snap.ensures.looked;
+      text_is = ap (λ x. x.text) same;
+      fault_is = ap (λ x. x.fault) same;
+    }))
+
+pub returns-clause-stop : goal.returns-clause-stop
+returns-clause-stop g c = λ other.
+    let r = replied g c other in
+    ap (λ b. stands_still (g.B.Backend.state b)) c.ended.ensures.backend ∙ sym (ap is_disk_fault r.stop ∙ stop_is (stands_still (g.B.Backend.state c.snap.new.self)))
+
+pub returns-clause-goes_on : goal.returns-clause-goes_on
+returns-clause-goes_on g c =
+    let first = g.B.Backend.state c.args.store.opened.value in
+    let closed = g.B.Backend.state c.close-backend.result in
+    let new = g.B.Backend.state c.snap.new.self in
+    subst (λ b. GoesOn first (g.B.Backend.state b)) (sym c.ended.ensures.backend) (goes_on_looked g.B.Backend.alone first closed new c.requires.alone c.snap.ensures.looked c.close-backend.ensures.goes_on)

@@ -1,0 +1,55 @@
+-- The workers of a run.
+use Rattle.std.specs.Prelude.{◌≡◌, ◌<◌, ◌≤◌, ℕ, Bool, List, All, length, map}
+use Rattle.ts_model.specs.History.{History}
+use Rattle.ts_model.specs.States.{State}
+use Rattle.crew_run.specs.Slots.{Slot, workers_of}
+use Rattle.ts_sessions.specs.Script.{SessionScript, most_sessions}
+use Rattle.one_history.specs.Parallel.{RanInParallel}
+use Rattle.session_lines.specs.Sorted.{Sorted, at_once, final, only, setup}
+use Rattle.par_run.specs.declared.crews.Crews.{Crews}
+use Rattle.par_run.specs.declared.workers.SessionWorker.{SessionWorker}
+use Rattle.par_run.specs.Workers.{worker_script, IsReady}
+
+-- the sessions of workers
+abbrev pub scripts_in : {T G J B : Type 0} → List (Slot (SessionWorker T G J) B) → List SessionScript
+scripts_in crew = map worker_script (workers_of crew)
+
+-- a worker for each session, before its first line
+pub record IsCrew {T G J B : Type 0} (stands : T → History → Type 0) (fits : J → History → Type 0) (cut_of snap_of : J → ℕ) (sessions : List SessionScript) (crew : List (Slot (SessionWorker T G J) B)) : Type 0 where
+  pub scripts : scripts_in crew ≡ sessions
+  pub ready : All (IsReady stands fits cut_of snap_of) (workers_of crew)
+
+module _ {B G T J : Type 0} where
+  -- the workers have these sorted lines
+  pub record AreOf (lines : Sorted) (crews : Crews B G T J) : Type 0 where
+    pub refusals : crews.refusals.items ≡ lines.refusals
+    pub setup_is : scripts_in crews.setup.items ≡ only setup lines.sessions
+    pub at_once_are : scripts_in crews.at_once.items ≡ at_once lines.sessions
+    pub last_is : scripts_in crews.last.items ≡ only final lines.sessions
+
+  -- each stands before its first line
+  pub record AreReady (stands : T → History → Type 0) (fits : J → History → Type 0) (cut_of snap_of : J → ℕ) (crews : Crews B G T J) : Type 0 where
+    pub setup_is : All (IsReady stands fits cut_of snap_of) (workers_of crews.setup.items)
+    pub at_once_are : All (IsReady stands fits cut_of snap_of) (workers_of crews.at_once.items)
+    pub last_is : All (IsReady stands fits cut_of snap_of) (workers_of crews.last.items)
+
+  -- there is at most one before all others and one after them, and no more than a script may have
+  pub record AreFew (crews : Crews B G T J) : Type 0 where
+    pub setup_is : length crews.setup.items ≤ 1
+    pub at_once_are : length crews.at_once.items ≤ most_sessions
+    pub last_is : length crews.last.items ≤ 1
+
+  -- so many shares of a store suffice for those that run at the same time, and for one pass more
+  pub record HaveShares (shares : ℕ) (crews : Crews B G T J) : Type 0 where
+    pub setup_has : length crews.setup.items < shares
+    pub at_once_have : length crews.at_once.items < shares
+    pub last_has : length crews.last.items < shares
+
+  -- over an opening history they ran, and left a state, this text, and whether a reply is a FAULT
+  abbrev pub CrewsRan : History → Crews B G T J → State → List ℕ → Bool → Type 0
+  CrewsRan opening crews new text fault =
+      RanInParallel opening crews.refusals.items (scripts_in crews.setup.items) (scripts_in crews.at_once.items) (scripts_in crews.last.items) new text fault
+
+-- the same of the sorted lines of an input
+abbrev pub LinesRan : History → Sorted → State → List ℕ → Bool → Type 0
+LinesRan opening lines new text fault = RanInParallel opening lines.refusals (only setup lines.sessions) (at_once lines.sessions) (only final lines.sessions) new text fault

@@ -1,0 +1,4 @@
+pub mod Replies
+pub mod Workers
+pub mod Crews
+pub mod Ends

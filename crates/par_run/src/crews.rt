@@ -1,0 +1,97 @@
+//! The workers of a run.
+ghost use Rattle.std.specs.Prelude.{◌≡◌, ◌≤◌, All, length, IfOk};
+ghost use Rattle.std.specs.Option.{option_to_list};
+ghost use Rattle.ts_io.specs.declared.limits.TheConstants.{INPUT_LIMIT};
+ghost use Rattle.session_lines.specs.Places.{scripts_of, IsWithin};
+ghost use Rattle.session_lines.specs.Sorted.{sorted};
+ghost use Rattle.par_run.specs.Crews.{AreFew, AreOf, AreReady, IsCrew};
+
+use crate::workers::SessionWorker;
+use crew_run::Slot;
+use session_lines::{SessionLines, into_phases, sort_lines};
+use std::alloc::Global;
+use ts_model::{Backend, Gate, Shown};
+use ts_schema::NoMemory;
+
+/// Workers, each with the place for its pass.
+pub(crate) type Crew<'a, B, G> = Vec<Slot<SessionWorker<'a, <B as Backend>::Shot, G>, B>>;
+
+/// The workers of a run by who runs when, and the refusals of the other lines of its input.
+#[derive(Drop)]
+pub(crate) struct Crews<'a, B: Backend, G>
+where
+    <B::Shot as Shown>::Job: Drop,
+{
+    /// The refusals of lines that no session answers, in order.
+    pub refusals: Vec<u8>,
+    /// The worker of `setup`, which runs before all others.
+    pub setup: Crew<'a, B, G>,
+    /// Those that run all at once, in order of appearance.
+    pub at_once: Crew<'a, B, G>,
+    /// The worker of `final`, which runs after all others.
+    pub last: Crew<'a, B, G>,
+}
+
+/// The workers for the lines of an input.
+pub(crate) fn make_crews<'a, B, G>(
+    alloc: Global,
+    input: &'a [u8],
+    gate: &'a G,
+) -> Result<Crews<'a, B, G>, NoMemory>
+where
+    B: Backend,
+    <B::Shot as Shown>::Job: Drop,
+    G: Gate,
+    requires short { length input.now ≤ INPUT_LIMIT }
+    ensures lines { IfOk result (AreOf (sorted input.now)) }
+    ensures ready { IfOk result (AreReady B.Shot.stands B.Shot.fits B.Shot.cut_of B.Shot.snap_of) }
+    ensures few { IfOk result AreFew }
+{
+    let lines = sort_lines(alloc, input)?;
+    let phases = into_phases(lines.sessions);
+    let setup_session = listed(alloc, phases.setup)?;
+    let last_session = listed(alloc, phases.last)?;
+    let setup = make_crew(alloc, setup_session, input, gate)?;
+    let at_once = make_crew(alloc, phases.at_once, input, gate)?;
+    let last = make_crew(alloc, last_session, input, gate)?;
+    Ok(Crews {
+        refusals: lines.refusals,
+        setup,
+        at_once,
+        last,
+    })
+}
+
+/// The session, if there is one, as a list.
+fn listed(alloc: Global, session: Option<SessionLines>) -> Result<Vec<SessionLines>, NoMemory>
+    ensures { IfOk result (λ sessions. sessions.items ≡ option_to_list session) }
+{
+    match session {
+        Some(session) => Ok(vec![in alloc; session]?),
+        None => Ok(Vec::new(alloc)),
+    }
+}
+
+/// A worker for each session.
+fn make_crew<'a, B, G>(
+    alloc: Global,
+    sessions: Vec<SessionLines>,
+    input: &'a [u8],
+    gate: &'a G,
+) -> Result<Crew<'a, B, G>, NoMemory>
+where
+    B: Backend,
+    <B::Shot as Shown>::Job: Drop,
+    G: Gate,
+    requires short { length input.now ≤ INPUT_LIMIT }
+    requires within { All (IsWithin (length input.now)) sessions.items }
+    ensures crew { IfOk result (λ crew. IsCrew B.Shot.stands B.Shot.fits B.Shot.cut_of B.Shot.snap_of
+        (scripts_of input.now sessions.items) crew.items) }
+    ensures each { IfOk result (λ crew. length crew.items ≡ length sessions.items) }
+{
+    let mut crew = Vec::new(alloc);
+    for session in sessions {
+        crew.push((SessionWorker::new(alloc, session, input, gate), None))?;
+    }
+    Ok(crew)
+}

@@ -1,0 +1,22 @@
+//! The lines of an input, executed by one worker for each session over one shared store: `setup` alone,
+//! then all other sessions at once, then `final` alone.
+//!
+//! - `runs`: the run.
+//! - `ends`: how a run ends.
+//! - `crews`: the workers of a run.
+//! - `texts`: what all workers have replied.
+//! - `workers`: a session that executes its lines of an input at a store.
+//! - `executors`: a session that executes lines one after the other.
+//! - `replies`: what a session replies.
+#![tactic(auto)]
+
+mod crews;
+mod ends;
+mod executors;
+mod replies;
+mod runs;
+mod texts;
+mod workers;
+
+pub use ends::{ParEnd, ParStop};
+pub use runs::par;

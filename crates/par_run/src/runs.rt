@@ -1,0 +1,200 @@
+//! The run.
+ghost use Rattle.std.specs.Prelude.{◌≡◌, ◌≢◌, ◌<◌, ◌≤◌, false, true, None, length, All, IfOk, IsTrue, MatchResult};
+ghost use Rattle.std.specs.Thread.{IsSync};
+ghost use mathlib.Core.List.{IsPrefix};
+ghost use Rattle.ts_io.specs.declared.limits.TheConstants.{INPUT_LIMIT};
+ghost use Rattle.ts_model.specs.States.{stands_still};
+ghost use Rattle.turn_lock.specs.Pass.{shares_of, seen_of, StaysIn};
+ghost use Rattle.shared_store.specs.Making.{IsFirstPass};
+ghost use Rattle.shared_store.specs.Stores.{IsPassOf};
+ghost use Rattle.shared_store.specs.Wrapped.{GoesOn};
+ghost use Rattle.crew_run.specs.Slots.{workers_of};
+ghost use Rattle.crew_run.specs.Outcomes.{Ran};
+ghost use Rattle.session_lines.specs.Sorted.{sorted};
+ghost use Rattle.par_run.specs.Replies.{replies_in};
+ghost use Rattle.par_run.specs.Crews.{AreFew, AreReady, CrewsRan, HaveShares, LinesRan};
+ghost use Rattle.par_run.specs.Ends.{is_disk_fault, stop_by};
+
+use crate::crews::{Crews, make_crews};
+use crate::ends::{ParEnd, ParStop};
+use crate::replies::Replies;
+use crate::texts::{all_reads, all_replies, had_memory};
+use crew_run::{Slot, Worker, run_at_once};
+use shared_store::{MadeStore, Pass, SharedStore};
+use std::alloc::Global;
+use std::sync::Wait;
+use std::thread::Threads;
+use ts_model::{Backend, Gate, Shown};
+use ts_schema::{NoMemory, Seq};
+
+/// Runs the lines of an input over a store that is alone and goes on, by one worker for each session:
+/// `setup` alone, then all other sessions at once, each in a thread of its own, then `final` alone. It
+/// gives the store back on each ending, and may wait, as the workers take turns at the store.
+///
+/// The text and the store are as if each line had been answered over the one history that the store then
+/// holds, at positions that never fall from one line of a session to its next. After a disk fault the store
+/// stands still, and the sessions go on. Where there is no memory for a line, its session ends there, and
+/// no other begins any more.
+pub fn par<B, R, G>(rt: &R, alloc: Global, backend: B, input: &[u8], gate: &G) -> ParEnd<B>
+where
+    B: Backend + Send,
+    B::Shot: Send,
+    <B::Shot as Shown>::Job: Send + Drop,
+    G: Gate + Sync,
+    R: Threads + Wait + Sync,
+    requires sync { IsSync R.row }
+    requires alone { IsTrue B.alone }
+    requires going { stands_still (B.state backend) ≡ false }
+    requires within { length input.now ≤ INPUT_LIMIT }
+    ensures ran { result.stop ≢ ParStop.NoMemory → LinesRan (B.state backend).history (sorted input.now)
+        (B.state result.backend) result.text result.fault }
+    ensures stop { result.stop ≢ ParStop.NoMemory → stands_still (B.state result.backend) ≡ is_disk_fault result.stop }
+    ensures goes_on { GoesOn (B.state backend) (B.state result.backend) }
+    ensures kin { B.kin result.backend ≡ B.kin backend }
+{
+    match make_crews(alloc, input, gate) {
+        Ok(crews) => run_over(rt, alloc, backend, crews),
+        Err(NoMemory) => ended(alloc, backend, Err(NoMemory), 0),
+    }
+}
+
+/// Shares a store among the workers, and runs them.
+fn run_over<B, R, G>(rt: &R, alloc: Global, backend: B, crews: Crews<'_, B, G>) -> ParEnd<B>
+where
+    B: Backend + Send,
+    B::Shot: Send,
+    <B::Shot as Shown>::Job: Send + Drop,
+    G: Gate + Sync,
+    R: Threads + Wait + Sync,
+    requires sync { IsSync R.row }
+    requires alone { IsTrue B.alone }
+    requires going { (B.state backend).failed ≡ None }
+    requires few { AreFew crews }
+    requires ready { AreReady B.Shot.stands B.Shot.fits B.Shot.cut_of B.Shot.snap_of crews }
+    ensures ran { result.stop ≢ ParStop.NoMemory → CrewsRan (B.state backend).history crews.entry
+        (B.state result.backend) result.text result.fault }
+    ensures stop { result.stop ≢ ParStop.NoMemory → stands_still (B.state result.backend) ≡ is_disk_fault result.stop }
+    ensures goes_on { GoesOn (B.state backend) (B.state result.backend) }
+    ensures kin { B.kin result.backend ≡ B.kin backend }
+{
+    // Each worker that runs has one share, and one stays with the first pass.
+    let shares = crews.at_once.len() as u32 + 2;
+    match SharedStore::new(alloc, backend, shares) {
+        MadeStore::Made { store, pass } => run_crews(rt, alloc, store, pass, crews),
+        MadeStore::NoMemory(backend) => ended(alloc, backend, Err(NoMemory), 0),
+    }
+}
+
+/// Runs the workers over a store, and closes it.
+fn run_crews<B, R, G>(
+    rt: &R,
+    alloc: Global,
+    store: SharedStore<B>,
+    pass: Pass<B>,
+    crews: Crews<'_, B, G>,
+) -> ParEnd<B>
+where
+    B: Backend + Send,
+    B::Shot: Send,
+    <B::Shot as Shown>::Job: Send + Drop,
+    G: Gate + Sync,
+    R: Threads + Wait + Sync,
+    requires sync { IsSync R.row }
+    requires alone { IsTrue B.alone }
+    requires first { IsFirstPass store.opened.value store.shares store pass }
+    requires shares { HaveShares store.shares crews }
+    requires ready { AreReady B.Shot.stands B.Shot.fits B.Shot.cut_of B.Shot.snap_of crews }
+    ensures ran { result.stop ≢ ParStop.NoMemory → CrewsRan (B.state store.opened.value).history crews.entry
+        (B.state result.backend) result.text result.fault }
+    ensures stop { result.stop ≢ ParStop.NoMemory → stands_still (B.state result.backend) ≡ is_disk_fault result.stop }
+    ensures goes_on { GoesOn (B.state store.opened.value) (B.state result.backend) }
+    ensures kin { B.kin result.backend ≡ B.kin store.opened.value }
+{
+    let mut crews = crews;
+    let pass = run_crew(rt, &store, pass, &mut crews.setup, true);
+    let enough = had_memory(crews.setup.as_slice());
+    let pass = run_crew(rt, &store, pass, &mut crews.at_once, enough);
+    let enough = enough && had_memory(crews.at_once.as_slice());
+    let pass = run_crew(rt, &store, pass, &mut crews.last, enough);
+    let mut backend = store.close(pass);
+    // A look at the store tells that all its events were allowed. The snapshot itself isn't needed.
+    let _ = backend.snap();
+    let reads = all_reads(&crews);
+    ended(alloc, backend, all_replies(crews), reads)
+}
+
+/// Lets the workers of a crew work at once, where there was memory so far.
+fn run_crew<W, B, R>(
+    rt: &R,
+    store: &SharedStore<B>,
+    all: Pass<B>,
+    crew: &mut Vec<Slot<W, B>>,
+    enough: bool,
+) -> Pass<B>
+where
+    W: Worker<Shot = B::Shot> + Send,
+    B: Backend + Send,
+    B::Shot: Send,
+    <B::Shot as Shown>::Job: Send,
+    R: Threads + Wait + Sync,
+    requires sync { IsSync R.row }
+    requires pass { IsPassOf store.now all }
+    requires room { length crew.old.items < shares_of all }
+    requires ready { All W.ready (workers_of crew.old.items) }
+    ensures pass { IsPassOf store.now result }
+    ensures shares { shares_of result ≡ shares_of all }
+    ensures begins { IsPrefix (seen_of all) (seen_of result) }
+    ensures stays { StaysIn result all }
+    ensures ran { enough ≡ true → Ran B.state store.now W.did all result
+        (workers_of crew.old.items) (workers_of crew.new.items) }
+{
+    if enough {
+        run_at_once(rt, store, all, crew.as_mut_slice())
+    } else {
+        all
+    }
+}
+
+/// The end of a run, whose workers have replied so.
+fn ended<B: Backend>(
+    alloc: Global,
+    backend: B,
+    replies: Result<Replies, NoMemory>,
+    reads: u64,
+) -> ParEnd<B>
+    ensures backend { result.backend ≡ backend }
+    ensures stop { MatchResult replies (λ _. result.stop ≡ stop_by (stands_still (B.state backend)))
+        (λ _. result.stop ≡ ParStop.NoMemory) }
+    ensures replies { IfOk replies (λ r. replies_in r ≡ record { text = result.text; fault = result.fault }) }
+{
+    match replies {
+        Ok(replies) => {
+            let stop = stop_at(&backend);
+            let Replies { text, fault } = replies;
+            ParEnd {
+                backend,
+                text: Seq::of(text),
+                fault,
+                reads,
+                stop,
+            }
+        }
+        Err(NoMemory) => ParEnd {
+            backend,
+            text: Seq::new(alloc),
+            fault: false,
+            reads,
+            stop: ParStop::NoMemory,
+        },
+    }
+}
+
+/// How a run ended that left this store.
+fn stop_at<B: Backend>(backend: &B) -> ParStop
+    ensures { result ≡ stop_by (stands_still (B.state backend.now)) }
+{
+    match backend.stopped() {
+        Some(_) => ParStop::DiskFault,
+        None => ParStop::Done,
+    }
+}

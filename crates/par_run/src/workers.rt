@@ -1,0 +1,89 @@
+//! A session that executes its lines of an input at a store.
+ghost use Rattle.std.specs.Prelude.{◌≡◌, ◌≤◌, length};
+ghost use Rattle.ts_io.specs.declared.limits.TheConstants.{INPUT_LIMIT};
+ghost use Rattle.session_lines.specs.Places.{script_of, IsWithin};
+
+use crate::executors::{Executor, Reads};
+use crate::replies::Replies;
+use crew_run::Worker;
+use session_lines::{LinePlace, SessionLines};
+use std::alloc::Global;
+use std::thread::Threads;
+use ts_model::{Backend, Gate, Shown};
+use ts_schema::Steps;
+use ts_sessions::Session;
+
+/// A session with its lines of an input.
+#[derive(Drop)]
+pub(crate) struct SessionWorker<'a, T: Shown + Drop, G>
+where
+    T::Job: Drop,
+{
+    /// What executes the lines.
+    pub executor: Executor<'a, T, G>,
+    /// The input.
+    pub input: &'a [u8],
+    /// The places of the lines in the input, in order.
+    pub lines: Vec<LinePlace>,
+    /// Whether there was no memory for one of them.
+    pub out_of_memory: bool,
+}
+
+impl<'a, T: Shown + Drop, G: Gate> SessionWorker<'a, T, G>
+where
+    T::Job: Drop,
+{
+    ghost use Rattle.par_run.specs.Workers.{worker_script, IsReady};
+
+    /// A session before the first of its lines of an input. It takes no memory.
+    pub fn new(
+        alloc: Global,
+        session: SessionLines,
+        input: &'a [u8],
+        gate: &'a G,
+    ) -> SessionWorker<'a, T, G>
+        requires short { length input.now ≤ INPUT_LIMIT }
+        requires within { IsWithin (length input.now) session }
+        ensures script { worker_script result ≡ script_of input.now session }
+        ensures ready { IsReady T.stands T.fits T.cut_of T.snap_of result }
+    {
+        let SessionLines {
+            name,
+            number,
+            lines,
+        } = session;
+        SessionWorker {
+            executor: Executor {
+                session: Session::new(alloc, name, number),
+                gate,
+                alloc,
+                replies: Replies::new(alloc),
+                steps: Steps::new(Reads),
+            },
+            input,
+            lines,
+            out_of_memory: false,
+        }
+    }
+}
+
+impl<'a, T: Shown + Drop, G: Gate> Worker for SessionWorker<'a, T, G>
+where
+    T::Job: Drop,
+{
+    ghost use Rattle.one_history.specs.Calls.{Worked};
+    ghost use Rattle.par_run.specs.Workers.{ran_out, replies_of, worker_script, IsReady};
+
+    type Shot = T;
+
+    ghost ready = { IsReady T.stands T.fits T.cut_of T.snap_of };
+
+    ghost did = { Worked worker_script replies_of ran_out };
+
+    fn work<R: Threads + Sync, B: Backend<Shot = T>>(&mut self, rt: &R, backend: &mut B) {
+        let end = self
+            .executor
+            .execute_all(rt, backend, self.input, self.lines.as_slice());
+        self.out_of_memory = end.is_err();
+    }
+}
