@@ -10,3 +10,4 @@ pub mod ReplayLaws
 pub mod StartLaws
 pub mod StandsLaws
 pub mod JudgedLaws
+pub mod Crossing
