@@ -1,0 +1,54 @@
+-- What a run over an empty store comes to.
+use Rattle.std.proofs.Common.{◌≡◌, refl, sym, ap, subst, ◌∙◌, inl, ℕ, ◌≤◌, Bool, List, [], Option, None, Some, length, arith}
+use Rattle.std.specs.Prelude.{IfOk, IfSome, IsSomeAnd, Result, Ok, Err}
+use Rattle.ts_schema.specs.Counts.{raised_by}
+use Rattle.ts_io.specs.declared.limits.TheConstants.{INPUT_LIMIT}
+use Rattle.ts_model.specs.History.{History, start}
+use Rattle.ts_sessions.specs.Script.{session_semantics}
+use Rattle.ts_store.specs.Stands.{Stands}
+use Rattle.script_run.specs.Runs.{Left, Ran, executed, reads_of}
+use Rattle.script_run.specs.declared.ends.RunEnd.{RunEnd}
+use Rattle.script_run.specs.declared.ends.RunEnd.TheVariants.{Done, Refused, ReadFault, WriteFault, DiskFault, NoMemory, InputLong}
+use Rattle.demo_run.specs.Runs.{RanLines, RanToEnd}
+
+-- a file with no byte stands for the empty history
+pub empty_stands : Stands [] start
+empty_stands = record { holds = inl (omega arith, refl); sound = record { allowed = refl; formed = tt } }
+
+pub if_ok : {T E : Type 0} (r : Result T E) (P Q : T → Type 0) → ((x : T) → P x → Q x) → IfOk r P → IfOk r Q
+if_ok (Ok x) P Q gives p = gives x p
+if_ok (Err e) P Q gives p = tt
+
+-- an input within the limit doesn't end beyond it
+long_input : (end : RunEnd) (h : History) (input : List ℕ) (rest : Option (List ℕ)) (left : Left) → length input ≤ INPUT_LIMIT → Ran end session_semantics h input rest left → end ≡ InputLong → ⊥
+long_input end h input rest left within ran is =
+    let past : Ran InputLong session_semantics h input rest left = subst (λ e. Ran e session_semantics h input rest left) is ran in
+    omega (arith, past.0, within)
+
+pub not_long : (end : RunEnd) (h : History) (input : Option (List ℕ)) (rest : Option (List ℕ)) (left : Left) → IsSomeAnd input (λ text. length text ≤ INPUT_LIMIT) → IfSome input (λ text. Ran end session_semantics h text rest left) → end ≡ InputLong → ⊥
+not_long end h None rest left within ran is = absurd within
+not_long end h (Some text) rest left within ran is = long_input end h text rest left within ran is
+
+-- a script that was run to its end led from the first history to the last
+led : (end : RunEnd) (refused : Bool) (h : History) (input : List ℕ) (rest : Option (List ℕ)) (left : Left) → left.read_before ≡ 0 → RanToEnd end refused → Ran end session_semantics h input rest left
+    → RanLines h (executed input) (record { refused = refused; reads = left.read }) left.store.history
+led Done refused h input rest left zeroth whole ran = record {
+  history = ran.1.history;
+  reads = ran.1.counted ∙ ap (λ n. raised_by (reads_of session_semantics h (executed input)) n) zeroth;
+  refused = whole ∙ sym ran.2;
+}
+led Refused refused h input rest left zeroth whole ran = record {
+  history = ran.1.history;
+  reads = ran.1.counted ∙ ap (λ n. raised_by (reads_of session_semantics h (executed input)) n) zeroth;
+  refused = whole ∙ sym ran.2;
+}
+led ReadFault refused h input rest left zeroth whole ran = absurd whole
+led WriteFault refused h input rest left zeroth whole ran = absurd whole
+led DiskFault refused h input rest left zeroth whole ran = absurd whole
+led NoMemory refused h input rest left zeroth whole ran = absurd whole
+led InputLong refused h input rest left zeroth whole ran = absurd whole
+
+pub ran_lines : (end : RunEnd) (refused : Bool) (h : History) (input rest : Option (List ℕ)) (left : Left) → left.read_before ≡ 0 → RanToEnd end refused → IfSome input (λ text. Ran end session_semantics h text rest left)
+    → IfSome input (λ text. RanLines h (executed text) (record { refused = refused; reads = left.read }) left.store.history)
+ran_lines end refused h None rest left zeroth whole ran = tt
+ran_lines end refused h (Some text) rest left zeroth whole ran = led end refused h text rest left zeroth whole ran

@@ -1,0 +1,3 @@
+pub mod Demos
+pub mod Runs
+pub mod Sums

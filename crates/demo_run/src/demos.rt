@@ -1,0 +1,65 @@
+//! A demonstration and its summary.
+ghost use Rattle.std.specs.Prelude.{◌≡◌, IfOk};
+ghost use Rattle.result_text.specs.Summaries.{summary_text};
+ghost use Rattle.ts_store.specs.Stores.{seen};
+ghost use Rattle.demo_run.specs.Demos.{demo_summary, is_refused_demo, reads_of_demo};
+ghost use Rattle.demo_run.specs.Sums.{summary_of};
+
+use crate::runs::{empty_store, run_script};
+use crate::sums::summary_of;
+use result_text::put_summary;
+use std::alloc::Global;
+use std::thread::Threads;
+use ts_disk::Disk;
+use ts_schema::{NoMemory, Seq};
+use ts_store::Store;
+
+/// What a demonstration came to.
+#[derive(Drop, Debug)]
+pub struct Demonstration {
+    /// The lines of its summary.
+    pub text: Seq<u8>,
+    /// How many stored rows the answers and the refreshes of its script looked at. At `u64::MAX` the count
+    /// stands still.
+    pub reads: u64,
+    /// Whether a reply to its script is a FAULT.
+    pub refused: bool,
+}
+
+/// Runs the script of the demonstration with a number over a store in memory that starts empty, and sums
+/// up what the store then holds.
+pub fn demo<R: Threads + Sync>(
+    rt: &R,
+    alloc: Global,
+    number: u32,
+) -> Result<Demonstration, NoMemory>
+    ensures summary { IfOk result (λ demo. demo.text ≡ demo_summary number) }
+    ensures reads { IfOk result (λ demo. demo.reads ≡ reads_of_demo number) }
+    ensures refused { IfOk result (λ demo. demo.refused ≡ is_refused_demo number) }
+{
+    let mut store = empty_store(rt, alloc)?;
+    let ran = run_script(rt, alloc, number, &mut store)?;
+    Ok(Demonstration {
+        text: summary_text(rt, alloc, number, &store, ran.reads)?,
+        reads: ran.reads,
+        refused: ran.refused,
+    })
+}
+
+/// The summary of a demonstration whose script led to the history of a store and looked at so many stored
+/// rows.
+fn summary_text<R: Threads + Sync, D: Disk>(
+    rt: &R,
+    alloc: Global,
+    number: u32,
+    store: &Store<D>,
+    reads: u64,
+) -> Result<Seq<u8>, NoMemory>
+    ensures { IfOk result (λ text. text ≡ summary_text (summary_of number (seen store.now) reads)) }
+{
+    let shot = store.engine().shot()?;
+    let summary = summary_of(rt, alloc, number, &shot, reads)?;
+    let mut text = Vec::new(alloc);
+    put_summary(&summary, &mut text)?;
+    Ok(Seq::of(text))
+}

@@ -1,0 +1,3 @@
+mod PlaceLaws
+mod RowLaws
+pub mod TextLaws

@@ -1,0 +1,21 @@
+//! The script of a demonstration: a table with a continuous aggregate over it, 40 rounds in which 20,000
+//! rows are inserted and the aggregate is refreshed and asked, and at last a row that comes late. Its
+//! number gives the values of the rows.
+//!
+//! - `lines`: which line stands where.
+//! - `rows`: the rows that are inserted.
+//! - `texts`: the texts of lines.
+//! - `scripts`: a line by its number, and the whole script.
+//! - `laws`: the text of a script has its lines.
+#![tactic(auto)]
+
+pub mod laws;
+mod lines;
+mod rows;
+mod scripts;
+mod texts;
+
+pub use scripts::{demo_line, demo_script};
+
+#[cfg(test)]
+mod tests;
