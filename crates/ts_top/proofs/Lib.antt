@@ -1,3 +1,6 @@
-mod StoryLaws
+mod OutcomeLaws
 mod LogLaws
+mod OpeningLaws
+mod ParallelLaws
+mod DemoLaws
 mod PrintLaws

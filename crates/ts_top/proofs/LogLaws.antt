@@ -1,11 +1,11 @@
 -- A log is printed event by event.
-use Rattle.std.proofs.Common.{◌≡◌, ℕ, zero, suc, ◌+◌, ◌<◌, ◌≤◌, List, [], ◌∷◌, ◌++◌, length, drop, slice_get, Option, Some, None, refl, sym, ap, ◌∙◌, subst, arith, append_assoc, append-nil}
+use Rattle.std.proofs.Common.{◌≡◌, ℕ, zero, suc, ◌≤◌, List, [], ◌∷◌, ◌++◌, length, drop, slice_get, Option, Some, None, refl, sym, ap, ◌∙◌, subst, arith, append_assoc, append-nil}
 use Rattle.std.specs.Io.KnownBytes.{Appends}
 use Rattle.std.proofs.KnownBytes.{Appends-nil, Appends-trans}
 use Rattle.ts_io.specs.Whole.{AppendsPart}
 use Rattle.ts_model.specs.declared.events.Event.{Event}
 use Rattle.ts_model.specs.declared.rosters.Roster.{Roster}
-use Rattle.ts_model.specs.History.{History, start, ◌▸◌, ◌▸▸◌, base_position, event_at, events_of, position}
+use Rattle.ts_model.specs.History.{History, start, ◌▸◌, ◌▸▸◌, base_position, events_of}
 use Rattle.ts_model.specs.Roster.{roster}
 use Rattle.engine_core.specs.Histories.{history_of}
 use Rattle.result_text.specs.Events.{log_text}

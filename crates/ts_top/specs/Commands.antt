@@ -1,18 +1,42 @@
 -- What the words of the command line ask for.
-use Rattle.std.specs.Prelude.{ℕ, List, [], ◌∷◌, Option, Some, None, codes, bytes_eq, if◌then◌else◌}
+use Rattle.std.specs.Prelude.{ℕ, Bool, ◌+◌, ◌*◌, ◌-◌, ◌&&◌, nat_eq, nat_lt, nat_le, List, [], ◌∷◌, Option, Some, None, option_map, codes, bytes_eq, if◌then◌else◌}
 use Rattle.ts_top.specs.declared.commands.Command.{Command}
-use Rattle.ts_top.specs.declared.commands.Command.TheVariants.{Run, Print}
+use Rattle.ts_top.specs.declared.commands.Command.TheVariants.{Run, Par, Demo, Print}
 use Rattle.ts_top.specs.declared.commands.Text.TheVariants.{Log, Check}
 
 -- the command that a word is
 abbrev pub of_word : List ℕ → Option Command
-of_word word = if bytes_eq word (codes "run") then Some Run else if bytes_eq word (codes "log") then Some (Print Log) else if bytes_eq word (codes "check") then Some (Print Check) else None
+of_word word =
+    if bytes_eq word (codes "run") then Some Run
+    else if bytes_eq word (codes "par") then Some Par
+    else if bytes_eq word (codes "log") then Some (Print Log)
+    else if bytes_eq word (codes "check") then Some (Print Check)
+    else None
 
--- the command that words are: each is one word
+abbrev pub is_digit : ℕ → Bool
+is_digit byte = nat_le 48 byte && nat_le byte 57
+
+-- digits behind a number, each of which makes it ten times as much and adds itself: it stays below a million
+abbrev pub number_from : ℕ → List ℕ → Option ℕ
+number_from n [] = Some n
+number_from n (digit ∷ digits) = if is_digit digit && nat_lt n 100000 then number_from (10 * n + (digit - 48)) digits else None
+
+-- a number below a million, without zeros in front
+abbrev pub demo_number : List ℕ → Option ℕ
+demo_number [] = None
+demo_number (first ∷ []) = number_from 0 (first ∷ [])
+demo_number (first ∷ next ∷ more) = if nat_eq first 48 then None else number_from 0 (first ∷ next ∷ more)
+
+-- the command that two words are
+abbrev pub of_words : List ℕ → List ℕ → Option Command
+of_words word number = if bytes_eq word (codes "demo") then option_map Demo (demo_number number) else None
+
+-- the command that words are
 abbrev pub named : List (List ℕ) → Option Command
 named [] = None
 named (word ∷ []) = of_word word
-named (word ∷ next ∷ more) = None
+named (word ∷ number ∷ []) = of_words word number
+named (word ∷ number ∷ next ∷ more) = None
 
 -- the words without a first `--`
 abbrev pub after_dashes : List (List ℕ) → List (List ℕ)

@@ -1,5 +1,5 @@
 -- How the top call ends.
-use Rattle.std.specs.Prelude.{ℕ, Bool, true, false, ⊤}
+use Rattle.std.specs.Prelude.{ℕ, Bool, true, false}
 use Rattle.script_run.specs.declared.ends.RunEnd.{RunEnd}
 use Rattle.script_run.specs.declared.ends.RunEnd.TheVariants as ends
 use Rattle.ts_top.specs.declared.endings.Status.{Status}
@@ -16,6 +16,11 @@ exit_status DiskFault = 5
 exit_status (Damaged at) = 6
 exit_status NoMemory = 7
 exit_status InputLong = 8
+
+-- how a call ends whose lines were all answered, with a FAULT among the replies or without one
+abbrev pub status_answered : Bool → Status
+status_answered true = Refused
+status_answered false = Done
 
 -- how the call ends whose script ended so
 abbrev pub status_of : RunEnd → Status

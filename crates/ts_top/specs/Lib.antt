@@ -2,5 +2,8 @@ pub mod Commands
 pub mod Endings
 pub mod Scripts
 pub mod Logs
-pub mod Stories
+pub mod Outcomes
+pub mod Openings
+pub mod Parallel
+pub mod Calls
 pub mod Stops

@@ -1,12 +1,16 @@
 //! What the words of the command line ask for.
 ghost use Rattle.std.specs.Prelude.{◌≡◌, map, string_bytes};
-ghost use Rattle.ts_top.specs.Commands.{command_of, named, of_word};
+ghost use Rattle.ts_top.specs.Commands.{command_of, demo_number, is_digit, named, number_from, of_word, of_words};
 
 /// What there is to ask for.
 #[derive(Clone, Copy, Debug, PartialEq, Eq)]
 pub enum Command {
     /// To run the lines of the input in order, over the history of the journal.
     Run,
+    /// To run the lines of the input by a worker for each session, over the history of the journal.
+    Par,
+    /// To run the script of the demonstration with a number below a million, and to print a summary.
+    Demo(u32),
     /// To print a text of the journal.
     Print(Text),
 }
@@ -26,10 +30,57 @@ fn of_word(word: &str) -> Option<Command>
 {
     if word == "run" {
         Some(Command::Run)
+    } else if word == "par" {
+        Some(Command::Par)
     } else if word == "log" {
         Some(Command::Print(Text::Log))
     } else if word == "check" {
         Some(Command::Print(Text::Check))
+    } else {
+        None
+    }
+}
+
+/// Whether a byte is a digit.
+fn is_digit(byte: u8) -> bool
+    ensures { result ≡ is_digit byte }
+{
+    b'0' <= byte && byte <= b'9'
+}
+
+/// The number that begins with `so_far` and goes on with these digits, where it is below a million.
+fn number_from(so_far: u32, digits: &[u8]) -> Option<u32>
+    ensures { result ≡ number_from so_far digits.now }
+{
+    match digits {
+        [] => Some(so_far),
+        [digit, rest @ ..] => {
+            if is_digit(*digit) && so_far < 100_000 {
+                number_from(10 * so_far + (*digit - b'0') as u32, rest)
+            } else {
+                None
+            }
+        }
+    }
+}
+
+/// A number below a million, written without zeros in front.
+fn demo_number(digits: &[u8]) -> Option<u32>
+    ensures { result ≡ demo_number digits.now }
+{
+    match digits {
+        [] => None,
+        [b'0', _, ..] => None,
+        _ => number_from(0, digits),
+    }
+}
+
+/// The command that these two words are.
+fn of_words(word: &str, number: &str) -> Option<Command>
+    ensures { result ≡ of_words word.now number.now }
+{
+    if word == "demo" {
+        demo_number(number.as_bytes()).map(Command::Demo)
     } else {
         None
     }
@@ -41,6 +92,7 @@ fn named(words: &[String]) -> Option<Command>
 {
     match words {
         [word] => of_word(word.as_str()),
+        [word, number] => of_words(word.as_str(), number.as_str()),
         _ => None,
     }
 }

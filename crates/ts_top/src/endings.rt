@@ -1,6 +1,6 @@
 //! How a call ended.
 ghost use Rattle.std.specs.Prelude.{◌≡◌};
-ghost use Rattle.ts_top.specs.Endings.{exit_status, status_of as status_of_run};
+ghost use Rattle.ts_top.specs.Endings.{exit_status, status_answered, status_of as status_of_run};
 
 use script_run::RunEnd;
 use ts_disk::Disk;
@@ -71,5 +71,16 @@ pub(crate) fn status_of(end: RunEnd) -> Status
         RunEnd::DiskFault => Status::DiskFault,
         RunEnd::NoMemory => Status::NoMemory,
         RunEnd::InputLong => Status::InputLong,
+    }
+}
+
+/// How a call ends whose lines were all answered, with a FAULT among the replies or without one.
+pub(crate) fn status_answered(refused: bool) -> Status
+    ensures { result ≡ status_answered refused }
+{
+    if refused {
+        Status::Refused
+    } else {
+        Status::Done
     }
 }

@@ -2,17 +2,22 @@
 
 use super::tests::{BASE, call};
 use super::*;
+use std::sync::Wait;
 use std::test::Fail;
 use std::thread::Threads;
 use ts_disk::{FailDisk, Kind, MemDisk};
 use ts_io::{MemSink, MemSource};
+use ts_model::NoGate;
 
 /// What a call is given, what it prints, and how it ends.
 type Call = (&'static str, &'static [u8], &'static [u8], Status);
 
 /// Makes these calls one after the other, the first of them over an empty disk, and gives the journal that
 /// they leave, where each prints what is wanted.
-fn calls<R: Threads + Sync + AllocGlobal>(rt: &R, rows: &[Call]) -> Result<Option<Vec<u8>>, Fail> {
+fn calls<R: Threads + Wait + Sync + AllocGlobal>(
+    rt: &R,
+    rows: &[Call],
+) -> Result<Option<Vec<u8>>, Fail> {
     let mut journal = Vec::new(rt.alloc());
     for (word, script, text, status) in rows {
         let ran = call(rt, &[*word], script, 65_536, (&[], &[]), &journal)?;
@@ -120,7 +125,7 @@ fn a_damaged_journal_is_named_by_its_place(rt: HostRuntime) -> Result<(), Fail> 
 }
 
 /// Runs the statement that makes a table over a disk whose sync with this number fails.
-fn failed<R: Threads + Sync + AllocGlobal>(
+fn failed<R: Threads + Wait + Sync + AllocGlobal>(
     rt: &R,
     nth: u64,
 ) -> Result<(Status, usize, FailDisk), Fail> {
@@ -129,7 +134,15 @@ fn failed<R: Threads + Sync + AllocGlobal>(
     let mut source = MemSource::new(TABLE.to_vec(rt.alloc())?, 65_536, Vec::new(rt.alloc()));
     let mut sink = MemSink::new(rt.alloc(), 65_536, Vec::new(rt.alloc()));
     let disk = FailDisk::new(rt.alloc(), Vec::new(rt.alloc()), Kind::Sync, nth);
-    let ended = run_words(rt, rt.alloc(), &words, &mut source, &mut sink, disk);
+    let ended = run_words(
+        rt,
+        rt.alloc(),
+        &words,
+        &mut source,
+        &mut sink,
+        disk,
+        &NoGate,
+    );
     Ok((ended.status, sink.bytes().len(), ended.disk))
 }
 

@@ -3,13 +3,19 @@
 //!
 //! - `commands`: what words ask for.
 //! - `run`: the top call.
+//! - `openings`: how a journal is opened for a script.
 //! - `scripts`: scripts over the history of a journal.
 //! - `prints`: what is printed of a journal.
+//! - `parallel`: inputs that are run by a worker for each session.
+//! - `demos`: the demonstration.
 //! - `endings`: how a call ended.
 #![tactic(auto)]
 
 mod commands;
+mod demos;
 mod endings;
+mod openings;
+mod parallel;
 mod prints;
 mod run;
 mod scripts;

@@ -10,7 +10,7 @@ ghost use Rattle.ts_model.specs.Roster.{view_of};
 ghost use Rattle.ts_top.specs.Endings.{is_disk_fault, is_write_fault};
 ghost use Rattle.ts_top.specs.Logs.{check_of, log_of, text_of, waiting_text, waiting_texts};
 ghost use Rattle.ts_top.specs.Stops.{failed_writing, status_of_print};
-ghost use Rattle.ts_top.specs.Stories.{PrintedTo};
+ghost use Rattle.ts_top.specs.Outcomes.{PrintedTo};
 
 use crate::commands::Text;
 use crate::endings::{Ended, Status};
@@ -167,7 +167,7 @@ pub(crate) fn print<R: Threads + Sync, K: Sink, D: Disk>(
     disk: D,
     text: Text,
 ) -> Ended<D>
-    ensures told { (input rest : Option (List ℕ)) → PrintedTo (text_of text) result.status (sink.new ≡ sink.old)
+    ensures outcome { (input rest : Option (List ℕ)) → PrintedTo (text_of text) result.status (sink.new ≡ sink.old)
         (record {
           input = input;
           rest = rest;

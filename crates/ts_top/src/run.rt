@@ -4,32 +4,47 @@ ghost use Rattle.ts_disk.specs.Disk.{Keeps};
 ghost use Rattle.ts_io.specs.Faults.{Counted};
 ghost use Rattle.ts_store.specs.Images.{HasHeader, IsDurable};
 ghost use Rattle.ts_top.specs.Commands.{command_of};
-ghost use Rattle.ts_top.specs.Endings.{is_disk_fault, is_read_fault, is_write_fault};
-ghost use Rattle.ts_top.specs.Stories.{IfReading, IfRuns, ToldOf};
+ghost use Rattle.ts_top.specs.Calls.{IfDemo, IfRuns, OutcomeOf, SinkCounted};
+ghost use Rattle.ts_top.specs.Endings.{is_disk_fault, is_read_fault};
+ghost use Rattle.ts_top.specs.Outcomes.{IfReading};
 
 use crate::commands::{Command, command_of};
+use crate::demos::print_demo;
 use crate::endings::{Ended, Status};
+use crate::parallel::par;
 use crate::prints::print;
 use crate::scripts::run;
 use std::alloc::Global;
+use std::sync::Wait;
 use std::thread::Threads;
 use ts_disk::Disk;
 use ts_io::{Sink, Source};
+use ts_model::Gate;
 
 /// Does what the words ask for, with or without `--` before them: `run` runs the lines of the source in
-/// order over the history of the journal on the disk, and writes their replies to the sink; `log` and
-/// `check` print what stands in the journal. The source is one that hasn't told its end.
-pub fn run_words<R: Threads + Sync, S: Source, K: Sink, D: Disk>(
+/// order over the history of the journal on the disk, and writes their replies to the sink; `par` reads
+/// them all, and runs them by a worker for each session; `demo` and a number runs a script of its own over
+/// a disk of its own, and writes a summary; `log` and `check` print what stands in the journal. The source
+/// is one that hasn't told its end. The gate is called by the workers of `par` alone, for which the call
+/// may wait.
+pub fn run_words<R, S, K, D, G>(
     rt: &R,
     alloc: Global,
     words: &[String],
     source: &mut S,
     sink: &mut K,
     disk: D,
+    gate: &G,
 ) -> Ended<D>
+where
+    R: Threads + Wait + Sync,
+    S: Source,
+    K: Sink,
+    D: Disk + Send,
+    G: Gate + Sync,
     requires untold { S.ended source.old ≡ false }
     ensures words { (result.status ≡ Status.BadWords) ↔ (command_of (map string_bytes words.now) ≡ None) }
-    ensures told { ToldOf (command_of (map string_bytes words.now)) result.status (IsDurable D.bytes D.may_leave disk)
+    ensures outcome { OutcomeOf (command_of (map string_bytes words.now)) result.status (IsDurable D.bytes D.may_leave disk)
         (D.left_since result.disk (D.moment disk)) (source.new ≡ source.old) (sink.new ≡ sink.old)
         (Keeps D.bytes D.may_leave D.moment D.left_since disk result.disk)
         (record {
@@ -43,12 +58,15 @@ pub fn run_words<R: Threads + Sync, S: Source, K: Sink, D: Disk>(
         }) }
     ensures header { IfRuns (command_of (map string_bytes words.now)) (IfReading result.status
         (IsDurable D.bytes D.may_leave disk → IsSomeAnd (D.bytes result.disk) HasHeader)) }
+    ensures untouched { IfDemo (command_of (map string_bytes words.now)) (result.disk ≡ disk) }
     ensures reads { Counted (S.faults source.old) (S.faults source.new) (is_read_fault result.status) }
-    ensures writes { Counted (K.faults sink.old) (K.faults sink.new) (is_write_fault result.status) }
+    ensures writes { SinkCounted (command_of (map string_bytes words.now)) result.status (K.faults sink.old) (K.faults sink.new) }
     ensures disk { Counted (D.faults disk) (D.faults result.disk) (is_disk_fault result.status) }
 {
     match command_of(words) {
         Some(Command::Run) => run(rt, alloc, source, sink, disk),
+        Some(Command::Par) => par(rt, alloc, source, sink, disk, gate),
+        Some(Command::Demo(number)) => print_demo(rt, alloc, sink, disk, number),
         Some(Command::Print(text)) => print(rt, alloc, sink, disk, text),
         None => Ended {
             status: Status::BadWords,

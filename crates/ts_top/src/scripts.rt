@@ -1,16 +1,15 @@
 //! Scripts over the history of a journal.
 ghost use Rattle.std.specs.Prelude.{◌≡◌, ℕ, List, None, Option, false, true, IfSome, IsSomeAnd};
-ghost use Rattle.ts_disk.specs.CrashImage.{Only};
 ghost use Rattle.ts_disk.specs.Disk.{Keeps};
 ghost use Rattle.ts_io.specs.Faults.{Counted};
 ghost use Rattle.ts_store.specs.Images.{HasHeader, IsDurable};
 ghost use Rattle.ts_store.specs.Stands.{Stands};
-ghost use Rattle.ts_store.specs.Starts.{IsNew};
-ghost use Rattle.ts_store.specs.Stores.{Rests, opening, seen};
+ghost use Rattle.ts_store.specs.Stores.{opening, seen};
 ghost use Rattle.ts_top.specs.Endings.{is_disk_fault, is_read_fault, is_write_fault};
-ghost use Rattle.ts_top.specs.Stories.{IfReading, RanTo, Untouched};
+ghost use Rattle.ts_top.specs.Outcomes.{IfReading, RanTo, Untouched};
 
-use crate::endings::{Ended, Status, status_of};
+use crate::endings::{Ended, status_of};
+use crate::openings::open;
 use engine_core::Shot;
 use std::alloc::Global;
 use std::thread::Threads;
@@ -18,8 +17,7 @@ use ts_disk::Disk;
 use ts_io::{Sink, Source};
 use ts_schema::Steps;
 use ts_sessions::Session;
-use ts_store::{Started, Store};
-use txn_journal::Append;
+use ts_store::Store;
 
 /// What is counted: the stored rows that answers and refreshes look at.
 #[derive(Drop)]
@@ -37,7 +35,7 @@ fn run_lines<R: Threads + Sync, S: Source, K: Sink, D: Disk>(
     requires goes_on { store.failed ≡ None }
     requires armed { store.armed ≡ true }
     requires whole { opening store ≡ seen store }
-    ensures told { (before : Option (List ℕ)) → IfSome before (λ file. Stands file (seen store))
+    ensures outcome { (before : Option (List ℕ)) → IfSome before (λ file. Stands file (seen store))
         → RanTo result.status (IsDurable D.bytes D.may_leave store.begun) (D.left_since result.disk (D.moment store.begun))
         ⊥ (record {
           input = S.left source.old;
@@ -64,52 +62,6 @@ fn run_lines<R: Threads + Sync, S: Source, K: Sink, D: Disk>(
     }
 }
 
-/// Writes the header of the journal where there is none, and runs the lines of the source in order, over
-/// a store at its start.
-fn run_store<R: Threads + Sync, S: Source, K: Sink, D: Disk>(
-    rt: &R,
-    alloc: Global,
-    source: &mut S,
-    sink: &mut K,
-    mut store: Store<D>,
-) -> Ended<D>
-    requires untold { S.ended source.old ≡ false }
-    requires goes_on { store.failed ≡ None }
-    requires whole { opening store ≡ seen store }
-    ensures told { (before : Option (List ℕ)) → IfSome before (λ file. Stands file (seen store))
-        → (IsDurable D.bytes D.may_leave store.begun → Rests D.bytes D.may_leave store)
-        → Keeps D.bytes D.may_leave D.moment D.left_since store.begun store.journal.disk
-        → RanTo result.status (IsDurable D.bytes D.may_leave store.begun) (D.left_since result.disk (D.moment store.begun))
-        ⊥ (record {
-          input = S.left source.old;
-          rest = S.left source.new;
-          written_before = K.written sink.old;
-          written = K.written sink.new;
-          file_before = before;
-          file = D.bytes result.disk;
-          reads = result.reads;
-        }) }
-    ensures header { IfReading result.status (IsDurable D.bytes D.may_leave store.begun → IsSomeAnd (D.bytes result.disk) HasHeader) }
-    ensures reads { Counted (S.faults source.old) (S.faults source.new) (is_read_fault result.status) }
-    ensures writes { Counted (K.faults sink.old) (K.faults sink.new) (is_write_fault result.status) }
-    ensures disk { Counted (D.faults store.journal.disk) (D.faults result.disk) (is_disk_fault result.status) }
-{
-    match store.arm() {
-        Append::Done => run_lines(rt, alloc, source, sink, store),
-        Append::DiskFault => Ended {
-            status: Status::DiskFault,
-            disk: store.close(),
-            reads: 0,
-        },
-        // A store that goes on doesn't answer so.
-        Append::Stopped => Ended {
-            status: Status::DiskFault,
-            disk: store.close(),
-            reads: 0,
-        },
-    }
-}
-
 /// Runs the lines of the source in order, over the history that the journal on the disk stands for.
 pub(crate) fn run<R: Threads + Sync, S: Source, K: Sink, D: Disk>(
     rt: &R,
@@ -119,7 +71,7 @@ pub(crate) fn run<R: Threads + Sync, S: Source, K: Sink, D: Disk>(
     disk: D,
 ) -> Ended<D>
     requires untold { S.ended source.old ≡ false }
-    ensures told { RanTo result.status (IsDurable D.bytes D.may_leave disk) (D.left_since result.disk (D.moment disk))
+    ensures outcome { RanTo result.status (IsDurable D.bytes D.may_leave disk) (D.left_since result.disk (D.moment disk))
         (Untouched (source.new ≡ source.old) (sink.new ≡ sink.old) (Keeps D.bytes D.may_leave D.moment D.left_since disk result.disk))
         (record {
           input = S.left source.old;
@@ -135,22 +87,8 @@ pub(crate) fn run<R: Threads + Sync, S: Source, K: Sink, D: Disk>(
     ensures writes { Counted (K.faults sink.old) (K.faults sink.new) (is_write_fault result.status) }
     ensures disk { Counted (D.faults disk) (D.faults result.disk) (is_disk_fault result.status) }
 {
-    match Store::start(rt, alloc, disk) {
-        Started::Ready(store) => run_store(rt, alloc, source, sink, store),
-        Started::Damaged { disk, at } => Ended {
-            status: Status::Damaged(at),
-            disk,
-            reads: 0,
-        },
-        Started::DiskFault(disk) => Ended {
-            status: Status::DiskFault,
-            disk,
-            reads: 0,
-        },
-        Started::NoMemory(disk) => Ended {
-            status: Status::NoMemory,
-            disk,
-            reads: 0,
-        },
+    match open(rt, alloc, disk) {
+        Ok(store) => run_lines(rt, alloc, source, sink, store),
+        Err(ended) => ended,
     }
 }

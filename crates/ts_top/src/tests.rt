@@ -2,10 +2,12 @@
 ghost use Rattle.std.specs.Prelude.{◌<◌};
 
 use super::*;
+use std::sync::Wait;
 use std::test::Fail;
 use std::thread::Threads;
 use ts_disk::MemDisk;
 use ts_io::{MemSink, MemSource};
+use ts_model::NoGate;
 
 /// What a call gave: how it ended, what it printed, and the journal that it left.
 #[derive(Drop)]
@@ -18,7 +20,7 @@ pub(crate) struct Ran {
 
 /// What a call gives over a disk with these bytes, whose source and sink move at most `most` bytes a call
 /// and fail at these calls.
-pub(crate) fn call<R: Threads + Sync + AllocGlobal>(
+pub(crate) fn call<R: Threads + Wait + Sync + AllocGlobal>(
     rt: &R,
     words: &[&str],
     script: &[u8],
@@ -39,7 +41,15 @@ pub(crate) fn call<R: Threads + Sync + AllocGlobal>(
     );
     let mut sink = MemSink::new(rt.alloc(), most, fails.1.to_vec(rt.alloc())?);
     let disk = MemDisk::new(rt.alloc(), journal.to_vec(rt.alloc())?);
-    let ended = run_words(rt, rt.alloc(), &texts, &mut source, &mut sink, disk);
+    let ended = run_words(
+        rt,
+        rt.alloc(),
+        &texts,
+        &mut source,
+        &mut sink,
+        disk,
+        &NoGate,
+    );
     Ok(Ran {
         status: ended.status,
         text: sink.bytes().to_vec(rt.alloc())?,
@@ -49,7 +59,7 @@ pub(crate) fn call<R: Threads + Sync + AllocGlobal>(
 }
 
 /// What a call gives over an empty disk.
-fn run_on<R: Threads + Sync + AllocGlobal>(
+fn run_on<R: Threads + Wait + Sync + AllocGlobal>(
     rt: &R,
     words: &[&str],
     script: &[u8],
@@ -63,7 +73,7 @@ fn run_on<R: Threads + Sync + AllocGlobal>(
 }
 
 /// Whether a script has this status and these replies.
-pub(crate) fn replies<R: Threads + Sync + AllocGlobal>(
+pub(crate) fn replies<R: Threads + Wait + Sync + AllocGlobal>(
     rt: &R,
     script: &[u8],
     status: Status,
@@ -74,7 +84,7 @@ pub(crate) fn replies<R: Threads + Sync + AllocGlobal>(
 }
 
 /// Whether a line that follows `BASE` has this reply.
-fn after_base<R: Threads + Sync + AllocGlobal>(
+fn after_base<R: Threads + Wait + Sync + AllocGlobal>(
     rt: &R,
     line: &[u8],
     reply: &[u8],
@@ -220,7 +230,7 @@ const REFUSALS: [(&[u8], &[u8]); 17] = [
 ];
 
 #[test]
-fn an_empty_script_says_nothing(rt: HostRuntime) -> Result<(), Fail> {
+fn an_empty_script_prints_nothing(rt: HostRuntime) -> Result<(), Fail> {
     assert!(rt; replies(&rt, b"", Status::Done, b"")?);
     assert!(rt; replies(&rt, b"\n  -- nothing\n\t\r\n", Status::Done, b"")?);
     Ok(())
@@ -256,9 +266,12 @@ fn each_refusal_has_its_reply(rt: HostRuntime) -> Result<(), Fail> {
 
 #[test]
 fn the_words_are_run_with_or_without_dashes(rt: HostRuntime) -> Result<(), Fail> {
-    let rows: [(&[&str], Status); 8] = [
+    let rows: [(&[&str], Status); 11] = [
         (&["run"], Status::Done),
-        (&["par"], Status::BadWords),
+        (&["par"], Status::Done),
+        (&["demo"], Status::BadWords),
+        (&["demo", "007"], Status::BadWords),
+        (&["demo", "1000000"], Status::BadWords),
         (&["log", "check"], Status::BadWords),
         (&["--", "run"], Status::Done),
         (&[], Status::BadWords),

@@ -3,6 +3,7 @@
 
 use super::tests::{BASE, BASE_REPLIES, joined, replies};
 use super::*;
+use std::sync::Wait;
 use std::test::Fail;
 use std::thread::Threads;
 
@@ -406,7 +407,7 @@ q: ANSWER @10 rows 4 stale 0
 );
 
 /// Whether what follows `BASE` has its replies.
-fn row_is_right<R: Threads + Sync + AllocGlobal>(rt: &R, row: Row) -> Result<bool, Fail> {
+fn row_is_right<R: Threads + Wait + Sync + AllocGlobal>(rt: &R, row: Row) -> Result<bool, Fail> {
     let script = joined(rt, BASE, row.0)?;
     let text = joined(rt, BASE_REPLIES, row.1)?;
     replies(rt, &script, row.2, &text)

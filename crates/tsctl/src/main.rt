@@ -2,19 +2,28 @@
 //! ending told by the exit status and a line on standard error.
 #![tactic(auto)]
 
+use std::alloc::Global;
 use std::env;
 use std::fs::{File, Files};
 use std::io::{self, ErrorKind};
 use std::os::unix::fs::FileExt;
 use std::process::ExitCode;
 use std::rt::Env;
+use std::sync::Wait;
 use std::thread::Threads;
 use ts_disk::{Disk, FailDisk, FileDisk, MemDisk};
 use ts_io::{StdinSource, StdoutSink};
+use ts_model::NoGate;
 use ts_top::{Command, Status, command_of, run_words};
 
 /// The journal, in the folder that the program runs in.
 const JOURNAL: &str = "tsctl.journal";
+
+/// A file that is always there, and has no bytes.
+const NOTHING: &str = "/dev/null";
+
+/// How many bytes a block has whose release tells the C library how much freed memory it may keep.
+const KEPT_MEMORY: usize = 32_000_000;
 
 /// What standard error is told of an ending but that of a damaged journal, whose line names a place.
 fn message(status: Status) -> Option<&'static str> {
@@ -28,6 +37,13 @@ fn message(status: Status) -> Option<&'static str> {
         Status::NoMemory => Some("tsctl: no memory"),
         Status::InputLong => Some("tsctl: input too long"),
     }
+}
+
+/// Lets the C library keep freed memory for the next statement. It gives the end of its heap back to the
+/// system once more than a threshold is free there, and raises the threshold to twice the size of a large
+/// block that is released. This one is taken and released untouched.
+fn keep_freed_memory(alloc: Global) {
+    let _block: Result<Vec<u8>, _> = Vec::with_capacity(alloc, KEPT_MEMORY);
 }
 
 /// The words of the command line after the program's own name.
@@ -44,24 +60,29 @@ fn open<R: Files>(rt: &R, writes: bool) -> io::Result<R::File> {
 }
 
 /// Does what the words ask for over this disk.
-fn run_over<R: Input + Print + Threads + Sync + AllocGlobal, D: Disk + Drop>(
-    rt: &R,
-    words: &[String],
-    disk: D,
-) -> Status {
+fn run_over<R, D>(rt: &R, words: &[String], disk: D) -> Status
+where
+    R: Input + Print + Threads + Wait + Sync + AllocGlobal,
+    D: Disk + Send + Drop,
+{
     let mut source = StdinSource::new(rt.reader());
     let mut sink = StdoutSink::new(io::writer(rt));
-    run_words(rt, rt.alloc(), words, &mut source, &mut sink, disk).status
+    run_words(rt, rt.alloc(), words, &mut source, &mut sink, disk, &NoGate).status
 }
 
 /// Does what the words ask for over the journal's file. One that isn't there is an empty disk for a command
 /// that only reads, and one that can't be opened a disk whose every call fails and is counted.
 fn run<R>(rt: &R, words: &[String]) -> Status
 where
-    R: Input + Print + Threads + Sync + Files + AllocGlobal,
-    R::File: FileExt,
+    R: Input + Print + Threads + Wait + Sync + Files + AllocGlobal,
+    R::File: FileExt + Send,
 {
-    let writes = command_of(words) == Some(Command::Run);
+    // Where standard input, output or error is closed, the next file that is opened gets its number, and
+    // replies would go into the journal. These three take such numbers first: a write to one of them fails.
+    let _input = File::open(rt, NOTHING);
+    let _output = File::open(rt, NOTHING);
+    let _error = File::open(rt, NOTHING);
+    let writes = matches!(command_of(words), Some(Command::Run | Command::Par));
     match open(rt, writes) {
         Ok(file) => run_over(rt, words, FileDisk::new(file)),
         Err(e) if !writes && e.kind() == ErrorKind::NotFound => run_over(
@@ -80,8 +101,8 @@ where
 /// Does what the words of the command line ask for. Words that are no text ask for nothing.
 fn run_command_line<R>(rt: &R) -> Status
 where
-    R: Env + Input + Print + Threads + Sync + Files + AllocGlobal,
-    R::File: FileExt,
+    R: Env + Input + Print + Threads + Wait + Sync + Files + AllocGlobal,
+    R::File: FileExt + Send,
 {
     match words(rt) {
         Ok(words) => run(rt, &words),
@@ -93,6 +114,7 @@ where
 }
 
 fn main(rt: HostRuntime) -> ExitCode {
+    keep_freed_memory(rt.alloc());
     let status = run_command_line(&rt);
     if let Status::Damaged(at) = status {
         let _ = eprintln!(rt; "tsctl: journal damaged at {at}");

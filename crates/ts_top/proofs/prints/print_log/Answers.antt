@@ -1,7 +1,5 @@
 -- Each event has its line.
-use Rattle.std.proofs.Common.{◌≡◌, ℕ, suc, ◌+◌, ◌≤◌, List, length, slice_get, Option, Some, None, refl, sym, ap, ◌∙◌, subst, arith}
-use Rattle.ts_model.specs.declared.events.Event.{Event}
-use Rattle.ts_model.specs.Roster.{roster}
+use Rattle.std.proofs.Common.{◌≡◌, suc, ◌+◌, ◌≤◌, length, refl, sym, ap, ◌∙◌, subst, arith}
 use Rattle.engine_core.specs.Histories.{history_of}
 use Rattle.engine_core.proofs.EventLaws.{event_numbered}
 use Rattle.ts_top.proofs.LogLaws.{PrintedUpTo, printed_all, printed_next, printed_part, printed_past}

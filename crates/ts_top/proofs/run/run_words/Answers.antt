@@ -1,12 +1,21 @@
 -- A call that prints reads no input, and ends as printing does.
-use Rattle.std.proofs.Common.{◌≡◌, Option, Some, None, refl, sym, ◌∙◌, subst}
+use Rattle.std.proofs.Common.{None, refl, sym, ap, ◌∙◌, subst}
 use Rattle.ts_io.specs.Faults.{Counted}
-use Rattle.ts_top.specs.Endings.{is_read_fault}
+use Rattle.ts_top.proofs.DemoLaws.{not_bad_words as demo_words, no_read_fault as demo_reads, no_disk_fault as demo_disk}
 use Rattle.ts_top.proofs.PrintLaws.{not_bad_words, no_read_fault}
 use Rattle.ts_top.proofs.run.run_words.Goals as goal
 
 pub returns-in-Some-Print-clause-words : goal.returns-in-Some-Print-clause-words
-returns-in-Some-Print-clause-words g c = not_bad_words c.print.result.status _ _ _ _ _ (c.print.ensures.told None None) (sym c.command_of.ensures ∙ c.in-Some-Print.is)
+returns-in-Some-Print-clause-words g c = not_bad_words c.print.result.status _ _ _ _ _ (c.print.ensures.outcome None None) (sym c.command_of.ensures ∙ c.in-Some-Print.is)
 
 pub returns-in-Some-Print-clause-reads : goal.returns-in-Some-Print-clause-reads
-returns-in-Some-Print-clause-reads g c = subst (λ fault. Counted (g.S.Source.faults c.args.source.now) (g.S.Source.faults c.args.source.now) fault) (sym (no_read_fault c.print.result.status _ _ _ (c.print.ensures.told None None))) refl
+returns-in-Some-Print-clause-reads g c = subst (λ fault. Counted (g.S.Source.faults c.args.source.now) (g.S.Source.faults c.args.source.now) fault) (sym (no_read_fault c.print.result.status _ _ _ (c.print.ensures.outcome None None))) refl
+
+pub returns-in-Some-Demo-clause-words : goal.returns-in-Some-Demo-clause-words
+returns-in-Some-Demo-clause-words g c = demo_words _ _ _ c.print_demo.result.status _ _ (c.print_demo.ensures.outcome None None None None) (sym c.command_of.ensures ∙ c.in-Some-Demo.is)
+
+pub returns-in-Some-Demo-clause-reads : goal.returns-in-Some-Demo-clause-reads
+returns-in-Some-Demo-clause-reads g c = subst (λ fault. Counted (g.S.Source.faults c.args.source.now) (g.S.Source.faults c.args.source.now) fault) (sym (demo_reads _ _ _ c.print_demo.result.status (c.print_demo.ensures.outcome None None None None))) refl
+
+pub returns-in-Some-Demo-clause-disk : goal.returns-in-Some-Demo-clause-disk
+returns-in-Some-Demo-clause-disk g c = subst (λ fault. Counted (g.D.Disk.faults c.args.disk) (g.D.Disk.faults c.print_demo.result.disk) fault) (sym (demo_disk _ _ _ c.print_demo.result.status (c.print_demo.ensures.outcome None None None None))) (ap g.D.Disk.faults c.print_demo.ensures.disk)

@@ -1,59 +1,70 @@
--- What the start of the store found decides whether a line is run.
-use Rattle.std.proofs.Common.{◌≡◌, inl, ℕ, List, Option, None, IfSome, refl, sym, ap, ◌∙◌, subst}
+-- Where a journal was opened its script is run.
+use Rattle.std.proofs.Common.{IfSome, refl, sym, subst}
 use Rattle.std.specs.Prelude.{IsSomeAnd}
 use Rattle.ts_disk.specs.Disk.{Keeps}
 use Rattle.ts_io.specs.Faults.{Counted}
 use Rattle.ts_store.specs.Images.{HasHeader, IsDurable}
-use Rattle.ts_store.specs.Stands.{Stands, IsDamagedAt}
+use Rattle.ts_store.specs.Stands.{Stands}
 use Rattle.ts_store.specs.Stores.{seen}
 use Rattle.ts_top.specs.Endings.{is_disk_fault}
-use Rattle.ts_top.specs.Stories.{IfReading, Outside, RanTo, Untouched}
-use Rattle.ts_top.proofs.StoryLaws.{if_told, ran_or_not}
+use Rattle.ts_top.specs.Outcomes.{IfReading, Outside, RanTo}
+use Rattle.ts_top.proofs.OutcomeLaws.{if_known, ran_or_not}
+use Rattle.ts_top.proofs.OpeningLaws.{not_opened_header, not_opened_reads, not_opened_run, not_opened_writes}
 use Rattle.ts_top.proofs.scripts.run.Goals as goal
 
-pub run_store-requires-clause-goes_on : goal.run_store-requires-clause-goes_on
-run_store-requires-clause-goes_on g c = λ _ _. c.in-Ready.ensures.new.goes_on
+pub run_lines-requires-clause-goes_on : goal.run_lines-requires-clause-goes_on
+run_lines-requires-clause-goes_on g c = λ _ _. c.in-Ok.ensures.goes_on
 
-pub run_store-requires-clause-whole : goal.run_store-requires-clause-whole
-run_store-requires-clause-whole g c = λ _ _. c.in-Ready.ensures.new.whole
+pub run_lines-requires-clause-armed : goal.run_lines-requires-clause-armed
+run_lines-requires-clause-armed g c = λ _ _. c.in-Ok.ensures.armed
 
-pub returns-in-Ready-clause-told : goal.returns-in-Ready-clause-told
-returns-in-Ready-clause-told g c =
+pub run_lines-requires-clause-whole : goal.run_lines-requires-clause-whole
+run_lines-requires-clause-whole g c = λ _ _. c.in-Ok.ensures.whole
+
+pub returns-in-Ok-clause-outcome : goal.returns-in-Ok-clause-outcome
+returns-in-Ok-clause-outcome g c =
     let D = g.D.Disk in
     let K = g.K.Sink in
     let S = g.S.Source in
-    let store = c.in-Ready.store in
-    let end = c.run_store.result in
-    let o : Outside = record { input = S.left c.args.source.now; rest = S.left c.run_store.new.source; written_before = K.written c.args.sink.now; written = K.written c.run_store.new.sink; file_before = D.bytes c.args.disk; file = D.bytes end.disk; reads = end.reads } in
-    let begun : store.begun ≡ c.args.disk = c.in-Ready.ensures.new.begun in
-    let stood : IfSome (D.bytes c.args.disk) (λ file. Stands file (seen store)) = if_told (D.bytes c.args.disk) (λ file. Stands file (seen store)) c.in-Ready.ensures.starts in
+    let store = c.in-Ok.store in
+    let end = c.run_lines.result in
+    let o : Outside = record { input = S.left c.args.source.now; rest = S.left c.run_lines.new.source; written_before = K.written c.args.sink.now; written = K.written c.run_lines.new.sink; file_before = D.bytes c.args.disk; file = D.bytes end.disk; reads = end.reads } in
+    let stood : IfSome (D.bytes c.args.disk) (λ file. Stands file (seen store)) = if_known (D.bytes c.args.disk) (λ file. Stands file (seen store)) c.in-Ok.ensures.stands in
     ran_or_not end.status (IsDurable D.bytes D.may_leave c.args.disk) (D.left_since end.disk (D.moment c.args.disk)) _ o
-    (subst (λ b. RanTo end.status (IsDurable D.bytes D.may_leave b) (D.left_since end.disk (D.moment b)) ⊥ o) begun
-    (c.run_store.ensures.told (D.bytes c.args.disk) stood
-    (λ d. let e : IsDurable D.bytes D.may_leave c.args.disk = subst (λ b. IsDurable D.bytes D.may_leave b) begun d in c.in-Ready.ensures.rests e.file e.told e.durable)
-    (subst (λ b. Keeps D.bytes D.may_leave D.moment D.left_since b store.journal.disk) (sym begun) c.in-Ready.ensures.kept)))
+    (subst (λ b. RanTo end.status (IsDurable D.bytes D.may_leave b) (D.left_since end.disk (D.moment b)) ⊥ o) c.in-Ok.ensures.begun
+    (c.run_lines.ensures.outcome (D.bytes c.args.disk) stood))
 
-pub returns-in-Ready-clause-header : goal.returns-in-Ready-clause-header
-returns-in-Ready-clause-header g c =
+pub returns-in-Ok-clause-header : goal.returns-in-Ok-clause-header
+returns-in-Ok-clause-header g c =
     let D = g.D.Disk in
-    subst (λ b. IfReading c.run_store.result.status (IsDurable D.bytes D.may_leave b → IsSomeAnd (D.bytes c.run_store.result.disk) HasHeader)) c.in-Ready.ensures.new.begun c.run_store.ensures.header
+    subst (λ b. IfReading c.run_lines.result.status (IsDurable D.bytes D.may_leave b → IsSomeAnd (D.bytes c.run_lines.result.disk) HasHeader)) c.in-Ok.ensures.begun c.run_lines.ensures.header
 
-pub returns-in-Ready-clause-reads : goal.returns-in-Ready-clause-reads
-returns-in-Ready-clause-reads g c = c.run_store.ensures.reads
+pub returns-in-Ok-clause-reads : goal.returns-in-Ok-clause-reads
+returns-in-Ok-clause-reads g c = c.run_lines.ensures.reads
 
-pub returns-in-Ready-clause-writes : goal.returns-in-Ready-clause-writes
-returns-in-Ready-clause-writes g c = c.run_store.ensures.writes
+pub returns-in-Ok-clause-writes : goal.returns-in-Ok-clause-writes
+returns-in-Ok-clause-writes g c = c.run_lines.ensures.writes
 
-pub returns-in-Ready-clause-disk : goal.returns-in-Ready-clause-disk
-returns-in-Ready-clause-disk g c = subst (λ n. Counted n (g.D.Disk.faults c.run_store.result.disk) (is_disk_fault c.run_store.result.status)) c.in-Ready.ensures.counted c.run_store.ensures.disk
+pub returns-in-Ok-clause-disk : goal.returns-in-Ok-clause-disk
+returns-in-Ok-clause-disk g c = subst (λ n. Counted n (g.D.Disk.faults c.run_lines.result.disk) (is_disk_fault c.run_lines.result.status)) c.in-Ok.ensures.counted c.run_lines.ensures.disk
 
-pub returns-in-Damaged-clause-told : goal.returns-in-Damaged-clause-told
-returns-in-Damaged-clause-told g c =
-    let bytes = g.D.Disk.bytes c.args.disk in
-    ((refl, refl, c.in-Damaged.ensures.kept), if_told bytes (λ file. IsDamagedAt file c.in-Damaged.at) c.in-Damaged.ensures.starts)
+pub returns-in-Err-clause-outcome : goal.returns-in-Err-clause-outcome
+returns-in-Err-clause-outcome g c =
+    let D = g.D.Disk in
+    let K = g.K.Sink in
+    let S = g.S.Source in
+    let end = c.in-Err.ended in
+    let o : Outside = record { input = S.left c.args.source.now; rest = S.left c.args.source.now; written_before = K.written c.args.sink.now; written = K.written c.args.sink.now; file_before = D.bytes c.args.disk; file = D.bytes end.disk; reads = end.reads } in
+    not_opened_run (IsDurable D.bytes D.may_leave c.args.disk) (D.left_since end.disk (D.moment c.args.disk)) o _ _ (Keeps D.bytes D.may_leave D.moment D.left_since c.args.disk end.disk) refl c.in-Err.ensures.unread (refl, refl) end.status c.in-Err.ensures.ended
 
-pub returns-in-DiskFault-clause-told : goal.returns-in-DiskFault-clause-told
-returns-in-DiskFault-clause-told g c = inl (refl, refl, c.in-DiskFault.ensures.kept)
+pub returns-in-Err-clause-header : goal.returns-in-Err-clause-header
+returns-in-Err-clause-header g c = not_opened_header _ _ _ _ c.in-Err.ended.status _ _ c.in-Err.ensures.ended
 
-pub returns-in-NoMemory-clause-told : goal.returns-in-NoMemory-clause-told
-returns-in-NoMemory-clause-told g c = inl (refl, refl, c.in-NoMemory.ensures.kept)
+pub returns-in-Err-clause-reads : goal.returns-in-Err-clause-reads
+returns-in-Err-clause-reads g c = subst (λ fault. Counted (g.S.Source.faults c.args.source.now) (g.S.Source.faults c.args.source.now) fault) (sym (not_opened_reads _ _ _ _ c.in-Err.ended.status _ c.in-Err.ensures.ended)) refl
+
+pub returns-in-Err-clause-writes : goal.returns-in-Err-clause-writes
+returns-in-Err-clause-writes g c = subst (λ fault. Counted (g.K.Sink.faults c.args.sink.now) (g.K.Sink.faults c.args.sink.now) fault) (sym (not_opened_writes _ _ _ _ c.in-Err.ended.status _ c.in-Err.ensures.ended)) refl
+
+pub returns-in-Err-clause-disk : goal.returns-in-Err-clause-disk
+returns-in-Err-clause-disk g c = c.in-Err.ensures.disk

@@ -1,5 +1,5 @@
 -- What the top call has done, by how its script ended and what the store then says of its disk.
-use Rattle.std.proofs.Common.{◌≡◌, ◌≤◌, ◌⊎◌, inl, inr, ⊎_elim, ℕ, Bool, true, false, List, [], ◌∷◌, ◌++◌, Option, Some, None, IfSome, take, refl, sym, ap, ◌∙◌, subst, arith}
+use Rattle.std.proofs.Common.{◌≡◌, ◌≤◌, inl, inr, ⊎_elim, ℕ, false, List, [], ◌∷◌, ◌++◌, Option, Some, None, IfSome, take, refl, sym, ap, ◌∙◌, subst, arith}
 use Rattle.std.specs.Prelude.{is_some, IsSome, IsSomeAnd}
 use Rattle.std.specs.Io.KnownBytes.{Appends}
 use Rattle.std.proofs.KnownBytes.{Appends-nil}
@@ -8,7 +8,7 @@ use Rattle.ts_model.specs.declared.events.Event.{Event}
 use Rattle.ts_model.specs.History.{History, ◌▸◌, Begins, same, further}
 use Rattle.ts_model.specs.States.{State, stands_still}
 use Rattle.ts_model.proofs.HistoryLaws.{begins_trans}
-use Rattle.ts_sessions.specs.Script.{session_play, opening_scene}
+use Rattle.ts_sessions.specs.Script.{session_semantics, opening_script_state}
 use Rattle.ts_store.specs.Images.{IsBetween, StandsForEither, latest}
 use Rattle.ts_store.specs.Stands.{Stands}
 use Rattle.script_run.specs.Runs.{Left, Executed, StoppedBefore, StoppedWriting, StoppedAtEvent, StoppedWithin, Ran as RanScript, executed, is_read_fault as is_read_fault_of, is_write_fault as is_write_fault_of, is_disk_fault as is_disk_fault_of}
@@ -20,7 +20,7 @@ use Rattle.ts_top.specs.Endings.{status_of, is_read_fault, is_write_fault, is_di
 use Rattle.ts_top.specs.declared.endings.Status.{Status}
 use Rattle.ts_top.specs.declared.endings.Status.TheVariants.{Done, Refused, BadWords, ReadFault, WriteFault, DiskFault, Damaged, NoMemory, InputLong}
 use Rattle.ts_top.specs.Scripts.{history_after}
-use Rattle.ts_top.specs.Stories.{Outside, StandsBetween, Holds, HoldsBetween, ImagesUpTo, RanWhole, RanBefore, RanWithin, RanWriting, Over, OverScript, RanTo, IfReading}
+use Rattle.ts_top.specs.Outcomes.{Outside, StandsBetween, Holds, ImagesUpTo, RanWhole, RanBefore, RanWithin, RanWriting, RanTo, IfReading}
 
 -- ---- options
 
@@ -28,7 +28,7 @@ pub some_and : {T : Type 0} (o : Option T) (P Q : T → Type 0) → ((x : T) →
 some_and None P Q gives p = p
 some_and (Some x) P Q gives p = gives x p
 
-if_some : {T : Type 0} (o : Option T) (P Q : T → Type 0) → ((x : T) → P x → Q x) → IfSome o P → IfSome o Q
+pub if_some : {T : Type 0} (o : Option T) (P Q : T → Type 0) → ((x : T) → P x → Q x) → IfSome o P → IfSome o Q
 if_some None P Q gives p = p
 if_some (Some x) P Q gives p = gives x p
 
@@ -44,7 +44,7 @@ pub record Closed (durable : Type 0) (left : List ℕ → Type 0) (opening : His
   pub images : durable → (c : List ℕ) → left c → IsBetween opening s.history s.failed c
 
 -- a file that stands for the history, where the disk didn't fail
-the_one : (h : History) (failed : Option Event) (file : List ℕ) → failed ≡ None → StandsForEither h (latest h failed) file → Stands file h
+pub the_one : (h : History) (failed : Option Event) (file : List ℕ) → failed ≡ None → StandsForEither h (latest h failed) file → Stands file h
 the_one h failed file none (inl stands) = stands
 the_one h failed file none (inr stands) = subst (λ g. Stands file g) (ap (latest h) none) stands
 
@@ -83,7 +83,7 @@ module _ (durable : Type 0) (left : List ℕ → Type 0) (untouched : Type 0) (o
   images_all : (to : History) → s.failed ≡ None → Begins s.history to → durable → ImagesUpTo left h to
   images_all to none within d = λ c image. image_before h s.history to s.failed c none within (closed.images d c image)
 
-  ran_whole : (lines : List (List ℕ)) → s.failed ≡ None → Executed session_play h lines (left_of s o) → RanWhole durable left h lines o
+  ran_whole : (lines : List (List ℕ)) → s.failed ≡ None → Executed session_semantics h lines (left_of s o) → RanWhole durable left h lines o
   ran_whole lines none ran = record {
     wrote = ran.wrote;
     holds = holds_all (history_after h lines) none ran.history;
@@ -91,10 +91,10 @@ module _ (durable : Type 0) (left : List ℕ → Type 0) (untouched : Type 0) (o
     counted = ran.counted;
   }
 
-  ran_before : (lines : List (List ℕ)) → s.failed ≡ None → StoppedBefore session_play h lines (left_of s o) → RanBefore durable left h lines o
+  ran_before : (lines : List (List ℕ)) → s.failed ≡ None → StoppedBefore session_semantics h lines (left_of s o) → RanBefore durable left h lines o
   ran_before lines none stopped = record { done = stopped.done; rest = stopped.rest; split = stopped.split; ran = ran_whole stopped.done none stopped.executed_first }
 
-  ran_writing : (lines : List (List ℕ)) → s.failed ≡ None → StoppedWriting session_play h lines (left_of s o) → RanWriting durable left h lines o
+  ran_writing : (lines : List (List ℕ)) → s.failed ≡ None → StoppedWriting session_semantics h lines (left_of s o) → RanWriting durable left h lines o
   ran_writing lines none stopped =
       let to : History = history_after h (stopped.done ++ stopped.line ∷ []) in
       record {
@@ -111,7 +111,7 @@ module _ (durable : Type 0) (left : List ℕ → Type 0) (untouched : Type 0) (o
         counted = stopped.counted;
       }
 
-  ran_within : (lines : List (List ℕ)) → s.failed ≡ None → StoppedWithin session_play h lines (left_of s o) → RanWithin durable left h lines o
+  ran_within : (lines : List (List ℕ)) → s.failed ≡ None → StoppedWithin session_semantics h lines (left_of s o) → RanWithin durable left h lines o
   ran_within lines none stopped =
       let from : History = history_after h stopped.done in
       let to : History = history_after h (stopped.done ++ take 1 stopped.rest) in
@@ -126,7 +126,7 @@ module _ (durable : Type 0) (left : List ℕ → Type 0) (untouched : Type 0) (o
         counted = stopped.counted;
       }
 
-  ran_at_event : (lines : List (List ℕ)) → StoppedAtEvent session_play h lines (left_of s o) → RanWithin durable left h lines o
+  ran_at_event : (lines : List (List ℕ)) → StoppedAtEvent session_semantics h lines (left_of s o) → RanWithin durable left h lines o
   ran_at_event lines stopped =
       let from : History = history_after h stopped.done in
       let to : History = history_after h (stopped.done ++ stopped.line ∷ []) in
@@ -143,7 +143,7 @@ module _ (durable : Type 0) (left : List ℕ → Type 0) (untouched : Type 0) (o
       }
 
   -- what the call has done whose script ended so
-  pub told_run : (end : RunEnd) → stands_still s ≡ is_disk_fault_of end → IfSome o.file_before (λ file. Stands file h) → IfSome o.input (λ input. RanScript end session_play h input o.rest (left_of s o)) → RanTo (status_of end) durable left untouched o
+  pub told_run : (end : RunEnd) → stands_still s ≡ is_disk_fault_of end → IfSome o.file_before (λ file. Stands file h) → IfSome o.input (λ input. RanScript end session_semantics h input o.rest (left_of s o)) → RanTo (status_of end) durable left untouched o
   told_run ends.Done still stood ran =
       record { opening = h; stood = stood; ran = if_some o.input _ _ (λ input r. (r.0, r.2, ran_whole (executed input) (none_there s.failed still) r.1)) ran }
   told_run ends.Refused still stood ran =
@@ -214,7 +214,7 @@ same_disk_fault ends.InputLong = refl
 -- a line makes a history go on
 begun_lines : (h : History) (lines : List (List ℕ)) → Begins h (history_after h (take 1 lines))
 begun_lines h [] = same
-begun_lines h (line ∷ lines) = line_begins session_play (opening_scene h) 1 line
+begun_lines h (line ∷ lines) = line_begins session_semantics (opening_script_state h) 1 line
 
 -- where only the header was being written: no line was run, and the disk stands for the opening history
 pub stopped_at_header : (durable : Type 0) (left : List ℕ → Type 0) (untouched : Type 0) (o : Outside) (h : History) → IfSome o.file_before (λ file. Stands file h) → o.written ≡ o.written_before → o.reads ≡ 0
@@ -222,12 +222,12 @@ pub stopped_at_header : (durable : Type 0) (left : List ℕ → Type 0) (untouch
 stopped_at_header durable left untouched o h stood same_written none_read holds images = inr (record {
   opening = h;
   stood = stood;
-  ran = told o.input;
+  ran = outcome o.input;
 })
   where
-    told : (input : Option (List ℕ)) → IfSome input (λ bytes. RanWithin durable left h (executed bytes) o)
-    told None = tt
-    told (Some bytes) = record {
+    outcome : (input : Option (List ℕ)) → IfSome input (λ bytes. RanWithin durable left h (executed bytes) o)
+    outcome None = tt
+    outcome (Some bytes) = record {
       done = [];
       rest = executed bytes;
       split = refl;
@@ -242,16 +242,16 @@ stopped_at_header durable left untouched o h stood same_written none_read holds 
 -- what reads give is an image, so it is as each image since a moment is
 pub shown_is : {D : Type 0} (bytes : D → Option (List ℕ)) (may_leave : D → List ℕ → Type 0) (moment : D → ℕ) (left_since : D → ℕ → List ℕ → Type 0) → ((disk : D) → IfSome (bytes disk) (may_leave disk)) → ((disk : D) (t : ℕ) (c : List ℕ) → t ≤ moment disk → may_leave disk c → left_since disk t c)
     → (old new : D) (P Q : List ℕ → Type 0) → LeavesOnly moment left_since old new P → IsSomeAnd (bytes new) Q → IsSomeAnd (bytes new) P
-shown_is bytes may_leave moment left_since shows counts old new P Q only told =
+shown_is bytes may_leave moment left_since shows counts old new P Q only outcome =
     elim (bytes new) as (λ o. IfSome o (may_leave new) → IsSomeAnd o Q → IsSomeAnd o P) [
       | None ↦ λ image q. q
       | Some file ↦ λ image q. only.each file (counts new (moment old) file only.later image)
-    ] (shows new) told
+    ] (shows new) outcome
 
--- what is true of told bytes
-pub if_told : (o : Option (List ℕ)) (P : List ℕ → Type 0) → ((file : List ℕ) → o ≡ Some file → P file) → IfSome o P
-if_told None P gives = tt
-if_told (Some file) P gives = gives file refl
+-- what is true of known bytes
+pub if_known : (o : Option (List ℕ)) (P : List ℕ → Type 0) → ((file : List ℕ) → o ≡ Some file → P file) → IfSome o P
+if_known None P gives = tt
+if_known (Some file) P gives = gives file refl
 
 pub never_some : {T : Type 0} (o : Option T) → o ≡ None → IsSome o → ⊥
 never_some None none some = cc some

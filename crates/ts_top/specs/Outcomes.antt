@@ -1,5 +1,5 @@
 -- What the top call has written, kept and counted, by how it ended.
-use Rattle.std.specs.Prelude.{◌≡◌, ◌⊎◌, ℕ, ◌<◌, ◌≤◌, Bool, true, false, List, [], ◌∷◌, ◌++◌, Option, None, Some, length, take, ⊤, IfSome, IsSomeAnd}
+use Rattle.std.specs.Prelude.{◌≡◌, ◌⊎◌, ℕ, ◌<◌, ◌≤◌, true, false, List, [], ◌∷◌, ◌++◌, Option, length, take, ⊤, IfSome, IsSomeAnd}
 use Rattle.std.specs.Io.KnownBytes.{Appends}
 use Rattle.ts_io.specs.Whole.{AppendsPart}
 use Rattle.ts_io.specs.declared.limits.TheConstants.{INPUT_LIMIT}
@@ -8,13 +8,10 @@ use Rattle.ts_schema.specs.Counts.{raised_by}
 use Rattle.ts_store.specs.Stands.{Stands, IsDamagedAt}
 use Rattle.script_run.specs.Runs.{ReadWhole, executed}
 use Rattle.ts_top.specs.Scripts.{replies_of, reply_after, history_after, rows_read, is_faulted}
-use Rattle.ts_top.specs.Logs.{text_of}
-use Rattle.ts_top.specs.declared.commands.Command.{Command}
-use Rattle.ts_top.specs.declared.commands.Command.TheVariants.{Run, Print}
 use Rattle.ts_top.specs.declared.endings.Status.{Status}
 use Rattle.ts_top.specs.declared.endings.Status.TheVariants.{Done, Refused, BadWords, ReadFault, WriteFault, DiskFault, Damaged, NoMemory, InputLong}
 
--- what stands outside of the call, before it and after it, where it is told: the bytes that the source has left, those that the sink has written, those that reads of the disk give; and how many stored rows were looked at
+-- what stands outside of the call, before it and after it, where it is known: the bytes that the source has left, those that the sink has written, those that reads of the disk give; and how many stored rows were looked at
 pub record Outside : Type 0 where
   pub input : Option (List ℕ)
   pub rest : Option (List ℕ)
@@ -129,12 +126,6 @@ IfReading (Damaged at) P = ⊤
 IfReading NoMemory P = ⊤
 IfReading InputLong P = P
 
--- P of a call that runs a script
-abbrev pub IfRuns : Option Command → Type 0 → Type 0
-IfRuns None P = ⊤
-IfRuns (Some Run) P = P
-IfRuns (Some (Print text)) P = ⊤
-
 -- the text of a history was printed, or a part of it
 abbrev pub Printed : (History → List ℕ) → Outside → Type 0
 Printed text o = Over o (λ h. Appends o.written_before o.written (text h))
@@ -153,13 +144,3 @@ PrintedTo text DiskFault unprinted o = unprinted
 PrintedTo text (Damaged at) unprinted o = unprinted × IsDamaged at o
 PrintedTo text NoMemory unprinted o = unprinted ⊎ PrintedPart text o
 PrintedTo text InputLong unprinted o = ⊥
-
--- what a call with this command has done: one that prints reads no input, and leaves the disk as it was
-abbrev pub Told : Command → Status → Type 0 → (List ℕ → Type 0) → Type 0 → Type 0 → Type 0 → Outside → Type 0
-Told Run status durable left unread unprinted kept o = RanTo status durable left (Untouched unread unprinted kept) o
-Told (Print text) status durable left unread unprinted kept o = unread × kept × PrintedTo (text_of text) status unprinted o
-
--- what a call with these words has done: where they ask for nothing, that is all
-abbrev pub ToldOf : Option Command → Status → Type 0 → (List ℕ → Type 0) → Type 0 → Type 0 → Type 0 → Outside → Type 0
-ToldOf None status durable left unread unprinted kept o = (status ≡ BadWords) × Untouched unread unprinted kept
-ToldOf (Some command) status durable left unread unprinted kept o = Told command status durable left unread unprinted kept o

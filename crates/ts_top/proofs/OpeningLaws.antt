@@ -1,0 +1,73 @@
+-- A call that opened no journal has done what a call that runs a script has done.
+use Rattle.std.proofs.Common.{◌≡◌, inl, inr, ℕ, List, Option, false, refl}
+use Rattle.ts_top.specs.declared.endings.Status.{Status}
+use Rattle.ts_top.specs.declared.endings.Status.TheVariants.{Done, Refused, BadWords, ReadFault, WriteFault, DiskFault, Damaged, NoMemory, InputLong}
+use Rattle.ts_top.specs.Endings.{is_read_fault, is_write_fault}
+use Rattle.ts_top.specs.Openings.{HeaderFailed, NotOpened}
+use Rattle.ts_top.specs.Outcomes.{IfReading, Outside, RanTo, Untouched}
+use Rattle.ts_top.proofs.OutcomeLaws.{stopped_at_header}
+
+module _ (durable : Type 0) (left : List ℕ → Type 0) (before after : Option (List ℕ)) where
+  -- where the header was reached the disk needn't be as it was
+  pub failed_or_kept : (status : Status) (kept : Type 0) → NotOpened status durable left ⊥ before after → NotOpened status durable left kept before after
+  failed_or_kept Done kept n = n
+  failed_or_kept Refused kept n = n
+  failed_or_kept BadWords kept n = n
+  failed_or_kept ReadFault kept n = n
+  failed_or_kept WriteFault kept n = n
+  failed_or_kept DiskFault kept (inl never) = absurd never
+  failed_or_kept DiskFault kept (inr failed) = inr failed
+  failed_or_kept (Damaged at) kept n = absurd n.0
+  failed_or_kept NoMemory kept n = absurd n
+  failed_or_kept InputLong kept n = n
+
+  -- nothing was read and nothing printed, so no fault of either is told
+  pub not_opened_reads : (status : Status) (kept : Type 0) → NotOpened status durable left kept before after → is_read_fault status ≡ false
+  not_opened_reads Done kept n = refl
+  not_opened_reads Refused kept n = refl
+  not_opened_reads BadWords kept n = refl
+  not_opened_reads ReadFault kept n = absurd n
+  not_opened_reads WriteFault kept n = refl
+  not_opened_reads DiskFault kept n = refl
+  not_opened_reads (Damaged at) kept n = refl
+  not_opened_reads NoMemory kept n = refl
+  not_opened_reads InputLong kept n = refl
+
+  pub not_opened_writes : (status : Status) (kept : Type 0) → NotOpened status durable left kept before after → is_write_fault status ≡ false
+  not_opened_writes Done kept n = refl
+  not_opened_writes Refused kept n = refl
+  not_opened_writes BadWords kept n = refl
+  not_opened_writes ReadFault kept n = refl
+  not_opened_writes WriteFault kept n = absurd n
+  not_opened_writes DiskFault kept n = refl
+  not_opened_writes (Damaged at) kept n = refl
+  not_opened_writes NoMemory kept n = refl
+  not_opened_writes InputLong kept n = refl
+
+  pub not_opened_header : (status : Status) (kept P : Type 0) → NotOpened status durable left kept before after → IfReading status P
+  not_opened_header Done kept P n = absurd n
+  not_opened_header Refused kept P n = absurd n
+  not_opened_header BadWords kept P n = absurd n
+  not_opened_header ReadFault kept P n = absurd n
+  not_opened_header WriteFault kept P n = absurd n
+  not_opened_header DiskFault kept P n = tt
+  not_opened_header (Damaged at) kept P n = tt
+  not_opened_header NoMemory kept P n = tt
+  not_opened_header InputLong kept P n = absurd n
+
+-- a run that opened no journal
+module _ (durable : Type 0) (left : List ℕ → Type 0) (o : Outside) (unread unprinted kept : Type 0) (same : o.written ≡ o.written_before) (none : o.reads ≡ 0) (still : unread × unprinted) where
+  header_failed : HeaderFailed durable left o.file_before o.file → RanTo DiskFault durable left (Untouched unread unprinted kept) o
+  header_failed f = stopped_at_header durable left (Untouched unread unprinted kept) o f.opening f.stood same none f.holds f.images
+
+  pub not_opened_run : (status : Status) → NotOpened status durable left kept o.file_before o.file → RanTo status durable left (Untouched unread unprinted kept) o
+  not_opened_run Done n = absurd n
+  not_opened_run Refused n = absurd n
+  not_opened_run BadWords n = absurd n
+  not_opened_run ReadFault n = absurd n
+  not_opened_run WriteFault n = absurd n
+  not_opened_run DiskFault (inl same_disk) = inl (still.0, still.1, same_disk)
+  not_opened_run DiskFault (inr failed) = header_failed failed
+  not_opened_run (Damaged at) n = ((still.0, still.1, n.0), n.1)
+  not_opened_run NoMemory n = inl (still.0, still.1, n)
+  not_opened_run InputLong n = absurd n

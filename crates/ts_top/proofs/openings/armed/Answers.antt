@@ -1,0 +1,58 @@
+-- The header stands, or the disk failed while it was written.
+use Rattle.std.proofs.Common.{inr, true, sym, ap, ◌∙◌, subst}
+use Rattle.std.specs.Prelude.{IsSomeAnd}
+use Rattle.ts_disk.specs.CrashImage.{LeavesOnly}
+use Rattle.ts_io.specs.Faults.{Counted}
+use Rattle.ts_model.specs.History.{prefix}
+use Rattle.engine_core.specs.Histories.{history_of}
+use Rattle.ts_store.specs.Images.{IsDurable, StandsForEither, latest}
+use Rattle.ts_store.specs.Stands.{Stands}
+use Rattle.ts_store.specs.Stores.{seen}
+use Rattle.ts_top.specs.Outcomes.{Holds}
+use Rattle.ts_top.proofs.OutcomeLaws.{never_some, shown_is}
+use Rattle.ts_top.proofs.openings.armed.Goals as goal
+
+pub returns-in-Done-clause-begun : goal.returns-in-Done-clause-begun
+returns-in-Done-clause-begun g c = c.in-Done.ensures.begun
+
+pub returns-in-Done-clause-history : goal.returns-in-Done-clause-history
+returns-in-Done-clause-history g c = ap (λ e. history_of e.events) c.in-Done.ensures.engine
+
+pub returns-in-Done-clause-goes_on : goal.returns-in-Done-clause-goes_on
+returns-in-Done-clause-goes_on g c = c.in-Done.ensures.ends.1
+
+pub returns-in-Done-clause-armed : goal.returns-in-Done-clause-armed
+returns-in-Done-clause-armed g c = c.in-Done.ensures.armed
+
+pub returns-in-Done-clause-whole : goal.returns-in-Done-clause-whole
+returns-in-Done-clause-whole g c =
+    ap (λ n. prefix (seen c.arm.new.self) n) c.in-Done.ensures.opened
+    ∙ ap (λ e. prefix (history_of e.events) c.args.store.opened) c.in-Done.ensures.engine
+    ∙ c.requires.whole
+    ∙ sym (ap (λ e. history_of e.events) c.in-Done.ensures.engine)
+
+pub returns-in-Done-clause-counted : goal.returns-in-Done-clause-counted
+returns-in-Done-clause-counted g c = c.in-Done.ensures.counted
+
+pub returns-in-DiskFault-clause-ended : goal.returns-in-DiskFault-clause-ended
+returns-in-DiskFault-clause-ended g c before stood rests kept =
+    let D = g.D.Disk in
+    let old = c.args.store in
+    let new = c.arm.new.self in
+    let durable : Type 0 = IsDurable D.bytes D.may_leave old.begun in
+    let only : durable → LeavesOnly D.moment D.left_since old.journal.disk new.journal.disk (λ file. Stands file (seen old)) = λ d. c.in-DiskFault.ensures.any_moment (rests d) in
+    let same_begun : durable → IsDurable D.bytes D.may_leave new.begun = λ d. subst (λ b. IsDurable D.bytes D.may_leave b) (sym c.in-DiskFault.ensures.begun) d in
+    inr (record {
+      opening = seen old;
+      stood = stood;
+      holds = λ d. subst (λ disk. Holds (D.bytes disk) (seen old)) (sym c.close.ensures.disk)
+          (shown_is D.bytes D.may_leave D.moment D.left_since g.met.D.Disk.shows_an_image g.met.D.Disk.counts_now old.journal.disk new.journal.disk (λ file. Stands file (seen old)) (StandsForEither (seen new) (latest (seen new) new.failed)) (only d)
+          (subst (λ disk. IsSomeAnd (D.bytes disk) (StandsForEither (seen new) (latest (seen new) new.failed))) c.close.ensures.disk (c.close.ensures.shown (same_begun d))));
+      images = λ d x image. (only d).each x (subst (λ t. D.left_since new.journal.disk t x) (sym kept.at_moment) (subst (λ disk. D.left_since disk (D.moment old.begun) x) c.close.ensures.disk image));
+    })
+
+pub returns-in-DiskFault-clause-disk : goal.returns-in-DiskFault-clause-disk
+returns-in-DiskFault-clause-disk g c = subst (λ disk. Counted (g.D.Disk.faults c.args.store.journal.disk) (g.D.Disk.faults disk) true) (sym c.close.ensures.disk) c.in-DiskFault.ensures.counted
+
+pub returns-in-Stopped : goal.returns-in-Stopped
+returns-in-Stopped g c = absurd (never_some c.args.store.failed c.requires.goes_on c.in-Stopped.ensures.ends.0)

@@ -1,0 +1,57 @@
+-- What the start of the store found decides whether there is a journal.
+use Rattle.std.proofs.Common.{◌≡◌, inl, IfSome, sym, ◌∙◌, subst}
+use Rattle.std.proofs.lemmas.Result.{IfOk-weaker, IfErr-weaker}
+use Rattle.ts_disk.specs.Disk.{Keeps}
+use Rattle.ts_io.specs.Faults.{Counted}
+use Rattle.ts_store.specs.Images.{IsDurable}
+use Rattle.ts_store.specs.Stands.{Stands, IsDamagedAt}
+use Rattle.ts_store.specs.Stores.{seen}
+use Rattle.ts_top.specs.Endings.{is_disk_fault}
+use Rattle.ts_top.specs.Openings.{NotOpened}
+use Rattle.ts_top.proofs.OutcomeLaws.{if_known}
+use Rattle.ts_top.proofs.OpeningLaws.{failed_or_kept}
+use Rattle.ts_top.proofs.openings.open.Goals as goal
+
+pub armed-requires-clause-goes_on : goal.armed-requires-clause-goes_on
+armed-requires-clause-goes_on g c = c.in-Ready.ensures.new.goes_on
+
+pub armed-requires-clause-whole : goal.armed-requires-clause-whole
+armed-requires-clause-whole g c = c.in-Ready.ensures.new.whole
+
+pub returns-in-Ready-clause-begun : goal.returns-in-Ready-clause-begun
+returns-in-Ready-clause-begun g c = IfOk-weaker c.armed.result _ _ (λ store is. is ∙ c.in-Ready.ensures.new.begun) c.armed.ensures.begun
+
+pub returns-in-Ready-clause-stands : goal.returns-in-Ready-clause-stands
+returns-in-Ready-clause-stands g c =
+    IfOk-weaker c.armed.result _ _ (λ store is file told. subst (λ h. Stands file h) (sym is) (c.in-Ready.ensures.starts file told)) c.armed.ensures.history
+
+pub returns-in-Ready-clause-counted : goal.returns-in-Ready-clause-counted
+returns-in-Ready-clause-counted g c = IfOk-weaker c.armed.result _ _ (λ store is. is ∙ c.in-Ready.ensures.counted) c.armed.ensures.counted
+
+pub returns-in-Ready-clause-ended : goal.returns-in-Ready-clause-ended
+returns-in-Ready-clause-ended g c =
+    let D = g.D.Disk in
+    let store = c.in-Ready.store in
+    let disk = c.args.disk in
+    let begun : store.begun ≡ disk = c.in-Ready.ensures.new.begun in
+    let stood : IfSome (D.bytes disk) (λ file. Stands file (seen store)) = if_known (D.bytes disk) (λ file. Stands file (seen store)) c.in-Ready.ensures.starts in
+    IfErr-weaker c.armed.result _ _
+    (λ end failed.
+    failed_or_kept (IsDurable D.bytes D.may_leave disk) (D.left_since end.disk (D.moment disk)) (D.bytes disk) (D.bytes end.disk) end.status (Keeps D.bytes D.may_leave D.moment D.left_since disk end.disk)
+    (subst (λ b. NotOpened end.status (IsDurable D.bytes D.may_leave b) (D.left_since end.disk (D.moment b)) ⊥ (D.bytes disk) (D.bytes end.disk)) begun
+    (failed (D.bytes disk) stood
+    (λ d. let e : IsDurable D.bytes D.may_leave disk = subst (λ b. IsDurable D.bytes D.may_leave b) begun d in c.in-Ready.ensures.rests e.file e.told e.durable)
+    (subst (λ b. Keeps D.bytes D.may_leave D.moment D.left_since b store.journal.disk) (sym begun) c.in-Ready.ensures.kept))))
+    c.armed.ensures.ended
+
+pub returns-in-Ready-clause-disk : goal.returns-in-Ready-clause-disk
+returns-in-Ready-clause-disk g c = IfErr-weaker c.armed.result _ _ (λ end counted. subst (λ n. Counted n (g.D.Disk.faults end.disk) (is_disk_fault end.status)) c.in-Ready.ensures.counted counted) c.armed.ensures.disk
+
+pub returns-in-Damaged-clause-ended : goal.returns-in-Damaged-clause-ended
+returns-in-Damaged-clause-ended g c = (c.in-Damaged.ensures.kept, if_known (g.D.Disk.bytes c.args.disk) (λ file. IsDamagedAt file c.in-Damaged.at) c.in-Damaged.ensures.starts)
+
+pub returns-in-DiskFault-clause-ended : goal.returns-in-DiskFault-clause-ended
+returns-in-DiskFault-clause-ended g c = inl c.in-DiskFault.ensures.kept
+
+pub returns-in-NoMemory-clause-ended : goal.returns-in-NoMemory-clause-ended
+returns-in-NoMemory-clause-ended g c = c.in-NoMemory.ensures.kept

@@ -1,0 +1,25 @@
+-- A store that made no event says that its file stands for the opening history.
+use Rattle.std.proofs.Common.{ap, subst}
+use Rattle.ts_store.specs.Images.{IsBetween, StandsForEither, latest}
+use Rattle.ts_store.specs.Stands.{Stands}
+use Rattle.ts_store.specs.Stores.{seen}
+use Rattle.ts_top.proofs.OutcomeLaws.{some_and, the_one}
+use Rattle.ts_top.proofs.ParallelLaws.{only_one}
+use Rattle.ts_top.proofs.parallel.closed.Goals as goal
+
+pub returns-clause-holds : goal.returns-clause-holds
+returns-clause-holds g c d =
+    let store = c.args.store in
+    some_and (g.D.Disk.bytes c.close.result) (StandsForEither (seen store) (latest (seen store) store.failed)) (λ file. Stands file (seen store))
+    (λ file either. the_one (seen store) store.failed file c.requires.goes_on either) (c.close.ensures.shown d)
+
+pub returns-clause-images : goal.returns-clause-images
+returns-clause-images g c d x image =
+    let store = c.args.store in
+    only_one (seen store) store.failed x c.requires.goes_on (subst (λ h. IsBetween h (seen store) store.failed x) c.requires.whole (c.close.ensures.images d x image))
+
+pub returns-clause-header : goal.returns-clause-header
+returns-clause-header g c d = c.close.ensures.header c.requires.armed c.requires.goes_on d
+
+pub returns-clause-counted : goal.returns-clause-counted
+returns-clause-counted g c = ap g.D.Disk.faults c.close.ensures.disk

@@ -1,0 +1,79 @@
+-- What the top call has done, by what it was asked for.
+use Rattle.std.specs.Prelude.{◌≡◌, ℕ, Bool, true, false, List, Option, None, Some, ⊤}
+use Rattle.std.specs.Io.KnownBytes.{Appends}
+use Rattle.ts_io.specs.Faults.{Counted}
+use Rattle.ts_io.specs.Whole.{AppendsPart}
+use Rattle.demo_run.specs.Demos.{demo_summary, is_refused_demo, reads_of_demo}
+use Rattle.ts_top.specs.declared.commands.Command.{Command}
+use Rattle.ts_top.specs.declared.commands.Command.TheVariants.{Run, Par, Demo, Print}
+use Rattle.ts_top.specs.declared.endings.Status.{Status}
+use Rattle.ts_top.specs.declared.endings.Status.TheVariants.{Done, Refused, BadWords, ReadFault, WriteFault, DiskFault, Damaged, NoMemory, InputLong}
+use Rattle.ts_top.specs.Endings.{is_write_fault}
+use Rattle.ts_top.specs.Logs.{text_of}
+use Rattle.ts_top.specs.Outcomes.{Outside, PrintedTo, RanTo, Untouched}
+use Rattle.ts_top.specs.Parallel.{ParTo}
+
+-- the demonstration with a number has printed its summary, or a part of it, and looked at so many stored rows
+pub record DemoShown (demo : ℕ) (Wrote : List ℕ → Type 0) (o : Outside) : Type 0 where
+  pub wrote : Wrote (demo_summary demo)
+  pub counted : o.reads ≡ reads_of_demo demo
+
+-- what the demonstration with a number has done that ended so
+abbrev pub DemoTo : ℕ → Status → Type 0 → Outside → Type 0
+DemoTo demo Done unprinted o = (is_refused_demo demo ≡ false) × DemoShown demo (Appends o.written_before o.written) o
+DemoTo demo Refused unprinted o = (is_refused_demo demo ≡ true) × DemoShown demo (Appends o.written_before o.written) o
+DemoTo demo BadWords unprinted o = ⊥
+DemoTo demo ReadFault unprinted o = ⊥
+DemoTo demo WriteFault unprinted o = DemoShown demo (AppendsPart o.written_before o.written) o
+DemoTo demo DiskFault unprinted o = ⊥
+DemoTo demo (Damaged at) unprinted o = ⊥
+DemoTo demo NoMemory unprinted o = unprinted
+DemoTo demo InputLong unprinted o = ⊥
+
+-- what a call with this command has done. One that prints, and the demonstration, read no input and leave the disk as it was
+abbrev pub Outcome : Command → Status → Type 0 → (List ℕ → Type 0) → Type 0 → Type 0 → Type 0 → Outside → Type 0
+Outcome Run status durable left unread unprinted kept o = RanTo status durable left (Untouched unread unprinted kept) o
+Outcome Par status durable left unread unprinted kept o = ParTo status durable left (Untouched unread unprinted kept) o
+Outcome (Demo demo) status durable left unread unprinted kept o = unread × kept × DemoTo demo status unprinted o
+Outcome (Print text) status durable left unread unprinted kept o = unread × kept × PrintedTo (text_of text) status unprinted o
+
+-- what a call with these words has done: where they ask for nothing, that is all
+abbrev pub OutcomeOf : Option Command → Status → Type 0 → (List ℕ → Type 0) → Type 0 → Type 0 → Type 0 → Outside → Type 0
+OutcomeOf None status durable left unread unprinted kept o = (status ≡ BadWords) × Untouched unread unprinted kept
+OutcomeOf (Some command) status durable left unread unprinted kept o = Outcome command status durable left unread unprinted kept o
+
+-- P of a call that runs the lines of its input
+abbrev pub IfRuns : Option Command → Type 0 → Type 0
+IfRuns None P = ⊤
+IfRuns (Some Run) P = P
+IfRuns (Some Par) P = P
+IfRuns (Some (Demo demo)) P = ⊤
+IfRuns (Some (Print text)) P = ⊤
+
+-- P of a call that runs the demonstration
+abbrev pub IfDemo : Option Command → Type 0 → Type 0
+IfDemo None P = ⊤
+IfDemo (Some Run) P = ⊤
+IfDemo (Some Par) P = ⊤
+IfDemo (Some (Demo demo)) P = P
+IfDemo (Some (Print text)) P = ⊤
+
+-- where the disk failed in a parallel run, its replies are printed all the same: the sink may fail after that
+abbrev pub CountedAfterDisk : Status → ℕ → ℕ → Type 0
+CountedAfterDisk Done before now = Counted before now false
+CountedAfterDisk Refused before now = Counted before now false
+CountedAfterDisk BadWords before now = Counted before now false
+CountedAfterDisk ReadFault before now = Counted before now false
+CountedAfterDisk WriteFault before now = Counted before now true
+CountedAfterDisk DiskFault before now = (failed : Bool) × Counted before now failed
+CountedAfterDisk (Damaged at) before now = Counted before now false
+CountedAfterDisk NoMemory before now = Counted before now false
+CountedAfterDisk InputLong before now = Counted before now false
+
+-- the count of the sink's faults rises where the call tells of one, and else stays
+abbrev pub SinkCounted : Option Command → Status → ℕ → ℕ → Type 0
+SinkCounted None status before now = Counted before now (is_write_fault status)
+SinkCounted (Some Run) status before now = Counted before now (is_write_fault status)
+SinkCounted (Some Par) status before now = CountedAfterDisk status before now
+SinkCounted (Some (Demo demo)) status before now = Counted before now (is_write_fault status)
+SinkCounted (Some (Print text)) status before now = Counted before now (is_write_fault status)

@@ -1,0 +1,63 @@
+//! The demonstration.
+ghost use Rattle.std.specs.Prelude.{◌≡◌, ℕ, List, Option};
+ghost use Rattle.ts_io.specs.Faults.{Counted};
+ghost use Rattle.ts_top.specs.Calls.{DemoTo};
+ghost use Rattle.ts_top.specs.Endings.{is_write_fault};
+ghost use Rattle.ts_top.specs.Stops.{status_of_shown};
+
+use crate::endings::{Ended, Status, status_answered};
+use demo_run::demo;
+use std::alloc::Global;
+use std::thread::Threads;
+use ts_disk::Disk;
+use ts_io::{Sink, WriteFault, write_whole};
+use ts_schema::NoMemory;
+
+/// Runs the script of the demonstration with this number over a memory disk of its own, and prints the
+/// summary. The disk handed in isn't touched.
+pub(crate) fn print_demo<R: Threads + Sync, K: Sink, D: Disk>(
+    rt: &R,
+    alloc: Global,
+    sink: &mut K,
+    disk: D,
+    number: u32,
+) -> Ended<D>
+    ensures outcome { (input rest file_before file : Option (List ℕ)) → DemoTo number result.status (sink.new ≡ sink.old)
+        (record {
+          input = input;
+          rest = rest;
+          written_before = K.written sink.old;
+          written = K.written sink.new;
+          file_before = file_before;
+          file = file;
+          reads = result.reads;
+        }) }
+    ensures disk { result.disk ≡ disk }
+    ensures writes { Counted (K.faults sink.old) (K.faults sink.new) (is_write_fault result.status) }
+{
+    match demo(rt, alloc, number) {
+        Ok(shown) => {
+            let written = write_whole(sink, shown.text.items());
+            Ended {
+                status: status_of_shown(written, shown.refused),
+                disk,
+                reads: shown.reads,
+            }
+        }
+        Err(NoMemory) => Ended {
+            status: Status::NoMemory,
+            disk,
+            reads: 0,
+        },
+    }
+}
+
+/// How the call ends whose summary was written or not, with a FAULT among the replies or without one.
+fn status_of_shown(written: Result<(), WriteFault>, refused: bool) -> Status
+    ensures { result ≡ status_of_shown written refused }
+{
+    match written {
+        Ok(()) => status_answered(refused),
+        Err(WriteFault) => Status::WriteFault,
+    }
+}

@@ -1,0 +1,88 @@
+//! How the journal on a disk is opened for a script.
+ghost use Rattle.std.specs.Prelude.{◌≡◌, ℕ, List, None, Option, Some, true, IfErr, IfOk, IfSome};
+ghost use Rattle.ts_disk.specs.Disk.{Keeps};
+ghost use Rattle.ts_io.specs.Faults.{Counted};
+ghost use Rattle.ts_store.specs.Images.{IsDurable};
+ghost use Rattle.ts_store.specs.Stands.{Stands};
+ghost use Rattle.ts_store.specs.Stores.{Rests, opening, seen};
+ghost use Rattle.ts_top.specs.Endings.{is_disk_fault};
+ghost use Rattle.ts_top.specs.Openings.{NotOpened};
+
+use crate::endings::{Ended, Status};
+use std::alloc::Global;
+use std::thread::Threads;
+use ts_disk::Disk;
+use ts_store::{Started, Store};
+use txn_journal::Append;
+
+/// Writes the header of the journal of a store at its start, where there is none.
+fn armed<D: Disk>(mut store: Store<D>) -> Result<Store<D>, Ended<D>>
+    requires goes_on { store.failed ≡ None }
+    requires whole { opening store ≡ seen store }
+    ensures begun { IfOk result (λ ready. ready.begun ≡ store.begun) }
+    ensures history { IfOk result (λ ready. seen ready ≡ seen store) }
+    ensures goes_on { IfOk result (λ ready. ready.failed ≡ None) }
+    ensures armed { IfOk result (λ ready. ready.armed ≡ true) }
+    ensures whole { IfOk result (λ ready. opening ready ≡ seen ready) }
+    ensures counted { IfOk result (λ ready. D.faults ready.journal.disk ≡ D.faults store.journal.disk) }
+    ensures ended { IfErr result (λ end. (before : Option (List ℕ)) → IfSome before (λ file. Stands file (seen store))
+        → (IsDurable D.bytes D.may_leave store.begun → Rests D.bytes D.may_leave store)
+        → Keeps D.bytes D.may_leave D.moment D.left_since store.begun store.journal.disk
+        → NotOpened end.status (IsDurable D.bytes D.may_leave store.begun) (D.left_since end.disk (D.moment store.begun))
+        ⊥ before (D.bytes end.disk)) }
+    ensures unread { IfErr result (λ end. end.reads ≡ 0) }
+    ensures disk { IfErr result (λ end. Counted (D.faults store.journal.disk) (D.faults end.disk) (is_disk_fault end.status)) }
+{
+    match store.arm() {
+        Append::Done => Ok(store),
+        Append::DiskFault => Err(Ended {
+            status: Status::DiskFault,
+            disk: store.close(),
+            reads: 0,
+        }),
+        // A store that goes on doesn't answer so.
+        Append::Stopped => Err(Ended {
+            status: Status::DiskFault,
+            disk: store.close(),
+            reads: 0,
+        }),
+    }
+}
+
+/// A store over the history that the journal on the disk stands for, whose journal has its header; or how
+/// the call ends where there is none. Nothing is read or printed.
+pub(crate) fn open<R: Threads + Sync, D: Disk>(
+    rt: &R,
+    alloc: Global,
+    disk: D,
+) -> Result<Store<D>, Ended<D>>
+    ensures begun { IfOk result (λ store. store.begun ≡ disk) }
+    ensures stands { IfOk result (λ store. (file : List ℕ) → D.bytes disk ≡ Some file → Stands file (seen store)) }
+    ensures goes_on { IfOk result (λ store. store.failed ≡ None) }
+    ensures armed { IfOk result (λ store. store.armed ≡ true) }
+    ensures whole { IfOk result (λ store. opening store ≡ seen store) }
+    ensures counted { IfOk result (λ store. D.faults store.journal.disk ≡ D.faults disk) }
+    ensures ended { IfErr result (λ end. NotOpened end.status (IsDurable D.bytes D.may_leave disk) (D.left_since end.disk (D.moment disk))
+        (Keeps D.bytes D.may_leave D.moment D.left_since disk end.disk) (D.bytes disk) (D.bytes end.disk)) }
+    ensures unread { IfErr result (λ end. end.reads ≡ 0) }
+    ensures disk { IfErr result (λ end. Counted (D.faults disk) (D.faults end.disk) (is_disk_fault end.status)) }
+{
+    match Store::start(rt, alloc, disk) {
+        Started::Ready(store) => armed(store),
+        Started::Damaged { disk, at } => Err(Ended {
+            status: Status::Damaged(at),
+            disk,
+            reads: 0,
+        }),
+        Started::DiskFault(disk) => Err(Ended {
+            status: Status::DiskFault,
+            disk,
+            reads: 0,
+        }),
+        Started::NoMemory(disk) => Err(Ended {
+            status: Status::NoMemory,
+            disk,
+            reads: 0,
+        }),
+    }
+}

@@ -1,0 +1,201 @@
+//! Inputs that are run by a worker for each session, over the history of a journal.
+ghost use Rattle.std.specs.Prelude.{◌≡◌, ◌≤◌, ℕ, List, None, Option, false, true, is_some, length, IfSome, IsSomeAnd};
+ghost use Rattle.ts_disk.specs.Disk.{Keeps};
+ghost use Rattle.ts_io.specs.Faults.{Counted};
+ghost use Rattle.ts_io.specs.declared.limits.TheConstants.{INPUT_LIMIT};
+ghost use Rattle.ts_store.specs.Images.{HasHeader, IsDurable};
+ghost use Rattle.ts_store.specs.Stands.{Stands};
+ghost use Rattle.ts_store.specs.Stores.{opening, seen};
+ghost use Rattle.ts_top.specs.Calls.{CountedAfterDisk};
+ghost use Rattle.ts_top.specs.Endings.{is_disk_fault, is_read_fault};
+ghost use Rattle.ts_top.specs.Outcomes.{Holds, IfReading, Untouched};
+ghost use Rattle.ts_top.specs.Parallel.{InputTo, ParTo, PrintsReplies, status_given_up};
+
+use crate::endings::{Ended, Status, status_answered};
+use crate::openings::open;
+use par_run::{ParEnd, ParStop, par as run_in_parallel};
+use std::alloc::Global;
+use std::sync::Wait;
+use std::thread::Threads;
+use ts_disk::Disk;
+use ts_io::{AllEnd, Sink, Source, WriteFault, read_all, write_whole};
+use ts_model::{Backend, Gate};
+use ts_store::Store;
+
+/// A call that ended so without a statement, over a store whose journal has its header.
+fn closed<D: Disk>(store: Store<D>, status: Status) -> Ended<D>
+    requires goes_on { store.failed ≡ None }
+    requires armed { store.armed ≡ true }
+    requires whole { opening store ≡ seen store }
+    ensures status { result.status ≡ status }
+    ensures holds { IsDurable D.bytes D.may_leave store.begun → Holds (D.bytes result.disk) (seen store) }
+    ensures images { IsDurable D.bytes D.may_leave store.begun
+        → (c : List ℕ) → D.left_since result.disk (D.moment store.begun) c → Stands c (seen store) }
+    ensures header { IsDurable D.bytes D.may_leave store.begun → IsSomeAnd (D.bytes result.disk) HasHeader }
+    ensures counted { D.faults result.disk ≡ D.faults store.journal.disk }
+{
+    Ended {
+        status,
+        disk: store.close(),
+        reads: 0,
+    }
+}
+
+/// Prints the replies of a parallel run that stopped so, and tells how the call ends. A disk fault is told
+/// whatever the sink does after it. Where memory ran out there are none.
+fn print_replies<K: Sink>(
+    sink: &mut K,
+    text: &[u8],
+    fault: bool,
+    stop: ParStop,
+    stopped: Option<u64>,
+) -> Status
+    ensures prints { PrintsReplies stop fault (is_some stopped) text.now result (K.written sink.old) (K.written sink.new) }
+    ensures counted { CountedAfterDisk result (K.faults sink.old) (K.faults sink.new) }
+{
+    match stop {
+        ParStop::Done => match write_whole(sink, text) {
+            Ok(()) => status_answered(fault),
+            Err(WriteFault) => Status::WriteFault,
+        },
+        ParStop::DiskFault => {
+            let _written = write_whole(sink, text);
+            Status::DiskFault
+        }
+        ParStop::NoMemory => status_given_up(stopped),
+    }
+}
+
+/// How a call ends whose workers ran out of memory, over a store that stopped before or didn't.
+fn status_given_up(stopped: Option<u64>) -> Status
+    ensures { result ≡ status_given_up (is_some stopped) }
+{
+    match stopped {
+        Some(_) => Status::DiskFault,
+        None => Status::NoMemory,
+    }
+}
+
+/// Runs an input by a worker for each session, over a store whose journal has its header, and prints the
+/// replies.
+fn run_input<R, K, D, G>(
+    rt: &R,
+    alloc: Global,
+    input: &[u8],
+    sink: &mut K,
+    store: Store<D>,
+    gate: &G,
+) -> Ended<D>
+where
+    R: Threads + Wait + Sync,
+    K: Sink,
+    D: Disk + Send,
+    G: Gate + Sync,
+    requires goes_on { store.failed ≡ None }
+    requires armed { store.armed ≡ true }
+    requires whole { opening store ≡ seen store }
+    requires within { length input.now ≤ INPUT_LIMIT }
+    ensures ran { InputTo result.status (IsDurable D.bytes D.may_leave store.begun) (D.left_since result.disk (D.moment store.begun))
+        (seen store) input.now (K.written sink.old) (K.written sink.new) (D.bytes result.disk) }
+    ensures header { IfReading result.status (IsDurable D.bytes D.may_leave store.begun → IsSomeAnd (D.bytes result.disk) HasHeader) }
+    ensures writes { CountedAfterDisk result.status (K.faults sink.old) (K.faults sink.new) }
+    ensures disk { Counted (D.faults store.journal.disk) (D.faults result.disk) (is_disk_fault result.status) }
+{
+    let ParEnd {
+        backend,
+        text,
+        fault,
+        reads,
+        stop,
+    } = run_in_parallel(rt, alloc, store, input, gate);
+    let status = print_replies(sink, text.items(), fault, stop, backend.stopped());
+    Ended {
+        status,
+        disk: backend.close(),
+        reads,
+    }
+}
+
+/// Reads the whole input, and runs it by a worker for each session, over a store whose journal has its
+/// header.
+fn run_all<R, S, K, D, G>(
+    rt: &R,
+    alloc: Global,
+    source: &mut S,
+    sink: &mut K,
+    store: Store<D>,
+    gate: &G,
+) -> Ended<D>
+where
+    R: Threads + Wait + Sync,
+    S: Source,
+    K: Sink,
+    D: Disk + Send,
+    G: Gate + Sync,
+    requires untold { S.ended source.old ≡ false }
+    requires goes_on { store.failed ≡ None }
+    requires armed { store.armed ≡ true }
+    requires whole { opening store ≡ seen store }
+    ensures outcome { (before : Option (List ℕ)) → IfSome before (λ file. Stands file (seen store))
+        → ParTo result.status (IsDurable D.bytes D.may_leave store.begun) (D.left_since result.disk (D.moment store.begun))
+        ⊥ (record {
+          input = S.left source.old;
+          rest = S.left source.new;
+          written_before = K.written sink.old;
+          written = K.written sink.new;
+          file_before = before;
+          file = D.bytes result.disk;
+          reads = result.reads;
+        }) }
+    ensures header { IfReading result.status (IsDurable D.bytes D.may_leave store.begun → IsSomeAnd (D.bytes result.disk) HasHeader) }
+    ensures reads { Counted (S.faults source.old) (S.faults source.new) (is_read_fault result.status) }
+    ensures writes { CountedAfterDisk result.status (K.faults sink.old) (K.faults sink.new) }
+    ensures disk { Counted (D.faults store.journal.disk) (D.faults result.disk) (is_disk_fault result.status) }
+{
+    let mut input = Vec::new(alloc);
+    match read_all(source, &mut input) {
+        AllEnd::End => run_input(rt, alloc, &input, sink, store, gate),
+        AllEnd::InputLong => closed(store, Status::InputLong),
+        AllEnd::ReadFault => closed(store, Status::ReadFault),
+        AllEnd::NoMemory => closed(store, Status::NoMemory),
+    }
+}
+
+/// Runs the whole input by a worker for each session, over the history that the journal on the disk
+/// stands for.
+pub(crate) fn par<R, S, K, D, G>(
+    rt: &R,
+    alloc: Global,
+    source: &mut S,
+    sink: &mut K,
+    disk: D,
+    gate: &G,
+) -> Ended<D>
+where
+    R: Threads + Wait + Sync,
+    S: Source,
+    K: Sink,
+    D: Disk + Send,
+    G: Gate + Sync,
+    requires untold { S.ended source.old ≡ false }
+    ensures outcome { ParTo result.status (IsDurable D.bytes D.may_leave disk) (D.left_since result.disk (D.moment disk))
+        (Untouched (source.new ≡ source.old) (sink.new ≡ sink.old) (Keeps D.bytes D.may_leave D.moment D.left_since disk result.disk))
+        (record {
+          input = S.left source.old;
+          rest = S.left source.new;
+          written_before = K.written sink.old;
+          written = K.written sink.new;
+          file_before = D.bytes disk;
+          file = D.bytes result.disk;
+          reads = result.reads;
+        }) }
+    ensures header { IfReading result.status (IsDurable D.bytes D.may_leave disk → IsSomeAnd (D.bytes result.disk) HasHeader) }
+    ensures reads { Counted (S.faults source.old) (S.faults source.new) (is_read_fault result.status) }
+    ensures writes { CountedAfterDisk result.status (K.faults sink.old) (K.faults sink.new) }
+    ensures disk { Counted (D.faults disk) (D.faults result.disk) (is_disk_fault result.status) }
+{
+    match open(rt, alloc, disk) {
+        Ok(store) => run_all(rt, alloc, source, sink, store, gate),
+        Err(ended) => ended,
+    }
+}
