@@ -79,18 +79,19 @@ RETENTION_LINES = [line for _, line in EVENTS[:4]] + [
 
 
 def many_rows():
-    """Rows that threads share in a query and an aggregate: time and value are the number of the row, and eight devices take turns."""
+    """Rows that threads share in a query and an aggregate. Time and value are the row's number, and devices take turns."""
     yield SCRIPT[0]
     yield "a: SELECT create_hypertable('m', 'time', chunk_time_interval => 100000)", "a: HYPERTABLE @2", 2
     for number in range(12):
-        rows = range(1000 * number, 1000 * number + 1000)
+        rows = ", ".join(f"({at}, {at % 8}, {at})" for at in range(1000 * number, 1000 * number + 1000))
         position = number + 3
-        yield "a: INSERT INTO m VALUES " + ", ".join(f"({at}, {at % 8}, {at})" for at in rows), f"a: COMMIT @{position} +1000 -0", position
+        yield f"a: INSERT INTO m VALUES {rows}", f"a: COMMIT @{position} +1000 -0", position
     groups = [range(start + device, start + 1000, 8) for start in range(0, 12_000, 1000) for device in range(8)]
     answer = [f"{it[0] // 1000 * 1000}|{it[0] % 8}|{len(it)}|{sum(it)}" for it in groups]
     query = "a: SELECT time_bucket(1000, time) AS b, dev, count(*), sum(v) FROM m GROUP BY b, dev"
     yield query, "\n".join([f"a: ANSWER @14 rows {len(answer)} stale 0", *answer]), 14
-    view = "a: CREATE MATERIALIZED VIEW c WITH (timescaledb.continuous) AS SELECT time_bucket(10, time) AS b, count(*) AS n FROM m GROUP BY b"
+    fold = "SELECT time_bucket(10, time) AS b, count(*) AS n FROM m GROUP BY b"
+    view = f"a: CREATE MATERIALIZED VIEW c WITH (timescaledb.continuous) AS {fold}"
     yield view, "a: VIEW @15\na: REFRESH 16 @17 snap 16 min..12000", 17
     shown = [f"{start}|10" for start in range(11_010, 12_000, 10)]
     yield "a: SELECT * FROM c WHERE b > 11000", "\n".join([f"a: ANSWER @17 rows {len(shown)} stale 0", *shown]), 17
