@@ -1,0 +1,98 @@
+//! Gates that hold a worker before it finishes a refresh until another worker has come somewhere. A worker is
+//! held for a limited time, and a gate keeps whether that was too short: it is where workers run one after
+//! the other.
+use std::hint;
+use std::sync::atomic::{AtomicBool, Ordering};
+use ts_model::Gate;
+
+// How often a held worker looks whether it may go on.
+const TURNS: u32 = 200_000_000;
+
+/// Waits until the flag is set. False if it wasn't in time.
+fn comes(flag: &AtomicBool) -> bool {
+    for _ in 0..TURNS {
+        if flag.load(Ordering::SeqCst) {
+            return true;
+        }
+        hint::spin_loop();
+    }
+    false
+}
+
+/// Holds session 1 until session 2 has replied.
+#[derive(Drop)]
+pub(crate) struct UntilReply {
+    replied: AtomicBool,
+    too_late: AtomicBool,
+}
+
+impl UntilReply {
+    pub(crate) fn new() -> UntilReply {
+        UntilReply {
+            replied: AtomicBool::new(false),
+            too_late: AtomicBool::new(false),
+        }
+    }
+
+    /// Whether the reply came while session 1 was held.
+    pub(crate) fn was_in_time(&self) -> bool {
+        !self.too_late.load(Ordering::SeqCst)
+    }
+}
+
+impl Gate for UntilReply {
+    fn between(&self, session: u32) {
+        if session == 1 && !comes(&self.replied) {
+            self.too_late.store(true, Ordering::SeqCst);
+        }
+    }
+
+    fn answered(&self, session: u32) {
+        if session == 2 {
+            self.replied.store(true, Ordering::SeqCst);
+        }
+    }
+}
+
+/// Holds session 1 until session 2 is about to finish a refresh too, and the other way round.
+#[derive(Drop)]
+pub(crate) struct UntilBoth {
+    first: AtomicBool,
+    second: AtomicBool,
+    too_late: AtomicBool,
+}
+
+impl UntilBoth {
+    pub(crate) fn new() -> UntilBoth {
+        UntilBoth {
+            first: AtomicBool::new(false),
+            second: AtomicBool::new(false),
+            too_late: AtomicBool::new(false),
+        }
+    }
+
+    /// Whether both were held at the same time.
+    pub(crate) fn was_in_time(&self) -> bool {
+        !self.too_late.load(Ordering::SeqCst)
+    }
+
+    // Sets the flag of the one, and waits for that of the other.
+    fn meet(&self, own: &AtomicBool, other: &AtomicBool) {
+        own.store(true, Ordering::SeqCst);
+        if !comes(other) {
+            self.too_late.store(true, Ordering::SeqCst);
+        }
+    }
+}
+
+impl Gate for UntilBoth {
+    fn between(&self, session: u32) {
+        if session == 1 {
+            self.meet(&self.first, &self.second);
+        } else {
+            self.meet(&self.second, &self.first);
+        }
+    }
+
+    fn answered(&self, _session: u32) {}
+}

@@ -1,0 +1,75 @@
+//! What a run over an empty store prints.
+use engine_core::MemStore;
+use par_run::{ParEnd, ParStop, par};
+use std::process::Abort;
+use std::sync::Wait;
+use std::test::Fail;
+use std::thread::Threads;
+use ts_io::INPUT_LIMIT;
+use ts_model::{Gate, NoGate};
+
+/// How a run over an empty store in memory ends.
+pub(crate) fn run<R: Threads + Wait + Abort + Sync + AllocGlobal, G: Gate + Sync>(
+    rt: &R,
+    input: &[u8],
+    gate: &G,
+) -> Result<ParEnd<MemStore>, Fail> {
+    assert!(rt; input.len() <= INPUT_LIMIT);
+    Ok(par(rt, rt.alloc(), MemStore::new(rt.alloc())?, input, gate))
+}
+
+/// Inputs with what they print, whether a reply is a FAULT, and how many stored rows the answers look at.
+const RUNS: [(&[u8], &[u8], bool, u64); 4] = [
+    (b"", b"", false, 0),
+    (
+        b"final: SELECT * FROM m
+b: SELECT * FROM m
+-- Lines of each session in order, whatever stands between them.
+setup: CREATE TABLE m (time BIGINT NOT NULL, v BIGINT)
+setup: SELECT create_hypertable('m', 'time', chunk_time_interval => 100)
+a: SELECT * FROM m
+setup: INSERT INTO m VALUES (1, 2)
+b: BEGIN READ ONLY
+b: COMMIT
+",
+        b"setup: TABLE @1
+setup: HYPERTABLE @2
+setup: COMMIT @3 +1 -0
+b: ANSWER @3 rows 1 stale 0
+1|2
+b: BEGIN @3
+b: END
+a: ANSWER @3 rows 1 stale 0
+1|2
+final: ANSWER @3 rows 1 stale 0
+1|2
+",
+        false,
+        3,
+    ),
+    (
+        b"setup: CREATE TABLE m (time BIGINT)\na: BEGIN\na: DELETE\n",
+        b"setup: TABLE @1\na: BEGIN\na: FAULT E05 syntax at 10\n",
+        true,
+        0,
+    ),
+    (
+        b"a: COMMIT\nSELECT\n",
+        b"line 2: FAULT E03 no_session\na: FAULT E18 no_block\n",
+        true,
+        0,
+    ),
+];
+
+#[test]
+fn replies_stand_in_the_order_of_phases(rt: HostRuntime) -> Result<(), Fail> {
+    for (input, text, fault, reads) in RUNS {
+        let end = run(&rt, input, &NoGate)?;
+        assert!(rt; end.text.items() == text);
+        assert_eq!(rt;
+            (end.stop, end.fault, end.reads),
+            (ParStop::Done, fault, reads)
+        );
+    }
+    Ok(())
+}

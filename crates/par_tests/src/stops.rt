@@ -1,0 +1,22 @@
+//! A run over a disk that fails.
+use par_run::{ParStop, par};
+use std::test::Fail;
+use ts_disk::{FailDisk, Kind};
+use ts_model::{Backend, NoGate};
+use ts_store::{Started, Store};
+
+// The third sync is the last of those that put the first event on the disk.
+#[test]
+fn a_store_that_stopped_stands_still_for_all(rt: HostRuntime) -> Result<(), Fail> {
+    let disk = FailDisk::new(rt.alloc(), Vec::new(rt.alloc()), Kind::Sync, 3);
+    let Started::Ready(store) = Store::start(&rt, rt.alloc(), disk) else {
+        return Err("no store".into());
+    };
+    let input = b"setup: CREATE TABLE m (time BIGINT)\na: CREATE TABLE k (time BIGINT)\n";
+    let end = par(&rt, rt.alloc(), store, input, &NoGate);
+    let text = b"setup: FAULT E24 stopped @0\na: FAULT E24 stopped @0\n";
+    assert!(rt; end.text.items() == text.as_slice());
+    assert_eq!(rt; (end.stop, end.fault), (ParStop::DiskFault, true));
+    assert_eq!(rt; end.backend.stopped(), Some(0));
+    Ok(())
+}
