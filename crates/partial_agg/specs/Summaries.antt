@@ -1,5 +1,5 @@
 -- What a column sums up to, for every aggregate function at once.
-use Rattle.std.specs.Prelude.{ℕ, zero, suc, ◌+◌, ◌-◌, ◌*◌, ◌^◌, ◌<◌, ◌≤◌, List, length, Option, ℤ, pos, ◌+ℤ◌, ◌≤ℤ◌, neg_ℤ}
+use Rattle.std.specs.Prelude.{◌≡◌, ℕ, zero, suc, ◌+◌, ◌-◌, ◌*◌, ◌^◌, ◌<◌, ◌≤◌, List, [], ◌∷◌, ◌++◌, length, Option, ℤ, pos, ◌+ℤ◌, ◌≤ℤ◌, neg_ℤ}
 use Rattle.ts_num.specs.Aggregates.{values as values_in, sum_of, least_of, greatest_of, lesser, greater, shown_or_null}
 use Rattle.ts_num.specs.Fractions.{lowest_terms}
 use Rattle.ts_num.specs.declared.values.Fun.{Fun}
@@ -34,6 +34,14 @@ joined a b = record {
   least = lesser a.least b.least;
   most = greater a.most b.most;
 }
+
+-- what was the summary of a column is that of the column with one more value
+abbrev pub TakesIn : Option ℤ → Summary → Summary → Type 0
+TakesIn v old new = (column : List (Option ℤ)) → old ≡ summary column → new ≡ summary (column ++ v ∷ [])
+
+-- what was the summary of a column is that of it and of a column after it, of which there is a summary too
+abbrev pub TakesInAll : Summary → Summary → Summary → Type 0
+TakesInAll other old new = (mine theirs : List (Option ℤ)) → old ≡ summary mine → other ≡ summary theirs → new ≡ summary (mine ++ theirs)
 
 -- the sum of so many values, NULL where there are none
 abbrev pub sum_shown : ℕ → ℤ → Datum

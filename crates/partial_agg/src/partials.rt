@@ -1,7 +1,7 @@
 //! The partial aggregate of a column, and what a function shows of it.
-ghost use Rattle.std.specs.Prelude.{◌≡◌, ◌+◌, ◌-◌, ◌^◌, ◌<◌, List, [], ◌∷◌, ◌++◌, Option, ℤ};
+ghost use Rattle.std.specs.Prelude.{◌≡◌, ◌+◌, ◌-◌, ◌^◌, ◌<◌, List, [], ◌∷◌, Option, ℤ};
 ghost use Rattle.ts_num.specs.Aggregates.{aggregate, shown_or_null};
-ghost use Rattle.partial_agg.specs.Summaries.{IsBounded, joined, mean_shown, shown, sum_shown, summary};
+ghost use Rattle.partial_agg.specs.Summaries.{IsBounded, joined, mean_shown, shown, sum_shown, summary, TakesIn, TakesInAll};
 
 use std::marker::Model;
 use ts_num::{Datum, Fun, greater, lesser, lowest};
@@ -74,7 +74,7 @@ impl Partial {
     pub fn add(&mut self, v: Option<i64>)
         requires { self.old.count < 2 ^ 62 - 1 }
         ensures added { self.new ≡ joined self.old (summary (v ∷ [])) }
-        ensures of_column { (column : List (Option ℤ)) → self.old ≡ summary column → self.new ≡ summary (column ++ v ∷ []) }
+        ensures of_column { TakesIn v self.old self.new }
     {
         self.merge(&Partial::one(v));
     }
@@ -83,7 +83,7 @@ impl Partial {
     pub fn merge(&mut self, other: &Partial)
         requires { self.old.count + other.now.count < 2 ^ 62 }
         ensures merged { self.new ≡ joined self.old other.now }
-        ensures of_columns { (mine theirs : List (Option ℤ)) → self.old ≡ summary mine → other.now ≡ summary theirs → self.new ≡ summary (mine ++ theirs) }
+        ensures of_columns { TakesInAll other.now self.old self.new }
     {
         self.count += other.count;
         self.values += other.values;

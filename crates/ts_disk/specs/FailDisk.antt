@@ -1,7 +1,7 @@
 -- A disk in memory some of whose calls fail.
 use Rattle.std.specs.Prelude.{◌≡◌, ℕ, Bool, true, false, ◌&&◌, ◌==◌, nat_lt, if◌then◌else◌, List, Option, Result, IsErr, is_ok}
 use Rattle.ts_schema.specs.Counts.{one_more}
-use Rattle.ts_disk.specs.MemDisk.{Recorded, WasImage, told, leaves, moment}
+use Rattle.ts_disk.specs.MemDisk.{Recorded, WasImage, known, leaves, moment}
 use Rattle.ts_disk.specs.declared.fail_disks.Kind.{Kind}
 use Rattle.ts_disk.specs.declared.fail_disks.Kind.TheVariants.{Len, Read, Write, Sync}
 use Rattle.ts_disk.specs.declared.fail_disks.Plan.{Plan}
@@ -15,8 +15,8 @@ pub record Failing : Type 0 where
   pub faults : ℕ
 
 -- the bytes, the images and the moment are those of the disk that is held
-abbrev pub told_of : Failing → Option (List ℕ)
-told_of disk = told disk.disk
+abbrev pub known_of : Failing → Option (List ℕ)
+known_of disk = known disk.disk
 
 abbrev pub leaves_of : Failing → List ℕ → Type 0
 leaves_of disk = leaves disk.disk

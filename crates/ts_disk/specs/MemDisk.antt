@@ -21,6 +21,10 @@ abbrev pub state_after : State → List Act → State
 state_after s [] = s
 state_after s (act ∷ acts) = state_after (after s act) acts
 
+-- the disk after a write at a place
+abbrev pub written_at : ℕ → List ℕ → Recorded → Recorded
+written_at at piece disk = record disk { acts = disk.acts ++ Write (record { at = at; bytes = piece }) ∷ [] }
+
 -- the state in which a disk is
 abbrev pub state_of : Recorded → State
 state_of disk = state_after (at_rest disk.first) disk.acts
@@ -29,9 +33,9 @@ state_of disk = state_after (at_rest disk.first) disk.acts
 abbrev pub content : Recorded → List ℕ
 content disk = (state_of disk).now
 
--- they are told
-abbrev pub told : Recorded → Option (List ℕ)
-told disk = Some (content disk)
+-- they are known
+abbrev pub known : Recorded → Option (List ℕ)
+known disk = Some (content disk)
 
 -- what a crash may leave is what the model says
 abbrev pub leaves : Recorded → List ℕ → Type 0

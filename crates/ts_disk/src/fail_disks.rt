@@ -5,7 +5,7 @@ ghost use Rattle.ts_disk.specs.CrashImage.{Torn, Follows, LeavesNoMore, Only, El
 ghost use Rattle.ts_disk.specs.Disk.{Counted, HasLength, HasRange, IsRange, Writes, Keeps};
 ghost use Rattle.ts_disk.specs.MemDisk.{Does, Asks};
 ghost use Rattle.ts_disk.specs.declared.disks.TheConstants.{MOST_BYTES};
-ghost use Rattle.ts_disk.specs.FailDisk.{same_kind, told_of, leaves_of, moment_of, was_image_of, made_after, is_failing, Runs};
+ghost use Rattle.ts_disk.specs.FailDisk.{same_kind, known_of, leaves_of, moment_of, was_image_of, made_after, is_failing, Runs};
 ghost use Rattle.ts_disk.specs.ImageLaws.{counts_now, only_now, shows_an_image};
 ghost use Rattle.ts_disk.specs.declared.acts.Act.TheVariants.{Write, Sync};
 
@@ -136,7 +136,7 @@ fn count_failed<T>(faults: &mut u64, answer: &Result<T, Failed>)
 }
 
 impl Disk for FailDisk {
-    ghost bytes = { told_of };
+    ghost bytes = { known_of };
 
     ghost may_leave = { leaves_of };
 
@@ -157,9 +157,9 @@ impl Disk for FailDisk {
     }
 
     fn len(&mut self) -> Result<u64, Failed>
-        ensures length { IfOk result (λ n. HasLength (told_of self.old) n) }
+        ensures length { IfOk result (λ n. HasLength (known_of self.old) n) }
         ensures most { IfOk result (λ n. n ≤ MOST_BYTES) }
-        ensures kept { Keeps told_of leaves_of moment_of was_image_of self.old self.new }
+        ensures kept { Keeps known_of leaves_of moment_of was_image_of self.old self.new }
         ensures counted { Counted self.old.faults self.new.faults result }
         ensures runs { Runs Kind.Len Asks self.old result self.new }
     {
@@ -174,9 +174,9 @@ impl Disk for FailDisk {
 
     fn read_at(&mut self, at: u64, into: &mut [u8]) -> Result<(), Failed>
         requires most { at + length into.old ≤ MOST_BYTES }
-        requires range { HasRange (told_of self.old) (at + length into.old) }
-        ensures bytes { OnOk result (IsRange (told_of self.old) at into.new) }
-        ensures kept { Keeps told_of leaves_of moment_of was_image_of self.old self.new }
+        requires range { HasRange (known_of self.old) (at + length into.old) }
+        ensures bytes { OnOk result (IsRange (known_of self.old) at into.new) }
+        ensures kept { Keeps known_of leaves_of moment_of was_image_of self.old self.new }
         ensures counted { Counted self.old.faults self.new.faults result }
         ensures runs { Runs Kind.Read Asks self.old result self.new }
     {
@@ -191,8 +191,8 @@ impl Disk for FailDisk {
 
     fn write_at(&mut self, at: u64, piece: &[u8]) -> Result<(), Failed>
         requires most { at ≤ MOST_BYTES }
-        requires range { HasRange (told_of self.old) at }
-        ensures written { Writes (told_of self.old) at piece.now result (told_of self.new) }
+        requires range { HasRange (known_of self.old) at }
+        ensures written { Writes (known_of self.old) at piece.now result (known_of self.new) }
         ensures most { OnOk result (at + length piece.now ≤ MOST_BYTES) }
         ensures crash { Follows (Torn at (length piece.now)) (leaves_of self.old) (leaves_of self.new) }
         ensures time { Elapses (moment_of self.old) (moment_of self.new) (was_image_of self.old) (was_image_of self.new)
@@ -210,8 +210,8 @@ impl Disk for FailDisk {
     }
 
     fn sync(&mut self) -> Result<(), Failed>
-        ensures same { told_of self.new ≡ told_of self.old }
-        ensures durable { OnOk result (IfSome (told_of self.old) (λ file. Only file (leaves_of self.new))) }
+        ensures same { known_of self.new ≡ known_of self.old }
+        ensures durable { OnOk result (IfSome (known_of self.old) (λ file. Only file (leaves_of self.new))) }
         ensures crash { LeavesNoMore (leaves_of self.old) (leaves_of self.new) }
         ensures time { Elapses (moment_of self.old) (moment_of self.new) (was_image_of self.old) (was_image_of self.new)
             (leaves_of self.new) }

@@ -3,7 +3,7 @@ ghost use Rattle.std.specs.Prelude.{◌≡◌, ◌+◌, ◌<◌, ◌≤◌, true
 ghost use Rattle.ts_disk.specs.CrashImage.{written, Torn, Follows, LeavesNoMore, Only, Elapses, IsImage};
 ghost use Rattle.ts_disk.specs.Disk.{Counted, HasLength, HasRange, IsRange, Writes, Keeps};
 ghost use Rattle.ts_schema.specs.Counts.{one_more};
-ghost use Rattle.ts_disk.specs.MemDisk.{state_of, content, told, leaves, moment, WasImage, Does, Asks};
+ghost use Rattle.ts_disk.specs.MemDisk.{state_of, content, known, leaves, moment, WasImage, Does, Asks, written_at};
 ghost use Rattle.ts_disk.specs.Picks.{picked};
 ghost use Rattle.ts_disk.specs.ImageLaws.{counts_now, only_now, shows_an_image};
 ghost use Rattle.ts_disk.specs.declared.acts.Act.TheVariants.{Write, Sync};
@@ -88,7 +88,7 @@ impl MemDisk {
     /// Writes bytes at a place and notes it, or finds no memory and leaves all as it was.
     fn put(&mut self, at: u64, piece: &[u8]) -> Result<(), NoMemory>
         requires range { at ≤ length (content self.old) }
-        ensures done { OnOk result (self.new ≡ record self.old { acts = self.old.acts ++ Write (record { at = at; bytes = piece.now }) ∷ [] }) }
+        ensures done { OnOk result (self.new ≡ written_at at piece.now self.old) }
         ensures kept { OnErr result (self.new ≡ self.old) }
     {
         make_changed(&self.first, &mut self.is_changed, &mut self.bytes)?;
@@ -173,7 +173,7 @@ fn note_write(
 }
 
 impl Disk for MemDisk {
-    ghost bytes = { told };
+    ghost bytes = { known };
 
     ghost may_leave = { leaves };
 
@@ -194,9 +194,9 @@ impl Disk for MemDisk {
     }
 
     fn len(&mut self) -> Result<u64, Failed>
-        ensures length { IfOk result (λ n. HasLength (told self.old) n) }
+        ensures length { IfOk result (λ n. HasLength (known self.old) n) }
         ensures most { IfOk result (λ n. n ≤ MOST_BYTES) }
-        ensures kept { Keeps told leaves moment WasImage self.old self.new }
+        ensures kept { Keeps known leaves moment WasImage self.old self.new }
         ensures counted { Counted self.old.faults self.new.faults result }
         ensures exact { Asks self.old result self.new }
         ensures long { OnErr result (MOST_BYTES < length (content self.old)) }
@@ -211,9 +211,9 @@ impl Disk for MemDisk {
 
     fn read_at(&mut self, at: u64, into: &mut [u8]) -> Result<(), Failed>
         requires most { at + length into.old ≤ MOST_BYTES }
-        requires range { HasRange (told self.old) (at + length into.old) }
-        ensures bytes { OnOk result (IsRange (told self.old) at into.new) }
-        ensures kept { Keeps told leaves moment WasImage self.old self.new }
+        requires range { HasRange (known self.old) (at + length into.old) }
+        ensures bytes { OnOk result (IsRange (known self.old) at into.new) }
+        ensures kept { Keeps known leaves moment WasImage self.old self.new }
         ensures counted { Counted self.old.faults self.new.faults result }
         ensures exact { self.new ≡ self.old }
         ensures done { IsOk result }
@@ -225,8 +225,8 @@ impl Disk for MemDisk {
 
     fn write_at(&mut self, at: u64, piece: &[u8]) -> Result<(), Failed>
         requires most { at ≤ MOST_BYTES }
-        requires range { HasRange (told self.old) at }
-        ensures written { Writes (told self.old) at piece.now result (told self.new) }
+        requires range { HasRange (known self.old) at }
+        ensures written { Writes (known self.old) at piece.now result (known self.new) }
         ensures most { OnOk result (at + length piece.now ≤ MOST_BYTES) }
         ensures crash { Follows (Torn at (length piece.now)) (leaves self.old) (leaves self.new) }
         ensures time { Elapses (moment self.old) (moment self.new) (WasImage self.old) (WasImage self.new)
@@ -238,8 +238,8 @@ impl Disk for MemDisk {
     }
 
     fn sync(&mut self) -> Result<(), Failed>
-        ensures same { told self.new ≡ told self.old }
-        ensures durable { OnOk result (IfSome (told self.old) (λ file. Only file (leaves self.new))) }
+        ensures same { known self.new ≡ known self.old }
+        ensures durable { OnOk result (IfSome (known self.old) (λ file. Only file (leaves self.new))) }
         ensures crash { LeavesNoMore (leaves self.old) (leaves self.new) }
         ensures time { Elapses (moment self.old) (moment self.new) (WasImage self.old) (WasImage self.new)
             (leaves self.new) }

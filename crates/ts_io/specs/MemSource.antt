@@ -14,6 +14,10 @@ pub record Supply : Type 0 where
   pub calls : ℕ
   pub faults : ℕ
 
+-- a source of these bytes before its first call
+abbrev pub source_of : List ℕ → ℕ → List ℕ → Supply
+source_of bytes most fails = record { left = bytes; ended = false; most = most; fails = fails; calls = 0; faults = 0 }
+
 -- a read into this much room: a listed call fails and is counted, every other gives as much as may be
 abbrev pub Supplies : Supply → ℕ → Got → Supply → Type 0
 Supplies old room (Bytes n) new = (is_listed old.fails (one_more old.calls) ≡ false) × (n ≡ min old.most (min room (length old.left)))

@@ -1,8 +1,8 @@
 -- A reader of lines over a source.
 use Rattle.std.specs.Prelude.{◌≡◌, ℕ, ◌+◌, ◌<◌, ◌≤◌, Bool, true, false, List, [], ◌∷◌, length, Option, None, Some, ⊤}
-use Rattle.std.specs.Io.KnownBytes.{IsAtEnd}
+use Rattle.std.specs.Io.KnownBytes.{IsAtEnd, prepend_known}
 use Rattle.ts_io.specs.Lines.{lines_within}
-use Rattle.ts_io.specs.declared.limits.TheConstants.{LINE_LIMIT}
+use Rattle.ts_io.specs.declared.limits.TheConstants.{INPUT_LIMIT, LINE_LIMIT}
 use Rattle.ts_io.specs.declared.line_reader.LineEnd.{LineEnd}
 use Rattle.ts_io.specs.declared.line_reader.LineEnd.TheVariants.{Line, LineLong, End, InputLong, ReadFault}
 
@@ -47,6 +47,14 @@ SpendsAlike n None m new = ⊤
 SpendsAlike n (Some text) m None = ⊥
 SpendsAlike n (Some text) m (Some rest) = length text + m ≡ length rest + n
 
+-- the same of a reader, whatever its source has left
+abbrev pub SpendsHeld : Reading → Reading → Type 0
+SpendsHeld old new = (left : Option (List ℕ)) → SpendsAlike old.allowed (prepend_known old.held left) new.allowed (prepend_known new.held left)
+
+-- a reader that has taken nothing yet
+abbrev pub IsFresh : Reading → Type 0
+IsFresh reading = (reading.held ≡ []) × (reading.allowed ≡ INPUT_LIMIT) × (reading.is_open ≡ true)
+
 -- whether another line may follow
 abbrev pub goes_on : LineEnd → Bool
 goes_on Line = true
@@ -67,3 +75,7 @@ is_read_fault ReadFault = true
 pub record Follows (reading : Reading) (ended : Bool) (left : Option (List ℕ)) : Type 0 where
   pub knows : ended ≡ reading.at_end
   pub empty : reading.at_end ≡ true → IsAtEnd left
+
+-- a reader of a source that hasn't told its end follows it
+abbrev pub FollowsAtStart : Reading → Type 0
+FollowsAtStart reading = (ended : Bool) (left : Option (List ℕ)) → ended ≡ false → Follows reading ended left

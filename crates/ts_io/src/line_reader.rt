@@ -1,11 +1,11 @@
 //! A reader of lines, which holds a bounded number of bytes at a time.
-ghost use Rattle.std.specs.Prelude.{◌≡◌, ◌≢◌, ℕ, ◌+◌, ◌-◌, ◌<◌, ◌≤◌, List, [], Option, Bool, true, false, length, take, drop, nat_lt, vec_len, vec_capacity, IfOk, IfSome, MatchOption};
+ghost use Rattle.std.specs.Prelude.{◌≡◌, ◌≢◌, ℕ, ◌+◌, ◌-◌, ◌<◌, ◌≤◌, List, [], Option, true, false, length, take, drop, nat_lt, vec_len, vec_capacity, IfOk, IfSome, MatchOption};
 ghost use Rattle.std.specs.Bool.{OnTrue};
 ghost use Rattle.std.specs.Io.KnownBytes.{Consumes, IsAtEnd, prepend_known};
 ghost use Rattle.ts_io.specs.Faults.{Counted};
 ghost use Rattle.ts_io.specs.Source.{Fills, is_end, is_failed};
 ghost use Rattle.ts_io.specs.Lines.{ended_lines, IsFirstEnd};
-ghost use Rattle.ts_io.specs.Reader.{Follows, ReadsLine, Spends, SpendsAlike, goes_on, is_read_fault};
+ghost use Rattle.ts_io.specs.Reader.{Follows, ReadsLine, Spends, SpendsAlike, goes_on, is_read_fault, SpendsHeld, IsFresh, FollowsAtStart};
 ghost use Rattle.ts_io.specs.declared.limits.TheConstants.{INPUT_LIMIT};
 ghost use Rattle.ts_io.specs.declared.pieces.TheConstants.{PIECE};
 
@@ -79,8 +79,8 @@ impl Model for Lines {
 impl Lines {
     /// A reader that has taken nothing yet. This takes all the memory that it ever needs.
     pub fn new(alloc: Global) -> Result<Lines, NoMemory>
-        ensures fresh { IfOk result (λ lines. (lines.held ≡ []) × (lines.allowed ≡ INPUT_LIMIT) × (lines.is_open ≡ true)) }
-        ensures follows { IfOk result (λ lines. (ended : Bool) (left : Option (List ℕ)) → ended ≡ false → Follows lines ended left) }
+        ensures fresh { IfOk result IsFresh }
+        ensures follows { IfOk result FollowsAtStart }
     {
         Ok(Lines {
             bytes: Vec::with_capacity(alloc, HELD_LIMIT)?,
@@ -203,7 +203,7 @@ impl Lines {
         ensures line { (start left : Option (List ℕ)) → Consumes start (prepend_known self.old.held left) []
             → ReadsLine result self.old.allowed start self.new.allowed (prepend_known self.new.held left) self.new.line }
         ensures spends { Spends result self.old.allowed self.new.allowed self.new.line }
-        ensures alike { (left : Option (List ℕ)) → SpendsAlike self.old.allowed (prepend_known self.old.held left) self.new.allowed (prepend_known self.new.held left) }
+        ensures alike { SpendsHeld self.old self.new }
         ensures is_open { self.new.is_open ≡ goes_on result }
         ensures at_end { self.new.at_end ≡ self.old.at_end }
         ensures not_failed { is_read_fault result ≡ false }
@@ -223,10 +223,11 @@ impl Lines {
         requires none { ended_lines self.old.held ≡ [] }
         requires allowed { length self.old.held ≤ self.old.allowed }
         requires short { length self.old.held ≤ LINE_LIMIT }
-        ensures line { (start left : Option (List ℕ)) → IsAtEnd left → Consumes start (prepend_known self.old.held left) []
+        ensures line { (start left : Option (List ℕ)) → IsAtEnd left
+            → Consumes start (prepend_known self.old.held left) []
             → ReadsLine result self.old.allowed start self.new.allowed (prepend_known self.new.held left) self.new.line }
         ensures spends { Spends result self.old.allowed self.new.allowed self.new.line }
-        ensures alike { (left : Option (List ℕ)) → SpendsAlike self.old.allowed (prepend_known self.old.held left) self.new.allowed (prepend_known self.new.held left) }
+        ensures alike { SpendsHeld self.old self.new }
         ensures is_open { self.new.is_open ≡ goes_on result }
         ensures at_end { self.new.at_end ≡ true }
         ensures not_failed { is_read_fault result ≡ false }

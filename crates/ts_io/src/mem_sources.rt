@@ -2,7 +2,7 @@
 ghost use Rattle.std.specs.Prelude.{◌≡◌, ◌<◌, Some, false, length, min, take, drop};
 ghost use Rattle.ts_io.specs.Faults.{Counted};
 ghost use Rattle.ts_io.specs.Source.{Gives, is_failed, told_end};
-ghost use Rattle.ts_io.specs.MemSource.{Supplies};
+ghost use Rattle.ts_io.specs.MemSource.{Supplies, source_of};
 
 use crate::schedules::{Schedule, count_call, count_fault};
 use crate::sources::{Got, Source, tells_end};
@@ -41,7 +41,7 @@ impl MemSource {
     /// in `fails` fail.
     pub fn new(bytes: Vec<u8>, most: usize, fails: Vec<u64>) -> MemSource
         requires { 0 < most }
-        ensures made { result ≡ record { left = bytes.items; ended = false; most = most; fails = fails.items; calls = 0; faults = 0 } }
+        ensures made { result ≡ source_of bytes.items most fails.items }
     {
         MemSource {
             bytes,

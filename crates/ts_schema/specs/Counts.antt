@@ -1,4 +1,4 @@
-use Rattle.std.specs.Prelude.{ℕ, ◌+◌, ◌-◌, ◌^◌, ◌≤◌, min}
+use Rattle.std.specs.Prelude.{◌≡◌, ℕ, ◌+◌, ◌-◌, ◌^◌, ◌≤◌, min, Result, MatchResult}
 
 -- a count of 64 bits one higher, which stands still at the type's end
 abbrev pub one_more : ℕ → ℕ
@@ -11,3 +11,7 @@ raised_by m n = min (n + m) (2 ^ 64 - 1)
 -- a count rose by at most m
 abbrev pub RaisedUpTo : ℕ → ℕ → ℕ → Type 0
 RaisedUpTo m old new = (old ≤ new) × (new ≤ raised_by m old)
+
+-- what a call that looks at m things one by one does to a count: it rises by m where the call succeeds, and by at most m where it fails
+abbrev pub Ticks : {T E : Type 0} → Result T E → ℕ → ℕ → ℕ → Type 0
+Ticks result m old new = MatchResult result (λ _. new ≡ raised_by m old) (λ _. RaisedUpTo m old new)

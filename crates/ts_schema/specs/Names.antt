@@ -1,4 +1,4 @@
-use Rattle.std.specs.Prelude.{ℕ, Bool, false, ◌&&◌, ◌||◌, ◌==◌, List, [], ◌∷◌, length}
+use Rattle.std.specs.Prelude.{◌≡◌, ℕ, Bool, false, ◌&&◌, ◌||◌, ◌==◌, List, [], ◌∷◌, length, Option, MatchOption, IsTrue}
 use Rattle.std.specs.Prelude.{nat_le}
 use Rattle.std.specs.List.{list_all}
 
@@ -14,3 +14,7 @@ is_tail b = is_head b || (nat_le 48 b && nat_le b 57)
 abbrev pub is_name : List ℕ → Bool
 is_name [] = false
 is_name (b ∷ bs) = nat_le (length (b ∷ bs)) 63 && is_head b && list_all is_tail bs
+
+-- what is read as a name: the text itself where it is one, and nothing exactly where it isn't
+abbrev pub IsNameOf : List ℕ → Option (List ℕ) → Type 0
+IsNameOf text read = MatchOption read (is_name text ≡ false) (λ name. (name ≡ text) × IsTrue (is_name name))

@@ -1,6 +1,6 @@
 //! Names of tables, aggregates and columns.
-ghost use Rattle.std.specs.Prelude.{◌≡◌, false, IsTrue, IfOk, MatchOption};
-ghost use Rattle.ts_schema.specs.Names.{is_name, is_head, is_tail};
+ghost use Rattle.std.specs.Prelude.{◌≡◌, false, IsTrue, IfOk};
+ghost use Rattle.ts_schema.specs.Names.{is_name, is_head, is_tail, IsNameOf};
 ghost use Rattle.std.specs.List.{list_all};
 
 use crate::memory::NoMemory;
@@ -31,7 +31,7 @@ impl Model for Name {
 impl Name {
     /// The name that this text is, and `None` exactly where the text is no name in lower case.
     pub fn read(alloc: Global, text: &[u8]) -> Result<Option<Name>, NoMemory>
-        ensures read { IfOk result (λ r. MatchOption r (is_name text.now ≡ false) (λ n. (n ≡ text.now) × IsTrue (is_name n))) }
+        ensures read { IfOk result (IsNameOf text.now) }
     {
         if !is_name_text(text) {
             return Ok(None);

@@ -42,6 +42,10 @@ pub record Progress (D : Type 0) : Type 0 where
   pub payload : List ℕ
   pub is_done : Bool
 
+-- a reader that has read no payload, at the first gate
+abbrev pub at_start : {D : Type 0} → D → Standing → ℕ → Progress D
+at_start disk standing size = record { disk = disk; standing = standing; size = size; at = 8; payload = []; is_done = false }
+
 -- how far a file was read, with these payloads
 abbrev pub IsReadTo : Standing → List ℕ → ℕ → List (List ℕ) → Type 0
 IsReadTo Bare file at payloads = (length file ≤ 9) × (file ≢ header) × (payloads ≡ [])

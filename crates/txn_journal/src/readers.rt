@@ -1,10 +1,10 @@
 //! A journal that is read payload by payload.
-ghost use Rattle.std.specs.Prelude.{◌≡◌, ◌≢◌, ℕ, ◌+◌, ◌≤◌, [], List, true, false, length};
+ghost use Rattle.std.specs.Prelude.{◌≡◌, ◌≢◌, ℕ, ◌+◌, ◌≤◌, List, true, false, length};
 ghost use Rattle.ts_disk.specs.CrashImage.{Only};
 ghost use Rattle.ts_disk.specs.Disk.{HasRange, Keeps};
 ghost use Rattle.txn_journal.specs.Calls.{IsAtRest};
 ghost use Rattle.txn_journal.specs.Places.{IsReading};
-ghost use Rattle.txn_journal.specs.Reading.{HasRead, Steps, Moves, Takes, IfTaken, CountsNext, CountsTaken, is_end};
+ghost use Rattle.txn_journal.specs.Reading.{HasRead, Steps, Moves, Takes, IfTaken, CountsNext, CountsTaken, is_end, at_start};
 
 use crate::heads::{FIRST_GATE, Head, read_head};
 use crate::journals::{Journal, Standing};
@@ -64,7 +64,7 @@ impl<D: Disk> Reader<D> {
     /// A reader that has read no payload.
     pub(crate) fn start(alloc: Global, disk: D, size: u64, standing: Standing) -> Reader<D>
         requires reading { IsReading (D.bytes disk) standing size 8 }
-        ensures made { result ≡ record { disk = disk; standing = standing; size = size; at = 8; payload = []; is_done = false } }
+        ensures made { result ≡ at_start disk standing size }
     {
         Reader {
             disk,
