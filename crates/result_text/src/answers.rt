@@ -4,10 +4,11 @@ ghost use Rattle.result_text.specs.Answers.{answer_head, answer_text, cells_text
 
 use crate::pieces::Text;
 use crate::spans::put_span;
+use cell_rows::CellRows;
 use ts_bucket::Span;
 use ts_model::Answer;
 use ts_num::Datum;
-use ts_schema::{NoMemory, Seq};
+use ts_schema::NoMemory;
 
 /// Appends an answer at a position: a line with its counts, a line for each row and one for each stale
 /// range. `min` is the start of the first bucket.
@@ -37,7 +38,7 @@ pub(crate) fn put_answer_lines(
         answer.rows.len() as u64,
         answer.stale.len() as u64,
     )?;
-    put_rows(text, answer.rows.items())?;
+    put_rows(text, &answer.rows)?;
     put_stale(text, min, answer.stale.items())
 }
 
@@ -56,12 +57,12 @@ fn put_head(text: &mut Text, pos: u64, rows: u64, stale: u64) -> Result<(), NoMe
 }
 
 /// Appends a line for each row.
-fn put_rows(text: &mut Text, rows: &[Seq<Datum>]) -> Result<(), NoMemory>
+fn put_rows(text: &mut Text, rows: &CellRows<Datum>) -> Result<(), NoMemory>
     ensures written { OnOk result (text.new.after ≡ text.old.after ++ rows_text rows.now) }
     ensures kept { text.new.before ≡ text.old.before }
 {
-    for row in rows {
-        put_row(text, row.items())?;
+    for row in rows.iter() {
+        put_row(text, row)?;
     }
     Ok(())
 }

@@ -13,7 +13,7 @@ use ts_schema::{Name, NoMemory};
 
 /// What a line of a reply says. Positions are those of a history, numbers those of events, and `min` is
 /// the start of the first bucket of the aggregate.
-#[derive(Drop, Debug, PartialEq, Eq)]
+#[derive(Drop, Debug)]
 pub enum Said {
     /// A table was made, by the event with this number.
     Table(u64),

@@ -5,7 +5,7 @@ use Rattle.ts_model.specs.declared.outcomes.Outcome.{Outcome}
 use Rattle.ts_model.specs.declared.outcomes.Outcome.TheVariants.{Done, Refused, DiskFault, NoMemory}
 use Rattle.ts_model.specs.History.{History, Begins, same, further}
 use Rattle.ts_model.specs.States.{State, Keeps}
-use Rattle.ts_model.specs.Calls.{Act, refuses, says, makes, Answered, Called, Looked}
+use Rattle.ts_model.specs.Calls.{Act, refuses, returns, makes, Answered, Called, Looked}
 use Rattle.ts_model.proofs.HistoryLaws.{begins_trans}
 
 -- what a call leaves is what it found, or that with one event
@@ -17,10 +17,10 @@ begins_answered (refuses r) found (Done a) new w = absurd w
 begins_answered (refuses r) found (Refused q) new w = begins_kept w.1
 begins_answered (refuses r) found DiskFault new w = absurd w
 begins_answered (refuses r) found NoMemory new w = begins_kept w
-begins_answered (says a) found (Done b) new w = begins_kept w.1
-begins_answered (says a) found (Refused q) new w = absurd w
-begins_answered (says a) found DiskFault new w = absurd w
-begins_answered (says a) found NoMemory new w = begins_kept w
+begins_answered (returns a) found (Done b) new w = begins_kept w.1
+begins_answered (returns a) found (Refused q) new w = absurd w
+begins_answered (returns a) found DiskFault new w = absurd w
+begins_answered (returns a) found NoMemory new w = begins_kept w
 begins_answered (makes e a) found (Done b) new w = subst (λ g. Begins found.history g) (sym w.1.history) (further same)
 begins_answered (makes e a) found (Refused q) new w = begins_kept w.2
 begins_answered (makes e a) found DiskFault new w = subst (λ g. Begins found.history g) (sym w.history) same

@@ -29,7 +29,7 @@ use Rattle.ts_model.specs.Limits.{most_relations, is_word}
 use Rattle.ts_model.specs.Sound.{sound, span_fits}
 use Rattle.ts_model.specs.Pending.{is_waiting, pending}
 use Rattle.ts_model.specs.Windows.{whole_or, window_up_to, window, last_end}
-use Rattle.ts_model.specs.Calls.{name_taken, too_many, Act, refuses, says, makes, refusal, new_relation, cut_over, cut_of_view, cutting, finish_of, Answered}
+use Rattle.ts_model.specs.Calls.{name_taken, too_many, Act, refuses, returns, makes, refusal, new_relation, cut_over, cut_of_view, cutting, finish_of, Answered}
 use Rattle.ts_model.specs.States.{State}
 use Rattle.ts_model.specs.Laws.{MakesAllowed, CallsMakeAllowed}
 use Rattle.ts_bucket.specs.WholeSpans.{IsMark}
@@ -163,10 +163,10 @@ allowed_answered (refuses r) found (Done a) new m ok w = absurd w
 allowed_answered (refuses r) found (Refused q) new m ok w = ap all_allowed w.1.history ∙ ok
 allowed_answered (refuses r) found DiskFault new m ok w = absurd w
 allowed_answered (refuses r) found NoMemory new m ok w = ap all_allowed w.history ∙ ok
-allowed_answered (says a) found (Done b) new m ok w = ap all_allowed w.1.history ∙ ok
-allowed_answered (says a) found (Refused q) new m ok w = absurd w
-allowed_answered (says a) found DiskFault new m ok w = absurd w
-allowed_answered (says a) found NoMemory new m ok w = ap all_allowed w.history ∙ ok
+allowed_answered (returns a) found (Done b) new m ok w = ap all_allowed w.1.history ∙ ok
+allowed_answered (returns a) found (Refused q) new m ok w = absurd w
+allowed_answered (returns a) found DiskFault new m ok w = absurd w
+allowed_answered (returns a) found NoMemory new m ok w = ap all_allowed w.history ∙ ok
 allowed_answered (makes e a) found (Done b) new m ok w = ap all_allowed w.1.history ∙ and_from _ _ ok m
 allowed_answered (makes e a) found (Refused q) new m ok w = ap all_allowed w.2.history ∙ ok
 allowed_answered (makes e a) found DiskFault new m ok w = ap all_allowed w.history ∙ ok

@@ -1,5 +1,5 @@
 -- Calls of a store: what a call does at the history that it finds, and what it answers.
-use Rattle.std.specs.Prelude.{◌≡◌, ℕ, suc, Bool, cond, nat_lt, List, length, ℤ, Option, Some, None, is_some, IsTrue}
+use Rattle.std.specs.Prelude.{◌≡◌, ℕ, suc, Bool, cond, nat_lt, List, length, ℤ, Option, Some, None, is_some, IsTrue, Result, IfOk}
 use Rattle.ts_model.specs.declared.events.Event.{Event}
 use Rattle.ts_model.specs.declared.events.Event.TheVariants.{Table, Hyper, View, Mode, Commit, Cut, Built}
 use Rattle.ts_model.specs.declared.events.Op.{Op}
@@ -17,6 +17,7 @@ use Rattle.ts_model.specs.declared.tables.Hyper.{Hyper as HyperInfo}
 use Rattle.ts_model.specs.declared.tables.TableDef.{TableDef}
 use Rattle.ts_model.specs.declared.views.ViewDef.{ViewDef}
 use Rattle.ts_model.specs.History.{History, position}
+use Rattle.ts_model.specs.Allowed.{all_allowed}
 use Rattle.ts_model.specs.Roster.{roster, hyper_of, view_of, is_taken}
 use Rattle.ts_model.specs.Rows.{rows}
 use Rattle.ts_model.specs.Effect.{appended_count, taken_count}
@@ -25,10 +26,10 @@ use Rattle.ts_model.specs.Pending.{pending}
 use Rattle.ts_model.specs.Windows.{window}
 use Rattle.ts_model.specs.States.{State, Found, Keeps, Makes, Fails, stands_still}
 
--- what a call does at a history: it is refused, says something, or makes one event and says something
+-- what a call does at a history: it is refused, returns something, or makes one event and returns something
 pub data Act (A : Type 0) : Type 0 where
   refuses : Refusal → Act A
-  says : A → Act A
+  returns : A → Act A
   makes : Event → A → Act A
 
 -- ---- the numbers of refusals
@@ -101,10 +102,10 @@ committing ops h = making h (Commit ops) (committed ops h)
 abbrev pub cut_over : ℕ → History → Window → Act CutDone
 cut_over n h (Whole span) = making h (Cut n span) (CutMade (suc (position h)) span)
 cut_over n h NoBucket = refuses (refusal no_bucket h 0)
-cut_over n h Nothing = says (NothingDone (position h))
+cut_over n h Nothing = returns (NothingDone (position h))
 
 abbrev pub cut_of_view : ℕ → Option ℤ → Option ℤ → History → Option ViewDef → Act CutDone
-cut_of_view n lo hi h None = says (NothingDone (position h))
+cut_of_view n lo hi h None = returns (NothingDone (position h))
 cut_of_view n lo hi h (Some def) = cut_over n h (window n def h lo hi)
 
 abbrev pub cutting : ℕ → Option ℤ → Option ℤ → History → Act CutDone
@@ -127,10 +128,10 @@ Answered (refuses r) found (Done a) new = ⊥
 Answered (refuses r) found (Refused q) new = (q ≡ r) × Keeps found new
 Answered (refuses r) found DiskFault new = ⊥
 Answered (refuses r) found NoMemory new = Keeps found new
-Answered (says a) found (Done b) new = (b ≡ a) × Keeps found new
-Answered (says a) found (Refused q) new = ⊥
-Answered (says a) found DiskFault new = ⊥
-Answered (says a) found NoMemory new = Keeps found new
+Answered (returns a) found (Done b) new = (b ≡ a) × Keeps found new
+Answered (returns a) found (Refused q) new = ⊥
+Answered (returns a) found DiskFault new = ⊥
+Answered (returns a) found NoMemory new = Keeps found new
 Answered (makes e a) found (Done b) new = (b ≡ a) × Makes e found new
 Answered (makes e a) found (Refused q) new = IsTrue (stands_still found) × (q ≡ refusal stopped found.history 0) × Keeps found new
 Answered (makes e a) found DiskFault new = Fails e found new
@@ -141,6 +142,10 @@ pub record Called {A : Type 0} (alone : Bool) (old : State) (act : History → A
   pub found : State
   pub finds : Found alone old found
   pub answered : Answered (act found.history) found outcome new
+
+-- a snapshot of an allowed history, if one is taken
+abbrev pub Snapped : {Shot E : Type 0} → (Shot → History → Type 0) → Result Shot E → History → Type 0
+Snapped stands result h = IsTrue (all_allowed h) × IfOk result (λ shot. stands shot h)
 
 -- a call that looks at whatever history it finds, and changes nothing. What it tells is a fact of that history
 pub record Looked (alone : Bool) (old : State) (Tells : History → Type 0) (new : State) : Type 0 where

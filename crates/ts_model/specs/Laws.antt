@@ -22,7 +22,7 @@ use Rattle.ts_model.specs.declared.events.Event.{Event}
 use Rattle.ts_model.specs.declared.events.Event.TheVariants.{Table, Hyper as HyperMade, View, Mode, Commit, Built}
 use Rattle.ts_model.specs.declared.events.Op.{Op}
 use Rattle.ts_model.specs.declared.tables.TableDef.{TableDef}
-use Rattle.ts_model.specs.Calls.{Act, refuses, says, makes, making_table, making_hyper, making_view, setting_mode, committing, cutting, finishing}
+use Rattle.ts_model.specs.Calls.{Act, refuses, returns, makes, making_table, making_hyper, making_view, setting_mode, committing, cutting, finishing}
 use Rattle.ts_model.specs.declared.queries.Query.{Query}
 use Rattle.ts_model.specs.declared.queries.Query.TheVariants.{Buckets}
 use Rattle.ts_model.specs.declared.rosters.Roster.{Roster}
@@ -168,7 +168,7 @@ FitsStays = (n : ℕ) (def : ViewDef) (g h : History) (cut snap : ℕ) (span : S
 -- the event that a call makes, if it makes one, is allowed
 abbrev pub MakesAllowed : {A : Type 0} → History → Act A → Type 0
 MakesAllowed h (refuses r) = Unit {0}
-MakesAllowed h (says a) = Unit {0}
+MakesAllowed h (returns a) = Unit {0}
 MakesAllowed h (makes e a) = allowed h e ≡ true
 
 -- each call makes allowed events only, where what it is given is sound

@@ -13,16 +13,15 @@ use ts_schema::{NoMemory, Seq};
 /// this value made; and how it was opened. Each call finds a history that begins with the one seen, and
 /// makes at most one event. Beside the state stands what its owner knows it by, which no call changes.
 pub trait Backend {
-    ghost use Rattle.std.specs.Prelude.{◌≡◌, ℕ, Bool, IsTrue, IsSome, IfOk};
+    ghost use Rattle.std.specs.Prelude.{◌≡◌, ℕ, Bool, IsTrue, IsSome};
     ghost use Rattle.std.specs.Option.{ForSome};
     ghost use Rattle.ts_bucket.specs.Bucket.{is_time};
     ghost use Rattle.ts_model.specs.declared.events.Event.TheVariants.{Table, Hyper as HyperMade, View, Mode, Commit};
     ghost use Rattle.ts_model.specs.History.{position};
     ghost use Rattle.ts_model.specs.Roster.{roster, view_of};
-    ghost use Rattle.ts_model.specs.Allowed.{all_allowed};
     ghost use Rattle.ts_model.specs.Sound.{sound};
     ghost use Rattle.ts_model.specs.States.{State, stop_of};
-    ghost use Rattle.ts_model.specs.Calls.{Called, Looked, making_table, making_hyper, making_view, setting_mode, committing, cutting, finishing};
+    ghost use Rattle.ts_model.specs.Calls.{Called, Looked, Snapped, making_table, making_hyper, making_view, setting_mode, committing, cutting, finishing};
 
     /// A snapshot.
     type Shot: Shown + Drop;
@@ -38,7 +37,7 @@ pub trait Backend {
 
     /// A snapshot of the present history, which is an allowed one.
     fn snap(&mut self) -> Result<Self::Shot, NoMemory>
-        ensures looked { Looked alone (state self.old) (λ h. IsTrue (all_allowed h) × IfOk result (λ shot. Self.Shot.stands shot h)) (state self.new) }
+        ensures looked { Looked alone (state self.old) (Snapped Self.Shot.stands result) (state self.new) }
         ensures kin { kin self.new ≡ kin self.old };
 
     /// Makes a table. It is refused as `E07` where the name is taken, and as `E21` where there are 64
@@ -86,7 +85,8 @@ pub trait Backend {
     /// job is given up on every answer.
     fn finish(&mut self, job: <Self::Shot as Shown>::Job) -> Outcome<u64>
         requires { Self.Shot.fits job (state self.old).history }
-        ensures called { Called alone (state self.old) (finishing (Self.Shot.cut_of job) (Self.Shot.snap_of job)) result (state self.new) }
+        ensures called { Called alone (state self.old)
+            (finishing (Self.Shot.cut_of job) (Self.Shot.snap_of job)) result (state self.new) }
         ensures kin { kin self.new ≡ kin self.old };
 
     /// The position at which the history seen ends.

@@ -2,6 +2,7 @@
 ghost use Rattle.std.specs.Prelude.{◌≡◌, IfOk};
 
 use crate::views::Fold;
+use cell_rows::CellRows;
 use ts_bucket::Span;
 use ts_num::Datum;
 use ts_schema::{NoMemory, Seq, Test};
@@ -18,10 +19,10 @@ pub enum Query {
 }
 
 /// What a query shows.
-#[derive(Drop, Debug, Clone, PartialEq, Eq)]
+#[derive(Drop, Debug)]
 pub struct Answer {
     /// Its rows, in order.
-    pub rows: Seq<Seq<Datum>>,
+    pub rows: CellRows<Datum>,
     /// The stale buckets among those asked for, as ranges.
     pub stale: Seq<Span>,
 }

@@ -4,10 +4,10 @@ use ts_schema::{NoMemory, Row, Seq, Steps};
 
 /// The rows of the hypertables at one position, kept in chunks.
 pub trait RowsAt {
-    ghost use Rattle.std.specs.Prelude.{◌≡◌, ℕ, List, ℤ, filter, IfOk, MatchResult, ◌∷◌, []};
+    ghost use Rattle.std.specs.Prelude.{◌≡◌, ℕ, List, ℤ, filter, IfOk, ◌∷◌, []};
     ghost use Rattle.ts_bucket.specs.Spans.{in_span};
     ghost use Rattle.ts_schema.specs.declared.rows.Row.{Row};
-    ghost use Rattle.ts_schema.specs.Counts.{raised_by, RaisedUpTo};
+    ghost use Rattle.ts_schema.specs.Counts.{Ticks};
     ghost use Rattle.ts_model.specs.Rows.{in_order};
     ghost use Rattle.ts_model.specs.Reads.{rows_near};
 
@@ -20,6 +20,7 @@ pub trait RowsAt {
     /// The visible rows of a table in a span, in any order. It counts one step for each stored row in
     /// the chunks that meet the span, whether it is visible or not.
     fn scan<L>(&self, table: u32, span: Span, steps: &mut Steps<L>) -> Result<Seq<Row>, NoMemory>
-        ensures rows { IfOk result (λ found. in_order found ≡ in_order (filter (λ row. in_span span row.at) (visible self.now table))) }
-        ensures read { MatchResult result (λ _. steps.new ≡ raised_by (rows_near (interval self.now table) (stored self.now table) (span ∷ [])) steps.old) (λ _. RaisedUpTo (rows_near (interval self.now table) (stored self.now table) (span ∷ [])) steps.old steps.new) };
+        ensures rows { IfOk result (λ found. in_order found
+            ≡ in_order (filter (λ row. in_span span row.at) (visible self.now table))) }
+        ensures read { Ticks result (rows_near (interval self.now table) (stored self.now table) (span ∷ [])) steps.old steps.new };
 }

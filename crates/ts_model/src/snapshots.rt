@@ -8,9 +8,9 @@ use ts_schema::{NoMemory, Steps};
 /// A snapshot of a history. It need not store one: that it stands for a history is a relation between
 /// what it holds and that history, and each of its promises is for every history that it stands for.
 pub trait Shown {
-    ghost use Rattle.std.specs.Prelude.{◌≡◌, ℕ, IsTrue, IfOk, MatchResult};
+    ghost use Rattle.std.specs.Prelude.{◌≡◌, ℕ, IsTrue, IfOk};
     ghost use Rattle.std.specs.Thread.{IsSync};
-    ghost use Rattle.ts_schema.specs.Counts.{raised_by, RaisedUpTo};
+    ghost use Rattle.ts_schema.specs.Counts.{Ticks};
     ghost use Rattle.ts_model.specs.declared.events.Event.TheVariants.{Built};
     ghost use Rattle.ts_model.specs.History.{History, position, Begins};
     ghost use Rattle.ts_model.specs.Roster.{roster};
@@ -52,7 +52,7 @@ pub trait Shown {
         requires sync { IsSync R.row }
         requires asks { (h : History) → stands self.now h → IsTrue (can_ask (roster h) query.now) }
         ensures shown { (h : History) → stands self.now h → IfOk result (λ a. a ≡ answer query.now h) }
-        ensures read { (h : History) → stands self.now h → MatchResult result (λ _. steps.new ≡ raised_by (reads query.now h) steps.old) (λ _. RaisedUpTo (reads query.now h) steps.old steps.new) };
+        ensures read { (h : History) → stands self.now h → Ticks result (reads query.now h) steps.old steps.new };
 
     /// A job for the refresh with this number, which waits, from the rows of this snapshot. It counts
     /// one step for each stored row that it looks at.
@@ -64,8 +64,9 @@ pub trait Shown {
     ) -> Result<Self::Job, NoMemory>
         requires sync { IsSync R.row }
         requires waits { (h : History) → stands self.now h → IsTrue (is_waiting (pending h cut)) }
-        ensures job { (h : History) → stands self.now h → IfOk result (λ job. fits job h × (cut_of job ≡ cut) × (snap_of job ≡ position h)) }
-        ensures read { (h : History) → stands self.now h → MatchResult result (λ _. steps.new ≡ raised_by (job_reads h cut) steps.old) (λ _. RaisedUpTo (job_reads h cut) steps.old steps.new) };
+        ensures job { (h : History) → stands self.now h
+            → IfOk result (λ job. fits job h × (cut_of job ≡ cut) × (snap_of job ≡ position h)) }
+        ensures read { (h : History) → stands self.now h → Ticks result (job_reads h cut) steps.old steps.new };
 
     ghost fits_on: { (job : Self.Job) (g h : History) → Begins g h → fits job g → fits job h };
 

@@ -1,0 +1,73 @@
+//! Rows of cells.
+ghost use Rattle.std.specs.Prelude.{◌≡◌, ◌==◌, [], ◌∷◌, ◌++◌, length, IfOk, OnErr};
+
+use crate::iter::Iter;
+use std::alloc::Global;
+use std::marker::Model;
+use ts_schema::NoMemory;
+
+/// Rows of cells, of any length each. Contracts see them as a list of lists.
+#[derive(Drop, Debug)]
+pub struct CellRows<T> {
+    /// The cells of all rows, one row after another.
+    cells: Vec<T>,
+    /// For each row the place where its cells end.
+    ends: Vec<usize>,
+}
+
+impl<T> Model for CellRows<T> {
+    ghost use Rattle.std.specs.Prelude.{List};
+    ghost use Rattle.cell_rows.specs.Parts.{AreParts, parts};
+
+    ghost Value = { List (List T) };
+
+    ghost view = { λ r. parts 0 r.ends.items r.cells.items };
+
+    ghost invariant = { λ r. AreParts 0 r.ends.items r.cells.items };
+}
+
+impl<T> CellRows<T> {
+    /// No row. It takes no memory.
+    pub fn new(alloc: Global) -> CellRows<T>
+        ensures rows { result ≡ [] }
+    {
+        CellRows {
+            cells: Vec::new(alloc),
+            ends: Vec::new(alloc),
+        }
+    }
+
+    /// How many rows there are.
+    pub fn len(&self) -> usize
+        ensures len { result ≡ length self.now }
+    {
+        self.ends.as_slice().len()
+    }
+
+    /// Whether there is no row.
+    pub fn is_empty(&self) -> bool
+        ensures empty { result ≡ (length self.now == 0) }
+    {
+        self.len() == 0
+    }
+
+    /// The rows, one after another, each as a slice of its cells.
+    pub fn iter(&self) -> Iter<'_, T>
+        ensures rows { result ≡ self.now }
+    {
+        Iter::of(self.cells.as_slice(), self.ends.as_slice())
+    }
+}
+
+impl<T: Copy + Drop> CellRows<T> {
+    /// Puts a row of these cells at the end.
+    pub fn push(&mut self, row: &[T]) -> Result<(), NoMemory>
+        ensures pushed { IfOk result (λ _. self.new ≡ self.old ++ row.now ∷ []) }
+        ensures kept { OnErr result (self.new ≡ self.old) }
+    {
+        self.ends.reserve(1)?;
+        self.cells.extend_from_slice(row)?;
+        self.ends.push_reserved(self.cells.as_slice().len());
+        Ok(())
+    }
+}
