@@ -4,7 +4,7 @@ use Rattle.std.specs.Prelude.{nat_le}
 use Rattle.std.proofs.Math.Nat.{pow-suc, lt_of_not-le}
 use Rattle.std.proofs.lemmas.Bool.{leb-true}
 use Rattle.std.proofs.lemmas.List.{length-append}
-use Rattle.seg_rows.specs.Versions.{Version, rows_of, latest_of, later_time, after_kill}
+use Rattle.seg_rows.specs.Versions.{Version, HasMore, rows_of, latest_of, later_time, after_kill}
 use Rattle.seg_rows.proofs.HullLaws.{latest_of-append, later_time-assoc, later_time-comm}
 use Rattle.seg_rows.proofs.VersionLaws.{rows_of-killed}
 use Rattle.ts_schema.specs.declared.conditions.Test.{Test}
@@ -13,7 +13,7 @@ use Rattle.std.specs.List.{count_by}
 use Rattle.chunk_catalog.proofs.PartLaws.{length_more}
 use Rattle.chunk_catalog.specs.Chunks.{AreLow}
 use Rattle.chunk_catalog.specs.Levels.{AreFew, Levels, AreLevel, FewLevels, TreeValue, tree_over}
-use Rattle.chunk_catalog.specs.Places.{Kept, Placed, in_chunk, place}
+use Rattle.chunk_catalog.specs.Places.{Kept, Placed, in_chunk, placed_in, place}
 use Rattle.chunk_catalog.specs.Piles.{AreEven, IsFork}
 
 -- what is at most the greater of two is at most one of them
@@ -159,15 +159,15 @@ pub few_counted : (levels : Levels) (size : ℕ) → FewLevels levels size → s
 few_counted levels size few small = lt_of_not-le (λ many. omega (arith, few.chunks 65 (omega (arith, many)), small))
 
 -- versions that were put into a tree on one side of a chunk can still be counted
-pub countable_left : (whole l r new : List Placed) (chunk kept : Kept) (start : ℤ) (vs : List Version) → whole ≡ l ++ in_chunk chunk.start chunk.versions ++ r → length whole + length vs < 2 ^ 64
-    → ((test : Placed → Bool) → count_by test new ≡ count_by test l + count_by test (in_chunk start vs)) → kept ≡ chunk → length (new ++ in_chunk kept.start kept.versions ++ r) < 2 ^ 64
-countable_left whole l r new chunk kept start vs is few more same =
-    omega (arith, few, ap length is, placed_length l r chunk.start chunk.versions, placed_length new r kept.start kept.versions, length_more new l (in_chunk start vs) more, length-map vs (place start), ap (λ (k : Kept). length k.versions) same)
+pub countable_left : (whole l r new : List Placed) (chunk : Kept) (start : ℤ) (vs : List Version) → whole ≡ l ++ placed_in chunk ++ r → length whole + length vs < 2 ^ 64
+    → HasMore (in_chunk start vs) l new → length (new ++ placed_in chunk ++ r) < 2 ^ 64
+countable_left whole l r new chunk start vs is few more =
+    omega (arith, few, ap length is, placed_length l r chunk.start chunk.versions, placed_length new r chunk.start chunk.versions, length_more new l (in_chunk start vs) more, length-map vs (place start))
 
-pub countable_right : (whole l r new : List Placed) (chunk kept : Kept) (start : ℤ) (vs : List Version) → whole ≡ l ++ in_chunk chunk.start chunk.versions ++ r → length whole + length vs < 2 ^ 64
-    → ((test : Placed → Bool) → count_by test new ≡ count_by test r + count_by test (in_chunk start vs)) → kept ≡ chunk → length (l ++ in_chunk kept.start kept.versions ++ new) < 2 ^ 64
-countable_right whole l r new chunk kept start vs is few more same =
-    omega (arith, few, ap length is, placed_length l r chunk.start chunk.versions, placed_length l new kept.start kept.versions, length_more new r (in_chunk start vs) more, length-map vs (place start), ap (λ (k : Kept). length k.versions) same)
+pub countable_right : (whole l r new : List Placed) (chunk : Kept) (start : ℤ) (vs : List Version) → whole ≡ l ++ placed_in chunk ++ r → length whole + length vs < 2 ^ 64
+    → HasMore (in_chunk start vs) r new → length (l ++ placed_in chunk ++ new) < 2 ^ 64
+countable_right whole l r new chunk start vs is few more =
+    omega (arith, few, ap length is, placed_length l r chunk.start chunk.versions, placed_length l new chunk.start chunk.versions, length_more new r (in_chunk start vs) more, length-map vs (place start))
 
 -- few levels of chunks and few of segments are low together
 pub low_levels : (levels : Levels) (size : ℕ) → FewLevels levels size → AreLow (levels.chunks + levels.segments) size

@@ -4,3 +4,4 @@ pub mod LevelLaws
 pub mod PartLaws
 pub mod PlaceLaws
 pub mod ReachLaws
+pub mod TreeLaws

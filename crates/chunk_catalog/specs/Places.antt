@@ -1,10 +1,11 @@
 -- Versions with the starts of the chunks that keep them.
-use Rattle.std.specs.Prelude.{◌≡◌, ℕ, Bool, true, cond, not, ◌&&◌, List, [], map, filter, ℤ, Option, Some, None}
+use Rattle.std.specs.Prelude.{◌≡◌, ℕ, Bool, true, false, cond, not, ◌&&◌, List, [], map, filter, ℤ, Option, Some, None}
 use Rattle.std.specs.List.{list_all}
 use Rattle.std.specs.Ordering.{int_eq}
 use Rattle.ts_bucket.specs.Bucket.{is_time}
 use Rattle.ts_bucket.specs.Spans.{HullValue, in_hull}
 use Rattle.ts_schema.specs.declared.conditions.Test.{Test}
+use Rattle.ts_schema.specs.Conditions.{passes_all}
 use Rattle.seg_rows.specs.Versions.{Version, after_kill}
 use Rattle.ts_bucket.specs.Chunks.{chunk_start}
 use Rattle.chunk_catalog.specs.Reach.{in_reach}
@@ -24,9 +25,12 @@ pub record Placed : Type 0 where
 abbrev pub place : ℤ → Version → Placed
 place start v = record { start = start; version = v }
 
--- the versions of a chunk with this start
+-- versions in the chunk with this start, and those of a chunk
 abbrev pub in_chunk : ℤ → List Version → List Placed
 in_chunk start vs = map (place start) vs
+
+abbrev pub placed_in : Kept → List Placed
+placed_in chunk = in_chunk chunk.start chunk.versions
 
 abbrev pub versions_of : List Placed → List Version
 versions_of ps = map (λ x. x.version) ps
@@ -55,3 +59,8 @@ is_placed interval x = int_eq x.start (chunk_start interval x.version.row.at) &&
 -- every version is kept by the chunk that holds its time
 abbrev pub ArePlaced : ℤ → List Placed → Type 0
 ArePlaced interval ps = list_all (is_placed interval) ps ≡ true
+
+-- no version that is kept outside of the chunks with these starts passes every test
+abbrev pub NonePassesOutside : ℤ → List Test → Reach → Type 0
+NonePassesOutside interval tests r =
+    (x : Placed) → is_placed interval x ≡ true → in_reach r x.start ≡ false → passes_all x.version.row tests ≡ false

@@ -1,5 +1,5 @@
 //! Chunks of a table.
-ghost use Rattle.std.specs.Prelude.{◌≡◌, ◌≤◌, ◌++◌, [], length, map, IfOk, OnOk, OnErr};
+ghost use Rattle.std.specs.Prelude.{◌≡◌, ◌++◌, [], length, map, IfOk, OnOk, OnErr};
 ghost use Rattle.seg_rows.specs.Hulls.{hull_of};
 ghost use Rattle.seg_rows.specs.Versions.{AsOften, after_kill, latest_at, newborn, rows_at, taken_at};
 ghost use Rattle.ts_schema.specs.Counts.{raised_by, RaisedUpTo};
@@ -91,7 +91,8 @@ impl Chunks {
     pub fn put(&self, rows: Seq<Row>, pos: u64) -> Result<Chunks, NoMemory>
         requires times { HaveTimes rows }
         ensures interval { IfOk result (λ chunks. chunks.interval ≡ self.now.interval) }
-        ensures versions { IfOk result (λ chunks. AsOften chunks.versions (self.now.versions ++ map (newborn pos) rows)) }
+        ensures versions { IfOk result (λ chunks.
+            AsOften chunks.versions (self.now.versions ++ map (newborn pos) rows)) }
     {
         let count = self.count.saturating_add(rows.len() as u64);
         if count > MOST_VERSIONS {
@@ -132,7 +133,8 @@ impl Chunks {
     /// visible there, of the chunks that end at or before `n`, die there.
     pub fn drop_below(&self, n: i64, pos: u64) -> Result<KilledChunks, NoMemory>
         ensures interval { IfOk result (λ k. k.chunks.interval ≡ self.now.interval) }
-        ensures after { IfOk result (λ k. k.chunks.versions ≡ map (after_drop self.now.interval n pos) self.now.versions) }
+        ensures after { IfOk result (λ k.
+            k.chunks.versions ≡ map (after_drop self.now.interval n pos) self.now.versions) }
         ensures removed { IfOk result (λ k. k.removed ≡ length (dropped_at self.now.interval n pos self.now.versions)) }
         ensures hull { IfOk result (λ k. k.hull ≡ hull_of (dropped_at self.now.interval n pos self.now.versions)) }
     {
@@ -157,8 +159,10 @@ impl Chunks {
     pub fn scan<L>(&self, pos: u64, span: Span, steps: &mut Steps<L>) -> Result<Seq<Row>, NoMemory>
         ensures rows { IfOk result (λ rows. rows ≡ rows_at pos span self.now.versions) }
         ensures wide { IsInterval self.now.interval }
-        ensures ticks { OnOk result (steps.new ≡ raised_by (held_near self.now.interval span self.now.versions) steps.old) }
-        ensures at_most { OnErr result (RaisedUpTo (held_near self.now.interval span self.now.versions) steps.old steps.new) }
+        ensures ticks { let near = held_near self.now.interval span self.now.versions in
+            OnOk result (steps.new ≡ raised_by near steps.old) }
+        ensures at_most { let near = held_near self.now.interval span self.now.versions in
+            OnErr result (RaisedUpTo near steps.old steps.new) }
     {
         let reach = span_reach(self.interval, span);
         let mut rows = Seq::new(self.alloc);

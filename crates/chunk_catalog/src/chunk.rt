@@ -1,10 +1,10 @@
 //! One chunk.
-ghost use Rattle.std.specs.Prelude.{◌≡◌, ◌≤◌, ◌<◌, ◌+◌, ◌*◌, ◌^◌, ◌++◌, length, map, IfOk, OnOk, OnErr};
+ghost use Rattle.std.specs.Prelude.{◌≡◌, ◌<◌, ◌+◌, ◌*◌, ◌^◌, ◌++◌, length, map, IfOk, OnOk, OnErr};
 ghost use Rattle.seg_rows.specs.Hulls.{hull_of};
 ghost use Rattle.seg_rows.specs.Versions.{after_kill, latest_at, later_time, rows_at, taken_at};
 ghost use Rattle.ts_bucket.specs.Chunks.{IsInterval};
 ghost use Rattle.chunk_catalog.specs.Levels.{AreFew};
-ghost use Rattle.chunk_catalog.specs.Places.{ArePlaced, after_kill_in, in_chunk, reached};
+ghost use Rattle.chunk_catalog.specs.Places.{ArePlaced, after_kill_in, reached, placed_in};
 ghost use Rattle.ts_schema.specs.Counts.{raised_by, RaisedUpTo};
 
 use crate::piles::Pile;
@@ -39,7 +39,7 @@ pub struct KilledChunk {
 }
 
 impl Chunk {
-    ghost use Rattle.std.specs.Prelude.{◌≡◌, ◌≤◌, ◌<◌, ◌+◌, ◌*◌, ◌^◌, ◌++◌, length, map, IfOk, OnOk, OnErr};
+    ghost use Rattle.std.specs.Prelude.{◌≡◌, ◌<◌, ◌+◌, ◌*◌, ◌^◌, ◌++◌, length, map, IfOk, OnOk, OnErr};
 
     /// The chunk of one segment, which has a version.
     pub fn of(start: i64, segment: Segment) -> Chunk
@@ -138,9 +138,9 @@ impl Chunk {
     ) -> Result<KilledChunk, NoMemory>
         requires countable { length self.now.versions < 2 ^ 64 }
         ensures levels { IfOk result (λ k. k.chunk.levels ≡ self.now.levels) }
-        ensures after { IfOk result (λ k. in_chunk k.chunk.start k.chunk.versions ≡ map (after_kill_in reach pos tests.now) (in_chunk self.now.start self.now.versions)) }
-        ensures removed { IfOk result (λ k. k.removed ≡ length (taken_at pos tests.now (reached reach (in_chunk self.now.start self.now.versions)))) }
-        ensures hull { IfOk result (λ k. k.hull ≡ hull_of (taken_at pos tests.now (reached reach (in_chunk self.now.start self.now.versions)))) }
+        ensures after { IfOk result (λ k. placed_in k.chunk ≡ map (after_kill_in reach pos tests.now) (placed_in self.now)) }
+        ensures removed { IfOk result (λ k. k.removed ≡ length (taken_at pos tests.now (reached reach (placed_in self.now)))) }
+        ensures hull { IfOk result (λ k. k.hull ≡ hull_of (taken_at pos tests.now (reached reach (placed_in self.now)))) }
     {
         if reach.holds(self.start) {
             return self.kill(alloc, tests, pos);
@@ -162,9 +162,9 @@ impl Chunk {
         out: &mut Seq<Row>,
         steps: &mut Steps<L>,
     ) -> Result<(), NoMemory>
-        ensures rows { OnOk result (out.new ≡ out.old ++ rows_at pos span (reached reach (in_chunk self.now.start self.now.versions))) }
-        ensures ticks { OnOk result (steps.new ≡ raised_by (length (reached reach (in_chunk self.now.start self.now.versions))) steps.old) }
-        ensures at_most { OnErr result (RaisedUpTo (length (reached reach (in_chunk self.now.start self.now.versions))) steps.old steps.new) }
+        ensures rows { OnOk result (out.new ≡ out.old ++ rows_at pos span (reached reach (placed_in self.now))) }
+        ensures ticks { OnOk result (steps.new ≡ raised_by (length (reached reach (placed_in self.now))) steps.old) }
+        ensures at_most { OnErr result (RaisedUpTo (length (reached reach (placed_in self.now))) steps.old steps.new) }
     {
         if reach.holds(self.start) {
             self.scan(pos, span, out, steps)
@@ -177,7 +177,7 @@ impl Chunk {
     /// How many versions there are, where the start lies in a range.
     #[tactic(auto, using(crate::proofs::PlaceLaws::reached_in, crate::proofs::PlaceLaws::reached_out, crate::proofs::PlaceLaws::killed_in, crate::proofs::PlaceLaws::killed_out, seg_rows::proofs::VersionLaws::parts))]
     pub fn count_in(&self, reach: Reach) -> u64
-        ensures held { result ≡ length (reached reach (in_chunk self.now.start self.now.versions)) }
+        ensures held { result ≡ length (reached reach (placed_in self.now)) }
     {
         if reach.holds(self.start) {
             self.count()
@@ -190,7 +190,7 @@ impl Chunk {
     /// later time, it isn't looked at.
     pub fn last_of(&self, interval: i64, pos: u64, best: Option<i64>) -> Option<i64>
         requires interval { IsInterval interval }
-        requires placed { ArePlaced interval (in_chunk self.now.start self.now.versions) }
+        requires placed { ArePlaced interval (placed_in self.now) }
         ensures last { result ≡ later_time best (latest_at pos self.now.versions) }
     {
         if is_past(interval, self.start, best) {

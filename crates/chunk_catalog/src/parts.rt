@@ -1,11 +1,11 @@
 //! New rows by the chunks that hold their times.
-ghost use Rattle.std.specs.Prelude.{◌≡◌, ◌<◌, ◌+◌, ◌-◌, ◌^◌, ◌++◌, Bool, length, drop, map, count_by, slice_index_or, vec_len, true, IfOk, OnOk};
+ghost use Rattle.std.specs.Prelude.{◌≡◌, ◌<◌, ◌+◌, ◌-◌, ◌^◌, ◌++◌, length, drop, map, slice_index_or, vec_len, true, IfOk, OnOk};
 ghost use Rattle.ts_bucket.specs.Bucket.{is_time};
 ghost use Rattle.ts_schema.specs.declared.rows.Row.{Row};
-ghost use Rattle.seg_rows.specs.Versions.{newborn};
+ghost use Rattle.seg_rows.specs.Versions.{newborn, AsOften, HasMore};
 ghost use Rattle.chunk_catalog.specs.Chunks.{HaveTimes};
 ghost use Rattle.ts_bucket.specs.Chunks.{IsInterval, chunk_start};
-ghost use Rattle.chunk_catalog.specs.Places.{Placed, in_chunk};
+ghost use Rattle.chunk_catalog.specs.Places.{in_chunk};
 ghost use Rattle.chunk_catalog.specs.Parts.{AreIn, placed_rows};
 
 use crate::trees::Tree;
@@ -31,7 +31,7 @@ pub fn put_rows(
     requires interval { IsInterval interval }
     requires times { HaveTimes rows }
     requires countable { length tree.now.0 + length rows < 2 ^ 64 }
-    ensures versions { IfOk result (λ new. (test : Placed → Bool) → count_by test new.0 ≡ count_by test tree.now.0 + count_by test (placed_rows interval pos rows)) }
+    ensures versions { IfOk result (λ new. HasMore (placed_rows interval pos rows) tree.now.0 new.0) }
 {
     let mut left = sorted_rows(rows)?;
     let mut tree = tree.copy()?;
@@ -44,7 +44,7 @@ pub fn put_rows(
 
 /// The same rows by their times.
 fn sorted_rows(rows: Seq<Row>) -> Result<Vec<Row>, NoMemory>
-    ensures rows { IfOk result (λ sorted. (test : Row → Bool) → count_by test sorted.items ≡ count_by test rows) }
+    ensures rows { IfOk result (λ sorted. AsOften sorted.items rows) }
 {
     let mut items = rows.into_items();
     items.sort_by_key(|row| row.at)?;
@@ -55,7 +55,8 @@ fn sorted_rows(rows: Seq<Row>) -> Result<Vec<Row>, NoMemory>
 fn put_part(alloc: Global, tree: &Tree, part: Part, pos: u64) -> Result<Tree, NoMemory>
     requires some { 0 < length part.rows.items }
     requires countable { length tree.now.0 + length part.rows.items < 2 ^ 64 }
-    ensures versions { IfOk result (λ new. (test : Placed → Bool) → count_by test new.0 ≡ count_by test tree.now.0 + count_by test (in_chunk part.start (map (newborn pos) part.rows.items))) }
+    ensures versions { IfOk result (λ new.
+        HasMore (in_chunk part.start (map (newborn pos) part.rows.items)) tree.now.0 new.0) }
 {
     let segment = Segment::seal(alloc, Seq::of(part.rows), pos)?;
     tree.with(alloc, part.start, segment)

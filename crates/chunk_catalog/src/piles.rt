@@ -3,7 +3,7 @@
 //! Small segments are joined as they gather, as in a binary counter: a row is copied about once for
 //! each doubling of the segment that holds it, up to the limit. Beyond it segments hang in a tree
 //! whose right side is no larger than its left, so that a new segment changes one path.
-ghost use Rattle.std.specs.Prelude.{◌≡◌, ◌≤◌, ◌<◌, ◌+◌, ◌*◌, ◌^◌, ◌++◌, length, map, IfOk, IfSome, OnOk, OnErr};
+ghost use Rattle.std.specs.Prelude.{◌≡◌, ◌<◌, ◌+◌, ◌*◌, ◌^◌, ◌++◌, length, map, IfOk, IfSome, OnOk, OnErr};
 ghost use Rattle.std.specs.Arc.{arc_value};
 ghost use Rattle.seg_rows.specs.Hulls.{hull_of};
 ghost use Rattle.seg_rows.specs.Versions.{after_kill, later_time, latest_at, latest_of, rows_at, rows_of, taken_at};

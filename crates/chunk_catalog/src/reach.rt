@@ -1,13 +1,12 @@
 //! Ranges of starts of chunks, and of times.
 ghost use Rattle.std.specs.Prelude.{◌≡◌, ◌≤ℤ◌, ◌<ℤ◌, ◌+ℤ◌, ◌-ℤ◌, ℤ, pos, true, false, int_le, FitsSigned};
 ghost use Rattle.std.specs.Int.{w64};
-ghost use Rattle.ts_schema.specs.declared.rows.Row.{Row};
-ghost use Rattle.ts_schema.specs.Conditions.{compares, passes_all, passes_one};
+ghost use Rattle.ts_schema.specs.Conditions.{compares};
 ghost use Rattle.seg_rows.specs.Versions.{later_time};
 ghost use Rattle.chunk_catalog.specs.Chunks.{chunk_meets};
 ghost use Rattle.ts_bucket.specs.Chunks.{IsInterval};
-ghost use Rattle.chunk_catalog.specs.Reach.{in_reach};
-ghost use Rattle.chunk_catalog.specs.Places.{Placed, is_placed};
+ghost use Rattle.chunk_catalog.specs.Reach.{in_reach, HoldsPassing, Narrows};
+ghost use Rattle.chunk_catalog.specs.Places.{NonePassesOutside};
 
 use ts_bucket::{Hull, Span};
 use ts_schema::{Cmp, Seq, Test};
@@ -78,7 +77,7 @@ pub fn drop_reach(interval: i64, n: i64) -> Reach
 /// The starts of the chunks that may hold a row that passes every test.
 pub fn test_reach(interval: i64, tests: &Seq<Test>) -> Reach
     requires { IsInterval interval }
-    ensures missed { (x : Placed) → is_placed interval x ≡ true → in_reach result x.start ≡ false → passes_all x.version.row tests.now ≡ false }
+    ensures missed { NonePassesOutside interval tests.now result }
 {
     let times = test_times(tests.items());
     Reach {
@@ -89,7 +88,7 @@ pub fn test_reach(interval: i64, tests: &Seq<Test>) -> Reach
 
 /// Times among which are those of all rows that pass every test.
 fn test_times(tests: &[Test]) -> Reach
-    ensures every { (row : Row) → FitsSigned w64 row.at → passes_all row tests.now ≡ true → in_reach result row.at ≡ true }
+    ensures every { HoldsPassing tests.now result }
 {
     let mut times = Reach {
         first: i64::MIN,
@@ -105,7 +104,7 @@ fn test_times(tests: &[Test]) -> Reach
 
 /// The part of a range of times in which a row may pass a test.
 fn narrowed(times: Reach, test: &Test) -> Reach
-    ensures every { (row : Row) → FitsSigned w64 row.at → in_reach times row.at ≡ true → passes_one row test.now ≡ true → in_reach result row.at ≡ true }
+    ensures every { Narrows times test.now result }
 {
     if test.col == 0 {
         both(times, times_of(test.cmp, test.num))

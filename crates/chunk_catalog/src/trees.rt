@@ -1,14 +1,14 @@
 //! Chunks in the order of their starts, in a balanced tree of which a change copies one path.
-ghost use Rattle.std.specs.Prelude.{◌≡◌, ◌≤◌, ◌<◌, ◌+◌, ◌^◌, ◌++◌, ℕ, suc, max, true, Bool, length, map, count_by, IfOk, OnOk, OnErr};
+ghost use Rattle.std.specs.Prelude.{◌≡◌, ◌<◌, ◌+◌, ◌^◌, ◌++◌, ℕ, suc, max, true, length, map, IfOk, OnOk, OnErr};
 ghost use Rattle.std.specs.Arc.{arc_value};
 ghost use Rattle.seg_rows.specs.Hulls.{hull_at, hull_of, joined_hull};
-ghost use Rattle.seg_rows.specs.Versions.{latest_at, later_time, rows_at, taken_at};
+ghost use Rattle.seg_rows.specs.Versions.{latest_at, later_time, rows_at, taken_at, HasMore};
 ghost use Rattle.ts_schema.specs.Counts.{raised_by, RaisedUpTo};
 ghost use Rattle.ts_bucket.specs.Chunks.{IsInterval};
 ghost use Rattle.chunk_catalog.specs.Levels.{AreLevel, AreNear, Balances, FewLevels, Grows, no_tree, tree_over};
-ghost use Rattle.chunk_catalog.specs.Places.{Placed, AreOut, after_kill_in, in_chunk, reached, versions_of, ArePlaced, StartsIn};
+ghost use Rattle.chunk_catalog.specs.Places.{AreOut, after_kill_in, in_chunk, reached, versions_of, ArePlaced, StartsIn};
 
-use crate::chunk::Chunk;
+use crate::chunk::{Chunk, KilledChunk};
 use crate::reach::{Reach, is_past};
 use seg_rows::{Segment, join_hulls};
 use std::alloc::Global;
@@ -132,7 +132,7 @@ impl Tree {
     pub fn with(&self, alloc: Global, start: i64, segment: Segment) -> Result<Tree, NoMemory>
         requires some { 0 < length segment }
         requires countable { length self.now.0 + length segment < 2 ^ 64 }
-        ensures versions { IfOk result (λ tree. (test : Placed → Bool) → count_by test tree.0 ≡ count_by test self.now.0 + count_by test (in_chunk start segment)) }
+        ensures versions { IfOk result (λ tree. HasMore (in_chunk start segment) self.now.0 tree.0) }
         ensures grows { IfOk result (λ tree. Grows self.now.1 tree.1) }
     {
         match &self.node {
@@ -146,21 +146,20 @@ impl Tree {
                 if start < here {
                     let left = left.with(alloc, start, segment)?;
                     let left = Arc::new(alloc, left)?;
-                    balanced(alloc, left, chunk.copy()?, Arc::try_clone(right)?)
+                    balanced(alloc, &left, chunk, right)
                 } else if here < start {
                     let right = right.with(alloc, start, segment)?;
                     let right = Arc::new(alloc, right)?;
-                    balanced(alloc, Arc::try_clone(left)?, chunk.copy()?, right)
+                    balanced(alloc, left, chunk, &right)
                 } else {
-                    let chunk = chunk.append(alloc, segment)?;
-                    Ok(fork(Arc::try_clone(left)?, chunk, Arc::try_clone(right)?))
+                    appended(alloc, left, chunk, right, segment)
                 }
             }
         }
     }
 
     /// A delete at a position in the chunks whose starts lie in a range.
-    #[tactic(auto, using(crate::proofs::PlaceLaws::places, crate::proofs::PlaceLaws::out_reached, crate::proofs::PlaceLaws::out_killed, crate::proofs::PlaceLaws::kill_nothing_in, crate::proofs::PlaceLaws::reached_few, seg_rows::proofs::VersionLaws::parts, seg_rows::proofs::VersionLaws::taken_few))]
+    #[tactic(auto, using(crate::proofs::PlaceLaws::out_reached, crate::proofs::PlaceLaws::out_killed))]
     pub fn kill(
         &self,
         alloc: Global,
@@ -183,13 +182,7 @@ impl Tree {
                 let first = left.kill(alloc, reach, tests, pos)?;
                 let middle = chunk.kill_in(alloc, reach, tests, pos)?;
                 let second = right.kill(alloc, reach, tests, pos)?;
-                let left = changed(alloc, left, first.tree, first.removed)?;
-                let right = changed(alloc, right, second.tree, second.removed)?;
-                Ok(KilledTree {
-                    tree: fork(left, middle.chunk, right),
-                    removed: first.removed + middle.removed + second.removed,
-                    hull: join_hulls(join_hulls(first.hull, middle.hull), second.hull),
-                })
+                after_kills(alloc, left, first, middle, right, second)
             }
         }
     }
@@ -288,6 +281,35 @@ fn changed(alloc: Global, old: &Arc<Tree>, new: Tree, removed: u64) -> Result<Ar
     }
 }
 
+/// What deletes made of two trees and a chunk between them, as one tree.
+fn after_kills(
+    alloc: Global,
+    left: &Arc<Tree>,
+    first: KilledTree,
+    middle: KilledChunk,
+    right: &Arc<Tree>,
+    second: KilledTree,
+) -> Result<KilledTree, NoMemory>
+    requires first { first.removed ≡ 0 → first.tree.0 ≡ (arc_value left.now).0 }
+    requires first_levels { first.tree.1 ≡ (arc_value left.now).1 }
+    requires second { second.removed ≡ 0 → second.tree.0 ≡ (arc_value right.now).0 }
+    requires second_levels { second.tree.1 ≡ (arc_value right.now).1 }
+    requires even { AreLevel first.tree.1 second.tree.1 }
+    requires countable { length (tree_over first.tree middle.chunk second.tree).0 < 2 ^ 64 }
+    requires few { first.removed + middle.removed + second.removed < 2 ^ 64 }
+    ensures tree { IfOk result (λ k. k.tree ≡ tree_over first.tree middle.chunk second.tree) }
+    ensures removed { IfOk result (λ k. k.removed ≡ first.removed + middle.removed + second.removed) }
+    ensures hull { IfOk result (λ k. k.hull ≡ joined_hull (joined_hull first.hull middle.hull) second.hull) }
+{
+    let left = changed(alloc, left, first.tree, first.removed)?;
+    let right = changed(alloc, right, second.tree, second.removed)?;
+    Ok(KilledTree {
+        tree: fork(left, middle.chunk, right),
+        removed: first.removed + middle.removed + second.removed,
+        hull: join_hulls(join_hulls(first.hull, middle.hull), second.hull),
+    })
+}
+
 /// The chunks of one tree, one more chunk, and those of another tree.
 fn fork(left: Arc<Tree>, chunk: Chunk, right: Arc<Tree>) -> Tree
     requires even { AreLevel (arc_value left).1 (arc_value right).1 }
@@ -319,48 +341,94 @@ fn hull_with(chunk: &Chunk, others: Option<Hull>) -> Hull
     }
 }
 
-/// The same as `fork`, where one side may have two levels more than the other.
+/// The same as `fork`, of copies.
+fn joined(left: &Arc<Tree>, chunk: &Chunk, right: &Arc<Tree>) -> Result<Tree, NoMemory>
+    requires even { AreLevel (arc_value left.now).1 (arc_value right.now).1 }
+    requires countable { length (tree_over (arc_value left.now) chunk.now (arc_value right.now)).0 < 2 ^ 64 }
+    ensures tree { IfOk result (λ tree. tree ≡ tree_over (arc_value left.now) chunk.now (arc_value right.now)) }
+{
+    Ok(fork(Arc::try_clone(left)?, chunk.copy()?, Arc::try_clone(right)?))
+}
+
+/// The same with one more segment in the chunk, which has a version.
+fn appended(
+    alloc: Global,
+    left: &Arc<Tree>,
+    chunk: &Chunk,
+    right: &Arc<Tree>,
+    segment: Segment,
+) -> Result<Tree, NoMemory>
+    requires some { 0 < length segment }
+    requires even { AreLevel (arc_value left.now).1 (arc_value right.now).1 }
+    requires countable { let whole = (tree_over (arc_value left.now) chunk.now (arc_value right.now)).0 in
+        length whole + length segment < 2 ^ 64 }
+    ensures versions { let whole = (tree_over (arc_value left.now) chunk.now (arc_value right.now)).0 in
+        IfOk result (λ tree. HasMore (in_chunk chunk.now.start segment) whole tree.0) }
+    ensures levels { IfOk result (λ tree.
+        tree.1.chunks ≡ suc (max (arc_value left.now).1.chunks (arc_value right.now).1.chunks)) }
+{
+    let chunk = chunk.append(alloc, segment)?;
+    Ok(fork(Arc::try_clone(left)?, chunk, Arc::try_clone(right)?))
+}
+
+/// The same as `joined`, to be a part of another tree.
+fn shared(
+    alloc: Global,
+    left: &Arc<Tree>,
+    chunk: &Chunk,
+    right: &Arc<Tree>,
+) -> Result<Arc<Tree>, NoMemory>
+    requires even { AreLevel (arc_value left.now).1 (arc_value right.now).1 }
+    requires countable { length (tree_over (arc_value left.now) chunk.now (arc_value right.now)).0 < 2 ^ 64 }
+    ensures tree { IfOk result (λ tree.
+        arc_value tree ≡ tree_over (arc_value left.now) chunk.now (arc_value right.now)) }
+{
+    Ok(Arc::new(alloc, joined(left, chunk, right)?)?)
+}
+
+/// The same as `joined`, where one side may have two levels more than the other.
 fn balanced(
     alloc: Global,
-    left: Arc<Tree>,
-    chunk: Chunk,
-    right: Arc<Tree>,
+    left: &Arc<Tree>,
+    chunk: &Chunk,
+    right: &Arc<Tree>,
 ) -> Result<Tree, NoMemory>
-    requires near { AreNear (arc_value left).1 (arc_value right).1 }
-    requires countable { length (tree_over (arc_value left) chunk (arc_value right)).0 < 2 ^ 64 }
-    ensures versions { IfOk result (λ tree. tree.0 ≡ (tree_over (arc_value left) chunk (arc_value right)).0) }
-    ensures levels { IfOk result (λ tree. Balances (arc_value left).1 (arc_value right).1 tree.1) }
+    requires near { AreNear (arc_value left.now).1 (arc_value right.now).1 }
+    requires countable { length (tree_over (arc_value left.now) chunk.now (arc_value right.now)).0 < 2 ^ 64 }
+    ensures versions { IfOk result (λ tree.
+        tree.0 ≡ (tree_over (arc_value left.now) chunk.now (arc_value right.now)).0) }
+    ensures levels { IfOk result (λ tree. Balances (arc_value left.now).1 (arc_value right.now).1 tree.1) }
 {
     if left.height().saturating_sub(right.height()) > 1 {
         lean_right(alloc, left, chunk, right)
     } else if right.height().saturating_sub(left.height()) > 1 {
         lean_left(alloc, left, chunk, right)
     } else {
-        Ok(fork(left, chunk, right))
+        joined(left, chunk, right)
     }
 }
 
-/// The same as `fork`, where the left side is the higher: a part of it moves to the right.
+/// The same as `joined`, where the left side is the higher: a part of it moves to the right.
 fn lean_right(
     alloc: Global,
-    left: Arc<Tree>,
-    chunk: Chunk,
-    right: Arc<Tree>,
+    left: &Arc<Tree>,
+    chunk: &Chunk,
+    right: &Arc<Tree>,
 ) -> Result<Tree, NoMemory>
-    requires higher { (arc_value left).1.chunks ≡ suc (suc (arc_value right).1.chunks) }
-    requires countable { length (tree_over (arc_value left) chunk (arc_value right)).0 < 2 ^ 64 }
-    ensures versions { IfOk result (λ tree. tree.0 ≡ (tree_over (arc_value left) chunk (arc_value right)).0) }
-    ensures levels { IfOk result (λ tree. Balances (arc_value left).1 (arc_value right).1 tree.1) }
+    requires higher { (arc_value left.now).1.chunks ≡ suc (suc (arc_value right.now).1.chunks) }
+    requires countable { length (tree_over (arc_value left.now) chunk.now (arc_value right.now)).0 < 2 ^ 64 }
+    ensures versions { IfOk result (λ tree.
+        tree.0 ≡ (tree_over (arc_value left.now) chunk.now (arc_value right.now)).0) }
+    ensures levels { IfOk result (λ tree. Balances (arc_value left.now).1 (arc_value right.now).1 tree.1) }
 {
     match &left.node {
-        Node::Empty => Ok(fork(left, chunk, right)),
+        Node::Empty => joined(left, chunk, right),
         Node::Fork(first, before, second, _, _) => {
             if second.height() > first.height() {
                 return spread_left(alloc, first, before, second, chunk, right);
             }
-            let lower = fork(Arc::try_clone(second)?, chunk, right);
-            let lower = Arc::new(alloc, lower)?;
-            Ok(fork(Arc::try_clone(first)?, before.copy()?, lower))
+            let lower = shared(alloc, second, chunk, right)?;
+            joined(first, before, &lower)
         }
     }
 }
@@ -371,56 +439,51 @@ fn spread_left(
     first: &Arc<Tree>,
     before: &Chunk,
     second: &Arc<Tree>,
-    chunk: Chunk,
-    third: Arc<Tree>,
+    chunk: &Chunk,
+    third: &Arc<Tree>,
 ) -> Result<Tree, NoMemory>
-    requires lower { (arc_value first.now).1.chunks ≡ (arc_value third).1.chunks }
-    requires higher { (arc_value second.now).1.chunks ≡ suc (arc_value third).1.chunks }
-    requires countable { length (tree_over (tree_over (arc_value first.now) before.now (arc_value second.now)) chunk (arc_value third)).0 < 2 ^ 64 }
-    ensures versions { IfOk result (λ tree. tree.0 ≡ (tree_over (tree_over (arc_value first.now) before.now (arc_value second.now)) chunk (arc_value third)).0) }
-    ensures levels { IfOk result (λ tree. tree.1.chunks ≡ suc (suc (arc_value third).1.chunks)) }
+    requires lower { (arc_value first.now).1.chunks ≡ (arc_value third.now).1.chunks }
+    requires higher { (arc_value second.now).1.chunks ≡ suc (arc_value third.now).1.chunks }
+    requires countable { let left = tree_over (arc_value first.now) before.now (arc_value second.now) in
+        length (tree_over left chunk.now (arc_value third.now)).0 < 2 ^ 64 }
+    ensures versions { let left = tree_over (arc_value first.now) before.now (arc_value second.now) in
+        IfOk result (λ tree. tree.0 ≡ (tree_over left chunk.now (arc_value third.now)).0) }
+    ensures levels { IfOk result (λ tree. tree.1.chunks ≡ suc (suc (arc_value third.now).1.chunks)) }
 {
     match &second.node {
         Node::Empty => {
-            let lower = fork(Arc::try_clone(second)?, chunk, third);
-            let lower = Arc::new(alloc, lower)?;
-            Ok(fork(Arc::try_clone(first)?, before.copy()?, lower))
+            let lower = shared(alloc, second, chunk, third)?;
+            joined(first, before, &lower)
         }
         Node::Fork(near, middle, far, _, _) => {
-            let left = fork(
-                Arc::try_clone(first)?,
-                before.copy()?,
-                Arc::try_clone(near)?,
-            );
-            let left = Arc::new(alloc, left)?;
-            let right = fork(Arc::try_clone(far)?, chunk, third);
-            let right = Arc::new(alloc, right)?;
-            Ok(fork(left, middle.copy()?, right))
+            let left = shared(alloc, first, before, near)?;
+            let right = shared(alloc, far, chunk, third)?;
+            joined(&left, middle, &right)
         }
     }
 }
 
-/// The same as `fork`, where the right side is the higher: a part of it moves to the left.
+/// The same as `joined`, where the right side is the higher: a part of it moves to the left.
 fn lean_left(
     alloc: Global,
-    left: Arc<Tree>,
-    chunk: Chunk,
-    right: Arc<Tree>,
+    left: &Arc<Tree>,
+    chunk: &Chunk,
+    right: &Arc<Tree>,
 ) -> Result<Tree, NoMemory>
-    requires higher { (arc_value right).1.chunks ≡ suc (suc (arc_value left).1.chunks) }
-    requires countable { length (tree_over (arc_value left) chunk (arc_value right)).0 < 2 ^ 64 }
-    ensures versions { IfOk result (λ tree. tree.0 ≡ (tree_over (arc_value left) chunk (arc_value right)).0) }
-    ensures levels { IfOk result (λ tree. Balances (arc_value left).1 (arc_value right).1 tree.1) }
+    requires higher { (arc_value right.now).1.chunks ≡ suc (suc (arc_value left.now).1.chunks) }
+    requires countable { length (tree_over (arc_value left.now) chunk.now (arc_value right.now)).0 < 2 ^ 64 }
+    ensures versions { IfOk result (λ tree.
+        tree.0 ≡ (tree_over (arc_value left.now) chunk.now (arc_value right.now)).0) }
+    ensures levels { IfOk result (λ tree. Balances (arc_value left.now).1 (arc_value right.now).1 tree.1) }
 {
     match &right.node {
-        Node::Empty => Ok(fork(left, chunk, right)),
+        Node::Empty => joined(left, chunk, right),
         Node::Fork(first, after, second, _, _) => {
             if first.height() > second.height() {
                 return spread_right(alloc, left, chunk, first, after, second);
             }
-            let lower = fork(left, chunk, Arc::try_clone(first)?);
-            let lower = Arc::new(alloc, lower)?;
-            Ok(fork(lower, after.copy()?, Arc::try_clone(second)?))
+            let lower = shared(alloc, left, chunk, first)?;
+            joined(&lower, after, second)
         }
     }
 }
@@ -428,30 +491,29 @@ fn lean_left(
 /// Five parts in order as one tree: the second tree is spread over both sides.
 fn spread_right(
     alloc: Global,
-    first: Arc<Tree>,
-    chunk: Chunk,
+    first: &Arc<Tree>,
+    chunk: &Chunk,
     second: &Arc<Tree>,
     after: &Chunk,
     third: &Arc<Tree>,
 ) -> Result<Tree, NoMemory>
-    requires lower { (arc_value third.now).1.chunks ≡ (arc_value first).1.chunks }
-    requires higher { (arc_value second.now).1.chunks ≡ suc (arc_value first).1.chunks }
-    requires countable { length (tree_over (arc_value first) chunk (tree_over (arc_value second.now) after.now (arc_value third.now))).0 < 2 ^ 64 }
-    ensures versions { IfOk result (λ tree. tree.0 ≡ (tree_over (arc_value first) chunk (tree_over (arc_value second.now) after.now (arc_value third.now))).0) }
-    ensures levels { IfOk result (λ tree. tree.1.chunks ≡ suc (suc (arc_value first).1.chunks)) }
+    requires lower { (arc_value third.now).1.chunks ≡ (arc_value first.now).1.chunks }
+    requires higher { (arc_value second.now).1.chunks ≡ suc (arc_value first.now).1.chunks }
+    requires countable { let right = tree_over (arc_value second.now) after.now (arc_value third.now) in
+        length (tree_over (arc_value first.now) chunk.now right).0 < 2 ^ 64 }
+    ensures versions { let right = tree_over (arc_value second.now) after.now (arc_value third.now) in
+        IfOk result (λ tree. tree.0 ≡ (tree_over (arc_value first.now) chunk.now right).0) }
+    ensures levels { IfOk result (λ tree. tree.1.chunks ≡ suc (suc (arc_value first.now).1.chunks)) }
 {
     match &second.node {
         Node::Empty => {
-            let lower = fork(first, chunk, Arc::try_clone(second)?);
-            let lower = Arc::new(alloc, lower)?;
-            Ok(fork(lower, after.copy()?, Arc::try_clone(third)?))
+            let lower = shared(alloc, first, chunk, second)?;
+            joined(&lower, after, third)
         }
         Node::Fork(near, middle, far, _, _) => {
-            let left = fork(first, chunk, Arc::try_clone(near)?);
-            let left = Arc::new(alloc, left)?;
-            let right = fork(Arc::try_clone(far)?, after.copy()?, Arc::try_clone(third)?);
-            let right = Arc::new(alloc, right)?;
-            Ok(fork(left, middle.copy()?, right))
+            let left = shared(alloc, first, chunk, near)?;
+            let right = shared(alloc, far, after, third)?;
+            joined(&left, middle, &right)
         }
     }
 }

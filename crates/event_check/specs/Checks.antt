@@ -13,14 +13,14 @@ use Rattle.ts_model.specs.Limits.{most_relations, bytes_limit}
 use Rattle.ts_model.specs.Bytes.{event_bytes}
 use Rattle.ts_model.specs.Sound.{sound_in}
 use Rattle.ts_model.specs.Allowed.{allowed}
-use Rattle.ts_model.specs.Calls.{Act, refuses, says, makes, making_table, making_hyper, making_view, finishing, refusal, name_taken, too_many, no_refresh}
+use Rattle.ts_model.specs.Calls.{Act, refuses, returns, makes, making_table, making_hyper, making_view, finishing, refusal, name_taken, too_many, no_refresh}
 
 -- ---- why an event isn't allowed next
 
 -- the refusal of a call that does this, if it is refused
 abbrev pub refusal_in : {A : Type 0} → Act A → Option Refusal
 refusal_in (refuses r) = Some r
-refusal_in (says a) = None
+refusal_in (returns a) = None
 refusal_in (makes e a) = None
 
 -- why a store's call that makes this event is refused, if it is. One that commits or sets a mode never is, and one that cuts is refused by its window, which its event doesn't tell

@@ -41,7 +41,8 @@ pub(crate) fn tests_are_fit(columns: usize, tests: &Seq<Test>) -> bool
 
 /// Whether these tests are on columns of a hypertable.
 pub(crate) fn tests_are_fit_in(tests: &Seq<Test>, info: Option<&TableInfo>) -> bool
-    ensures { result ≡ of_table (λ def hyper. list_all (test_fits (length def.cols)) tests.now) (option_copied info.entry) }
+    ensures { result ≡ of_table (λ def hyper. list_all (test_fits (length def.cols)) tests.now)
+        (option_copied info.entry) }
 {
     match info {
         None => false,

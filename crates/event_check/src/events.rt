@@ -164,8 +164,10 @@ pub fn refusal_of(
     base: u64,
     event: &Event,
 ) -> Option<Refusal>
-    ensures allowed { (h : History) → IsAt h event.now roster.now pending position base → is_none result ≡ allowed h event.now }
-    ensures refused { (h : History) → IsAt h event.now roster.now pending position base → result ≡ event_refusal h event.now }
+    ensures allowed { (h : History) → IsAt h event.now roster.now pending position base →
+        is_none result ≡ allowed h event.now }
+    ensures refused { (h : History) → IsAt h event.now roster.now pending position base →
+        result ≡ event_refusal h event.now }
 {
     match call_refusal(roster, pending, position, event) {
         Some(refusal) => Some(refusal),

@@ -35,7 +35,8 @@ fn fold_is_there(columns: usize, fold: &Fold) -> bool
 
 /// Whether the columns of tests on a hypertable are there.
 fn tests_are_there_in(tests: &Seq<Test>, info: Option<&TableInfo>) -> bool
-    ensures { result ≡ of_table (λ def hyper. list_all (λ test. nat_lt test.col (length def.cols)) tests.now) (option_copied info.entry) }
+    ensures { result ≡ of_table (λ def hyper. list_all (λ test. nat_lt test.col (length def.cols)) tests.now)
+        (option_copied info.entry) }
 {
     match info {
         None => false,

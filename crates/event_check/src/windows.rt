@@ -75,7 +75,8 @@ pub fn window(
     requires high { ForSome hi (λ t. IsTrue (is_time t)) }
     ensures value { result ≡ window_by width mark latest lo hi }
     // it is the window of every history with this watermark and these last rows
-    ensures window { (n : ℕ) (def : ViewDef) (h : History) → def.fold.width ≡ width → mark ≡ watermark n def h → end_of width latest ≡ last_end width (rows def.table h) → result ≡ window n def h lo hi }
+    ensures window { (n : ℕ) (def : ViewDef) (h : History) → def.fold.width ≡ width → mark ≡ watermark n def h →
+        end_of width latest ≡ last_end width (rows def.table h) → result ≡ window n def h lo hi }
 {
     match hi {
         Some(hi) => window_to(width, lo, hi, Window::NoBucket),

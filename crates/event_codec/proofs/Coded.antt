@@ -11,7 +11,7 @@ use Rattle.event_codec.specs.declared.kinds.OpKind.{OpKind}
 use Rattle.event_codec.specs.declared.kinds.OpKind.TheVariants as op_kinds
 use Rattle.event_codec.specs.Codes.{flag_code, cmp_code, fun_code, kind_code, op_code}
 use Rattle.event_codec.specs.Spelling.{flag}
-use Rattle.event_codec.specs.Reading.{coded, told, with_code, flag_of, cmp_of, fun_of, kind_of, op_kind_of}
+use Rattle.event_codec.specs.Reading.{coded, read_as, with_code, flag_of, cmp_of, fun_of, kind_of, op_kind_of}
 use Rattle.event_codec.proofs.Formats.{IsFormat, Stands, same_value, same_left}
 
 -- anything fits
@@ -35,7 +35,7 @@ module _ {A : Type 0} (code : A → ℕ) (find : ℕ → Option A) (some : A) (b
   coded_takes [] a left e = absurd cc
   coded_takes (b ∷ bytes) a left e = by_cases (find b) refl e
     where
-      by_cases : (o : Option A) → find b ≡ o → told o (b ∷ bytes) bytes ≡ Ok (a, left) → Stands (λ a. code a ∷ []) Any (b ∷ bytes) a left
+      by_cases : (o : Option A) → find b ≡ o → read_as o (b ∷ bytes) bytes ≡ Ok (a, left) → Stands (λ a. code a ∷ []) Any (b ∷ bytes) a left
       by_cases None is e = absurd cc
       by_cases (Some c) is e =
           let value = same_value c a bytes left e in
@@ -47,7 +47,7 @@ module _ {A : Type 0} (code : A → ℕ) (find : ℕ → Option A) (some : A) (b
   coded_fails [] left e = cc
   coded_fails (b ∷ bytes) left e = by_cases (find b) e
     where
-      by_cases : (o : Option A) → told o (b ∷ bytes) bytes ≡ Err left → left ≡ b ∷ bytes
+      by_cases : (o : Option A) → read_as o (b ∷ bytes) bytes ≡ Err left → left ≡ b ∷ bytes
       by_cases None e = cc
       by_cases (Some c) e = absurd cc
 
@@ -58,14 +58,14 @@ module _ {A : Type 0} (code : A → ℕ) (find : ℕ → Option A) (some : A) (b
       let first : b ≡ x = cc in
       let second : code a ≡ x = cc in
       let is : find b ≡ Some a = ap find (first ∙ sym second) ∙ there a in
-      let read : coded find (b ∷ bytes) ≡ Ok (a, bytes) = ap (λ (o : Option A). told o (b ∷ bytes) bytes) is in
+      let read : coded find (b ∷ bytes) ≡ Ok (a, bytes) = ap (λ (o : Option A). read_as o (b ∷ bytes) bytes) is in
       absurd cc
 
   pub coded_format : IsFormat (λ a. code a ∷ []) Any (coded find)
   coded_format = record {
     sample = record { value = some; ok = tt };
     takes = coded_takes;
-    again = λ a left h. ap (λ (o : Option A). told o (code a ∷ left) left) (there a);
+    again = λ a left h. ap (λ (o : Option A). read_as o (code a ∷ left) left) (there a);
     viable = λ bytes left e. record { value = some; ok = tt; begins = record { front = []; more = code some ∷ []; parts = sym (coded_fails bytes left e); begun = refl } };
     longest = λ bytes left e a other h begins. let same = coded_fails bytes left e in omega (arith, ap length same, coded_longest bytes left e a other begins.front begins.more begins.parts begins.begun);
   }

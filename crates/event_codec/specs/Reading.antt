@@ -163,13 +163,15 @@ abbrev pub with_code : {A : Type 0} → (A → ℕ) → List A → ℕ → Optio
 with_code code [] b = None
 with_code code (a ∷ all) b = if b == code a then Some a else with_code code all b
 
-abbrev pub told : {A : Type 0} → Option A → List ℕ → List ℕ → Result (A × List ℕ) (List ℕ)
-told None here left = Err here
-told (Some a) here left = Ok (a, left)
+-- something was read, with what is left after it; or nothing was, and all is left from here on
+abbrev pub read_as : {A : Type 0} → Option A → List ℕ → List ℕ → Result (A × List ℕ) (List ℕ)
+read_as None here left = Err here
+read_as (Some a) here left = Ok (a, left)
 
+-- what the first byte stands for
 abbrev pub coded : {A : Type 0} → (ℕ → Option A) → Reads A
 coded find [] = Err []
-coded find (b ∷ bytes) = told (find b) (b ∷ bytes) bytes
+coded find (b ∷ bytes) = read_as (find b) (b ∷ bytes) bytes
 
 abbrev pub flag_of : ℕ → Option Bool
 flag_of = with_code flag_code (false ∷ true ∷ [])

@@ -50,7 +50,8 @@ fn may_go_on(byte: u8) -> bool
 /// after those.
 #[tactic(auto, using(crate::proofs::NameLaws::no_tail, crate::proofs::NameLaws::tails_end, crate::proofs::NameLaws::not_tail, crate::proofs::NameLaws::tail_then, crate::proofs::NameLaws::tail_fails))]
 fn after_tails(bytes: &[u8], count: usize) -> Result<&[u8], &[u8]>
-    ensures { Matches (λ rest. (take count bytes.now, rest.now)) (λ left. left.now) result (items count (byte_where is_tail) bytes.now) }
+    ensures { Matches (λ rest. (take count bytes.now, rest.now)) (λ left. left.now) result
+        (items count (byte_where is_tail) bytes.now) }
 {
     if count == 0 {
         return Ok(bytes);

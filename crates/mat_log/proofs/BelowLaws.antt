@@ -1,11 +1,11 @@
 -- What lies below a mark.
-use Rattle.std.proofs.Common.{◌≡◌, Bool, true, false, ◌&&◌, ℤ, pos, ◌-◌, ◌+◌, ◌^◌, negsuc, ◌-ℤ◌, ◌≤ℤ◌, ◌<ℤ◌, int_le, int_lt, Option, Some, None, refl, ap, ◌∙◌, arith}
+use Rattle.std.proofs.Common.{◌≡◌, Bool, true, false, ◌&&◌, ℤ, ◌-ℤ◌, ◌≤ℤ◌, ◌<ℤ◌, int_le, int_lt, Option, Some, None, refl, ap, ◌∙◌, arith}
 use Rattle.std.specs.Int.{int_min, int_max}
 use Rattle.std.specs.Option.{ForSome}
 use Rattle.std.proofs.lemmas.Int.{ints, clamps}
 use Rattle.std.proofs.lemmas.Bool.Decides.{same_from_decides}
-use Rattle.ts_bucket.specs.Bucket.{WidthValue, IsWidth, IsNearTimes, is_bucket, first_of, min_time, max_time, max_step}
-use Rattle.ts_bucket.specs.Spans.{SpanValue, in_span}
+use Rattle.ts_bucket.specs.Bucket.{WidthValue, IsWidth, IsNearTimes, first_of, min_time, max_time, max_step}
+use Rattle.ts_bucket.specs.Spans.{in_span}
 use Rattle.ts_bucket.specs.WholeSpans.{IsMark, is_below, whole_span}
 use Rattle.ts_bucket.proofs.SpanLaws.{in_span-ends, in_span-from_ends}
 use Rattle.ts_bucket.proofs.WholeSpanLaws.{near_below_range_end}

@@ -1,15 +1,15 @@
 -- Laws of feeding: entries fed one after another leave what their latest positions say, and something is pending after them exactly where it was or one of them is above the last refresh.
-use Rattle.std.proofs.Common.{◌≡◌, ℕ, ◌≤◌, ◌<◌, max, Bool, true, false, not, cond, ◌&&◌, ◌||◌, nat_le, nat_lt, List, [], ◌∷◌, ◌++◌, filter, ℤ, pos, ◌+ℤ◌, ◌≤ℤ◌, ◌<ℤ◌, int_lt, int_le, Option, Some, None, is_some, is_none, refl, sym, ap, ◌∙◌, subst, arith, true≢false}
+use Rattle.std.proofs.Common.{◌≡◌, ℕ, ◌≤◌, max, Bool, true, false, cond, ◌&&◌, ◌||◌, nat_le, nat_lt, List, [], ◌∷◌, ◌++◌, filter, ℤ, ◌+ℤ◌, ◌≤ℤ◌, ◌<ℤ◌, Option, Some, None, is_some, refl, sym, ap, ◌∙◌, arith}
 use Rattle.std.proofs.lemmas.Int.{ints}
 use Rattle.std.proofs.lemmas.Bool.{false≢true}
 use Rattle.std.proofs.lemmas.Bool.Decides.{nat_tests}
-use Rattle.ts_bucket.specs.Bucket.{WidthValue, IsWidth, is_bucket, bucket_of, first_of}
-use Rattle.ts_bucket.specs.Positions.{later, above, above_last, is_above, is_before}
+use Rattle.ts_bucket.specs.Bucket.{WidthValue, IsWidth, is_bucket, bucket_of}
+use Rattle.ts_bucket.specs.Positions.{later, above_last, is_before}
 use Rattle.ts_bucket.specs.Spans.{SpanValue, HullValue, in_span, meets, overlaps, touched_span}
 use Rattle.ts_bucket.specs.WholeSpans.{IsWholeSpan}
-use Rattle.ts_bucket.proofs.PositionLaws.{later-none, later-assoc, above_last-later, above_last-nothing, is_some-later}
-use Rattle.ts_bucket.proofs.BucketLaws.{bucket_of_meets, bucket_of-bucket, buckets_apart, is_bucket-bucket_of}
-use Rattle.ts_bucket.proofs.SpanLaws.{in_span-ends, in_span-from_ends, meets-between}
+use Rattle.ts_bucket.proofs.PositionLaws.{later-assoc, above_last-later, above_last-nothing, is_some-later}
+use Rattle.ts_bucket.proofs.BucketLaws.{buckets_apart}
+use Rattle.ts_bucket.proofs.SpanLaws.{in_span-ends, meets-between}
 use Rattle.ts_bucket.proofs.WholeSpanLaws.{in_span-bucket, touched_starts, touched_ends}
 use Rattle.span_map.specs.Combined.{combined_by}
 use Rattle.span_map.specs.declared.rules.Rule.TheVariants.{Over, Above}

@@ -1,5 +1,5 @@
 -- Laws of ranges: pieces joined where they touch are ranges of whole buckets, as long as can be.
-use Rattle.std.proofs.Common.{◌≡◌, ℕ, Bool, true, false, not, cond, nat_le, nat_lt, ◌&&◌, ◌||◌, ℤ, pos, ◌+ℤ◌, ◌-ℤ◌, ◌≤ℤ◌, ◌<ℤ◌, int_le, int_lt, List, [], ◌∷◌, ◌++◌, filter, Option, Some, None, is_some, is_none, Result, IfOk, refl, sym, ap, ◌∙◌, subst, arith, true≢false}
+use Rattle.std.proofs.Common.{◌≡◌, ℕ, Bool, true, false, not, cond, nat_le, nat_lt, ◌&&◌, ◌||◌, ℤ, pos, ◌+ℤ◌, ◌-ℤ◌, ◌≤ℤ◌, ◌<ℤ◌, int_le, List, [], ◌∷◌, ◌++◌, filter, Option, Some, None, is_some, is_none, Result, IfOk, refl, sym, ap, ◌∙◌, subst, arith, true≢false}
 use Rattle.std.specs.Ordering.{int_eq}
 use Rattle.std.specs.List.{AllByRecursion}
 use Rattle.std.proofs.lemmas.Result.{IfOk-weaker}
@@ -25,7 +25,7 @@ use Rattle.span_map.specs.declared.rules.Rule.TheVariants.{NotBelow, Over, Where
 use Rattle.mat_log.specs.Feeding.{is_dirty_with, is_changed_with, is_redone_with}
 use Rattle.mat_log.specs.Touching.{pending_or_fresh}
 use Rattle.mat_log.proofs.FeedLaws.{in_step-with, near_some, cond_twice, some_over}
-use Rattle.mat_log.specs.Joined.{open_after, closed_by, still_open, joined}
+use Rattle.mat_log.specs.Joined.{joined}
 
 -- x is below the first of the ranges
 abbrev IsBeforeRanges : ℤ → List SpanValue → Type 0

@@ -1,5 +1,5 @@
 -- Feeding the entries of a log to an aggregate.
-use Rattle.std.specs.Prelude.{◌≡◌, ℕ, ◌≤◌, Bool, true, ◌&&◌, ◌||◌, cond, nat_le, List, [], ◌∷◌, map, ℤ, Option, Some, None, is_some, is_none}
+use Rattle.std.specs.Prelude.{◌≡◌, ℕ, Bool, true, ◌&&◌, ◌||◌, cond, nat_le, List, [], ◌∷◌, ℤ, Option, Some, is_some, is_none}
 use Rattle.std.specs.List.{All}
 use Rattle.ts_bucket.specs.Bucket.{WidthValue, is_bucket}
 use Rattle.ts_bucket.specs.Positions.{is_before}

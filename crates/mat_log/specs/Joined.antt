@@ -1,5 +1,5 @@
 -- Pieces joined to ranges, one after another.
-use Rattle.std.specs.Prelude.{cond, ℤ, int_lt, List, [], ◌∷◌, ◌++◌, Option, Some, None}
+use Rattle.std.specs.Prelude.{cond, List, [], ◌∷◌, ◌++◌, Option, Some, None}
 use Rattle.std.specs.Ordering.{int_eq}
 use Rattle.ts_bucket.specs.Spans.{SpanValue}
 use Rattle.span_map.specs.declared.pieces.Piece.{Piece}

@@ -1,9 +1,9 @@
 //! Maps that are shared until they change.
 
-ghost use Rattle.std.specs.Prelude.{◌≡◌, ◌==◌, ℤ, ◌+◌, ◌*◌, ◌^◌, ◌<◌, ◌≤◌, ◌&&◌, cond, IfOk, OnOk, Some};
-ghost use Rattle.ts_bucket.specs.Positions.{later, above, is_before};
-ghost use Rattle.ts_bucket.specs.Spans.{in_span};
+ghost use Rattle.std.specs.Prelude.{◌≡◌, ℤ, ◌+◌, ◌*◌, ◌^◌, ◌<◌, ◌≤◌, IfOk, OnOk, Some};
+ghost use Rattle.ts_bucket.specs.Positions.{later, above};
 ghost use Rattle.span_map.specs.Maps.{at, piece_count_of};
+ghost use Rattle.span_map.specs.Functions.{AssignsAbove, ChangesWithin};
 
 use span_map::SpanMap;
 use std::marker::Model;
@@ -105,7 +105,7 @@ impl HeldMap {
     /// `SpanMap::assign_above`.
     pub(crate) fn assign_above(&mut self, span: Span, pos: u64, floor: &SpanMap)
         requires { 3 * (piece_count_of floor.now + 1) ≤ self.old.room }
-        ensures values { (t : ℤ) → at self.new t ≡ cond (in_span span t && is_before pos (at floor.now t)) (Some pos) (at self.old t) }
+        ensures values { AssignsAbove span pos (at floor.now) (at self.old) (at self.new) }
     {
         match &mut self.held {
             Held::Own(map) => map.assign_above(span, pos, floor),
@@ -116,7 +116,7 @@ impl HeldMap {
     /// `SpanMap::clear_upto`.
     pub(crate) fn clear_upto(&mut self, span: Span, pos: u64)
         requires { 2 ≤ self.old.room }
-        ensures values { (t : ℤ) → at self.new t ≡ cond (in_span span t) (above pos (at self.old t)) (at self.old t) }
+        ensures values { ChangesWithin span (above pos) (at self.old) (at self.new) }
     {
         match &mut self.held {
             Held::Own(map) => map.clear_upto(span, pos),
@@ -127,7 +127,7 @@ impl HeldMap {
     /// `SpanMap::raise`.
     pub(crate) fn raise(&mut self, span: Span, pos: u64)
         requires { 3 + piece_count_of self.old ≤ self.old.room }
-        ensures values { (t : ℤ) → at self.new t ≡ cond (in_span span t) (later (at self.old t) (Some pos)) (at self.old t) }
+        ensures values { ChangesWithin span (λ v. later v (Some pos)) (at self.old) (at self.new) }
     {
         match &mut self.held {
             Held::Own(map) => map.raise(span, pos),

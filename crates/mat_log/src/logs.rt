@@ -1,17 +1,18 @@
 //! The log of an aggregate.
 
-ghost use Rattle.std.specs.Prelude.{◌≡◌, ℤ, cond, ◌&&◌, IfOk, OnOk, true, filter};
+ghost use Rattle.std.specs.Prelude.{◌≡◌, ℤ, cond, ◌&&◌, IfOk, OnOk, true, filter, ◌∷◌, []};
 ghost use Rattle.std.specs.List.{AllByRecursion};
 ghost use Rattle.std.specs.Option.{ForSome};
 ghost use Rattle.ts_bucket.specs.Bucket.{is_bucket};
-ghost use Rattle.ts_bucket.specs.Positions.{later, above, is_before};
+ghost use Rattle.ts_bucket.specs.Positions.{later, above};
 ghost use Rattle.ts_bucket.specs.Spans.{in_span, meets, overlaps};
 ghost use Rattle.span_map.specs.Maps.{at};
 ghost use Rattle.ts_bucket.specs.Ranges.{AreRanges, IsWholeRange, lies_in};
 ghost use Rattle.ts_bucket.specs.WholeSpans.{IsWholeSpan, IsWithin, IsMark, whole_span};
-ghost use Rattle.mat_log.specs.Feeding.{AreWithin, IsFed, are_rising, is_changed_with, is_dirty_with, is_redone_with, is_stale_with};
+ghost use Rattle.mat_log.specs.Feeding.{AreWithin, IsFed, are_rising, is_changed_with, is_dirty_with, is_redone_with, is_stale_with, pending_with};
 ghost use Rattle.mat_log.specs.Touching.{pending_or_fresh};
 ghost use Rattle.mat_log.specs.Logs.{pending_at, last_at, is_dirty, is_refreshed_after, is_renewed, is_stale, HasRoom, IsSame};
+ghost use Rattle.span_map.specs.Functions.{ChangesWithin, IsPart};
 
 use crate::held::HeldMap;
 use crate::ranges::join_pieces;
@@ -51,7 +52,8 @@ impl MatLog {
     /// pending there, and none was refreshed.
     pub fn new(alloc: Global, w: Width, made: u64) -> Result<MatLog, NoMemory>
         ensures width { IfOk result (λ log. log.width ≡ w) }
-        ensures pending { IfOk result (λ log. (b : ℤ) → pending_at log b ≡ cond (in_span (whole_span w) b) (Some made) None) }
+        ensures pending { IfOk result (λ log. (b : ℤ) →
+            pending_at log b ≡ cond (in_span (whole_span w) b) (Some made) None) }
         ensures refreshed { IfOk result (λ log. (b : ℤ) → last_at log b ≡ None) }
     {
         let mut pending = SpanMap::new(alloc);
@@ -107,7 +109,8 @@ impl MatLog {
     pub fn feed(&mut self, entry: &Entry)
         requires room { HasRoom self.old }
         requires within { IsWithin self.old.width entry.now.hull }
-        ensures pending { (b : ℤ) → is_bucket self.old.width b ≡ true → pending_at self.new b ≡ cond (meets self.old.width b entry.now.hull && is_before entry.now.pos (last_at self.old b)) (Some entry.now.pos) (pending_at self.old b) }
+        ensures pending { (b : ℤ) → is_bucket self.old.width b ≡ true →
+            pending_at self.new b ≡ pending_with self.old (entry.now ∷ []) b }
         ensures refreshed { (b : ℤ) → last_at self.new b ≡ last_at self.old b }
         ensures width { self.new.width ≡ self.old.width }
     {
@@ -121,8 +124,8 @@ impl MatLog {
     pub fn settle(&mut self, span: Span, snap: u64)
         requires room { HasRoom self.old }
         requires whole { IsWholeSpan self.old.width span }
-        ensures pending { (b : ℤ) → pending_at self.new b ≡ cond (in_span span b) (above snap (pending_at self.old b)) (pending_at self.old b) }
-        ensures refreshed { (b : ℤ) → last_at self.new b ≡ cond (in_span span b) (later (last_at self.old b) (Some snap)) (last_at self.old b) }
+        ensures pending { ChangesWithin span (above snap) (pending_at self.old) (pending_at self.new) }
+        ensures refreshed { ChangesWithin span (λ v. later v (Some snap)) (last_at self.old) (last_at self.new) }
         ensures width { self.new.width ≡ self.old.width }
     {
         self.pending.clear_upto(span, snap);
@@ -204,7 +207,8 @@ impl MatLog {
     /// the values there.
     fn pending_near(&self, entries: &BlockList<Entry>, span: Span) -> Result<SpanMap, NoMemory>
         requires within { AreWithin entries.now.items self.now }
-        ensures values { IfOk result (λ pending. (t : ℤ) → at pending t ≡ cond (in_span span t) (pending_or_fresh self.now (filter (λ e. overlaps e.hull span) entries.now.items) t) None) }
+        ensures values { let near = filter (λ e. overlaps e.hull span) entries.now.items in
+            IfOk result (λ pending. IsPart span (pending_or_fresh self.now near) (at pending)) }
     {
         let near = entries_near(entries, span)?;
         let newest = latest(self.alloc, self.width, &near)?.within(span)?;
@@ -273,7 +277,8 @@ impl MatLog {
     pub fn renewed(&self, span: Span, ranges: &[Span], snap: u64) -> Result<Seq<Span>, NoMemory>
         requires whole { IsWholeSpan self.now.width span }
         requires ranges { AllByRecursion (IsWholeRange self.now.width) ranges.now }
-        ensures ranges { IfOk result (AreRanges self.now.width span (λ b. lies_in ranges.now b && is_renewed self.now snap b)) }
+        ensures ranges { IfOk result (AreRanges self.now.width span (λ b.
+            lies_in ranges.now b && is_renewed self.now snap b)) }
     {
         // Reading the width tells that the two maps are in step.
         let _width = self.width;

@@ -33,7 +33,8 @@ fn span_below(starts: Span, mark: Option<i64>) -> Span
 pub(crate) fn buckets_below(w: Width, starts: Span, mark: Option<i64>) -> Span
     requires { ForSome mark (IsMark w) }
     ensures whole { IsWholeSpan w result }
-    ensures exact { (b : ℤ) → is_bucket w b ≡ true → first_of w ≤ℤ b → in_span result b ≡ (in_span starts b && is_below b mark) }
+    ensures exact { (b : ℤ) → is_bucket w b ≡ true → first_of w ≤ℤ b →
+        in_span result b ≡ (in_span starts b && is_below b mark) }
     ensures bounds { IsWidth w }
 {
     buckets_in(w, span_below(starts, mark))

@@ -13,7 +13,7 @@ use Rattle.ts_bucket.specs.Spans.{SpanValue, HullValue, in_span}
 use Rattle.ts_schema.specs.declared.rows.Row.{Row}
 use Rattle.ts_schema.specs.declared.conditions.Test.{Test}
 use Rattle.ts_schema.specs.Conditions.{passes_all}
-use Rattle.ts_schema.specs.Counts.{raised_by, RaisedUpTo}
+use Rattle.ts_schema.specs.Counts.{raised_by, RaisedUpTo, Ticks}
 use Rattle.ts_model.specs.declared.events.Op.{Op}
 use Rattle.ts_model.specs.declared.events.Op.TheVariants.{Insert, Delete}
 use Rattle.ts_model.specs.Rows.{with_rows, in_order, after_op, after_ops}
@@ -519,7 +519,7 @@ either P Q (Err e) p q = q
 
 pub scan_read : {T E : Type 0} (r : Result T E) (old new : ℕ) (s : SpanValue) (x y : ChunksValue) → x ≡ y → IsInterval x.interval
     → OnOk r (new ≡ raised_by (held_near x.interval s x.versions) old) → OnErr r (RaisedUpTo (held_near x.interval s x.versions) old new)
-    → MatchResult r (λ _. new ≡ raised_by (rows_near y.interval (rows_of y.versions) (s ∷ [])) old) (λ _. RaisedUpTo (rows_near y.interval (rows_of y.versions) (s ∷ [])) old new)
+    → Ticks r (rows_near y.interval (rows_of y.versions) (s ∷ [])) old new
 scan_read r old new s x y same wide ticks at_most =
     let held : held_near x.interval s x.versions ≡ rows_near y.interval (rows_of y.versions) (s ∷ []) =
     held_is x.interval s x.versions wide ∙ ap (λ (z : ChunksValue). rows_near z.interval (rows_of z.versions) (s ∷ [])) same in

@@ -5,11 +5,11 @@ use Rattle.ts_model.specs.Rows.{in_order, rows}
 use Rattle.ts_model.specs.Reads.{inserted}
 use Rattle.seg_rows.specs.Versions.{rows_of}
 use Rattle.chunk_catalog.specs.Chunks.{ChunksValue}
-use Rattle.row_versions.specs.Tables.{visible_rows, IsUpTo}
+use Rattle.row_versions.specs.Tables.{rows_seen, IsUpTo}
 
 -- this table holds table t of a history: every position sees the rows that the history has there, all rows that were ever inserted
 -- are stored, removed or not, and no change is later than the history
 pub record Holds (t : ℕ) (h : History) (table : ChunksValue) : Type 0 where
-  pub seen : (q : ℕ) → in_order (visible_rows q table.versions) ≡ rows t (prefix h q)
+  pub seen : (q : ℕ) → rows_seen q table ≡ rows t (prefix h q)
   pub stored : in_order (rows_of table.versions) ≡ in_order (inserted t h)
   pub up_to : IsUpTo (position h) table.versions

@@ -1,9 +1,9 @@
 -- Laws of tables beside histories, each in one sentence.
-use Rattle.std.specs.Prelude.{◌≡◌, ℕ, suc, Bool, true, false, List, [], filter, ℤ, ◌+ℤ◌, None}
+use Rattle.std.specs.Prelude.{◌≡◌, ℕ, suc, Bool, true, false, List, [], ℤ, ◌+ℤ◌, None}
 use Rattle.std.specs.List.{list_any}
 use Rattle.std.specs.Option.{option_map}
 use Rattle.ts_bucket.specs.Bucket.{IsWidth, bucket_of}
-use Rattle.ts_bucket.specs.Spans.{SpanValue, in_span}
+use Rattle.ts_bucket.specs.Spans.{SpanValue}
 use Rattle.ts_bucket.specs.declared.spans.Span.{Span}
 use Rattle.ts_bucket.specs.declared.widths.Width.{Width}
 use Rattle.ts_model.specs.declared.events.Event.{Event}
@@ -20,7 +20,7 @@ use Rattle.ts_model.specs.Effect.{all_appended}
 use Rattle.chunk_catalog.specs.Chunks.{ChunksValue, HaveTimes}
 use Rattle.row_versions.specs.declared.effects.Effect.{Effect}
 use Rattle.row_versions.specs.Histories.{Holds}
-use Rattle.row_versions.specs.Tables.{visible_rows, IsUpTo, IsEffect, Follows, is_on}
+use Rattle.row_versions.specs.Tables.{visible_rows, rows_seen, rows_of_span, IsUpTo, IsEffect, Follows, is_on}
 
 abbrev pub is_commit : Event → Bool
 is_commit (Table def) = false
@@ -49,7 +49,7 @@ CommitsAreHeld = (t : ℕ) (h : History) (ops : List Op) (old new : ChunksValue)
 
 -- and their effect is that of the commit
 abbrev pub EffectsAreOfCommits : Type 0
-EffectsAreOfCommits = (t : ℕ) (h : History) (ops : List Op) (table : ChunksValue) (effect : Effect) → Holds t h table → IsEffect t ops (in_order (visible_rows (suc (position h)) table.versions)) effect → IsEffect t ops (rows t h) effect
+EffectsAreOfCommits = (t : ℕ) (h : History) (ops : List Op) (table : ChunksValue) (effect : Effect) → Holds t h table → IsEffect t ops (rows_seen (suc (position h)) table) effect → IsEffect t ops (rows t h) effect
 
 -- a commit that names no operation on a table leaves it as it is
 abbrev pub UnnamedAreHeld : Type 0
@@ -62,7 +62,7 @@ OthersAreHeld = (t : ℕ) (h : History) (e : Event) (table : ChunksValue) → Ho
 -- what a table that holds a history tells of it, at every position
 pub record Tells (t : ℕ) (h : History) (table : ChunksValue) : Type 0 where
   -- the visible rows of a span are the rows of the span there
-  pub rows_are : (q : ℕ) (s : SpanValue) → in_order (filter (λ row. in_span s row.at) (visible_rows q table.versions)) ≡ filter (λ row. in_span s row.at) (rows t (prefix h q))
+  pub rows_are : (q : ℕ) (s : SpanValue) → in_order (rows_of_span s (visible_rows q table.versions)) ≡ rows_of_span s (rows t (prefix h q))
   -- as many stored rows are in chunks that meet these spans as inserted ones
   pub read : (interval : ℤ) (spans : List Span) → rows_near interval (rows_of table.versions) spans ≡ rows_near interval (inserted t h) spans
   -- the greatest visible time is that of the rows there, and the bucket that holds it is the last one with a row

@@ -1,6 +1,7 @@
 -- Tables under operations: what a position sees, and what the operations of a commit make of a table.
 use Rattle.std.specs.Prelude.{◌≡◌, ℕ, ◌+◌, ◌<◌, ◌≤◌, Bool, true, ◌&&◌, ◌==◌, nat_le, List, ◌++◌, length, filter, Option, None, Some}
 use Rattle.std.specs.List.{list_all}
+use Rattle.ts_bucket.specs.Spans.{SpanValue, in_span}
 use Rattle.ts_schema.specs.declared.rows.Row.{Row}
 use Rattle.ts_model.specs.declared.events.Op.{Op}
 use Rattle.ts_model.specs.declared.events.Op.TheVariants.{Insert, Delete}
@@ -14,6 +15,14 @@ use Rattle.row_versions.specs.declared.effects.Effect.{Effect}
 -- the rows that position p sees
 abbrev pub visible_rows : ℕ → List Version → List Row
 visible_rows p vs = rows_of (filter (visible_at p) vs)
+
+-- the same of a table, in order
+abbrev pub rows_seen : ℕ → ChunksValue → List Row
+rows_seen p table = in_order (visible_rows p table.versions)
+
+-- the rows whose times lie in a span
+abbrev pub rows_of_span : SpanValue → List Row → List Row
+rows_of_span s rows = filter (λ row. in_span s row.at) rows
 
 -- died at p or before, or not at all
 abbrev pub died_by : ℕ → Option ℕ → Bool
@@ -37,8 +46,8 @@ is_on t (Delete u tests) = u == t
 -- rows after the operations, and everything that was ever inserted is stored
 pub record Follows (t : ℕ) (ops : List Op) (p : ℕ) (old new : ChunksValue) : Type 0 where
   pub interval : new.interval ≡ old.interval
-  pub earlier : (q : ℕ) → q < p → in_order (visible_rows q new.versions) ≡ in_order (visible_rows q old.versions)
-  pub later : (q : ℕ) → p ≤ q → in_order (visible_rows q new.versions) ≡ after_ops t ops (in_order (visible_rows q old.versions))
+  pub earlier : (q : ℕ) → q < p → rows_seen q new ≡ rows_seen q old
+  pub later : (q : ℕ) → p ≤ q → rows_seen q new ≡ after_ops t ops (rows_seen q old)
   pub stored : in_order (rows_of new.versions) ≡ in_order (rows_of old.versions ++ all_appended t ops)
   pub up_to : IsUpTo p new.versions
 

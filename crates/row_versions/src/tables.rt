@@ -1,15 +1,13 @@
 //! Tables.
-ghost use Rattle.std.specs.Prelude.{◌≡◌, ◌≤◌, ℕ, [], ◌∷◌, filter, true, IfOk, MatchResult};
-ghost use Rattle.ts_bucket.specs.Spans.{in_span};
-ghost use Rattle.ts_schema.specs.Counts.{raised_by, RaisedUpTo};
+ghost use Rattle.std.specs.Prelude.{◌≡◌, ℕ, [], ◌∷◌, IfOk};
+ghost use Rattle.ts_schema.specs.Counts.{Ticks};
 ghost use Rattle.seg_rows.specs.Versions.{latest_at, rows_of};
 ghost use Rattle.chunk_catalog.specs.Chunks.{HaveTimes};
 ghost use Rattle.ts_bucket.specs.Chunks.{IsInterval};
 ghost use Rattle.ts_model.specs.declared.events.Op.TheVariants.{Insert, Delete};
 ghost use Rattle.ts_model.specs.Effect.{all_appended};
-ghost use Rattle.ts_model.specs.Rows.{in_order};
 ghost use Rattle.ts_model.specs.Reads.{rows_near};
-ghost use Rattle.row_versions.specs.Tables.{Counts, Follows, IsEffect, IsUpTo, visible_rows};
+ghost use Rattle.row_versions.specs.Tables.{Counts, Follows, IsEffect, IsUpTo, visible_rows, rows_seen, rows_of_span};
 
 use crate::effects::Effect;
 use chunk_catalog::Chunks;
@@ -70,7 +68,7 @@ impl Table {
         requires up_to { IsUpTo pos self.now.versions }
         requires times { HaveTimes (all_appended table ops.now) }
         ensures table { IfOk result (λ a. Follows table ops.now pos self.now a.table) }
-        ensures effect { IfOk result (λ a. IsEffect table ops.now (in_order (visible_rows pos self.now.versions)) a.effect) }
+        ensures effect { IfOk result (λ a. IsEffect table ops.now (rows_seen pos self.now) a.effect) }
     {
         let mut done = Applied {
             table: self.copy()?,
@@ -87,8 +85,9 @@ impl Table {
     /// The rows of the span that are visible at a position. Ticks once for each stored row, removed
     /// or not, in the chunks that meet the span.
     pub fn scan<L>(&self, pos: u64, span: Span, steps: &mut Steps<L>) -> Result<Seq<Row>, NoMemory>
-        ensures rows { IfOk result (λ rows. rows ≡ filter (λ row. in_span span row.at) (visible_rows pos self.now.versions)) }
-        ensures read { MatchResult result (λ _. steps.new ≡ raised_by (rows_near self.now.interval (rows_of self.now.versions) (span ∷ [])) steps.old) (λ _. RaisedUpTo (rows_near self.now.interval (rows_of self.now.versions) (span ∷ [])) steps.old steps.new) }
+        ensures rows { IfOk result (λ rows. rows ≡ rows_of_span span (visible_rows pos self.now.versions)) }
+        ensures read { let near = rows_near self.now.interval (rows_of self.now.versions) (span ∷ []) in
+            Ticks result near steps.old steps.new }
     {
         self.chunks.scan(pos, span, steps)
     }
@@ -107,7 +106,7 @@ impl Applied {
         requires up_to { IsUpTo pos self.table.versions }
         requires times { HaveTimes (all_appended table (op.now ∷ [])) }
         ensures table { IfOk result (λ a. Follows table (op.now ∷ []) pos self.table a.table) }
-        ensures effect { IfOk result (λ a. Counts table (op.now ∷ []) (in_order (visible_rows pos self.table.versions)) self.effect a.effect) }
+        ensures effect { IfOk result (λ a. Counts table (op.now ∷ []) (rows_seen pos self.table) self.effect a.effect) }
     {
         match op {
             Op::Insert { table: other, rows } => {
@@ -135,7 +134,8 @@ impl Applied {
         requires up_to { IsUpTo pos self.table.versions }
         requires times { HaveTimes rows.now }
         ensures table { IfOk result (λ a. (t : ℕ) → Follows t (Insert t rows.now ∷ []) pos self.table a.table) }
-        ensures effect { IfOk result (λ a. (t : ℕ) → Counts t (Insert t rows.now ∷ []) (in_order (visible_rows pos self.table.versions)) self.effect a.effect) }
+        ensures effect { IfOk result (λ a. (t : ℕ) →
+            Counts t (Insert t rows.now ∷ []) (rows_seen pos self.table) self.effect a.effect) }
     {
         let effect = self.effect.and_inserted(rows.items())?;
         let chunks = self.table.chunks.put(rows.copy()?, pos)?;
@@ -149,7 +149,8 @@ impl Applied {
     fn and_delete(self, tests: &Seq<Test>, pos: u64) -> Result<Applied, NoMemory>
         requires up_to { IsUpTo pos self.table.versions }
         ensures table { IfOk result (λ a. (t : ℕ) → Follows t (Delete t tests.now ∷ []) pos self.table a.table) }
-        ensures effect { IfOk result (λ a. (t : ℕ) → Counts t (Delete t tests.now ∷ []) (in_order (visible_rows pos self.table.versions)) self.effect a.effect) }
+        ensures effect { IfOk result (λ a. (t : ℕ) →
+            Counts t (Delete t tests.now ∷ []) (rows_seen pos self.table) self.effect a.effect) }
     {
         let killed = self.table.chunks.kill(tests, pos)?;
         let effect = self.effect.and_removed(killed.removed, killed.hull)?;

@@ -1,5 +1,5 @@
 -- One step of a loop over the rows of a segment, at a row and a life that were read.
-use Rattle.std.proofs.Common.{◌≡◌, ℕ, ◌<◌, ◌≤◌, ◌+◌, cond, Some, None, List, [], ◌∷◌, ◌++◌, length, get_or, take, take_all, map, sym, ◌∙◌, ap, subst, arith}
+use Rattle.std.proofs.Common.{◌≡◌, ℕ, ◌<◌, ◌≤◌, ◌+◌, cond, Some, None, List, [], ◌∷◌, ◌++◌, length, get_or, take, take_all, map, sym, ◌∙◌, ap, arith}
 use Rattle.std.proofs.lemmas.List.{map_more, length-take-le}
 use Rattle.ts_bucket.specs.Spans.{SpanValue}
 use Rattle.ts_schema.specs.declared.rows.Row.{Row}

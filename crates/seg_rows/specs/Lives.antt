@@ -28,6 +28,10 @@ AreUnharmed lives = map unharmed (map (λ life. life.born) lives) ≡ lives
 abbrev pub Covers : ℕ → Lives → Type 0
 Covers n lives = length (lives_of n lives) ≡ n
 
+-- these lives are kept, for whatever number of rows
+abbrev pub Keeps : Lives → List Life → Type 0
+Keeps lives kept = (n : ℕ) → lives_of n lives ≡ kept
+
 -- a row with its life
 abbrev pub with_life : Row → Life → Version
 with_life row life = record { row = row; born = life.born; died = life.died }

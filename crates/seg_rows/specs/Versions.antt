@@ -1,7 +1,6 @@
 -- Versions of rows: a row with the positions at which it was born and died, and what a position sees.
-use Rattle.std.specs.Prelude.{ℕ, Bool, false, true, cond, not, ◌&&◌, nat_le, List, [], ◌∷◌, map, filter, length, count_by, ◌≡◌, ℤ, Option, Some, None}
+use Rattle.std.specs.Prelude.{ℕ, ◌+◌, Bool, false, cond, not, ◌&&◌, nat_le, List, [], ◌∷◌, ◌++◌, map, filter, take, count_by, ◌≡◌, ℤ, Option, Some, None}
 use Rattle.std.specs.Int.{int_max}
-use Rattle.std.specs.List.{list_all}
 use Rattle.ts_bucket.specs.Spans.{SpanValue, in_span}
 use Rattle.ts_schema.specs.declared.rows.Row.{Row}
 use Rattle.ts_schema.specs.declared.conditions.Test.{Test}
@@ -68,3 +67,11 @@ latest_at p vs = latest_of (rows_of (filter (visible_at p) vs))
 -- the same items, each as often, in some order: every test passes as many of both
 abbrev pub AsOften : {X : Type 0} → List X → List X → Type 0
 AsOften {X} xs ys = (test : X → Bool) → count_by test xs ≡ count_by test ys
+
+-- a list gained the first of these items, in their order: none, some or all of them
+abbrev pub GainsFirst : {X : Type 0} → List X → List X → List X → Type 0
+GainsFirst {X} items old new = (k : ℕ) × (new ≡ old ++ take k items)
+
+-- a list has these items more, wherever they stand: every test passes as many of it as of the old list and of these items together
+abbrev pub HasMore : {X : Type 0} → List X → List X → List X → Type 0
+HasMore {X} items old new = (test : X → Bool) → count_by test new ≡ count_by test old + count_by test items

@@ -1,6 +1,6 @@
 //! Segments joined into one.
-ghost use Rattle.std.specs.Prelude.{◌≡◌, ◌++◌, ℕ, map, IfOk, OnOk};
-ghost use Rattle.seg_rows.specs.Lives.{AreUnharmed, Covers, lives_of, unharmed};
+ghost use Rattle.std.specs.Prelude.{◌≡◌, ◌++◌, map, IfOk, OnOk};
+ghost use Rattle.seg_rows.specs.Lives.{AreUnharmed, Covers, Keeps, lives_of, unharmed};
 
 use crate::lives::{Life, Lives};
 use crate::scans::copy_of;
@@ -37,7 +37,8 @@ pub fn joined_lives(
 ) -> Result<Lives, NoMemory>
     requires first { Covers first_count first.now }
     requires second { Covers second_count second.now }
-    ensures lives { IfOk result (λ lives. (n : ℕ) → lives_of n lives ≡ lives_of first_count first.now ++ lives_of second_count second.now) }
+    ensures lives { IfOk result (λ lives.
+        Keeps lives (lives_of first_count first.now ++ lives_of second_count second.now)) }
 {
     let count = first_count.saturating_add(second_count);
     if first.are_unharmed() && second.are_unharmed() {

@@ -3,7 +3,6 @@ ghost use Rattle.std.specs.Prelude.{◌≡◌, ◌<◌, ◌+◌, ◌-◌, ◌^�
 ghost use Rattle.seg_rows.specs.Hulls.{hull_at, hull_of, joined_hull};
 ghost use Rattle.seg_rows.specs.Lives.{Covers, versions_of, with_life, with_lives};
 ghost use Rattle.seg_rows.specs.Versions.{after_kill, is_taken, taken_at};
-ghost use Rattle.ts_schema.specs.Conditions.{passes_all};
 
 use crate::hulls::{join_hulls, point};
 use crate::lives::{Life, Lives};
@@ -72,7 +71,8 @@ pub fn lives_after(
 ) -> Result<Seq<Life>, NoMemory>
     requires covers { Covers (length rows.now) lives.now }
     ensures count { IfOk result (λ after. length after ≡ length rows.now) }
-    ensures after { IfOk result (λ after. with_lives rows.now after ≡ map (after_kill pos tests.now) (versions_of rows.now lives.now)) }
+    ensures after { IfOk result (λ after.
+        with_lives rows.now after ≡ map (after_kill pos tests.now) (versions_of rows.now lives.now)) }
 {
     let mut after = Vec::with_capacity(alloc, rows.len())?;
     for (i, row) in rows.iter().enumerate() {

@@ -1,5 +1,5 @@
 //! Positions of versions: when each was born and when it died.
-ghost use Rattle.std.specs.Prelude.{◌≡◌, ◌<◌, ℕ, true, length, slice_index_or};
+ghost use Rattle.std.specs.Prelude.{◌≡◌, ◌<◌, ℕ, true, slice_index_or};
 ghost use Rattle.seg_rows.specs.Lives.{AreUnharmed, Covers, is_alive_at, lives_of};
 ghost use Rattle.seg_rows.specs.Versions.{is_dead_at};
 

@@ -1,9 +1,9 @@
 //! What a position sees of a segment.
-ghost use Rattle.std.specs.Prelude.{◌≡◌, ◌≤◌, true, ◌++◌, ◌∷◌, [], cond, length, OnOk, OnErr, IfOk, ℕ, take};
+ghost use Rattle.std.specs.Prelude.{◌≡◌, true, ◌++◌, ◌∷◌, [], cond, length, OnOk, OnErr, IfOk};
 ghost use Rattle.ts_bucket.specs.Spans.{in_span};
 ghost use Rattle.ts_schema.specs.Counts.{raised_by, RaisedUpTo};
 ghost use Rattle.seg_rows.specs.Lives.{Covers, versions_of, with_life};
-ghost use Rattle.seg_rows.specs.Versions.{latest_at, later_time, rows_at, shown_at, visible_at};
+ghost use Rattle.seg_rows.specs.Versions.{latest_at, later_time, rows_at, shown_at, visible_at, GainsFirst};
 
 use crate::lives::{Life, Lives};
 use ts_bucket::Span;
@@ -20,7 +20,7 @@ pub fn scan_rows<L>(
 ) -> Result<(), NoMemory>
     requires covers { Covers (length rows.now) lives.now }
     ensures rows { OnOk result (out.new ≡ out.old ++ rows_at pos span (versions_of rows.now lives.now)) }
-    ensures part { OnErr result ((k : ℕ) × (out.new ≡ out.old ++ take k (rows_at pos span (versions_of rows.now lives.now)))) }
+    ensures part { OnErr result (GainsFirst (rows_at pos span (versions_of rows.now lives.now)) out.old out.new) }
     ensures ticks { OnOk result (steps.new ≡ raised_by (length rows.now) steps.old) }
     ensures at_most { OnErr result (RaisedUpTo (length rows.now) steps.old steps.new) }
 {

@@ -1,7 +1,7 @@
 //! Segments.
-ghost use Rattle.std.specs.Prelude.{◌≡◌, ◌≤◌, ◌+◌, ◌-◌, ◌^◌, ◌<◌, ◌++◌, length, map, take, ℕ, IfOk, OnOk, OnErr};
+ghost use Rattle.std.specs.Prelude.{◌≡◌, ◌+◌, ◌-◌, ◌<◌, ◌++◌, length, map, IfOk, OnOk, OnErr};
 ghost use Rattle.seg_rows.specs.Hulls.{hull_of};
-ghost use Rattle.seg_rows.specs.Versions.{after_kill, later_time, latest_at, latest_of, newborn, rows_at, rows_of, taken_at};
+ghost use Rattle.seg_rows.specs.Versions.{after_kill, later_time, latest_at, latest_of, newborn, rows_at, rows_of, taken_at, GainsFirst};
 ghost use Rattle.ts_schema.specs.Counts.{raised_by, RaisedUpTo};
 
 use crate::hulls::latest_time;
@@ -154,7 +154,7 @@ impl Segment {
         steps: &mut Steps<L>,
     ) -> Result<(), NoMemory>
         ensures rows { OnOk result (out.new ≡ out.old ++ rows_at pos span self.now) }
-        ensures part { OnErr result ((k : ℕ) × (out.new ≡ out.old ++ take k (rows_at pos span self.now))) }
+        ensures part { OnErr result (GainsFirst (rows_at pos span self.now) out.old out.new) }
         ensures ticks { OnOk result (steps.new ≡ raised_by (length self.now) steps.old) }
         ensures at_most { OnErr result (RaisedUpTo (length self.now) steps.old steps.new) }
     {

@@ -10,7 +10,7 @@ use Rattle.span_map.specs.declared.rules.Rule.{Rule}
 use Rattle.span_map.specs.declared.rules.Rule.TheVariants.{Over, Later, Above, NotBelow, Where}
 use Rattle.span_map.specs.Combined.{combined_by, earliest, value_from_on, edges_past, with_last}
 use Rattle.span_map.specs.Edges.{value_from, last_value, IsBelowFirst, IsRising}
-use Rattle.span_map.proofs.EdgeLaws.{AllBelow, all_below-higher, all_below-end, last_value-end, rising-end, value_from-below, value_from-before_end, value_from-above, value_from-end}
+use Rattle.span_map.proofs.EdgeLaws.{AllBelow, all_below-higher, all_below-end, last_value-end, rising-end, value_from-before_end, value_from-above, value_from-end}
 use Rattle.span_map.proofs.ChangeLaws.{equal_values}
 
 -- no rule makes a value of none

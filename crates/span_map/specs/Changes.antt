@@ -1,5 +1,5 @@
 -- Changes of the values within a span.
-use Rattle.std.specs.Prelude.{◌≡◌, ℕ, cond, ℤ, List, Option, Some, None, int_lt, [], ◌∷◌, ◌++◌, map, take, drop}
+use Rattle.std.specs.Prelude.{◌≡◌, ℕ, ◌≤◌, cond, ℤ, List, Option, Some, None, int_lt, [], ◌∷◌, ◌++◌, length, map, take, drop, insert}
 use Rattle.ts_bucket.specs.Positions.{later, above}
 use Rattle.ts_bucket.specs.Spans.{SpanValue, in_span}
 use Rattle.span_map.specs.Edges.{value_from}
@@ -25,6 +25,10 @@ edges_halfway s c done todo es = take done es ++ map (edge_changed s c) (drop to
 abbrev pub with_edge : Option ℕ → ℤ → List Edge → List Edge
 with_edge v t [] = record { from = t; value = v } ∷ []
 with_edge v t (e ∷ es) = cond (int_lt t e.from) (record { from = t; value = v } ∷ e ∷ es) (cond (int_lt e.from t) (e ∷ with_edge e.value t es) (e ∷ es))
+
+-- this edge, put at this place, is the one that is missing at t
+abbrev pub IsMissingAt : ℤ → List Edge → ℕ × Edge → Type 0
+IsMissingAt t es missing = (missing.0 ≤ length es) × (insert es missing.0 missing.1 ≡ with_edge None t es)
 
 -- within the span each value of the new edges is what the change makes of the old value, and elsewhere it is the old value
 abbrev pub ChangesValues : SpanValue → Change → List Edge → List Edge → Type 0

@@ -1,10 +1,10 @@
 -- Two maps combined by a rule, number by number, one edge after another.
-use Rattle.std.specs.Prelude.{ℕ, cond, ℤ, nat_eq, nat_le, List, [], ◌∷◌, ◌++◌, Option, Some, None}
+use Rattle.std.specs.Prelude.{◌≡◌, ℕ, cond, ℤ, nat_eq, nat_le, List, [], ◌∷◌, ◌++◌, Option, Some, None}
 use Rattle.std.specs.Int.{int_min}
 use Rattle.std.specs.Option.{option_eq}
 use Rattle.std.specs.Ordering.{int_eq}
 use Rattle.ts_bucket.specs.Positions.{later, above_last}
-use Rattle.span_map.specs.Edges.{last_value}
+use Rattle.span_map.specs.Edges.{last_value, value_from}
 use Rattle.span_map.specs.declared.edges.Edge.{Edge}
 use Rattle.span_map.specs.declared.rules.Rule.{Rule}
 use Rattle.span_map.specs.declared.rules.Rule.TheVariants.{Over, Later, Above, NotBelow, Where}
@@ -41,3 +41,7 @@ edges_past x (e ∷ es) = cond (int_eq e.from x) es (e ∷ es)
 -- the edges with one more at their end, unless it begins the value that they end with
 abbrev pub with_last : List Edge → Edge → List Edge
 with_last es e = cond (option_eq nat_eq e.value (last_value None es)) es (es ++ e ∷ [])
+
+-- at each number the value of the edges is what the rule makes of the values of two maps
+abbrev pub Combines : Rule → List Edge → List Edge → List Edge → Type 0
+Combines rule first second both = (t : ℤ) → value_from None both t ≡ combined_by rule (value_from None first t) (value_from None second t)

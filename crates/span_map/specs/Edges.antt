@@ -1,5 +1,5 @@
 -- Edges: the numbers at which the value of a map changes, in rising order.
-use Rattle.std.specs.Prelude.{ℕ, suc, Bool, false, cond, ℤ, ◌<ℤ◌, int_lt, int_le, List, [], ◌∷◌, ◌++◌, take, drop, Option, None, is_some, count_by}
+use Rattle.std.specs.Prelude.{◌≡◌, ℕ, suc, Bool, false, cond, ℤ, ◌<ℤ◌, int_lt, int_le, List, [], ◌∷◌, ◌++◌, take, drop, Option, None, is_some, count_by}
 use Rattle.std.specs.Ordering.{int_eq}
 use Rattle.span_map.specs.declared.edges.Edge.{Edge}
 
@@ -7,6 +7,14 @@ use Rattle.span_map.specs.declared.edges.Edge.{Edge}
 abbrev pub value_from : Option ℕ → List Edge → ℤ → Option ℕ
 value_from v [] t = v
 value_from v (e ∷ es) t = cond (int_lt t e.from) v (value_from e.value es t)
+
+-- edges with the same values, number by number
+abbrev pub HaveSameValues : List Edge → List Edge → Type 0
+HaveSameValues old new = (t : ℤ) → value_from None new t ≡ value_from None old t
+
+-- each new value is what is made of the old one at its number
+abbrev pub MakesValues : (Option ℕ → ℤ → Option ℕ) → List Edge → List Edge → Type 0
+MakesValues made_of old new = (t : ℤ) → value_from None new t ≡ made_of (value_from None old t) t
 
 -- the value of the last of these edges, where the value before them is v
 abbrev pub last_value : Option ℕ → List Edge → Option ℕ

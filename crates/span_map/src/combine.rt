@@ -1,8 +1,8 @@
 //! Two maps combined in one sweep over their edges.
 
-ghost use Rattle.std.specs.Prelude.{◌≡◌, ℤ, None, IfOk};
-ghost use Rattle.span_map.specs.Combined.{combined_by, earliest, value_from_on, edges_past, with_last};
-ghost use Rattle.span_map.specs.Edges.{IsRising, value_from};
+ghost use Rattle.std.specs.Prelude.{◌≡◌, None, IfOk};
+ghost use Rattle.span_map.specs.Combined.{earliest, value_from_on, edges_past, with_last, Combines};
+ghost use Rattle.span_map.specs.Edges.{IsRising};
 
 use crate::edges::{Edge, value_after};
 use crate::rules::{Rule, combined};
@@ -53,7 +53,7 @@ pub(crate) fn combine(
 ) -> Result<Vec<Edge>, NoMemory>
     requires first { IsRising first.now }
     requires second { IsRising second.now }
-    ensures values { IfOk result (λ edges. (t : ℤ) → value_from None edges.items t ≡ combined_by rule (value_from None first.now t) (value_from None second.now t)) }
+    ensures values { IfOk result (λ edges. Combines rule first.now second.now edges.items) }
     ensures rising { IfOk result (λ edges. IsRising edges.items) }
 {
     let mut edges = Vec::new(alloc);

@@ -1,8 +1,8 @@
 //! Edges: the numbers at which the value of a map changes, in rising order.
 
-ghost use Rattle.std.specs.Prelude.{◌≡◌, ◌+◌, ◌<◌, ◌≤◌, ◌++◌, ℤ, None, MatchOption, length, map, take, drop, insert, vec_len, vec_capacity};
-ghost use Rattle.span_map.specs.Changes.{edge_changed, edges_halfway, with_edge, ChangesValues};
-ghost use Rattle.span_map.specs.Edges.{IsRising, value_from, last_value, place_upto, place_below, begins_at, piece_count};
+ghost use Rattle.std.specs.Prelude.{◌≡◌, ◌+◌, ◌<◌, ◌≤◌, ◌++◌, None, MatchOption, length, map, take, drop, insert, vec_len, vec_capacity};
+ghost use Rattle.span_map.specs.Changes.{edge_changed, edges_halfway, with_edge, ChangesValues, IsMissingAt};
+ghost use Rattle.span_map.specs.Edges.{IsRising, value_from, last_value, place_upto, place_below, begins_at, piece_count, HaveSameValues};
 
 use crate::changes::{Change, applied};
 use ts_bucket::Span;
@@ -69,7 +69,7 @@ fn is_at(edges: &[Edge], i: usize, t: i64) -> bool
 /// The edge that is missing at `t`, which changes no value, and its place.
 fn missing_edge(edges: &[Edge], t: i64) -> Option<(usize, Edge)>
     requires { IsRising edges.now }
-    ensures { MatchOption result (with_edge None t edges.now ≡ edges.now) (λ missing. (missing.0 ≤ length edges.now) × (insert edges.now missing.0 missing.1 ≡ with_edge None t edges.now)) }
+    ensures { MatchOption result (with_edge None t edges.now ≡ edges.now) (IsMissingAt t edges.now) }
 {
     let place = places_below(edges, t);
     if is_at(edges, place, t) {
@@ -134,7 +134,8 @@ fn change_between(
     ensures capacity { vec_capacity edges.new ≡ vec_capacity edges.old }
     ensures after { drop end edges.new.items ≡ drop end edges.old.items }
     ensures rising { IsRising (edges_halfway span change result end edges.new.items) }
-    ensures values { (t : ℤ) → value_from None (edges_halfway span change result end edges.new.items) t ≡ value_from None (edges_halfway span change first first edges.old.items) t }
+    ensures values { HaveSameValues
+        (edges_halfway span change first first edges.old.items) (edges_halfway span change result end edges.new.items) }
 {
     let mut kept = first;
     let mut last = value_after(edges, first);
@@ -165,7 +166,7 @@ fn take_out(edges: &mut Vec<Edge>, first: usize, end: usize)
 fn change_within(edges: &mut Vec<Edge>, span: Span, change: Change)
     requires rising { IsRising edges.old.items }
     ensures rising { IsRising edges.new.items }
-    ensures values { (t : ℤ) → value_from None edges.new.items t ≡ value_from None (map (edge_changed span change) edges.old.items) t }
+    ensures values { HaveSameValues (map (edge_changed span change) edges.old.items) edges.new.items }
     ensures len { vec_len edges.new ≤ vec_len edges.old }
     ensures capacity { vec_capacity edges.new ≡ vec_capacity edges.old }
 {

@@ -1,10 +1,10 @@
 //! Assigning where another map, the floor, has nothing or less.
 
-ghost use Rattle.std.specs.Prelude.{◌≡◌, ℤ, ◌+◌, ◌*◌, ◌≤◌, ◌&&◌, cond, vec_len, vec_capacity};
+ghost use Rattle.std.specs.Prelude.{◌≡◌, ◌+◌, ◌*◌, ◌≤◌, cond, vec_len, vec_capacity};
 ghost use Rattle.ts_bucket.specs.Positions.{is_before};
-ghost use Rattle.ts_bucket.specs.Spans.{in_span};
-ghost use Rattle.span_map.specs.Edges.{IsRising, value_from, piece_count, has_value};
+ghost use Rattle.span_map.specs.Edges.{IsRising, value_from, piece_count, has_value, MakesValues};
 ghost use Rattle.span_map.specs.Floors.{run_filled, run_past, run_on, value_past, floor_filled};
+ghost use Rattle.span_map.specs.Functions.{AssignsAbove};
 
 use crate::changes::Change;
 use crate::edges::{Edge, change_values};
@@ -25,7 +25,7 @@ fn is_lower(value: Option<u64>, pos: u64) -> bool
 fn close_run(edges: &mut Vec<Edge>, run: Option<i64>, end: i64, pos: u64)
     requires rising { IsRising edges.old.items }
     requires room { vec_len edges.old + 2 ≤ vec_capacity edges.old }
-    ensures values { (t : ℤ) → value_from None edges.new.items t ≡ run_filled run end pos (value_from None edges.old.items t) t }
+    ensures values { MakesValues (run_filled run end pos) edges.old.items edges.new.items }
     ensures rising { IsRising edges.new.items }
     ensures len { vec_len edges.new ≤ vec_len edges.old + 2 }
     ensures capacity { vec_capacity edges.new ≡ vec_capacity edges.old }
@@ -40,7 +40,7 @@ fn close_run(edges: &mut Vec<Edge>, run: Option<i64>, end: i64, pos: u64)
 fn assign_between(edges: &mut Vec<Edge>, from: i64, end: i64, pos: u64)
     requires rising { IsRising edges.old.items }
     requires room { vec_len edges.old + 2 ≤ vec_capacity edges.old }
-    ensures values { (t : ℤ) → value_from None edges.new.items t ≡ run_filled (Some from) end pos (value_from None edges.old.items t) t }
+    ensures values { MakesValues (run_filled (Some from) end pos) edges.old.items edges.new.items }
     ensures rising { IsRising edges.new.items }
     ensures len { vec_len edges.new ≤ vec_len edges.old + 2 }
     ensures capacity { vec_capacity edges.new ≡ vec_capacity edges.old }
@@ -67,7 +67,7 @@ fn run_after(run: Option<i64>, edge: Edge, span: Span, pos: u64) -> Option<i64>
 fn pass_edge(edges: &mut Vec<Edge>, run: Option<i64>, edge: Edge, span: Span, pos: u64)
     requires rising { IsRising edges.old.items }
     requires room { vec_len edges.old + 2 ≤ vec_capacity edges.old }
-    ensures values { (t : ℤ) → value_from None edges.new.items t ≡ value_past span pos run edge (value_from None edges.old.items t) t }
+    ensures values { MakesValues (value_past span pos run edge) edges.old.items edges.new.items }
     ensures rising { IsRising edges.new.items }
     ensures len { vec_len edges.new ≤ vec_len edges.old + 2 * cond (has_value edge) 1 0 }
     ensures capacity { vec_capacity edges.new ≡ vec_capacity edges.old }
@@ -82,7 +82,7 @@ fn pass_edge(edges: &mut Vec<Edge>, run: Option<i64>, edge: Edge, span: Span, po
 fn assign_runs(edges: &mut Vec<Edge>, span: Span, pos: u64, start: Option<i64>, floor: &[Edge])
     requires rising { IsRising edges.old.items }
     requires room { vec_len edges.old + 2 * (piece_count floor.now + 1) ≤ vec_capacity edges.old }
-    ensures values { (t : ℤ) → value_from None edges.new.items t ≡ floor_filled span pos start floor.now (value_from None edges.old.items t) t }
+    ensures values { MakesValues (floor_filled span pos start floor.now) edges.old.items edges.new.items }
     ensures rising { IsRising edges.new.items }
 {
     let mut run = start;
@@ -109,7 +109,8 @@ pub(crate) fn assign_above_floor(edges: &mut Vec<Edge>, span: Span, pos: u64, fl
     requires rising { IsRising edges.old.items }
     requires floor_rising { IsRising floor.now }
     requires room { vec_len edges.old + 2 * (piece_count floor.now + 1) ≤ vec_capacity edges.old }
-    ensures values { (t : ℤ) → value_from None edges.new.items t ≡ cond (in_span span t && is_before pos (value_from None floor.now t)) (Some pos) (value_from None edges.old.items t) }
+    ensures values { AssignsAbove span pos
+        (value_from None floor.now) (value_from None edges.old.items) (value_from None edges.new.items) }
     ensures rising { IsRising edges.new.items }
 {
     let (value, between) = part_within(floor, span);

@@ -1,11 +1,11 @@
 //! The map.
 
-ghost use Rattle.std.specs.Prelude.{◌≡◌, ◌==◌, ℤ, ◌+◌, ◌*◌, ◌^◌, ◌<◌, ◌≤◌, ◌&&◌, cond, IfOk, OnOk};
-ghost use Rattle.ts_bucket.specs.Positions.{later, above, is_before};
-ghost use Rattle.ts_bucket.specs.Spans.{in_span};
+ghost use Rattle.std.specs.Prelude.{◌≡◌, ◌==◌, ℤ, ◌+◌, ◌*◌, ◌^◌, ◌<◌, ◌≤◌, IfOk, OnOk};
+ghost use Rattle.ts_bucket.specs.Positions.{later, above};
 ghost use Rattle.span_map.specs.Combined.{combined_by};
 ghost use Rattle.span_map.specs.Maps.{at, piece_count_of};
 ghost use Rattle.span_map.specs.Pieces.{piece_at, ArePieces};
+ghost use Rattle.span_map.specs.Functions.{AssignsAbove, ChangesWithin, IsPart};
 
 use crate::changes::Change;
 use crate::combine::combine;
@@ -99,7 +99,7 @@ impl SpanMap {
     /// Gives each number of the span this position.
     pub fn assign(&mut self, span: Span, pos: u64)
         requires { 2 ≤ self.old.room }
-        ensures values { (t : ℤ) → at self.new t ≡ cond (in_span span t) (Some pos) (at self.old t) }
+        ensures values { ChangesWithin span (λ _. Some pos) (at self.old) (at self.new) }
         ensures room { self.old.room ≤ self.new.room + 2 }
     {
         change_values(&mut self.edges, span, Change::Set(pos));
@@ -108,7 +108,7 @@ impl SpanMap {
     /// Takes away the values of the span that are at most `pos`.
     pub fn clear_upto(&mut self, span: Span, pos: u64)
         requires { 2 ≤ self.old.room }
-        ensures values { (t : ℤ) → at self.new t ≡ cond (in_span span t) (above pos (at self.old t)) (at self.old t) }
+        ensures values { ChangesWithin span (above pos) (at self.old) (at self.new) }
         ensures room { self.old.room ≤ self.new.room + 2 }
     {
         change_values(&mut self.edges, span, Change::ClearUpto(pos));
@@ -117,7 +117,7 @@ impl SpanMap {
     /// Gives each number of the span the later of its position and `pos`.
     pub fn raise(&mut self, span: Span, pos: u64)
         requires { 3 + piece_count_of self.old ≤ self.old.room }
-        ensures values { (t : ℤ) → at self.new t ≡ cond (in_span span t) (later (at self.old t) (Some pos)) (at self.old t) }
+        ensures values { ChangesWithin span (λ v. later v (Some pos)) (at self.old) (at self.new) }
         ensures room { self.old.room ≤ self.new.room + 2 }
     {
         change_values(&mut self.edges, span, Change::Raise(pos));
@@ -127,7 +127,7 @@ impl SpanMap {
     /// position.
     pub fn assign_above(&mut self, span: Span, pos: u64, floor: &SpanMap)
         requires { 3 * (piece_count_of floor.now + 1) ≤ self.old.room }
-        ensures values { (t : ℤ) → at self.new t ≡ cond (in_span span t && is_before pos (at floor.now t)) (Some pos) (at self.old t) }
+        ensures values { AssignsAbove span pos (at floor.now) (at self.old) (at self.new) }
     {
         assign_above_floor(&mut self.edges, span, pos, &floor.edges);
     }
@@ -135,7 +135,7 @@ impl SpanMap {
     /// The map that has the values of this one within the span, and none elsewhere. It costs the
     /// pieces within the span.
     pub fn within(&self, span: Span) -> Result<SpanMap, NoMemory>
-        ensures values { IfOk result (λ part. (t : ℤ) → at part t ≡ cond (in_span span t) (at self.now t) None) }
+        ensures values { IfOk result (λ part. IsPart span (at self.now) (at part)) }
     {
         Ok(SpanMap {
             edges: edges_within(*self.edges.allocator(), &self.edges, span)?,
@@ -156,7 +156,7 @@ impl SpanMap {
     /// The pieces within the span: each number of the span that has a value is in one of them, and
     /// in no other, and has its value. They rise.
     pub fn ranges(&self, span: Span) -> Result<Seq<Piece>, NoMemory>
-        ensures values { IfOk result (λ pieces. (t : ℤ) → piece_at pieces t ≡ cond (in_span span t) (at self.now t) None) }
+        ensures values { IfOk result (λ pieces. IsPart span (at self.now) (piece_at pieces)) }
         ensures rising { IfOk result (λ pieces. ArePieces span.lo span.hi pieces) }
     {
         pieces_within(*self.edges.allocator(), &self.edges, span)

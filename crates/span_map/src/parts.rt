@@ -1,8 +1,8 @@
 //! The part of a map within a span.
 
-ghost use Rattle.std.specs.Prelude.{◌≡◌, ℤ, cond, None, IfOk};
-ghost use Rattle.ts_bucket.specs.Spans.{in_span};
+ghost use Rattle.std.specs.Prelude.{◌≡◌, None, IfOk};
 ghost use Rattle.span_map.specs.Edges.{IsRising, value_from, value_on, between, framed};
+ghost use Rattle.span_map.specs.Functions.{IsPart};
 
 use crate::edges::{Edge, places_below, places_upto, value_after};
 use std::alloc::Global;
@@ -46,7 +46,7 @@ fn framed(
 /// Edges that have the values of others within a span, and none elsewhere.
 pub(crate) fn edges_within(alloc: Global, edges: &[Edge], span: Span) -> Result<Vec<Edge>, NoMemory>
     requires { IsRising edges.now }
-    ensures values { IfOk result (λ part. (t : ℤ) → value_from None part.items t ≡ cond (in_span span t) (value_from None edges.now t) None) }
+    ensures values { IfOk result (λ part. IsPart span (value_from None edges.now) (value_from None part.items)) }
     ensures rising { IfOk result (λ part. IsRising part.items) }
 {
     if span.lo < span.hi {

@@ -1,9 +1,9 @@
 //! Pieces of a map: spans with one value each.
 
-ghost use Rattle.std.specs.Prelude.{◌≡◌, ℤ, ◌++◌, cond, IfOk};
-ghost use Rattle.ts_bucket.specs.Spans.{in_span};
+ghost use Rattle.std.specs.Prelude.{◌≡◌, ◌++◌, IfOk};
 ghost use Rattle.span_map.specs.Edges.{IsRising, value_from};
 ghost use Rattle.span_map.specs.Pieces.{piece_of, pieces_from, piece_at, ArePieces};
+ghost use Rattle.span_map.specs.Functions.{IsPart};
 
 use crate::edges::Edge;
 use crate::parts::part_within;
@@ -61,7 +61,7 @@ pub(crate) fn pieces_within(
     span: Span,
 ) -> Result<Seq<Piece>, NoMemory>
     requires { IsRising edges.now }
-    ensures values { IfOk result (λ pieces. (t : ℤ) → piece_at pieces t ≡ cond (in_span span t) (value_from None edges.now t) None) }
+    ensures values { IfOk result (λ pieces. IsPart span (value_from None edges.now) (piece_at pieces)) }
     ensures rising { IfOk result (λ pieces. ArePieces span.lo span.hi pieces) }
 {
     let (value, between) = part_within(edges, span);

@@ -1,5 +1,5 @@
 -- Each pass goes past the next number of either map.
-use Rattle.std.proofs.Common.{◌≡◌, ◌∙◌, Some, ap, sym, FitsSigned, arith, rules}
+use Rattle.std.proofs.Common.{◌≡◌, ◌∙◌, Some, ap, sym, FitsSigned, rules}
 use Rattle.std.specs.Int.{w64}
 use Rattle.std.proofs.lemmas.Int.{to_z-of_z}
 use Rattle.span_map.specs.Combined.{earliest, with_last}

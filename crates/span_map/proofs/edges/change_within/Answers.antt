@@ -1,11 +1,10 @@
 -- The edges between the places that the two searches found are those from the start of the span to its end.
-use Rattle.std.proofs.Common.{◌≡◌, ◌∙◌, ◌≤ℤ◌, ℤ, ◌++◌, take, drop, map, ap, sym, subst, None, FitsSigned, arith, rules}
+use Rattle.std.proofs.Common.{◌≡◌, ◌∙◌, ℤ, ap, sym, subst, None, FitsSigned, arith, rules}
 use Rattle.std.specs.Int.{w64, cast_signed, cast_unsigned}
 use Rattle.std.proofs.lemmas.Int.{ints}
 use Rattle.ts_bucket.specs.Spans.{SpanValue}
-use Rattle.span_map.specs.declared.edges.Edge.{Edge}
 use Rattle.span_map.specs.Edges.{IsRising, value_from, place_below, place_upto}
-use Rattle.span_map.specs.Changes.{edge_changed, edges_halfway}
+use Rattle.span_map.specs.Changes.{edges_halfway}
 use Rattle.span_map.proofs.ChangeLaws.{rising-changed, places_ordered, halfway_begins, halfway_ends}
 use Rattle.span_map.proofs.edges.change_within.Goals as goal
 use Rattle.span_map.proofs.edges.change_within.Goals.{After-take_out}

@@ -1,5 +1,5 @@
 -- The floor's part within the span decides.
-use Rattle.std.proofs.Common.{◌≡◌, ◌≤◌, ◌∙◌, None, ap, subst, sym, arith}
+use Rattle.std.proofs.Common.{◌≤◌, ◌∙◌, None, ap, subst, sym, arith}
 use Rattle.span_map.specs.Edges.{value_from, value_on, piece_count}
 use Rattle.span_map.specs.Floors.{run_on, floor_filled}
 use Rattle.span_map.proofs.FloorLaws.{floor_filled-between, piece_count-between}

@@ -1,8 +1,7 @@
 -- The part within the span, framed by its ends, has the values there.
-use Rattle.std.proofs.Common.{◌≡◌, ◌∙◌, ◌<ℤ◌, ℤ, None, Vec, Global, ap, sym, subst, arith}
+use Rattle.std.proofs.Common.{◌≡◌, ◌∙◌, ◌<ℤ◌, None, Vec, Global, ap, sym, subst, arith}
 use Rattle.std.proofs.lemmas.Int.{ints}
 use Rattle.std.proofs.lemmas.Result.{IfOk-weaker}
-use Rattle.ts_bucket.specs.Spans.{SpanValue}
 use Rattle.span_map.specs.declared.edges.Edge.{Edge}
 use Rattle.span_map.specs.Edges.{IsRising, value_from, value_on, between, framed}
 use Rattle.span_map.proofs.PieceLaws.{rising-framed, value_from-framed}

@@ -1,7 +1,6 @@
 -- What is pending within the span, joined, are the ranges of its dirty buckets.
-use Rattle.std.proofs.Common.{◌≡◌, ◌∙◌, ℤ, ◌≤ℤ◌, true, None, cond, IfOk, ap, sym, subst, arith}
+use Rattle.std.proofs.Common.{◌≡◌, ◌∙◌, ◌≤ℤ◌, None, cond, IfOk, ap, sym, subst, arith}
 use Rattle.std.proofs.lemmas.Int.{ints}
-use Rattle.ts_bucket.specs.Bucket.{is_bucket}
 use Rattle.ts_bucket.specs.Spans.{SpanValue, in_span}
 use Rattle.span_map.specs.Maps.{at}
 use Rattle.ts_bucket.specs.WholeSpans.{IsWholeSpan, greatest}

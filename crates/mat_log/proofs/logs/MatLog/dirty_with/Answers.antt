@@ -1,14 +1,10 @@
 -- What is pending within the span, joined, are the ranges of its dirty buckets.
-use Rattle.std.proofs.Common.{◌≡◌, ◌∙◌, ℤ, ◌≤ℤ◌, true, None, cond, filter, IfOk, ap, sym, subst, arith}
+use Rattle.std.proofs.Common.{◌≡◌, ◌≤ℤ◌, ap, subst, arith}
 use Rattle.std.proofs.lemmas.Int.{ints}
-use Rattle.ts_bucket.specs.Bucket.{is_bucket}
-use Rattle.ts_bucket.specs.Spans.{SpanValue, in_span, overlaps}
-use Rattle.ts_bucket.specs.Ranges.{AreRanges}
-use Rattle.ts_bucket.specs.WholeSpans.{IsWholeSpan, greatest}
+use Rattle.ts_bucket.specs.Spans.{SpanValue}
+use Rattle.ts_bucket.specs.WholeSpans.{greatest}
 use Rattle.span_map.specs.Maps.{at}
-use Rattle.inval_log.specs.declared.entries.Entry.{Entry}
 use Rattle.mat_log.specs.Logs.{LogValue, IsInStep, pending_at, last_at}
-use Rattle.mat_log.specs.Feeding.{is_dirty_with}
 use Rattle.mat_log.proofs.RangeLaws.{dirty_with_as}
 use Rattle.mat_log.proofs.logs.MatLog.dirty_with.Goals as goal
 

@@ -1,5 +1,5 @@
 -- What is pending afterwards is the latest touch where it is above the last refresh.
-use Rattle.std.proofs.Common.{◌≡◌, ◌∙◌, refl, ap, sym, subst}
+use Rattle.std.proofs.Common.{◌∙◌, refl, ap, sym, subst}
 use Rattle.span_map.specs.Maps.{MapValue, at}
 use Rattle.mat_log.specs.Logs.{LogValue}
 use Rattle.mat_log.specs.Feeding.{IsFed}

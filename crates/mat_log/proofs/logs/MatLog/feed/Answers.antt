@@ -1,11 +1,11 @@
 -- The buckets that the hull meets are the span that was assigned.
 use Rattle.std.proofs.Common.{◌≡◌, ◌∙◌, ℤ, Some, true, ◌&&◌, cond, ap, sym, subst}
-use Rattle.ts_bucket.specs.Bucket.{IsWidth, is_bucket}
+use Rattle.ts_bucket.specs.Bucket.{is_bucket}
 use Rattle.ts_bucket.specs.Positions.{is_before}
 use Rattle.ts_bucket.specs.Spans.{SpanValue, in_span, meets, touched_span}
 use Rattle.ts_bucket.proofs.SpanLaws.{meets-between}
 use Rattle.span_map.specs.Maps.{at}
-use Rattle.mat_log.specs.Logs.{LogValue, pending_at, last_at, IsInStep}
+use Rattle.mat_log.specs.Logs.{LogValue, pending_at, last_at}
 use Rattle.ts_bucket.proofs.WholeSpanLaws.{touched_starts, touched_ends}
 use Rattle.mat_log.proofs.StepLaws.{in_step-fed}
 use Rattle.mat_log.proofs.logs.MatLog.feed.Goals as goal

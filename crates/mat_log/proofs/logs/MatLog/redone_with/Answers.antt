@@ -1,5 +1,5 @@
 -- What is pending within the span, and what is left of the last refreshes above the snapshot, joined.
-use Rattle.std.proofs.Common.{◌≡◌, ◌∙◌, ℤ, ◌≤ℤ◌, ℕ, Option, None, cond, ap, sym, subst, arith}
+use Rattle.std.proofs.Common.{◌≡◌, ◌∙◌, ℤ, ◌≤ℤ◌, ℕ, Option, None, cond, ap, subst, arith}
 use Rattle.std.proofs.lemmas.Int.{ints}
 use Rattle.ts_bucket.specs.Positions.{above}
 use Rattle.ts_bucket.specs.Spans.{SpanValue, in_span}

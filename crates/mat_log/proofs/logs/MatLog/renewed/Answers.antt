@@ -1,7 +1,5 @@
 -- Where the last refresh isn't above the snapshot the snapshot stays.
-use Rattle.std.proofs.Common.{◌≡◌, ◌∙◌, ℤ, ℕ, Option, Some, None, cond, ap, subst}
-use Rattle.std.specs.List.{AllByRecursion}
-use Rattle.ts_bucket.specs.Ranges.{IsWholeRange, lies_in}
+use Rattle.std.proofs.Common.{◌≡◌, ◌∙◌, ℤ, ℕ, Option, None, cond, ap, subst}
 use Rattle.ts_bucket.specs.Spans.{in_span}
 use Rattle.span_map.specs.Combined.{combined_by}
 use Rattle.span_map.specs.declared.rules.Rule.TheVariants.{NotBelow}

@@ -1,6 +1,5 @@
 -- A span of whole buckets is changed in one way.
-use Rattle.std.proofs.Common.{◌≡◌, true, sym, ap, subst}
-use Rattle.ts_bucket.specs.Bucket.{WidthValue, is_bucket}
+use Rattle.std.proofs.Common.{sym, subst}
 use Rattle.span_map.specs.Maps.{at}
 use Rattle.ts_bucket.specs.WholeSpans.{IsWholeSpan}
 use Rattle.mat_log.specs.Logs.{LogValue}

@@ -1,5 +1,4 @@
 use Rattle.std.proofs.Common.{◌≡◌, ◌++◌, length, refl}
-use Rattle.seg_rows.specs.Lives.{lives_of}
 use Rattle.seg_rows.proofs.LifeLaws.{joined_sealed, with_lives-append}
 use Rattle.seg_rows.proofs.segments.Segment.join.Goals as goal
 
