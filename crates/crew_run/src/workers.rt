@@ -14,7 +14,8 @@ pub trait Worker {
     // That it may begin.
     ghost ready: { Self → Type 0 };
 
-    // What it did at a store that is alone or not: what it was and the state that it found, what it is then and the state that it left.
+    // What it did at a store that is alone or not: what it was and the state that it found, what it
+    // is then and the state that it left.
     ghost did: { Bool → Self → State → Self → State → Type 0 };
 
     /// Does its work.

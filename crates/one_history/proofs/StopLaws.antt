@@ -16,7 +16,7 @@ use Rattle.ts_model.specs.declared.refreshes.Window.{Window}
 use Rattle.ts_model.specs.declared.refreshes.Window.TheVariants.{Whole, NoBucket, Nothing}
 use Rattle.ts_model.specs.declared.tables.Hyper.{Hyper}
 use Rattle.ts_model.specs.declared.views.ViewDef.{ViewDef}
-use Rattle.ts_model.specs.Calls.{Act, refuses as is_refused, says, makes, committing, cut_of_view, cut_over, cutting, finish_of, finishing, making_hyper, making_table, making_view, name_taken, new_relation, numbered, no_bucket, no_refresh, refusal, setting_mode, stopped, too_many}
+use Rattle.ts_model.specs.Calls.{Act, refuses as is_refused, returns, makes, committing, cut_of_view, cut_over, cutting, finish_of, finishing, making_hyper, making_table, making_view, name_taken, new_relation, numbered, no_bucket, no_refresh, refusal, setting_mode, stopped, too_many}
 use Rattle.ts_model.specs.History.{History, start, ◌▸◌, position, prefix}
 use Rattle.ts_model.specs.Limits.{most_relations}
 use Rattle.ts_model.specs.Pending.{pending}
@@ -117,14 +117,14 @@ module _ {A : Type 0} where
 -- a call is never refused because its store stands still
 abbrev Plain : {A : Type 0} → Act A → Type 0
 Plain (is_refused r) = IsOther r.code
-Plain (says a) = ⊤
+Plain (returns a) = ⊤
 Plain (makes e a) = ⊤
 
 -- a call, and what follows by what came of it
 module _ {A B : Type 0} (N : Option ℕ → B → Type 0) (h : History) (then : Result A Refusal → Procedure B) where
   meets_tries : (act : Act A) → Plain act → ((r : Refusal) → IsOther r.code → Meets N (Some (position h)) (then (Err r))) → ((p : ℕ) (a : A) → Meets N (Some p) (then (Ok a))) → EndsSo (N (Some (position h))) (then (Err (refusal stopped h 0))) → Meets N (Some (position h)) (followed_by (tries_at h act) then)
   meets_tries (is_refused r) plain refused done stop = refused r plain
-  meets_tries (says a) plain refused done stop = done (position h) a
+  meets_tries (returns a) plain refused done stop = done (position h) a
   meets_tries (makes e a) plain refused done stop = (done (suc (position h)) a, stop)
 
 -- a refusal that isn't E24 may come wherever the store stopped

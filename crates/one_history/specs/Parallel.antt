@@ -18,9 +18,11 @@ pub record SessionReplies : Type 0 where
 
 -- ---- one session
 
+-- the lines of a session
 abbrev pub lines_in : SessionScript → List SessionLine
 lines_in session = session.lines
 
+-- the places of a session after its turn
 abbrev pub places_after : Turn Places → Places
 places_after turn = turn.places
 
@@ -53,6 +55,7 @@ abbrev pub all_texts : List SessionReplies → List ℕ
 all_texts [] = []
 all_texts (replies ∷ others) = replies.text ++ all_texts others
 
+-- one of their replies is a FAULT
 abbrev pub any_fault : List SessionReplies → Bool
 any_fault sessions = list_any (λ replies. replies.fault) sessions
 

@@ -9,24 +9,8 @@ use Rattle.one_history.specs.Answered.{LineAnswer}
 
 -- a line of a reply is E24 only where the store had stopped, with that position
 abbrev pub StopsAt : Option ℕ → Said → Type 0
-StopsAt stop (said.Table pos) = ⊤
-StopsAt stop (said.Hypertable pos) = ⊤
-StopsAt stop (said.View pos) = ⊤
-StopsAt stop (said.Mode pos) = ⊤
-StopsAt stop (said.Commit done) = ⊤
-StopsAt stop said.Queued = ⊤
-StopsAt stop (said.Refresh cut pos snap span min) = ⊤
-StopsAt stop (said.Nothing pos) = ⊤
-StopsAt stop (said.Cut cut span min) = ⊤
-StopsAt stop (said.Snap cut snap) = ⊤
-StopsAt stop (said.Finish cut pos snap) = ⊤
-StopsAt stop said.Begin = ⊤
-StopsAt stop (said.BeginRead pos) = ⊤
-StopsAt stop said.CommitEmpty = ⊤
-StopsAt stop said.Rollback = ⊤
-StopsAt stop said.End = ⊤
-StopsAt stop (said.Answered answer pos min) = ⊤
 StopsAt stop (said.Fault refusal) = refusal.code ≡ stopped → stop ≡ Some refusal.pos
+StopsAt stop other = ⊤
 
 -- so is each line of the reply that a session's line came to
 abbrev pub ReplyStopsAt : Option ℕ → Turn Places → Type 0

@@ -3,7 +3,6 @@ use Rattle.std.proofs.Common.{◌≡◌, ℕ, ◌≤◌, List, [], ◌∷◌, �
 use Rattle.std.specs.Option.{IfSome, option_to_list}
 use Rattle.std.proofs.lemmas.List.{map-append}
 use Rattle.std.proofs.lemmas.List.Elements.{All-cons, All-nil, All-push}
-use Rattle.ts_model.specs.History.{History}
 use Rattle.crew_run.specs.Slots.{Slot, workers_of}
 use Rattle.session_lines.specs.declared.sessions.SessionLines.{SessionLines}
 use Rattle.session_lines.specs.declared.sorting.SortedLines.{SortedLines}
@@ -13,25 +12,26 @@ use Rattle.ts_sessions.specs.Script.{SessionScript}
 use Rattle.par_run.specs.declared.workers.SessionWorker.{SessionWorker}
 use Rattle.par_run.specs.Workers.{worker_script, IsReady}
 use Rattle.par_run.specs.Crews.{scripts_in, IsCrew}
+use Rattle.ts_model.specs.declared.snapshots.Shown.{Ghosts as Shown}
 
-module _ {T G J B : Type 0} (stands : T → History → Type 0) (fits : J → History → Type 0) (cut_of snap_of : J → ℕ) (input : List ℕ) where
+module _ {T G J B : Type 0} (shown : Shown T J) (input : List ℕ) where
   -- nobody yet
-  pub crew_begun : (crew : List (Slot (SessionWorker T G J) B)) → crew ≡ [] → IsCrew {B = B} stands fits cut_of snap_of (scripts_of input []) crew
-  crew_begun crew none = subst (λ c. IsCrew {B = B} stands fits cut_of snap_of (scripts_of input []) c) (sym none) (record { scripts = refl; ready = All-nil (IsReady stands fits cut_of snap_of) })
+  pub crew_begun : (crew : List (Slot (SessionWorker T G J) B)) → crew ≡ [] → IsCrew {B = B} shown (scripts_of input []) crew
+  crew_begun crew none = subst (λ c. IsCrew {B = B} shown (scripts_of input []) c) (sym none) (record { scripts = refl; ready = All-nil (IsReady shown) })
 
   -- one worker more
   pub crew_more : (sessions : List SessionLines) (crew : List (Slot (SessionWorker T G J) B)) (session : SessionLines) (slot : Slot (SessionWorker T G J) B) (now : List (Slot (SessionWorker T G J) B))
-      → IsCrew {B = B} stands fits cut_of snap_of (scripts_of input sessions) crew → worker_script slot.0 ≡ script_of input session → IsReady stands fits cut_of snap_of slot.0
-      → now ≡ crew ++ slot ∷ [] → IsCrew {B = B} stands fits cut_of snap_of (scripts_of input (sessions ++ session ∷ [])) now
+      → IsCrew {B = B} shown (scripts_of input sessions) crew → worker_script slot.0 ≡ script_of input session → IsReady shown slot.0
+      → now ≡ crew ++ slot ∷ [] → IsCrew {B = B} shown (scripts_of input (sessions ++ session ∷ [])) now
   crew_more sessions crew session slot now is script ready same =
-      subst (λ c. IsCrew {B = B} stands fits cut_of snap_of (scripts_of input (sessions ++ session ∷ [])) c) (sym same)
+      subst (λ c. IsCrew {B = B} shown (scripts_of input (sessions ++ session ∷ [])) c) (sym same)
       (record {
         scripts = ap (map worker_script) (map-append (λ s. s.0) crew (slot ∷ []))
             ∙ map-append worker_script (workers_of crew) (slot.0 ∷ [])
             ∙ ap (λ xs. xs ++ worker_script slot.0 ∷ []) is.scripts
             ∙ ap (λ x. scripts_of input sessions ++ x ∷ []) script
             ∙ sym (map-append (script_of input) sessions (session ∷ []));
-        ready = subst (All (IsReady stands fits cut_of snap_of)) (sym (map-append (λ s. s.0) crew (slot ∷ []))) (All-push (IsReady stands fits cut_of snap_of) (workers_of crew) slot.0 is.ready ready);
+        ready = subst (All (IsReady shown)) (sym (map-append (λ s. s.0) crew (slot ∷ []))) (All-push (IsReady shown) (workers_of crew) slot.0 is.ready ready);
       })
 
 -- ---- the sessions of an input

@@ -9,15 +9,16 @@ use Rattle.session_lines.specs.Sorted.{Sorted, at_once, final, only, setup}
 use Rattle.par_run.specs.declared.crews.Crews.{Crews}
 use Rattle.par_run.specs.declared.workers.SessionWorker.{SessionWorker}
 use Rattle.par_run.specs.Workers.{worker_script, IsReady}
+use Rattle.ts_model.specs.declared.snapshots.Shown.{Ghosts as Shown}
 
 -- the sessions of workers
 abbrev pub scripts_in : {T G J B : Type 0} → List (Slot (SessionWorker T G J) B) → List SessionScript
 scripts_in crew = map worker_script (workers_of crew)
 
 -- a worker for each session, before its first line
-pub record IsCrew {T G J B : Type 0} (stands : T → History → Type 0) (fits : J → History → Type 0) (cut_of snap_of : J → ℕ) (sessions : List SessionScript) (crew : List (Slot (SessionWorker T G J) B)) : Type 0 where
+pub record IsCrew {T G J B : Type 0} (shown : Shown T J) (sessions : List SessionScript) (crew : List (Slot (SessionWorker T G J) B)) : Type 0 where
   pub scripts : scripts_in crew ≡ sessions
-  pub ready : All (IsReady stands fits cut_of snap_of) (workers_of crew)
+  pub ready : All (IsReady shown) (workers_of crew)
 
 module _ {B G T J : Type 0} where
   -- the workers have these sorted lines
@@ -28,10 +29,10 @@ module _ {B G T J : Type 0} where
     pub last_is : scripts_in crews.last.items ≡ only final lines.sessions
 
   -- each stands before its first line
-  pub record AreReady (stands : T → History → Type 0) (fits : J → History → Type 0) (cut_of snap_of : J → ℕ) (crews : Crews B G T J) : Type 0 where
-    pub setup_is : All (IsReady stands fits cut_of snap_of) (workers_of crews.setup.items)
-    pub at_once_are : All (IsReady stands fits cut_of snap_of) (workers_of crews.at_once.items)
-    pub last_is : All (IsReady stands fits cut_of snap_of) (workers_of crews.last.items)
+  pub record AreReady (shown : Shown T J) (crews : Crews B G T J) : Type 0 where
+    pub setup_is : All (IsReady shown) (workers_of crews.setup.items)
+    pub at_once_are : All (IsReady shown) (workers_of crews.at_once.items)
+    pub last_is : All (IsReady shown) (workers_of crews.last.items)
 
   -- there is at most one before all others and one after them, and no more than a script may have
   pub record AreFew (crews : Crews B G T J) : Type 0 where

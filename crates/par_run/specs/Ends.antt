@@ -1,13 +1,12 @@
 -- How a run ends.
 use Rattle.std.specs.Prelude.{Bool, true, false}
 use Rattle.par_run.specs.declared.ends.ParStop.{ParStop}
-use Rattle.par_run.specs.declared.ends.ParStop.TheVariants.{Done, DiskFault, NoMemory}
+use Rattle.par_run.specs.declared.ends.ParStop.TheVariants.{Done, DiskFault}
 
 -- the disk failed at an event
 abbrev pub is_disk_fault : ParStop → Bool
-is_disk_fault Done = false
 is_disk_fault DiskFault = true
-is_disk_fault NoMemory = false
+is_disk_fault other = false
 
 -- by whether the store stands still
 abbrev pub stop_by : Bool → ParStop

@@ -9,9 +9,11 @@ use Rattle.ts_sessions.specs.Script.{SessionLine}
 use Rattle.one_history.specs.Parallel.{SessionReplies, SessionExecutedTo, all_texts, any_fault}
 use Rattle.par_run.specs.declared.replies.Replies.{Replies}
 
+-- what was kept of the replies of a session
 abbrev pub replies_in : Replies → SessionReplies
 replies_in replies = record { text = replies.text.items; fault = replies.fault }
 
+-- a session that has replied nothing
 abbrev pub no_replies : SessionReplies
 no_replies = record { text = []; fault = false }
 

@@ -1,6 +1,5 @@
 -- Sessions with their lines of an input.
-use Rattle.std.specs.Prelude.{◌≡◌, ◌≤◌, ℕ, Bool, All, length, map, sum_by}
-use Rattle.ts_model.specs.History.{History}
+use Rattle.std.specs.Prelude.{◌≡◌, ◌≤◌, Bool, All, length, map, sum_by}
 use Rattle.ts_model.specs.States.{State}
 use Rattle.ts_sessions.specs.Held.{HoldsOf, most_queued, places_in}
 use Rattle.ts_sessions.specs.Places.{no_places}
@@ -9,6 +8,7 @@ use Rattle.one_history.specs.Parallel.{SessionReplies}
 use Rattle.session_lines.specs.Places.{line_at, IsLineWithin}
 use Rattle.par_run.specs.declared.workers.SessionWorker.{SessionWorker}
 use Rattle.par_run.specs.Replies.{no_replies, replies_in}
+use Rattle.ts_model.specs.declared.snapshots.Shown.{Ghosts as Shown}
 
 module _ {T G J : Type 0} where
   -- the session's name, and its lines
@@ -24,10 +24,10 @@ module _ {T G J : Type 0} where
   ran_out w = w.out_of_memory
 
   -- a session stands before its first line
-  pub record IsReady (stands : T → History → Type 0) (fits : J → History → Type 0) (cut_of snap_of : J → ℕ) (w : SessionWorker T G J) : Type 0 where
+  pub record IsReady (shown : Shown T J) (w : SessionWorker T G J) : Type 0 where
     pub lines : All (IsLineWithin (length w.input.now)) w.lines.items
     -- together they have no more bytes than may wait for the end of a write block
     pub room : sum_by (λ line. line.len) w.lines.items ≤ most_queued
     pub fresh : places_in w.executor.session ≡ no_places
-    pub holds : (s : State) → HoldsOf stands fits cut_of snap_of w.executor.session s
+    pub holds : (s : State) → HoldsOf shown w.executor.session s
     pub unanswered : replies_of w ≡ no_replies

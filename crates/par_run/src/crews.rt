@@ -44,7 +44,7 @@ where
     G: Gate,
     requires short { length input.now ≤ INPUT_LIMIT }
     ensures lines { IfOk result (AreOf (sorted input.now)) }
-    ensures ready { IfOk result (AreReady B.Shot.stands B.Shot.fits B.Shot.cut_of B.Shot.snap_of) }
+    ensures ready { IfOk result (AreReady B.Shot.Shown) }
     ensures few { IfOk result AreFew }
 {
     let lines = sort_lines(alloc, input)?;
@@ -85,7 +85,7 @@ where
     G: Gate,
     requires short { length input.now ≤ INPUT_LIMIT }
     requires within { All (IsWithin (length input.now)) sessions.items }
-    ensures crew { IfOk result (λ crew. IsCrew B.Shot.stands B.Shot.fits B.Shot.cut_of B.Shot.snap_of
+    ensures crew { IfOk result (λ crew. IsCrew B.Shot.Shown
         (scripts_of input.now sessions.items) crew.items) }
     ensures each { IfOk result (λ crew. length crew.items ≡ length sessions.items) }
 {

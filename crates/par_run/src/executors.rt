@@ -1,7 +1,7 @@
 //! A session that executes lines one after the other.
 ghost use Rattle.std.specs.Prelude.{◌≡◌, ◌+◌, ◌≤◌, All, length, map, sum_by, OnOk};
 ghost use Rattle.std.specs.Thread.{IsSync};
-ghost use Rattle.ts_sessions.specs.Held.{HoldsOf, most_queued, places_in, queued};
+ghost use Rattle.ts_sessions.specs.Held.{HoldsOf, most_queued, places_in, queued, waiting_bytes};
 ghost use Rattle.ts_sessions.specs.Places.{no_places};
 ghost use Rattle.one_history.specs.Parallel.{SessionExecuted};
 ghost use Rattle.session_lines.specs.Places.{line_at, IsLineWithin};
@@ -53,7 +53,7 @@ where
         requires lines { All (IsLineWithin (length input.now)) lines.now }
         requires room { sum_by (λ line. line.len) lines.now ≤ most_queued }
         requires fresh { places_in self.old.session ≡ no_places }
-        requires holds { HoldsOf T.stands T.fits T.cut_of T.snap_of self.old.session (B.state backend.old) }
+        requires holds { HoldsOf T.Shown self.old.session (B.state backend.old) }
         requires no_replies { replies_in self.old.replies ≡ no_replies }
         ensures executed { OnOk result (SessionExecuted B.alone
             (record { name = self.old.session.name; lines = map (line_at input.now) lines.now })
@@ -79,15 +79,15 @@ where
         requires sync { IsSync R.row }
         requires short { length text.now ≤ 65536 }
         requires within { skip ≤ length text.now }
-        requires room { queued (places_in self.old.session).block + length text.now ≤ most_queued }
-        requires holds { HoldsOf T.stands T.fits T.cut_of T.snap_of self.old.session (B.state backend.old) }
-        ensures executed { OnOk result (ExecutesNext B.alone self.old.session.name (record { text = text.now; skip = skip })
+        requires room { waiting_bytes self.old.session + length text.now ≤ most_queued }
+        requires holds { HoldsOf T.Shown self.old.session (B.state backend.old) }
+        ensures executed { OnOk result (ExecutesNext B.alone self.old.session.name
+            (record { text = text.now; skip = skip })
             (B.state backend.old) (places_in self.old.session) (replies_in self.old.replies)
             (B.state backend.new) (places_in self.new.session) (replies_in self.new.replies)) }
         ensures name { self.new.session.name ≡ self.old.session.name }
-        ensures holds { HoldsOf T.stands T.fits T.cut_of T.snap_of self.new.session (B.state backend.new) }
-        ensures queued { queued (places_in self.new.session).block
-            ≤ queued (places_in self.old.session).block + length text.now }
+        ensures holds { HoldsOf T.Shown self.new.session (B.state backend.new) }
+        ensures queued { waiting_bytes self.new.session ≤ waiting_bytes self.old.session + length text.now }
         ensures kin { B.kin backend.new ≡ B.kin backend.old }
     {
         let end = self.session.step(

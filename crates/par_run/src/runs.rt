@@ -48,7 +48,8 @@ where
     requires within { length input.now ≤ INPUT_LIMIT }
     ensures ran { result.stop ≢ ParStop.NoMemory → LinesRan (B.state backend).history (sorted input.now)
         (B.state result.backend) result.text result.fault }
-    ensures stop { result.stop ≢ ParStop.NoMemory → stands_still (B.state result.backend) ≡ is_disk_fault result.stop }
+    ensures stop { result.stop ≢ ParStop.NoMemory
+        → stands_still (B.state result.backend) ≡ is_disk_fault result.stop }
     ensures goes_on { GoesOn (B.state backend) (B.state result.backend) }
     ensures kin { B.kin result.backend ≡ B.kin backend }
 {
@@ -70,10 +71,11 @@ where
     requires alone { IsTrue B.alone }
     requires going { (B.state backend).failed ≡ None }
     requires few { AreFew crews }
-    requires ready { AreReady B.Shot.stands B.Shot.fits B.Shot.cut_of B.Shot.snap_of crews }
+    requires ready { AreReady B.Shot.Shown crews }
     ensures ran { result.stop ≢ ParStop.NoMemory → CrewsRan (B.state backend).history crews.entry
         (B.state result.backend) result.text result.fault }
-    ensures stop { result.stop ≢ ParStop.NoMemory → stands_still (B.state result.backend) ≡ is_disk_fault result.stop }
+    ensures stop { result.stop ≢ ParStop.NoMemory
+        → stands_still (B.state result.backend) ≡ is_disk_fault result.stop }
     ensures goes_on { GoesOn (B.state backend) (B.state result.backend) }
     ensures kin { B.kin result.backend ≡ B.kin backend }
 {
@@ -103,10 +105,11 @@ where
     requires alone { IsTrue B.alone }
     requires first { IsFirstPass store.opened.value store.shares store pass }
     requires shares { HaveShares store.shares crews }
-    requires ready { AreReady B.Shot.stands B.Shot.fits B.Shot.cut_of B.Shot.snap_of crews }
+    requires ready { AreReady B.Shot.Shown crews }
     ensures ran { result.stop ≢ ParStop.NoMemory → CrewsRan (B.state store.opened.value).history crews.entry
         (B.state result.backend) result.text result.fault }
-    ensures stop { result.stop ≢ ParStop.NoMemory → stands_still (B.state result.backend) ≡ is_disk_fault result.stop }
+    ensures stop { result.stop ≢ ParStop.NoMemory
+        → stands_still (B.state result.backend) ≡ is_disk_fault result.stop }
     ensures goes_on { GoesOn (B.state store.opened.value) (B.state result.backend) }
     ensures kin { B.kin result.backend ≡ B.kin store.opened.value }
 {

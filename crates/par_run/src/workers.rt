@@ -45,7 +45,7 @@ where
         requires short { length input.now ≤ INPUT_LIMIT }
         requires within { IsWithin (length input.now) session }
         ensures script { worker_script result ≡ script_of input.now session }
-        ensures ready { IsReady T.stands T.fits T.cut_of T.snap_of result }
+        ensures ready { IsReady T.Shown result }
     {
         let SessionLines {
             name,
@@ -76,7 +76,7 @@ where
 
     type Shot = T;
 
-    ghost ready = { IsReady T.stands T.fits T.cut_of T.snap_of };
+    ghost ready = { IsReady T.Shown };
 
     ghost did = { Worked worker_script replies_of ran_out };
 

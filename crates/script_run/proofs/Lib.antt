@@ -3,6 +3,5 @@ pub mod Counting
 pub mod LineLaws
 pub mod Progress
 pub mod ScriptLaws
-pub mod StatementLineLaws
 pub mod RunLaws
 pub mod WalkedAlone

@@ -7,7 +7,7 @@ use Rattle.ts_model.specs.History.{History, Begins, same}
 use Rattle.ts_model.specs.States.{State, stands_still}
 use Rattle.stmt_reader.specs.declared.lines.LineKind.{LineKind}
 use Rattle.stmt_reader.specs.declared.lines.LineKind.TheVariants.{Blank, NotAscii, NoSession, Stmt}
-use Rattle.stmt_reader.specs.Lines.{line_kind}
+use Rattle.stmt_reader.specs.Lines.{line_kind, session_name}
 use Rattle.result_text.specs.declared.codes.TheConstants.{LINE_LONG, TOO_MANY_SESSIONS}
 use Rattle.result_text.specs.declared.replies.Said.TheVariants as said
 use Rattle.result_text.specs.Replies.{reply_text}
@@ -18,7 +18,7 @@ use Rattle.ts_sessions.specs.Procedures.{Procedure}
 use Rattle.ts_sessions.specs.Held.{GoesOn}
 use Rattle.ts_sessions.specs.Places.{Turn}
 use Rattle.ts_sessions.specs.Step.{bare}
-use Rattle.ts_sessions.specs.Script.{Semantics, LineResult, ScriptState, text_of, has_fault, takes_turn, with_places, places_of, executes, executes_kind, executes_as, session_name, refused, refused_line, line_limit, most_sessions}
+use Rattle.ts_sessions.specs.Script.{Semantics, LineResult, ScriptState, text_of, has_fault, takes_turn, with_places, places_of, executes, executes_kind, executes_as, refused, refused_line, line_limit, most_sessions}
 use Rattle.ts_sessions.specs.Sessions.{IfAnswered, Stepped}
 use Rattle.ts_sessions.proofs.WalkLaws.{goes_walks, goes_breaks}
 use Rattle.script_run.specs.LineEnds.{RepliesWith, Replies, LineExecuted, LineAnswered, LineBroken, LineFailed, ends_with}

@@ -12,6 +12,7 @@ use Rattle.ts_model.specs.Roster.{same_name}
 use Rattle.ts_sessions.specs.Held.{GoesOn}
 use Rattle.ts_sessions.specs.Script.{places_of, with_places}
 use Rattle.script_run.specs.Sessions.{sessions_of, waiting_in, IsMember, AreSessions, AreSessionsFrom}
+use Rattle.ts_sessions.specs.declared.actors.Actor.{Ghosts as Actor}
 
 -- a key is this name
 abbrev is_key : List ℕ → Vec ℕ → Bool
@@ -157,34 +158,34 @@ elsewhere places name entry entries none = by (same_name entry.0.items name) ref
     by true e none = absurd (some_none none)
     by false e none = record { other = sym (either_way name entry.0) ∙ e; missing = none }
 
-module _ {A : Type 0} (named : A → List ℕ) (numbered : A → ℕ) (holds : A → State → Type 0) where
-  from_there : (s : State) (n m : ℕ) (e : Vec ℕ × A) → n ≡ m → IsMember named numbered holds s n e → IsMember named numbered holds s m e
-  from_there s n m e same known = subst (λ k. IsMember named numbered holds s k e) same known
+module _ {A T J : Type 0} (actors : Actor A T J) where
+  from_there : (s : State) (n m : ℕ) (e : Vec ℕ × A) → n ≡ m → IsMember actors s n e → IsMember actors s m e
+  from_there s n m e same known = subst (λ k. IsMember actors s k e) same known
 
   -- one at a place
-  pub sessions_at : (s : State) (n : ℕ) (entries : List (Vec ℕ × A)) (i : ℕ) (e : Vec ℕ × A) → AreSessionsFrom named numbered holds s n entries → slice_get entries i ≡ Some e → IsMember named numbered holds s (n + i) e
+  pub sessions_at : (s : State) (n : ℕ) (entries : List (Vec ℕ × A)) (i : ℕ) (e : Vec ℕ × A) → AreSessionsFrom actors s n entries → slice_get entries i ≡ Some e → IsMember actors s (n + i) e
   sessions_at s n [] i e c at = absurd (some_none (sym at))
-  sessions_at s n (x ∷ xs) zero e c at = from_there s n (n + 0) e (omega arith) (subst (λ e. IsMember named numbered holds s n e) (some_same at) c.0)
+  sessions_at s n (x ∷ xs) zero e c at = from_there s n (n + 0) e (omega arith) (subst (λ e. IsMember actors s n e) (some_same at) c.0)
   sessions_at s n (x ∷ xs) (suc i) e c at = from_there s (suc n + i) (n + suc i) e (omega arith) (sessions_at s (suc n) xs i e c.1 at)
 
-  module _ (on : (a : A) (g h : State) → GoesOn g h → holds a g → holds a h) (g h : State) (went : GoesOn g h) where
-    member_on : (n : ℕ) (e : Vec ℕ × A) → IsMember named numbered holds g n e → IsMember named numbered holds h n e
+  module _ (on : (a : A) (g h : State) → GoesOn g h → actors.holds a g → actors.holds a h) (g h : State) (went : GoesOn g h) where
+    member_on : (n : ℕ) (e : Vec ℕ × A) → IsMember actors g n e → IsMember actors h n e
     member_on n e m = record { name = m.name; number_known = m.number_known; holds_well = on e.1 g h went m.holds_well }
 
     -- as the store goes on
-    pub sessions_on : (n : ℕ) (entries : List (Vec ℕ × A)) → AreSessionsFrom named numbered holds g n entries → AreSessionsFrom named numbered holds h n entries
+    pub sessions_on : (n : ℕ) (entries : List (Vec ℕ × A)) → AreSessionsFrom actors g n entries → AreSessionsFrom actors h n entries
     sessions_on n [] c = tt
     sessions_on n (x ∷ xs) c = (member_on n x c.0, sessions_on (suc n) xs c.1)
 
     -- and as one of them has a line
-    pub sessions_set : (n : ℕ) (entries : List (Vec ℕ × A)) (i : ℕ) (e : Vec ℕ × A) (actor : A) → AreSessionsFrom named numbered holds g n entries → slice_get entries i ≡ Some e
-        → named actor ≡ named e.1 → numbered actor ≡ numbered e.1 → holds actor h → AreSessionsFrom named numbered holds h n (set_value_at entries i actor)
+    pub sessions_set : (n : ℕ) (entries : List (Vec ℕ × A)) (i : ℕ) (e : Vec ℕ × A) (actor : A) → AreSessionsFrom actors g n entries → slice_get entries i ≡ Some e
+        → actors.named actor ≡ actors.named e.1 → actors.numbered actor ≡ actors.numbered e.1 → actors.holds actor h → AreSessionsFrom actors h n (set_value_at entries i actor)
     sessions_set n [] i e actor c at own number has = tt
     sessions_set n (x ∷ xs) zero e actor c at own number has =
         let first = some_same at in (
           record {
-            name = own ∙ ap (λ e. named e.1) (sym first) ∙ c.0.name;
-            number_known = number ∙ ap (λ e. numbered e.1) (sym first) ∙ c.0.number_known;
+            name = own ∙ ap (λ e. actors.named e.1) (sym first) ∙ c.0.name;
+            number_known = number ∙ ap (λ e. actors.numbered e.1) (sym first) ∙ c.0.number_known;
             holds_well = has;
           },
           sessions_on (suc n) xs c.1,
@@ -192,23 +193,23 @@ module _ {A : Type 0} (named : A → List ℕ) (numbered : A → ℕ) (holds : A
     sessions_set n (x ∷ xs) (suc i) e actor c at own number has = (member_on n x c.0, sessions_set (suc n) xs i e actor c.1 at own number has)
 
     -- and as a new one comes
-    pub sessions_put : {P : Type 0} (places : A → P) (n : ℕ) (entries : List (Vec ℕ × A)) (key : Vec ℕ) (actor : A) → AreSessionsFrom named numbered holds g n entries → places_of key.items (sessions_of places entries) ≡ None
-        → named actor ≡ key.items → numbered actor ≡ n + length entries → holds actor h → AreSessionsFrom named numbered holds h n (insert_entry (λ k. is_key key.items) entries key actor)
+    pub sessions_put : {P : Type 0} (places : A → P) (n : ℕ) (entries : List (Vec ℕ × A)) (key : Vec ℕ) (actor : A) → AreSessionsFrom actors g n entries → places_of key.items (sessions_of places entries) ≡ None
+        → actors.named actor ≡ key.items → actors.numbered actor ≡ n + length entries → actors.holds actor h → AreSessionsFrom actors h n (insert_entry (λ k. is_key key.items) entries key actor)
     sessions_put places n [] key actor c none own number has = (record { name = own; number_known = number ∙ (let e : n + 0 ≡ n = omega arith in e); holds_well = has }, tt)
     sessions_put places n (x ∷ xs) key actor c none own number has =
         let apart = elsewhere places key.items x xs none in
-        let next : numbered actor ≡ suc n + length xs = number ∙ (let e : n + suc (length xs) ≡ suc n + length xs = omega arith in e) in
-        subst (λ b. AreSessionsFrom named numbered holds h n (if b then (x.0, actor) ∷ xs else x ∷ insert_entry (λ k. is_key key.items) xs key actor)) (sym apart.other)
+        let next : actors.numbered actor ≡ suc n + length xs = number ∙ (let e : n + suc (length xs) ≡ suc n + length xs = omega arith in e) in
+        subst (λ b. AreSessionsFrom actors h n (if b then (x.0, actor) ∷ xs else x ∷ insert_entry (λ k. is_key key.items) xs key actor)) (sym apart.other)
         (member_on n x c.0, sessions_put places (suc n) xs key actor c.1 apart.missing own next has)
 
     pub sessions_put_kept : {P : Type 0} (places : A → P) (name : List ℕ) (before kept after : List (Vec ℕ × A)) (key : Vec ℕ) (actor : A) → kept ≡ before → key.items ≡ name
-        → after ≡ insert_entry (λ a b. pointwise nat_eq a.items b.items) kept key actor → AreSessions named numbered holds g before → places_of name (sessions_of places before) ≡ None
-        → named actor ≡ name → numbered actor ≡ length before → holds actor h → AreSessions named numbered holds h after
+        → after ≡ insert_entry (λ a b. pointwise nat_eq a.items b.items) kept key actor → AreSessions actors g before → places_of name (sessions_of places before) ≡ None
+        → actors.named actor ≡ name → actors.numbered actor ≡ length before → actors.holds actor h → AreSessions actors h after
     sessions_put_kept places name before kept after key actor same own new c none known number has =
-        let c_kept = subst (λ l. AreSessions named numbered holds g l) (sym same) c in
+        let c_kept = subst (λ l. AreSessions actors g l) (sym same) c in
         let none_kept : places_of key.items (sessions_of places kept) ≡ None = (λ i. places_of (own i) (sessions_of places (same i))) ∙ none in
-        let number_kept : numbered actor ≡ 0 + length kept = number ∙ ap length (sym same) ∙ (let e : length kept ≡ 0 + length kept = omega arith in e) in
-        subst (λ l. AreSessions named numbered holds h l) (sym (new ∙ put_same kept key actor))
+        let number_kept : actors.numbered actor ≡ 0 + length kept = number ∙ ap length (sym same) ∙ (let e : length kept ≡ 0 + length kept = omega arith in e) in
+        subst (λ l. AreSessions actors h l) (sym (new ∙ put_same kept key actor))
         (sessions_put places 0 kept key actor c_kept none_kept (known ∙ sym own) number_kept has)
 
 -- ---- what waits

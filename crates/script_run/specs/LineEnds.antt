@@ -1,22 +1,14 @@
 -- What comes of a line of a script.
-use Rattle.std.specs.Prelude.{◌≡◌, ℕ, suc, ◌≤◌, Bool, true, false, ◌||◌, ◌⊎◌, List, Option, length, IsTrue, Result, Ok, Err, ⊤}
+use Rattle.std.specs.Prelude.{◌≡◌, ℕ, ◌≤◌, Bool, true, false, ◌||◌, ◌⊎◌, List, Option, Result, Ok, Err, ⊤}
 use Rattle.std.specs.Io.KnownBytes.{Appends}
-use Rattle.ts_schema.specs.Names.{is_name}
 use Rattle.ts_schema.specs.Counts.{raised_by}
 use Rattle.ts_schema.specs.declared.memory.NoMemory.{NoMemory as NoMemoryLeft}
 use Rattle.ts_model.specs.States.{State}
 use Rattle.ts_sessions.specs.declared.replies.Reply.{Reply as ReplyMade}
 use Rattle.ts_sessions.specs.declared.replies.StepEnd.{StepEnd}
 use Rattle.ts_sessions.specs.declared.replies.StepEnd.TheVariants.{Reply, DiskFault, NoMemory}
-use Rattle.ts_sessions.specs.Script.{LineResult, ScriptState, session_name}
+use Rattle.ts_sessions.specs.Script.{LineResult, ScriptState}
 use Rattle.script_run.specs.Went.{WentOn, IsBetween, FailedBetween}
-
--- a line of a session: its name, which is a good one, stands directly before the colon, the colon before the statement, and the statement before the comment
-pub record IsStatementLine (line : List ℕ) (len skip end : ℕ) : Type 0 where
-  pub named : IsTrue (is_name (session_name line len skip))
-  pub colon : suc len ≤ skip
-  pub statement : skip ≤ end
-  pub within : end ≤ length line
 
 -- a reply with this text, which is a FAULT or not
 pub record RepliesWith (text : List ℕ) (fault : Bool) (reply : ReplyMade) : Type 0 where

@@ -21,6 +21,7 @@ executed input = lines_within INPUT_LIMIT input
 abbrev pub script_state_after : {P : Type 0} → Semantics P → History → List (List ℕ) → ScriptState P
 script_state_after semantics h lines = final_script_state semantics (opening_script_state h) 1 lines
 
+-- the history then
 abbrev pub history_of : {P : Type 0} → Semantics P → History → List (List ℕ) → History
 history_of semantics h lines = (script_state_after semantics h lines).history
 
@@ -112,29 +113,17 @@ Ran InputLong semantics h input rest left = (INPUT_LIMIT < length input) × Exec
 
 -- ---- faults
 
+-- the source failed
 abbrev pub is_read_fault : RunEnd → Bool
-is_read_fault Done = false
-is_read_fault Refused = false
 is_read_fault ReadFault = true
-is_read_fault WriteFault = false
-is_read_fault DiskFault = false
-is_read_fault NoMemory = false
-is_read_fault InputLong = false
+is_read_fault other = false
 
+-- the sink failed
 abbrev pub is_write_fault : RunEnd → Bool
-is_write_fault Done = false
-is_write_fault Refused = false
-is_write_fault ReadFault = false
 is_write_fault WriteFault = true
-is_write_fault DiskFault = false
-is_write_fault NoMemory = false
-is_write_fault InputLong = false
+is_write_fault other = false
 
+-- the disk failed at an event
 abbrev pub is_disk_fault : RunEnd → Bool
-is_disk_fault Done = false
-is_disk_fault Refused = false
-is_disk_fault ReadFault = false
-is_disk_fault WriteFault = false
 is_disk_fault DiskFault = true
-is_disk_fault NoMemory = false
-is_disk_fault InputLong = false
+is_disk_fault other = false

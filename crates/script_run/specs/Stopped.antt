@@ -5,11 +5,13 @@ use Rattle.script_run.specs.declared.ends.RunEnd.TheVariants as ends
 use Rattle.script_run.specs.declared.scripts.Stop.{Stop}
 use Rattle.script_run.specs.declared.scripts.Stop.TheVariants.{WriteFault, DiskFault, NoMemory}
 
+-- of a run that stopped at a line
 abbrev pub end_of_stop : Stop → RunEnd
 end_of_stop WriteFault = ends.WriteFault
 end_of_stop DiskFault = ends.DiskFault
 end_of_stop NoMemory = ends.NoMemory
 
+-- of one whose input was executed to its end, by whether a reply is a FAULT
 abbrev pub end_of_input : Bool → RunEnd
 end_of_input true = ends.Refused
 end_of_input false = ends.Done

@@ -50,15 +50,15 @@ RefusalCut NoMemory old new text = new ≡ old
 
 -- ---- faults
 
+-- the sink failed
 abbrev pub is_write_stop : Stop → Bool
 is_write_stop WriteFault = true
-is_write_stop DiskFault = false
-is_write_stop NoMemory = false
+is_write_stop other = false
 
+-- the disk failed at an event
 abbrev pub is_disk_stop : Stop → Bool
-is_disk_stop WriteFault = false
 is_disk_stop DiskFault = true
-is_disk_stop NoMemory = false
+is_disk_stop other = false
 
 -- the test of why a script stopped, where it did
 abbrev pub stops_by : {A : Type 0} → (Stop → Bool) → Result A Stop → Bool

@@ -3,10 +3,11 @@ ghost use Rattle.std.specs.Prelude.{◌≡◌, ◌+◌, ◌<◌, ◌≤◌, ◌^
 ghost use Rattle.std.specs.Thread.{IsSync};
 ghost use Rattle.ts_model.specs.States.{stands_still};
 ghost use Rattle.ts_sessions.specs.Held.{most_queued};
-ghost use Rattle.ts_sessions.specs.Script.{executes, executes_as, places_of, session_name};
+ghost use Rattle.ts_sessions.specs.Script.{executes, executes_as, places_of};
 ghost use Rattle.ts_sessions.specs.Sessions.{IfAnswered};
-ghost use Rattle.script_run.specs.Sessions.{script_state_of, waiting_in, AreSessions};
-ghost use Rattle.script_run.specs.LineEnds.{IsStatementLine, LineExecuted};
+ghost use Rattle.script_run.specs.Sessions.{waiting_in, AreSessions, script_over};
+ghost use Rattle.script_run.specs.LineEnds.{LineExecuted};
+ghost use Rattle.stmt_reader.specs.Lines.{session_name, IsStatementLine};
 
 use crate::replies::{ending, refuse_line, silence};
 use crate::sessions::{Sessions, execute_in_session};
@@ -37,14 +38,15 @@ where
     requires going { stands_still (B.state backend.old) ≡ false }
     requires counts { steps.old < 2 ^ 64 }
     requires short { length line.now ≤ 65536 }
-    requires sessions { AreSessions A.named A.numbered A.holds (B.state backend.old) sessions.old.entries }
+    requires sessions { AreSessions A.Actor (B.state backend.old) sessions.old.entries }
     requires room { waiting_in A.waiting sessions.old.entries + length line.now ≤ most_queued }
     ensures executes { LineExecuted result
-        (executes A.semantics (script_state_of A.places (B.state backend.old).history sessions.old.entries) number line.now)
+        (executes A.semantics (script_over A.places (B.state backend.old) sessions.old.entries) number line.now)
         (B.state backend.old) (B.state backend.new)
-        (script_state_of A.places (B.state backend.new).history sessions.new.entries) steps.old steps.new }
-    ensures sessions { IfAnswered result (AreSessions A.named A.numbered A.holds (B.state backend.new) sessions.new.entries) }
-    ensures waiting { waiting_in A.waiting sessions.new.entries ≤ waiting_in A.waiting sessions.old.entries + length line.now }
+        (script_over A.places (B.state backend.new) sessions.new.entries) steps.old steps.new }
+    ensures sessions { IfAnswered result (AreSessions A.Actor (B.state backend.new) sessions.new.entries) }
+    ensures waiting { waiting_in A.waiting sessions.new.entries
+        ≤ waiting_in A.waiting sessions.old.entries + length line.now }
     ensures kin { B.kin backend.new ≡ B.kin backend.old }
 {
     match split_line(line) {
@@ -84,15 +86,17 @@ where
     requires counts { steps.old < 2 ^ 64 }
     requires short { length line.now ≤ 65536 }
     requires statement_line { IsStatementLine line.now name_len skip end }
-    requires sessions { AreSessions A.named A.numbered A.holds (B.state backend.old) sessions.old.entries }
+    requires sessions { AreSessions A.Actor (B.state backend.old) sessions.old.entries }
     requires room { waiting_in A.waiting sessions.old.entries + length line.now ≤ most_queued }
-    ensures executes { let script_state = script_state_of A.places (B.state backend.old).history sessions.old.entries in
+    ensures executes { let script_state = script_over A.places (B.state backend.old) sessions.old.entries in
         let name = session_name line.now name_len skip in
-        LineExecuted result (executes_as A.semantics script_state name (take end line.now) skip (places_of name script_state.sessions))
+        LineExecuted result
+        (executes_as A.semantics script_state name (take end line.now) skip (places_of name script_state.sessions))
         (B.state backend.old) (B.state backend.new)
-        (script_state_of A.places (B.state backend.new).history sessions.new.entries) steps.old steps.new }
-    ensures sessions { IfAnswered result (AreSessions A.named A.numbered A.holds (B.state backend.new) sessions.new.entries) }
-    ensures waiting { waiting_in A.waiting sessions.new.entries ≤ waiting_in A.waiting sessions.old.entries + length line.now }
+        (script_over A.places (B.state backend.new) sessions.new.entries) steps.old steps.new }
+    ensures sessions { IfAnswered result (AreSessions A.Actor (B.state backend.new) sessions.new.entries) }
+    ensures waiting { waiting_in A.waiting sessions.new.entries
+        ≤ waiting_in A.waiting sessions.old.entries + length line.now }
     ensures kin { B.kin backend.new ≡ B.kin backend.old }
 {
     let from = skip as usize - 1 - name_len as usize;

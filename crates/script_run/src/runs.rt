@@ -35,8 +35,14 @@ where
     requires alone { IsTrue B.alone }
     requires going { stands_still (B.state backend.old) ≡ false }
     requires untold { S.ended source.old ≡ false }
-    ensures ran { IfSome (S.left source.old) (λ input. Ran result A.semantics (B.state backend.old).history input (S.left source.new)
-        (record { store = B.state backend.new; written_before = K.written sink.old; written = K.written sink.new; read_before = steps.old; read = steps.new })) }
+    ensures ran { IfSome (S.left source.old) (λ input.
+        Ran result A.semantics (B.state backend.old).history input (S.left source.new) (record {
+          store = B.state backend.new;
+          written_before = K.written sink.old;
+          written = K.written sink.new;
+          read_before = steps.old;
+          read = steps.new;
+        })) }
     ensures reads { Counted (S.faults source.old) (S.faults source.new) (is_read_fault result) }
     ensures writes { Counted (K.faults sink.old) (K.faults sink.new) (is_write_fault result) }
     ensures disk { Counted (B.state backend.old).faults (B.state backend.new).faults (is_disk_fault result) }

@@ -10,7 +10,7 @@ ghost use Rattle.result_text.specs.declared.codes.TheConstants.{LINE_LONG};
 ghost use Rattle.ts_sessions.specs.Held.{most_queued};
 ghost use Rattle.ts_sessions.specs.Script.{executes};
 ghost use Rattle.ts_sessions.specs.Step.{bare};
-ghost use Rattle.script_run.specs.Sessions.{script_state_of, waiting_in, AreSessions};
+ghost use Rattle.script_run.specs.Sessions.{waiting_in, AreSessions, script_over};
 ghost use Rattle.script_run.specs.Went.{WentOn};
 ghost use Rattle.script_run.specs.LineEnds.{LineWritten};
 ghost use Rattle.script_run.specs.Stops.{LineCut, RefusalCut, is_disk_stop, is_write_stop, settled, stops_by};
@@ -84,20 +84,23 @@ impl<A> Script<A> {
         requires counts { steps.old < 2 ^ 64 }
         requires short { length line.now ≤ 65536 }
         requires room { self.old.line + 1 < 2 ^ 64 }
-        requires sessions { AreSessions A.named A.numbered A.holds (B.state backend.old) self.old.sessions.entries }
+        requires sessions { AreSessions A.Actor (B.state backend.old) self.old.sessions.entries }
         requires queues { waiting_in A.waiting self.old.sessions.entries + length line.now ≤ most_queued }
         ensures written { OnOk result (LineWritten
-            (executes A.semantics (script_state_of A.places (B.state backend.old).history self.old.sessions.entries) self.old.line line.now)
-            (script_state_of A.places (B.state backend.new).history self.new.sessions.entries)
+            (executes A.semantics (script_over A.places (B.state backend.old) self.old.sessions.entries)
+            self.old.line line.now)
+            (script_over A.places (B.state backend.new) self.new.sessions.entries)
             (K.written sink.old) (K.written sink.new) self.old.refused self.new.refused steps.old steps.new) }
         ensures cut { IfErr result (λ stop. LineCut stop
-            (executes A.semantics (script_state_of A.places (B.state backend.old).history self.old.sessions.entries) self.old.line line.now)
+            (executes A.semantics (script_over A.places (B.state backend.old) self.old.sessions.entries)
+            self.old.line line.now)
             (B.state backend.old) (B.state backend.new)
-            (script_state_of A.places (B.state backend.new).history self.new.sessions.entries)
+            (script_over A.places (B.state backend.new) self.new.sessions.entries)
             (K.written sink.old) (K.written sink.new) steps.old steps.new) }
         ensures numbered { OnOk result (self.new.line ≡ self.old.line + 1) }
-        ensures sessions { OnOk result (AreSessions A.named A.numbered A.holds (B.state backend.new) self.new.sessions.entries) }
-        ensures waiting { waiting_in A.waiting self.new.sessions.entries ≤ waiting_in A.waiting self.old.sessions.entries + length line.now }
+        ensures sessions { OnOk result (AreSessions A.Actor (B.state backend.new) self.new.sessions.entries) }
+        ensures waiting { waiting_in A.waiting self.new.sessions.entries
+            ≤ waiting_in A.waiting self.old.sessions.entries + length line.now }
         ensures store { WentOn (stops_by is_disk_stop result) (B.state backend.old) (B.state backend.new) }
         ensures kin { B.kin backend.new ≡ B.kin backend.old }
         ensures writes { Counted (K.faults sink.old) (K.faults sink.new) (stops_by is_write_stop result) }

@@ -7,7 +7,7 @@ ghost use Rattle.ts_model.specs.States.{stands_still};
 ghost use Rattle.ts_sessions.specs.Held.{most_queued};
 ghost use Rattle.ts_sessions.specs.Script.{executes_as, places_of, takes_turn};
 ghost use Rattle.ts_sessions.specs.Sessions.{IfAnswered, Stepped};
-ghost use Rattle.script_run.specs.Sessions.{sessions_of, script_state_of, waiting_in, AreSessions};
+ghost use Rattle.script_run.specs.Sessions.{sessions_of, waiting_in, AreSessions, script_over};
 ghost use Rattle.script_run.specs.LineEnds.{LineExecuted};
 
 use crate::replies::{ending, refuse_session};
@@ -47,14 +47,16 @@ where
     requires name { IsTrue (is_name name.now) }
     requires short { length text.now ≤ 65536 }
     requires within { skip ≤ length text.now }
-    requires sessions { AreSessions A.named A.numbered A.holds (B.state backend.old) sessions.old.entries }
+    requires sessions { AreSessions A.Actor (B.state backend.old) sessions.old.entries }
     requires room { waiting_in A.waiting sessions.old.entries + length text.now ≤ most_queued }
-    ensures executes { let script_state = script_state_of A.places (B.state backend.old).history sessions.old.entries in
-        LineExecuted result (executes_as A.semantics script_state name.now text.now skip (places_of name.now script_state.sessions))
+    ensures executes { let script_state = script_over A.places (B.state backend.old) sessions.old.entries in
+        LineExecuted result
+        (executes_as A.semantics script_state name.now text.now skip (places_of name.now script_state.sessions))
         (B.state backend.old) (B.state backend.new)
-        (script_state_of A.places (B.state backend.new).history sessions.new.entries) steps.old steps.new }
-    ensures sessions { IfAnswered result (AreSessions A.named A.numbered A.holds (B.state backend.new) sessions.new.entries) }
-    ensures waiting { waiting_in A.waiting sessions.new.entries ≤ waiting_in A.waiting sessions.old.entries + length text.now }
+        (script_over A.places (B.state backend.new) sessions.new.entries) steps.old steps.new }
+    ensures sessions { IfAnswered result (AreSessions A.Actor (B.state backend.new) sessions.new.entries) }
+    ensures waiting { waiting_in A.waiting sessions.new.entries
+        ≤ waiting_in A.waiting sessions.old.entries + length text.now }
     ensures kin { B.kin backend.new ≡ B.kin backend.old }
 {
     match sessions.get_index_of(name) {
@@ -88,14 +90,15 @@ where
     requires name { IsTrue (is_name name.now) }
     requires short { length text.now ≤ 65536 }
     requires within { skip ≤ length text.now }
-    requires sessions { AreSessions A.named A.numbered A.holds (B.state backend.old) sessions.old.entries }
+    requires sessions { AreSessions A.Actor (B.state backend.old) sessions.old.entries }
     requires absent { places_of name.now (sessions_of A.places sessions.old.entries) ≡ None }
-    ensures executes { let script_state = script_state_of A.places (B.state backend.old).history sessions.old.entries in
+    ensures executes { let script_state = script_over A.places (B.state backend.old) sessions.old.entries in
         LineExecuted result (executes_as A.semantics script_state name.now text.now skip None)
         (B.state backend.old) (B.state backend.new)
-        (script_state_of A.places (B.state backend.new).history sessions.new.entries) steps.old steps.new }
-    ensures sessions { IfAnswered result (AreSessions A.named A.numbered A.holds (B.state backend.new) sessions.new.entries) }
-    ensures waiting { waiting_in A.waiting sessions.new.entries ≤ waiting_in A.waiting sessions.old.entries + length text.now }
+        (script_over A.places (B.state backend.new) sessions.new.entries) steps.old steps.new }
+    ensures sessions { IfAnswered result (AreSessions A.Actor (B.state backend.new) sessions.new.entries) }
+    ensures waiting { waiting_in A.waiting sessions.new.entries
+        ≤ waiting_in A.waiting sessions.old.entries + length text.now }
     ensures kin { B.kin backend.new ≡ B.kin backend.old }
 {
     let session = match session_name(alloc, name) {
@@ -131,14 +134,16 @@ where
     requires short { length text.now ≤ 65536 }
     requires within { skip ≤ length text.now }
     requires few { index_map_len sessions.old < 64 }
-    requires sessions { AreSessions A.named A.numbered A.holds (B.state backend.old) sessions.old.entries }
+    requires sessions { AreSessions A.Actor (B.state backend.old) sessions.old.entries }
     requires absent { places_of session (sessions_of A.places sessions.old.entries) ≡ None }
-    ensures executes { let script_state = script_state_of A.places (B.state backend.old).history sessions.old.entries in
-        LineExecuted result (takes_turn script_state session (A.semantics.does (A.semantics.opening (length script_state.sessions)) text.now skip))
+    ensures executes { let script_state = script_over A.places (B.state backend.old) sessions.old.entries in
+        let opening = A.semantics.opening (length script_state.sessions) in
+        LineExecuted result (takes_turn script_state session (A.semantics.does opening text.now skip))
         (B.state backend.old) (B.state backend.new)
-        (script_state_of A.places (B.state backend.new).history sessions.new.entries) steps.old steps.new }
-    ensures sessions { IfAnswered result (AreSessions A.named A.numbered A.holds (B.state backend.new) sessions.new.entries) }
-    ensures waiting { waiting_in A.waiting sessions.new.entries ≤ waiting_in A.waiting sessions.old.entries + length text.now }
+        (script_over A.places (B.state backend.new) sessions.new.entries) steps.old steps.new }
+    ensures sessions { IfAnswered result (AreSessions A.Actor (B.state backend.new) sessions.new.entries) }
+    ensures waiting { waiting_in A.waiting sessions.new.entries
+        ≤ waiting_in A.waiting sessions.old.entries + length text.now }
     ensures kin { B.kin backend.new ≡ B.kin backend.old }
 {
     let number = sessions.len() as u32;

@@ -1,5 +1,4 @@
 pub mod FirstLines
-pub mod StatementLines
 pub mod Passing
 pub mod Adding
 pub mod Extents

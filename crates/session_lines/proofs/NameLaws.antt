@@ -11,16 +11,16 @@ use Rattle.ts_io.specs.Lines.{lines_of}
 use Rattle.ts_model.specs.Roster.{same_name}
 use Rattle.stmt_reader.specs.declared.lines.LineKind.{LineKind}
 use Rattle.stmt_reader.specs.declared.lines.LineKind.TheVariants.{Blank, NotAscii, NoSession, Stmt}
-use Rattle.stmt_reader.specs.Lines.{line_kind}
+use Rattle.stmt_reader.specs.Lines.{line_kind, session_name}
 use Rattle.result_text.specs.declared.codes.TheConstants.{LINE_LONG, TOO_MANY_SESSIONS}
 use Rattle.result_text.specs.declared.replies.Said.TheVariants as said
 use Rattle.result_text.specs.Replies.{line_fault_text, reply_text}
-use Rattle.ts_sessions.specs.Script.{SessionLine, SessionScript, line_limit, most_sessions, session_name}
+use Rattle.ts_sessions.specs.Script.{SessionLine, SessionScript, line_limit, most_sessions}
 use Rattle.ts_sessions.specs.Step.{bare}
 use Rattle.session_lines.specs.declared.sessions.SessionLines.{SessionLines}
 use Rattle.session_lines.specs.Sorted.{Sorted, appears_in, refuses, sorted, sorts, sorts_all, sorts_as, sorts_kind, with_line}
 use Rattle.session_lines.specs.Places.{scripts_of}
-use Rattle.session_lines.proofs.StatementLines.{statement_line}
+use Rattle.stmt_reader.proofs.StatementLines.{statement_line}
 use Rattle.session_lines.proofs.Passing.{any_mapped, none_at}
 
 abbrev name_of : SessionScript → List ℕ

@@ -5,17 +5,17 @@ use Rattle.ts_io.specs.Lines.{lines_of}
 use Rattle.ts_model.specs.declared.outcomes.Refusal.{Refusal}
 use Rattle.stmt_reader.specs.declared.lines.LineKind.{LineKind}
 use Rattle.stmt_reader.specs.declared.lines.LineKind.TheVariants.{Stmt}
-use Rattle.stmt_reader.specs.Lines.{line_kind}
+use Rattle.stmt_reader.specs.Lines.{line_kind, session_name, IsStatementLine}
 use Rattle.result_text.specs.declared.codes.TheConstants.{LINE_LONG}
 use Rattle.result_text.specs.Replies.{line_fault_text}
-use Rattle.ts_sessions.specs.Script.{SessionLine, line_limit, session_name}
+use Rattle.ts_sessions.specs.Script.{SessionLine, line_limit}
 use Rattle.ts_sessions.specs.Step.{bare}
 use Rattle.session_lines.specs.declared.sessions.LinePlace.{LinePlace}
 use Rattle.session_lines.specs.declared.sessions.SessionLines.{SessionLines}
 use Rattle.session_lines.specs.Sorted.{Sorted, refuses, sorts, sorts_all, sorts_as, sorts_kind}
 use Rattle.session_lines.specs.Places.{line_at, scripts_of, IsLineWithin}
 use Rattle.session_lines.proofs.Adding.{state}
-use Rattle.session_lines.proofs.StatementLines.{IsStatementLine, statement_line}
+use Rattle.stmt_reader.proofs.StatementLines.{statement_line}
 
 -- ---- a line of so many bytes from a place on
 

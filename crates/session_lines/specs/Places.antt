@@ -11,15 +11,19 @@ use Rattle.session_lines.specs.Sorted.{Sorted}
 
 -- ---- what stands there in an input
 
+-- a line
 abbrev pub line_at : List ℕ → LinePlace → SessionLine
 line_at input place = record { text = take place.len (drop place.from input); skip = place.skip }
 
+-- the lines of a session
 abbrev pub script_of : List ℕ → SessionLines → SessionScript
 script_of input session = record { name = session.name; lines = map (line_at input) session.lines.items }
 
+-- those of sessions
 abbrev pub scripts_of : List ℕ → List SessionLines → List SessionScript
 scripts_of input sessions = map (script_of input) sessions
 
+-- all that was sorted
 abbrev pub sorted_of : List ℕ → SortedLines → Sorted
 sorted_of input lines = record { refusals = lines.refusals.items; sessions = scripts_of input lines.sessions.items }
 

@@ -5,11 +5,11 @@ use Rattle.ts_io.specs.Lines.{lines_of}
 use Rattle.ts_model.specs.Roster.{same_name}
 use Rattle.stmt_reader.specs.declared.lines.LineKind.{LineKind}
 use Rattle.stmt_reader.specs.declared.lines.LineKind.TheVariants.{Blank, NotAscii, NoSession, Stmt}
-use Rattle.stmt_reader.specs.Lines.{line_kind}
+use Rattle.stmt_reader.specs.Lines.{line_kind, session_name}
 use Rattle.result_text.specs.declared.codes.TheConstants.{LINE_LONG, NOT_ASCII, NO_SESSION, TOO_MANY_SESSIONS}
 use Rattle.result_text.specs.declared.replies.Said.TheVariants as said
 use Rattle.result_text.specs.Replies.{line_fault_text, reply_text}
-use Rattle.ts_sessions.specs.Script.{SessionLine, SessionScript, line_limit, most_sessions, session_name}
+use Rattle.ts_sessions.specs.Script.{SessionLine, SessionScript, line_limit, most_sessions}
 use Rattle.ts_sessions.specs.Step.{bare}
 
 -- an input, sorted: the refusals of lines that no session answers, in order, and the sessions in order of appearance. Sessions are numbered from 0 in that order
@@ -19,6 +19,7 @@ pub record Sorted : Type 0 where
 
 -- ---- one line
 
+-- a line is refused with this text
 abbrev pub refuses : List ℕ → Sorted → Sorted
 refuses text s = record s { refusals = s.refusals ++ text }
 
@@ -27,6 +28,7 @@ abbrev pub with_line : List ℕ → SessionLine → List SessionScript → List 
 with_line name line [] = record { name = name; lines = line ∷ [] } ∷ []
 with_line name line (script ∷ scripts) = cond (same_name script.name name) (record script { lines = script.lines ++ line ∷ [] } ∷ scripts) (script ∷ with_line name line scripts)
 
+-- a session with this name has appeared
 abbrev pub appears_in : List ℕ → List SessionScript → Bool
 appears_in name scripts = list_any (λ script. same_name script.name name) scripts
 
@@ -44,6 +46,7 @@ sorts_kind n line s NotAscii = refuses (line_fault_text n (bare NOT_ASCII)) s
 sorts_kind n line s NoSession = refuses (line_fault_text n (bare NO_SESSION)) s
 sorts_kind n line s (Stmt len skip end) = sorts_as (session_name line len skip) (record { text = take end line; skip = skip }) s
 
+-- a line, which has this number
 abbrev pub sorts : ℕ → List ℕ → Sorted → Sorted
 sorts n line s = cond (nat_lt line_limit (length line)) (refuses (line_fault_text n (bare LINE_LONG)) s) (sorts_kind n line s (line_kind line))
 
@@ -60,10 +63,11 @@ sorted input = sorts_all 1 (lines_of input) (record { refusals = []; sessions = 
 
 -- ---- who runs when
 
--- the names `setup` and `final`
+-- the name `setup`
 abbrev pub setup : List ℕ
 setup = 115 ∷ 101 ∷ 116 ∷ 117 ∷ 112 ∷ []
 
+-- the name `final`
 abbrev pub final : List ℕ
 final = 102 ∷ 105 ∷ 110 ∷ 97 ∷ 108 ∷ []
 

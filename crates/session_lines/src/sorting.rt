@@ -104,8 +104,8 @@ impl SortedLines {
         requires name { IsTrue (is_name name.now) }
         ensures sorted { OnOk result ((input : List ℕ) → sorted_of input self.new
             ≡ sorts_as name.now (line_at input line) (sorted_of input self.old)) }
-        ensures within { OnOk result ((n : ℕ) → IsLineWithin n line → All (IsWithin line.from) self.old.sessions.items
-            → All (IsWithin n) self.new.sessions.items) }
+        ensures within { OnOk result ((n : ℕ) → IsLineWithin n line
+            → All (IsWithin line.from) self.old.sessions.items → All (IsWithin n) self.new.sessions.items) }
     {
         match place_of(&self.sessions, name) {
             Some(place) => {
@@ -123,8 +123,8 @@ impl SortedLines {
         requires absent { list_any (λ session. same_name session.name name.now) self.old.sessions.items ≡ false }
         ensures sorted { OnOk result ((input : List ℕ) → sorted_of input self.new
             ≡ sorts_as name.now (line_at input line) (sorted_of input self.old)) }
-        ensures within { OnOk result ((n : ℕ) → IsLineWithin n line → All (IsWithin line.from) self.old.sessions.items
-            → All (IsWithin n) self.new.sessions.items) }
+        ensures within { OnOk result ((n : ℕ) → IsLineWithin n line
+            → All (IsWithin line.from) self.old.sessions.items → All (IsWithin n) self.new.sessions.items) }
     {
         let name = name_of(alloc, name)?;
         if self.sessions.len() < MOST_SESSIONS {

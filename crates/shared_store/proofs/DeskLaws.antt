@@ -11,7 +11,7 @@ use Rattle.ts_model.specs.declared.outcomes.Outcome.TheVariants.{Done, Refused, 
 use Rattle.ts_model.specs.History.{History, ◌▸▸◌, position, Begins}
 use Rattle.ts_model.specs.Roster.{roster, view_of}
 use Rattle.ts_model.specs.States.{State, Found, Keeps, Makes, Fails, stands_still, stop_of}
-use Rattle.ts_model.specs.Calls.{Act, refuses, says, makes, Answered, Called, Looked}
+use Rattle.ts_model.specs.Calls.{Act, refuses, returns, makes, Answered, Called, Looked}
 use mathlib.Core.List.{IsPrefix}
 use Rattle.ts_model.proofs.CallLaws.{begins_called, begins_looked}
 use Rattle.ts_model.proofs.HistoryLaws.{position_followed}
@@ -78,10 +78,10 @@ module _ {m : List ℕ} {s t new : State} (r : Relabels m s t new) where
   answered_labelled (refuses q) (Refused p) w = (w.0, keeps_labelled w.1)
   answered_labelled (refuses q) DiskFault w = absurd w
   answered_labelled (refuses q) NoMemory w = keeps_labelled w
-  answered_labelled (says a) (Done b) w = (w.0, keeps_labelled w.1)
-  answered_labelled (says a) (Refused p) w = absurd w
-  answered_labelled (says a) DiskFault w = absurd w
-  answered_labelled (says a) NoMemory w = keeps_labelled w
+  answered_labelled (returns a) (Done b) w = (w.0, keeps_labelled w.1)
+  answered_labelled (returns a) (Refused p) w = absurd w
+  answered_labelled (returns a) DiskFault w = absurd w
+  answered_labelled (returns a) NoMemory w = keeps_labelled w
   answered_labelled (makes e a) (Done b) w = (w.0, makes_labelled w.1)
   answered_labelled (makes e a) (Refused p) w = (w.0, w.1, keeps_labelled w.2)
   answered_labelled (makes e a) DiskFault w = fails_labelled w

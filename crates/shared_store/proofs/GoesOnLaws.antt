@@ -8,7 +8,7 @@ use Rattle.ts_model.specs.declared.outcomes.Outcome.{Outcome}
 use Rattle.ts_model.specs.declared.outcomes.Outcome.TheVariants.{Done, Refused, DiskFault, NoMemory}
 use Rattle.ts_model.specs.History.{History, position, Begins, same, further}
 use Rattle.ts_model.specs.States.{State, Keeps, Makes, Fails}
-use Rattle.ts_model.specs.Calls.{Act, refuses, says, makes, Answered, Called, Looked}
+use Rattle.ts_model.specs.Calls.{Act, refuses, returns, makes, Answered, Called, Looked}
 use Rattle.ts_model.proofs.HistoryLaws.{position_begins}
 use Rattle.turn_lock.specs.Positions.{positions_between}
 use Rattle.turn_lock.proofs.Numbers.{positions_meet, positions_none, positions_one}
@@ -80,10 +80,10 @@ answered_on (refuses r) (Done a) g w = absurd w
 answered_on (refuses r) (Refused q) g w = kept_on g w.1
 answered_on (refuses r) DiskFault g w = absurd w
 answered_on (refuses r) NoMemory g w = kept_on g w
-answered_on (says a) (Done b) g w = kept_on g w.1
-answered_on (says a) (Refused q) g w = absurd w
-answered_on (says a) DiskFault g w = absurd w
-answered_on (says a) NoMemory g w = kept_on g w
+answered_on (returns a) (Done b) g w = kept_on g w.1
+answered_on (returns a) (Refused q) g w = absurd w
+answered_on (returns a) DiskFault g w = absurd w
+answered_on (returns a) NoMemory g w = kept_on g w
 answered_on (makes e a) (Done b) g w = made_on g w.1
 answered_on (makes e a) (Refused q) g w = kept_on g w.2
 answered_on (makes e a) DiskFault g w = failed_on g w
@@ -95,10 +95,10 @@ answered_still (refuses r) found (Done a) new w is = absurd w
 answered_still (refuses r) found (Refused q) new w is = (w.1.failed ∙ is, w.1.history)
 answered_still (refuses r) found DiskFault new w is = absurd w
 answered_still (refuses r) found NoMemory new w is = (w.failed ∙ is, w.history)
-answered_still (says a) found (Done b) new w is = (w.1.failed ∙ is, w.1.history)
-answered_still (says a) found (Refused q) new w is = absurd w
-answered_still (says a) found DiskFault new w is = absurd w
-answered_still (says a) found NoMemory new w is = (w.failed ∙ is, w.history)
+answered_still (returns a) found (Done b) new w is = (w.1.failed ∙ is, w.1.history)
+answered_still (returns a) found (Refused q) new w is = absurd w
+answered_still (returns a) found DiskFault new w is = absurd w
+answered_still (returns a) found NoMemory new w is = (w.failed ∙ is, w.history)
 answered_still (makes x a) found (Done b) new w is = absurd (is_there is w.1.went_on)
 answered_still (makes x a) found (Refused q) new w is = (w.2.failed ∙ is, w.2.history)
 answered_still (makes x a) found DiskFault new w is = absurd (is_there is w.went_on)

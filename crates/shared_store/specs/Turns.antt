@@ -6,7 +6,7 @@ use Rattle.ts_model.specs.History.{position, Begins}
 use Rattle.ts_model.specs.States.{State}
 use Rattle.turn_lock.specs.declared.held.Held.{Held}
 use Rattle.turn_lock.specs.Pass.{IsSamePass, IsTurnOf, StaysClosed, shares_of, base_of, seen_of, closed_of, made_of, found_of, found_closed_of}
-use Rattle.turn_lock.specs.Positions.{positions_between, end_of}
+use Rattle.turn_lock.specs.Positions.{positions_added}
 use Rattle.shared_store.specs.Wrapped.{Wrapped, IsKept, events_in}
 use Rattle.shared_store.specs.Stores.{Ticket, Shared, IsPassOf, history_of}
 
@@ -38,4 +38,4 @@ module _ {B : Type 0} (state : B → State) (store : Shared B) where
     pub shares : shares_of new ≡ shares_of old
     pub seen : seen_of new ≡ events_in state k
     pub closed : closed_of new ≡ (state k.backend).failed
-    pub made : let start = position (state k.opened.value).history in made_of new ≡ made_of old ++ positions_between (end_of start (found_of old)) (end_of start (events_in state k))
+    pub made : let start = position (state k.opened.value).history in made_of new ≡ made_of old ++ positions_added start (found_of old) (events_in state k)

@@ -1,9 +1,11 @@
 -- A backend inside the lock.
-use Rattle.std.specs.Prelude.{◌≡◌, Bool, List, ◌++◌, None, IsTrue}
+use Rattle.std.specs.Prelude.{◌≡◌, ℕ, Bool, List, ◌++◌, None, IsTrue}
 use Rattle.std.specs.declared.snapshot.Snapshot.{Snapshot}
 use Rattle.ts_schema.specs.Faults.{Rose}
 use Rattle.ts_model.specs.declared.events.Event.{Event}
-use Rattle.ts_model.specs.History.{position, Begins}
+use Rattle.ts_model.specs.History.{History, position, Begins}
+use Rattle.ts_model.specs.declared.outcomes.Outcome.{Outcome}
+use Rattle.ts_model.specs.Calls.{Act, Called, Looked}
 use Rattle.ts_model.specs.States.{State, stands_still}
 use Rattle.turn_lock.specs.Positions.{positions_between}
 use Rattle.shared_store.specs.Histories.{events_after}
@@ -13,12 +15,16 @@ pub record Wrapped (B : Type 0) : Type 0 where
   pub backend : B
   pub opened : Snapshot B
 
+-- the numbers of the events by which one state goes on from another
+abbrev pub positions_made : State → State → List ℕ
+positions_made old new = positions_between (position old.history) (position new.history)
+
 -- how an alone backend went on from its state at the start, when it did not stand still
 pub record GoesOn (first now : State) : Type 0 where
   pub went : first.failed ≡ None
   pub begins : Begins first.history now.history
   -- it made each event since then
-  pub made : now.made ≡ first.made ++ positions_between (position first.history) (position now.history)
+  pub made : now.made ≡ first.made ++ positions_made first now
   pub origin : now.origin ≡ first.origin
   -- its count rose exactly where it stands still
   pub counted : now.failed ≡ None → now.faults ≡ first.faults
@@ -36,6 +42,15 @@ module _ {B K : Type 0} (alone : Bool) (state : B → State) (kin : B → K) whe
     pub opened : new.opened ≡ old.opened
     pub before : IsKept old
     pub after : IsKept new
+
+module _ {B : Type 0} (alone : Bool) (state : B → State) where
+  -- a call that does this was made of the backend
+  abbrev pub CalledIn : {A : Type 0} → Wrapped B → (History → Act A) → Outcome A → Wrapped B → Type 0
+  CalledIn old act outcome new = Called alone (state old.backend) act outcome (state new.backend)
+
+  -- a call that looks was made of the backend, and tells this of the history that it found
+  abbrev pub LookedIn : Wrapped B → (History → Type 0) → Wrapped B → Type 0
+  LookedIn old Tells new = Looked alone (state old.backend) Tells (state new.backend)
 
 -- its events since it came into the lock
 abbrev pub events_in : {B : Type 0} → (B → State) → Wrapped B → List Event

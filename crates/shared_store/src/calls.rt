@@ -1,13 +1,12 @@
 //! The calls of a backend inside the lock.
-ghost use Rattle.std.specs.Prelude.{◌≡◌, Bool, IsTrue, IsSome, IfOk};
+ghost use Rattle.std.specs.Prelude.{IsTrue, IsSome};
 ghost use Rattle.std.specs.Option.{ForSome};
 ghost use Rattle.ts_bucket.specs.Bucket.{is_time};
 ghost use Rattle.ts_model.specs.declared.events.Event.TheVariants.{Table, Hyper as HyperMade, View, Mode, Commit};
 ghost use Rattle.ts_model.specs.Roster.{roster, view_of};
-ghost use Rattle.ts_model.specs.Allowed.{all_allowed};
 ghost use Rattle.ts_model.specs.Sound.{sound};
-ghost use Rattle.ts_model.specs.Calls.{Called, Looked, making_table, making_hyper, making_view, setting_mode, committing, cutting, finishing};
-ghost use Rattle.shared_store.specs.Wrapped.{StaysKept};
+ghost use Rattle.ts_model.specs.Calls.{making_table, making_hyper, making_view, setting_mode, committing, cutting, finishing, Snapped};
+ghost use Rattle.shared_store.specs.Wrapped.{StaysKept, CalledIn, LookedIn};
 
 use crate::kept::Kept;
 use ts_model::{Backend, Committed, CutDone, Hyper, Op, Outcome, Shown, TableDef, ViewDef};
@@ -15,7 +14,7 @@ use ts_schema::{NoMemory, Seq};
 
 impl<B: Backend> Kept<B> {
     pub(crate) fn snap(&mut self) -> Result<B::Shot, NoMemory>
-        ensures looked { Looked B.alone (B.state self.old.backend) (λ h. IsTrue (all_allowed h) × IfOk result (λ shot. B.Shot.stands shot h)) (B.state self.new.backend) }
+        ensures looked { LookedIn B.alone B.state self.old (Snapped B.Shot.stands result) self.new }
         ensures kept { StaysKept B.alone B.state B.kin self.old self.new }
     {
         self.backend.snap()
@@ -23,7 +22,7 @@ impl<B: Backend> Kept<B> {
 
     pub(crate) fn make_table(&mut self, def: TableDef) -> Outcome<u64>
         requires { IsTrue (sound (B.state self.old.backend).history (Table def)) }
-        ensures called { Called B.alone (B.state self.old.backend) (making_table def) result (B.state self.new.backend) }
+        ensures called { CalledIn B.alone B.state self.old (making_table def) result self.new }
         ensures kept { StaysKept B.alone B.state B.kin self.old self.new }
     {
         self.backend.make_table(def)
@@ -31,7 +30,7 @@ impl<B: Backend> Kept<B> {
 
     pub(crate) fn make_hyper(&mut self, table: u32, hyper: Hyper) -> Outcome<u64>
         requires { IsTrue (sound (B.state self.old.backend).history (HyperMade table hyper)) }
-        ensures called { Called B.alone (B.state self.old.backend) (making_hyper table hyper) result (B.state self.new.backend) }
+        ensures called { CalledIn B.alone B.state self.old (making_hyper table hyper) result self.new }
         ensures kept { StaysKept B.alone B.state B.kin self.old self.new }
     {
         self.backend.make_hyper(table, hyper)
@@ -39,7 +38,7 @@ impl<B: Backend> Kept<B> {
 
     pub(crate) fn make_view(&mut self, def: ViewDef) -> Outcome<u64>
         requires { IsTrue (sound (B.state self.old.backend).history (View def)) }
-        ensures called { Called B.alone (B.state self.old.backend) (making_view def) result (B.state self.new.backend) }
+        ensures called { CalledIn B.alone B.state self.old (making_view def) result self.new }
         ensures kept { StaysKept B.alone B.state B.kin self.old self.new }
     {
         self.backend.make_view(def)
@@ -47,7 +46,7 @@ impl<B: Backend> Kept<B> {
 
     pub(crate) fn set_mode(&mut self, view: u32, only: bool) -> Outcome<u64>
         requires { IsTrue (sound (B.state self.old.backend).history (Mode view only)) }
-        ensures called { Called B.alone (B.state self.old.backend) (setting_mode view only) result (B.state self.new.backend) }
+        ensures called { CalledIn B.alone B.state self.old (setting_mode view only) result self.new }
         ensures kept { StaysKept B.alone B.state B.kin self.old self.new }
     {
         self.backend.set_mode(view, only)
@@ -55,7 +54,7 @@ impl<B: Backend> Kept<B> {
 
     pub(crate) fn commit(&mut self, ops: Seq<Op>) -> Outcome<Committed>
         requires { IsTrue (sound (B.state self.old.backend).history (Commit ops)) }
-        ensures called { Called B.alone (B.state self.old.backend) (committing ops) result (B.state self.new.backend) }
+        ensures called { CalledIn B.alone B.state self.old (committing ops) result self.new }
         ensures kept { StaysKept B.alone B.state B.kin self.old self.new }
     {
         self.backend.commit(ops)
@@ -65,7 +64,7 @@ impl<B: Backend> Kept<B> {
         requires view { IsSome (view_of (roster (B.state self.old.backend).history) view) }
         requires low { ForSome lo (λ t. IsTrue (is_time t)) }
         requires high { ForSome hi (λ t. IsTrue (is_time t)) }
-        ensures called { Called B.alone (B.state self.old.backend) (cutting view lo hi) result (B.state self.new.backend) }
+        ensures called { CalledIn B.alone B.state self.old (cutting view lo hi) result self.new }
         ensures kept { StaysKept B.alone B.state B.kin self.old self.new }
     {
         self.backend.cut(view, lo, hi)
@@ -73,7 +72,8 @@ impl<B: Backend> Kept<B> {
 
     pub(crate) fn finish(&mut self, job: <B::Shot as Shown>::Job) -> Outcome<u64>
         requires { B.Shot.fits job (B.state self.old.backend).history }
-        ensures called { Called B.alone (B.state self.old.backend) (finishing (B.Shot.cut_of job) (B.Shot.snap_of job)) result (B.state self.new.backend) }
+        ensures called { CalledIn B.alone B.state self.old
+            (finishing (B.Shot.cut_of job) (B.Shot.snap_of job)) result self.new }
         ensures kept { StaysKept B.alone B.state B.kin self.old self.new }
     {
         self.backend.finish(job)

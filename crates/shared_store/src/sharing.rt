@@ -1,11 +1,8 @@
 //! Passes that are split and joined, and how a shared store ends.
 ghost use Rattle.std.specs.Prelude.{◌≡◌, ◌+◌, ◌-◌, ◌<◌, ◌++◌, [], All, IsPermutation, flat_map, sum_by};
-ghost use mathlib.Core.List.{IsPrefix};
-ghost use Rattle.ts_model.specs.History.{position};
-ghost use Rattle.turn_lock.specs.Pass.{shares_of, seen_of, closed_of, made_of, with_shares, longer, longest_seen, any_closed, either, StaysIn};
-ghost use Rattle.turn_lock.specs.Positions.{positions_between};
+ghost use Rattle.turn_lock.specs.Pass.{shares_of, seen_of, closed_of, made_of, with_shares, longer, longest_seen, any_closed, either, StaysIn, BeginsIn};
 ghost use Rattle.shared_store.specs.Stores.{IsPassOf, history_of};
-ghost use Rattle.shared_store.specs.Wrapped.{GoesOn};
+ghost use Rattle.shared_store.specs.Wrapped.{GoesOn, positions_made};
 
 use crate::store::{Pass, SharedStore};
 use ts_model::Backend;
@@ -33,7 +30,7 @@ impl<B: Backend> SharedStore<B> {
         ensures pass { IsPassOf self.now result }
         ensures shares { shares_of result ≡ shares_of a + shares_of b }
         ensures seen { seen_of result ≡ longer (seen_of a) (seen_of b) }
-        ensures begins { IsPrefix (seen_of a) (seen_of result) × IsPrefix (seen_of b) (seen_of result) }
+        ensures begins { BeginsIn result a × BeginsIn result b }
         ensures closed { closed_of result ≡ either (closed_of a) (closed_of b) }
         ensures stays { StaysIn result a × StaysIn result b }
         ensures made { made_of result ≡ made_of a ++ made_of b }
@@ -48,7 +45,7 @@ impl<B: Backend> SharedStore<B> {
         ensures pass { IsPassOf self.now result }
         ensures shares { shares_of result ≡ shares_of first + sum_by shares_of others.items }
         ensures seen { seen_of result ≡ longest_seen first others.items }
-        ensures begins { IsPrefix (seen_of first) (seen_of result) × All (λ pass. IsPrefix (seen_of pass) (seen_of result)) others.items }
+        ensures begins { BeginsIn result first × All (BeginsIn result) others.items }
         ensures closed { closed_of result ≡ any_closed first others.items }
         ensures stays { StaysIn result first × All (StaysIn result) others.items }
         ensures made { made_of result ≡ made_of first ++ flat_map made_of others.items }
@@ -56,7 +53,8 @@ impl<B: Backend> SharedStore<B> {
         self.lock.gather(first, others)
     }
 
-    /// The backend, for the pass that has all the shares. It holds what the pass has seen, and the pass has made each event since the start once.
+    /// The backend, for the pass that has all the shares. It holds what the pass has seen, and the
+    /// pass has made each event since the start once.
     pub fn close(self, pass: Pass<B>) -> B
         requires pass { IsPassOf self pass }
         requires all { shares_of pass ≡ self.shares }
@@ -64,7 +62,7 @@ impl<B: Backend> SharedStore<B> {
         ensures failed { (B.state result).failed ≡ closed_of pass }
         ensures goes_on { GoesOn (B.state self.opened.value) (B.state result) }
         ensures kin { B.kin result ≡ B.kin self.opened.value }
-        ensures made { IsPermutation (made_of pass) (positions_between (position (B.state self.opened.value).history) (position (B.state result).history)) }
+        ensures made { IsPermutation (made_of pass) (positions_made (B.state self.opened.value) (B.state result)) }
     {
         let Self { lock } = self;
         lock.close(pass).into_backend()

@@ -1,7 +1,7 @@
 -- The value written for a column arrives in that column.
 use Rattle.std.proofs.Common.{◌≡◌, ◌∙◌, refl, sym, ap, subst, ℕ, zero, suc, ◌+◌, ◌<◌, ◌≤◌, Bool, true, false, cond, not, ◌==◌, ◌&&◌, List, [], ◌∷◌, map, length, get_or, Option, Some, None, is_some, is_none, ℤ, pos, arith}
-use Rattle.std.specs.Prelude.{nat_lt, unwrap_or, slice_get, option_map, ◌||◌}
-use Rattle.std.proofs.lemmas.Bool.{and_parts, eq-eqb, ne_eqb, eqb-true, lt-ltb, cases_lt}
+use Rattle.std.specs.Prelude.{nat_le, nat_lt, unwrap_or, slice_get, option_map, ◌||◌}
+use Rattle.std.proofs.lemmas.Bool.{eq-eqb, ne_eqb, eqb-true, cases_lt}
 use Rattle.std.specs.Prelude.{◌⊎◌}
 use Rattle.std.proofs.Common.{inl, inr}
 use Rattle.std.proofs.lemmas.Option.{get_or_from_slice_get}
@@ -12,11 +12,12 @@ use Rattle.ts_model.specs.Roster.{same_name}
 use Rattle.ts_model.specs.Sound.{all_apart}
 use Rattle.ts_catalog.specs.Columns.{hyper_number, place_from}
 use Rattle.stmt_check.specs.Refusals.{marked, refused}
-use Rattle.stmt_check.specs.Rows.{insert_refusal, inserted_rows, leaves_out, list_refusal_of, other_places, picked, place_in, row_of, row_refusal, rows_of, rows_refusal, rule_at, shape_of, time_place, value_rules, values_refusal}
+use Rattle.stmt_check.specs.Rows.{leaves_out, list_refusal_of, other_places, picked, place_in, row_of, row_refusal, rows_of, rows_refusal, rule_at, shape_of, time_place, value_rules, values_refusal}
 use Rattle.stmt_check.specs.Subject.{value_named, value_written, ValuesArrive}
 use Rattle.stmt_check.proofs.PassedLaws.{neither, not_wrong, has_to_be}
 use Rattle.stmt_check.proofs.RowLaws.{by_rule, neither_of, rule_there}
 use Rattle.stmt_check.proofs.TableLaws.{columns_apart}
+use Rattle.stmt_check.specs.Codes.{most_rows}
 
 -- ---- the value that is written
 
@@ -241,7 +242,7 @@ in_rows p at cols names count j (x ∷ rows) zero k values row c apart e v r s =
     let same : x ≡ values = cc in
     let made : row_of (time_place at names 0 cols) (other_places at names 0 cols) x ≡ row = cc in
     let here = (neither (row_refusal p (shape_of at cols names count) j x) _ e).0 in
-    let one = neither (marked p 21 count (Rattle.std.specs.Prelude.nat_le 1000 j)) _ here in
+    let one = neither (marked p 21 count (nat_le most_rows j)) _ here in
     let two = neither (refused p 11 (not (length x == length (value_rules at cols names)))) _ one.1 in
     let three = neither (refused p 12 (leaves_out at names 0 cols)) _ two.1 in
     let counted : length x ≡ length (value_rules at cols names) = eqb-true _ _ (has_to_be p 11 0 (length x == length (value_rules at cols names)) two.0) in

@@ -24,6 +24,7 @@ use Rattle.stmt_check.specs.Refusals.{marked, refused}
 use Rattle.stmt_check.specs.Rows.{insert_refusal, inserted_rows, leaves_out, list_refusal_of, blank_column, other_places, picked, place_in, row_of, row_refusal, rows_of, rows_refusal, rule_at, rule_of, rules_from, shape_of, time_place, value_refusal, value_rules, values_refusal}
 use Rattle.stmt_check.proofs.RosterLaws.{all_at}
 use Rattle.stmt_check.proofs.PassedLaws.{neither, not_wrong, has_to_be}
+use Rattle.stmt_check.specs.Codes.{most_rows}
 
 -- neither of two tests
 pub neither_of : (x y : Bool) → (x || y) ≡ false → (x ≡ false) × (y ≡ false)
@@ -358,7 +359,7 @@ small_row vals m s v all a b c d = omega arith
 one_row : (p : ℕ) (def : TableDef) (hyper : HyperInfo) (names : Option (List (List ℕ))) (count k : ℕ) (values : List (Option ℤ)) → IsHyperOf hyper.at def.cols → AllByRecursion IsValue values → row_refusal p (shape_of hyper.at def.cols names count) k values ≡ None → RowIsSound def hyper (row_of (time_place hyper.at names 0 def.cols) (other_places hyper.at names 0 def.cols) values) (row_size values)
 one_row p def hyper names count k values h proper e =
     let rules = value_rules hyper.at def.cols names in
-    let one = neither (marked p 21 count (nat_le 1000 k)) _ e in
+    let one = neither (marked p 21 count (nat_le most_rows k)) _ e in
     let two = neither (refused p 11 (not (length values == length rules))) _ one.1 in
     let three = neither (refused p 12 (leaves_out hyper.at names 0 def.cols)) _ two.1 in
     let same : length values ≡ length rules = eqb-true _ _ (has_to_be p 11 0 (length values == length rules) two.0) in

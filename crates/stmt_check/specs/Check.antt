@@ -1,5 +1,5 @@
 -- What a statement's first refusal is, and what it asks for where there is none.
-use Rattle.std.specs.Prelude.{◌≡◌, ℕ, ℤ, pos as nonneg, true, false, List, [], ◌∷◌, length, slice_index_or, Option, Some, None, unwrap_or, ⊤, IsTrue, ◌<◌, ◌^◌}
+use Rattle.std.specs.Prelude.{◌≡◌, ℕ, ℤ, pos as nonneg, true, false, List, [], ◌∷◌, length, slice_index_or, Option, Some, None, unwrap_or, ⊤, IsTrue, ◌<◌, ◌^◌, Result}
 use Rattle.std.specs.List.{AllByRecursion}
 use Rattle.ts_model.specs.declared.events.Op.TheVariants as ops
 use Rattle.ts_model.specs.declared.outcomes.Refusal.{Refusal}
@@ -26,6 +26,8 @@ use Rattle.stmt_check.specs.Queries.{bound_refusal, drop_test, starts_of, starts
 use Rattle.stmt_check.specs.Refusals.{◌⊳◌, hypertable_refusal, name_refusal, number_of, plain_refusal, query_refusal, view_refusal}
 use Rattle.stmt_check.specs.Rows.{insert_refusal, inserted_rows}
 use Rattle.stmt_check.specs.Tables.{hyper_refusal, is_interval, table_refusal}
+use Rattle.stmt_check.specs.declared.actions.Stop.{Stop}
+use Rattle.stmt_check.specs.Results.{Checks}
 
 -- a table without columns
 abbrev pub no_table : TableInfo
@@ -131,6 +133,10 @@ action_of roster stmts.Rollback = actions.Rollback
 action_of roster (stmts.Buckets fold) =
     actions.Ask (queries.Buckets (number_of (found_in roster fold.table)) (fold_of (table_at roster (found_in roster fold.table)) fold))
 action_of roster (stmts.Rows table tests) = actions.Ask (rows_query roster (found_in roster table) tests)
+
+-- a statement is resolved: what it asks for where nothing is refused, and else the first refusal
+abbrev pub Resolves : ℕ → Roster → Stmt → Result Action Stop → Type 0
+Resolves pos roster stmt result = Checks (refusal_of pos roster stmt) (action_of roster stmt) result
 
 -- the check of a statement: the action where nothing is refused, and else the first refusal
 abbrev pub IsChecked : ℕ → Roster → Stmt → Checked → Type 0

@@ -1,5 +1,5 @@
 -- Tests and folds over a hypertable.
-use Rattle.std.specs.Prelude.{ℕ, ◌==◌, Bool, false, not, ◌||◌, ◌&&◌, nat_le, ℤ, pos as nonneg, List, [], ◌∷◌, ◌++◌, length, map, Option, Some, None, is_none, is_some, unwrap_or, int_le, int_lt, codes}
+use Rattle.std.specs.Prelude.{ℕ, ◌==◌, Bool, false, not, ◌||◌, ◌&&◌, nat_le, ℤ, pos as nonneg, List, [], ◌∷◌, ◌++◌, length, map, Option, Some, None, is_none, is_some, unwrap_or, int_le, int_lt, codes, Result}
 use Rattle.ts_num.specs.declared.values.Fun.{Fun}
 use Rattle.ts_num.specs.declared.values.Fun.TheVariants.{CountAll, Count, Sum, Min, Max, Avg}
 use Rattle.ts_bucket.specs.Bucket.{max_step}
@@ -21,6 +21,9 @@ use Rattle.stmt_check.specs.Refusals.{◌⊳◌, marked, missing, refused}
 use Rattle.std.specs.List.{list_any}
 use Rattle.ts_model.specs.Roster.{same_name}
 use Rattle.stmt_check.specs.Tables.{is_among}
+use Rattle.stmt_check.specs.declared.actions.Stop.{Stop}
+use Rattle.stmt_check.specs.Results.{Checks}
+use Rattle.ts_bucket.specs.declared.widths.Width.{Width}
 
 -- the number of a column, where it is there
 abbrev pub number_or_zero : TableInfo → List ℕ → ℕ
@@ -35,6 +38,7 @@ tests_refusal pos info (t ∷ ts) = missing pos no_column (column_of info t.col)
 abbrev pub test_of : TableInfo → NamedTest → Test
 test_of info t = record { col = number_or_zero info t.col; cmp = t.cmp; num = t.num }
 
+-- tests with the numbers of their columns
 abbrev pub tests_of : TableInfo → List NamedTest → List Test
 tests_of info tests = map (test_of info) tests
 
@@ -121,6 +125,7 @@ bucket_column f = head_name bucket_name f
 abbrev pub names_after : List ℕ → NamedFold → List (List ℕ)
 names_after head f = (head ∷ f.keys) ++ map aggregate_name f.aggs
 
+-- the names of the output columns of a fold, of which the bucket's is the first
 abbrev pub output_names : NamedFold → List (List ℕ)
 output_names f = names_after (bucket_column f) f
 
@@ -140,6 +145,10 @@ width_refusal pos info f =
     ⊳ refused pos no_column (not (is_time_column (column_of info f.at)))
     ⊳ refused pos bad_width (not (is_shift f.step f.shift))
 
+-- the width of a fold
+abbrev pub width_of : NamedFold → Width
+width_of f = record { step = f.step; shift = f.shift }
+
 -- the rest of a fold behind its head, whose column has this name, from left to right; `distinct` where output names have to differ
 abbrev pub rest_refusal : ℕ → Bool → List ℕ → TableInfo → NamedFold → Option Refusal
 rest_refusal pos distinct head info f =
@@ -156,6 +165,7 @@ abbrev pub argument_of : TableInfo → Option (List ℕ) → ℕ
 argument_of info None = 0
 argument_of info (Some col) = number_or_zero info col
 
+-- an aggregate with the number of its column
 abbrev pub aggregate_of : TableInfo → NamedAgg → Agg
 aggregate_of info a = record { fun = a.fun; col = argument_of info a.col }
 
@@ -170,8 +180,29 @@ rest_of info f = record {
 -- a fold with the numbers of its columns
 abbrev pub fold_of : TableInfo → NamedFold → Fold
 fold_of info f = record {
-  width = record { step = f.step; shift = f.shift };
+  width = width_of f;
   keys = map (number_or_zero info) f.keys;
   aggs = map (aggregate_of info) f.aggs;
   tests = tests_of info f.tests;
 }
+
+-- ---- checks of parts
+
+-- the width of a fold, or its refusal
+abbrev pub ChecksWidth : ℕ → TableInfo → NamedFold → Result Width Stop → Type 0
+ChecksWidth pos info f result = Checks (width_refusal pos info f) (width_of f) result
+
+-- the numbers of the keys' columns of a fold whose head has this name, or the first refusal of a key
+abbrev pub ChecksKeys : ℕ → Bool → List ℕ → TableInfo → NamedFold → Result (List ℕ) Stop → Type 0
+ChecksKeys pos distinct head info f result =
+    Checks (keys_refusal pos distinct (output_count f) info head [] f.keys) (map (number_or_zero info) f.keys) result
+
+-- one aggregate after so many columns with the number of its column, or its refusal
+abbrev pub ChecksAggregate : ℕ → ℕ → TableInfo → ℕ → Bool → NamedAgg → Result Agg Stop → Type 0
+ChecksAggregate pos count info others repeats a result =
+    Checks (aggregate_refusal pos count info others repeats a) (aggregate_of info a) result
+
+-- the aggregates of a fold whose head has this name, or the first refusal of one
+abbrev pub ChecksAggregates : ℕ → Bool → List ℕ → TableInfo → NamedFold → Result (List Agg) Stop → Type 0
+ChecksAggregates pos distinct head info f result =
+    Checks (aggregates_refusal pos distinct (output_count f) info head f.keys [] f.aggs) (map (aggregate_of info) f.aggs) result

@@ -14,10 +14,11 @@ use Rattle.ts_catalog.specs.Columns.{view_column_of}
 use Rattle.stmt_reader.specs.declared.statements.NamedTest.{NamedTest}
 use Rattle.stmt_check.specs.Refusals.{◌⊳◌, refused}
 
--- the least and the greatest number of 64 bits
+-- the least number of 64 bits
 abbrev pub least : ℤ
 least = negsuc (2 ^ 63 - 1)
 
+-- the greatest number of 64 bits
 abbrev pub greatest : ℤ
 greatest = nonneg (2 ^ 63 - 1)
 
@@ -68,11 +69,12 @@ below_of Ge n = greatest
 below_of IsNull n = greatest
 below_of NotNull n = greatest
 
--- the greatest of the bounds from below, and the least of those from above
+-- the greatest of the bounds from below
 abbrev pub from_all : ℤ → List NamedTest → ℤ
 from_all lo [] = lo
 from_all lo (t ∷ ts) = from_all (int_max lo (from_of t.cmp t.num)) ts
 
+-- the least of the bounds from above
 abbrev pub below_all : ℤ → List NamedTest → ℤ
 below_all hi [] = hi
 below_all hi (t ∷ ts) = below_all (int_min hi (below_of t.cmp t.num)) ts

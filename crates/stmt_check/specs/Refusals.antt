@@ -27,6 +27,7 @@ refused pos code wrong = marked pos code 0 wrong
 abbrev pub missing : {T : Type 0} → ℕ → ℕ → Option T → Option Refusal
 missing pos code o = refused pos code (is_none o)
 
+-- no relation was found
 abbrev pub finds_nothing : Found → Bool
 finds_nothing found.None = true
 finds_nothing (found.Plain n) = false

@@ -1,5 +1,5 @@
 -- Rows to be inserted.
-use Rattle.std.specs.Prelude.{ℕ, ◌+◌, ◌==◌, Bool, false, not, ◌||◌, ◌&&◌, nat_le, ℤ, pos as nonneg, List, [], ◌∷◌, ◌++◌, length, map, slice_index_or, Option, Some, None, is_none, unwrap_or, if◌then◌else◌}
+use Rattle.std.specs.Prelude.{ℕ, ◌+◌, ◌==◌, Bool, false, not, ◌||◌, ◌&&◌, nat_le, ℤ, pos as nonneg, List, [], ◌∷◌, ◌++◌, length, map, slice_index_or, Option, Some, None, is_none, unwrap_or, if◌then◌else◌, Result}
 use Rattle.ts_bucket.specs.Bucket.{is_time}
 use Rattle.stmt_check.specs.Codes.{most_rows, bad_time, no_column, null_value, value_count}
 use Rattle.ts_model.specs.Calls.{name_taken, too_many}
@@ -11,6 +11,8 @@ use Rattle.stmt_check.specs.declared.inserts.Rule.{Rule}
 use Rattle.stmt_check.specs.declared.inserts.Shape.{Shape}
 use Rattle.stmt_check.specs.Refusals.{◌⊳◌, marked, missing, refused}
 use Rattle.stmt_check.specs.Tables.{is_among}
+use Rattle.stmt_check.specs.declared.actions.Stop.{Stop}
+use Rattle.stmt_check.specs.Results.{Checks}
 
 -- a column without a name that may be NULL
 abbrev pub blank_column : Column
@@ -45,6 +47,7 @@ list_refusal pos cols before [] = None
 list_refusal pos cols before (n ∷ ns) =
     refused pos name_taken (is_among n before) ⊳ missing pos no_column (column_from n 0 cols) ⊳ list_refusal pos cols (before ++ n ∷ []) ns
 
+-- the column list, where there is one
 abbrev pub list_refusal_of : ℕ → List Column → Option (List (List ℕ)) → Option Refusal
 list_refusal_of pos cols None = None
 list_refusal_of pos cols (Some names) = list_refusal pos cols [] names
@@ -116,5 +119,11 @@ insert_refusal pos at cols names rows =
 abbrev pub rows_of : Shape → List (List (Option ℤ)) → List Row
 rows_of shape rows = map (row_of shape.time shape.others) rows
 
+-- the rows that an INSERT gives
 abbrev pub inserted_rows : ℕ → List Column → Option (List (List ℕ)) → List (List (Option ℤ)) → List Row
 inserted_rows at cols names rows = rows_of (shape_of at cols names (length rows)) rows
+
+-- the rows that an INSERT gives, or its first refusal
+abbrev pub ChecksRows : ℕ → ℕ → List Column → Option (List (List ℕ)) → List (List (Option ℤ)) → Result (List Row) Stop → Type 0
+ChecksRows pos at cols names rows result =
+    Checks (insert_refusal pos at cols names rows) (inserted_rows at cols names rows) result

@@ -1,5 +1,5 @@
 -- Tables and hypertables to be made.
-use Rattle.std.specs.Prelude.{ℕ, Bool, not, nat_le, ℤ, pos as nonneg, List, [], ◌∷◌, ◌++◌, length, Option, None, int_le, ◌&&◌}
+use Rattle.std.specs.Prelude.{ℕ, Bool, not, nat_le, ℤ, pos as nonneg, List, [], ◌∷◌, ◌++◌, length, Option, None, int_le, ◌&&◌, Result, unwrap_or}
 use Rattle.std.specs.List.{list_any}
 use Rattle.stmt_check.specs.Codes.{bad_width, no_column}
 use Rattle.ts_bucket.specs.Chunks.{max_interval}
@@ -11,6 +11,8 @@ use Rattle.ts_schema.specs.declared.columns.Column.{Column}
 use Rattle.ts_catalog.specs.Columns.{column_from}
 use Rattle.ts_model.specs.Roster.{same_name}
 use Rattle.stmt_check.specs.Refusals.{◌⊳◌, marked, missing, name_refusal, refused}
+use Rattle.stmt_check.specs.declared.actions.Stop.{Stop}
+use Rattle.stmt_check.specs.Results.{Checks}
 
 -- a name is among these
 abbrev pub is_among : List ℕ → List (List ℕ) → Bool
@@ -37,3 +39,8 @@ is_interval n = int_le (nonneg 1) n && int_le n max_interval
 -- the column and the interval of create_hypertable
 abbrev pub hyper_refusal : ℕ → List Column → List ℕ → ℤ → Option Refusal
 hyper_refusal pos cols col interval = missing pos no_column (column_from col 0 cols) ⊳ refused pos bad_width (not (is_interval interval))
+
+-- the declared place of the time column, or the refusal of create_hypertable
+abbrev pub ChecksHyper : ℕ → List Column → List ℕ → ℤ → Result ℕ Stop → Type 0
+ChecksHyper pos cols col interval result =
+    Checks (hyper_refusal pos cols col interval) (unwrap_or (column_from col 0 cols) 0) result

@@ -46,9 +46,17 @@ pub const MAX_ROWS: usize = 1000;
 
 /// States that these numbers are those of the definitions, and the limits as numbers. It does nothing.
 pub fn numbers_law()
-    ensures relations { (codes.NO_RELATION ≡ no_relation) × (codes.NAME_TAKEN ≡ name_taken) × (codes.NOT_HYPERTABLE ≡ not_hypertable) × (codes.NOT_AGGREGATE ≡ not_aggregate) }
-    ensures values { (codes.BAD_TIME ≡ bad_time) × (codes.VALUE_COUNT ≡ value_count) × (codes.NULL_VALUE ≡ null_value) }
-    ensures columns { (codes.NO_COLUMN ≡ no_column) × (codes.BAD_WIDTH ≡ bad_width) × (codes.TOO_MANY ≡ too_many) }
+    ensures relation { codes.NO_RELATION ≡ no_relation }
+    ensures name { codes.NAME_TAKEN ≡ name_taken }
+    ensures hypertable { codes.NOT_HYPERTABLE ≡ not_hypertable }
+    ensures aggregate { codes.NOT_AGGREGATE ≡ not_aggregate }
+    ensures column { codes.NO_COLUMN ≡ no_column }
+    ensures time { codes.BAD_TIME ≡ bad_time }
+    ensures width { codes.BAD_WIDTH ≡ bad_width }
+    ensures count { codes.VALUE_COUNT ≡ value_count }
+    ensures null { codes.NULL_VALUE ≡ null_value }
+    ensures many { codes.TOO_MANY ≡ too_many }
     ensures limits { (most_relations ≡ 64) × (most_columns ≡ 16) × (most_rows ≡ 1000) }
-    ensures most { (codes.MAX_RELATIONS ≡ most_relations) × (codes.MAX_COLUMNS ≡ most_columns) × (codes.MAX_ROWS ≡ most_rows) }
+    ensures most { (codes.MAX_RELATIONS ≡ most_relations) × (codes.MAX_COLUMNS ≡ most_columns)
+        × (codes.MAX_ROWS ≡ most_rows) }
 {}

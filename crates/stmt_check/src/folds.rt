@@ -1,9 +1,9 @@
 //! Tests and folds over a hypertable.
-ghost use Rattle.std.specs.Prelude.{◌≡◌, ◌<◌, ◌+◌, ◌^◌, ◌&&◌, ◌++◌, [], length, map, unwrap_or, IfOk, IsTrue};
+ghost use Rattle.std.specs.Prelude.{◌≡◌, ◌<◌, ◌+◌, ◌^◌, ◌&&◌, ◌++◌, length, map, unwrap_or, IfOk, IsTrue};
 ghost use Rattle.ts_schema.specs.Names.{is_name};
 ghost use Rattle.ts_num.specs.declared.values.Fun.{Fun};
-ghost use Rattle.stmt_check.specs.Folds.{aggregate_name, aggregate_of, aggregate_refusal, aggregates_refusal, argument_of, argument_refusal, bucket_column, columns_before, is_aggregate, bucket_name, fold_of, fold_refusal, function_name, head_name, rest_of, rest_refusal, is_key, is_step, is_taken, is_time_column, key_refusal, keys_refusal, number_or_zero, output_count, output_names, test_of, tests_of, tests_refusal, width_refusal};
-ghost use Rattle.stmt_check.specs.Results.{Checks, Passes};
+ghost use Rattle.stmt_check.specs.Folds.{aggregate_name, argument_of, argument_refusal, columns_before, is_aggregate, fold_of, fold_refusal, function_name, head_name, rest_of, rest_refusal, is_key, is_step, is_taken, is_time_column, key_refusal, number_or_zero, output_count, output_names, tests_of, tests_refusal, ChecksWidth, ChecksKeys, ChecksAggregate, ChecksAggregates};
+ghost use Rattle.stmt_check.specs.Results.{Checks};
 ghost use Rattle.stmt_check.specs.Tables.{is_among};
 
 use crate::actions::Stop;
@@ -102,7 +102,7 @@ pub(crate) fn check_rest(
 /// The width, where it is in range and the column is the time column.
 fn check_width(pos: u64, info: &TableInfo, fold: &NamedFold) -> Result<Width, Stop>
     requires { length info.now.def.cols < 2 ^ 32 }
-    ensures { Checks (width_refusal pos info.now fold.now) (record { step = fold.now.step; shift = fold.now.shift }) result }
+    ensures { ChecksWidth pos info.now fold.now result }
 {
     refuse_if(pos, BAD_WIDTH, !is_step_in_range(fold.step))?;
     refuse_if(pos, NO_COLUMN, !is_time(column(info, &fold.at)))?;
@@ -144,7 +144,7 @@ fn check_keys(
     fold: &NamedFold,
 ) -> Result<Seq<u32>, Stop>
     requires { length info.now.def.cols < 2 ^ 32 }
-    ensures { Checks (keys_refusal pos distinct (output_count fold.now) info.now head.now [] fold.now.keys) (map (number_or_zero info.now) fold.now.keys) result }
+    ensures { ChecksKeys pos distinct head.now info.now fold.now result }
 {
     let keys = fold.keys.items();
     let count = count_columns(fold);
@@ -193,7 +193,7 @@ fn check_aggregates(
     fold: &NamedFold,
 ) -> Result<Seq<Agg>, Stop>
     requires { length info.now.def.cols < 2 ^ 32 }
-    ensures { Checks (aggregates_refusal pos distinct (output_count fold.now) info.now head.now fold.now.keys [] fold.now.aggs) (map (aggregate_of info.now) fold.now.aggs) result }
+    ensures { ChecksAggregates pos distinct head.now info.now fold.now result }
 {
     let aggs = fold.aggs.items();
     let keys = fold.keys.items();
@@ -218,7 +218,7 @@ fn check_aggregate(
     agg: &NamedAgg,
 ) -> Result<Agg, Stop>
     requires { length info.now.def.cols < 2 ^ 32 }
-    ensures { Checks (aggregate_refusal pos count info.now others repeats agg.now) (aggregate_of info.now agg.now) result }
+    ensures { ChecksAggregate pos count info.now others repeats agg.now result }
 {
     refuse_if(pos, NAME_TAKEN, agg.name.is_none() && repeats)?;
     refuse_marked(pos, TOO_MANY, count, others >= MAX_COLUMNS as u64)?;

@@ -1,8 +1,8 @@
 //! Rows to be inserted.
-ghost use Rattle.std.specs.Prelude.{◌≡◌, ◌<◌, ◌^◌, ◌==◌, ◌||◌, [], length, map, take, slice_index_or, None, IfOk};
+ghost use Rattle.std.specs.Prelude.{◌≡◌, ◌<◌, ◌^◌, ◌==◌, ◌||◌, [], length, map, slice_index_or, None, IfOk};
 ghost use Rattle.ts_catalog.specs.Columns.{place_from};
 ghost use Rattle.stmt_check.specs.Results.{Checks, Passes};
-ghost use Rattle.stmt_check.specs.Rows.{blank_column, leaves_out, list_refusal, list_refusal_of, other_places, picked, place_in, row_of, row_refusal, rows_of, rows_refusal, rule_at, rule_of, rules_from, shape_of, time_place, value_refusal, value_rules, values_refusal, insert_refusal, inserted_rows};
+ghost use Rattle.stmt_check.specs.Rows.{blank_column, leaves_out, list_refusal, list_refusal_of, other_places, picked, place_in, row_of, row_refusal, rows_of, rows_refusal, rule_of, rules_from, shape_of, time_place, value_refusal, value_rules, values_refusal, ChecksRows};
 ghost use Rattle.stmt_check.specs.Tables.{is_among};
 
 use crate::actions::Stop;
@@ -47,7 +47,7 @@ pub(crate) fn check_rows(
     rows: &Seq<Seq<Option<i64>>>,
 ) -> Result<Seq<Row>, Stop>
     requires { length columns.now < 2 ^ 32 }
-    ensures { Checks (insert_refusal pos at columns.now names.now rows.now) (inserted_rows at columns.now names.now rows.now) result }
+    ensures { ChecksRows pos at columns.now names.now rows.now result }
 {
     check_list(pos, columns, names)?;
     let shape = shape_for(alloc, at, columns, names, rows.len() as u64)?;

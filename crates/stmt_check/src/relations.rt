@@ -2,10 +2,10 @@
 ghost use Rattle.std.specs.Prelude.{◌≡◌, ◌<◌, ◌^◌, length, slice_index_or, IfOk, IsTrue};
 ghost use Rattle.ts_catalog.specs.Relations.{found_in};
 ghost use Rattle.stmt_check.specs.Check.{IsNumbered, interval_of, no_table, no_view};
-ghost use Rattle.stmt_check.specs.Refusals.{hypertable_refusal, name_refusal, finds_nothing, number_of, plain_refusal, view_refusal};
-ghost use Rattle.stmt_check.specs.Queried.{Finds, IsInRoster};
+ghost use Rattle.stmt_check.specs.Refusals.{name_refusal, finds_nothing};
+ghost use Rattle.stmt_check.specs.Queried.{Finds, IsInRoster, FindsHypertable, FindsPlain, FindsView};
 ghost use Rattle.stmt_check.specs.Tables.{is_interval};
-ghost use Rattle.stmt_check.specs.Results.{Checks, Passes};
+ghost use Rattle.stmt_check.specs.Results.{Passes};
 
 use crate::actions::Stop;
 use crate::codes::{
@@ -50,7 +50,7 @@ fn is_nothing(found: Found) -> bool
 /// The number of the hypertable with this name.
 pub(crate) fn hypertable(pos: u64, roster: &Roster, name: &Name) -> Result<u32, Stop>
     requires { IsNumbered roster.now }
-    ensures number { Checks (hypertable_refusal pos (found_in roster.now name.now)) (number_of (found_in roster.now name.now)) result }
+    ensures number { FindsHypertable pos (found_in roster.now name.now) result }
     ensures there { IfOk result (λ n. n < length roster.now.tables) }
 {
     match find(roster, name) {
@@ -63,7 +63,7 @@ pub(crate) fn hypertable(pos: u64, roster: &Roster, name: &Name) -> Result<u32, 
 /// The number of the plain table with this name.
 pub(crate) fn plain_table(pos: u64, roster: &Roster, name: &Name) -> Result<u32, Stop>
     requires { IsNumbered roster.now }
-    ensures number { Checks (plain_refusal pos (found_in roster.now name.now)) (number_of (found_in roster.now name.now)) result }
+    ensures number { FindsPlain pos (found_in roster.now name.now) result }
     ensures there { IfOk result (λ n. n < length roster.now.tables) }
 {
     match find(roster, name) {
@@ -77,7 +77,7 @@ pub(crate) fn plain_table(pos: u64, roster: &Roster, name: &Name) -> Result<u32,
 /// The number of the aggregate with this name.
 pub(crate) fn aggregate(pos: u64, roster: &Roster, name: &Name) -> Result<u32, Stop>
     requires { IsNumbered roster.now }
-    ensures number { Checks (view_refusal pos (found_in roster.now name.now)) (number_of (found_in roster.now name.now)) result }
+    ensures number { FindsView pos (found_in roster.now name.now) result }
     ensures there { IfOk result (λ n. n < length roster.now.views) }
 {
     match find(roster, name) {

@@ -1,8 +1,7 @@
 //! The check of a statement.
 ghost use Rattle.std.specs.Prelude.{◌≡◌};
 ghost use Rattle.stmt_reader.specs.declared.statements.Stmt.TheVariants as stmts;
-ghost use Rattle.stmt_check.specs.Check.{IsChecked, IsNumbered, action_of, interval_of, refusal_of, time_of};
-ghost use Rattle.stmt_check.specs.Results.{Checks};
+ghost use Rattle.stmt_check.specs.Check.{IsChecked, IsNumbered, interval_of, time_of, Resolves};
 
 use crate::actions::{Action, Checked, Stop};
 use crate::folds::{check_fold, check_tests, names_of_outputs};
@@ -33,7 +32,7 @@ pub fn check(alloc: Global, stmt: &Stmt, roster: &Roster, pos: u64) -> Checked
 /// What a statement asks for, or why it stops.
 fn resolve(alloc: Global, pos: u64, roster: &Roster, stmt: &Stmt) -> Result<Action, Stop>
     requires { IsNumbered roster.now }
-    ensures { Checks (refusal_of pos roster.now stmt.now) (action_of roster.now stmt.now) result }
+    ensures { Resolves pos roster.now stmt.now result }
 {
     match stmt {
         Stmt::Table { name, cols } => table(pos, roster, name, cols),
@@ -68,7 +67,7 @@ fn resolve(alloc: Global, pos: u64, roster: &Roster, stmt: &Stmt) -> Result<Acti
 /// CREATE TABLE.
 fn table(pos: u64, roster: &Roster, name: &Name, cols: &Seq<Column>) -> Result<Action, Stop>
     requires { IsNumbered roster.now }
-    ensures { Checks (refusal_of pos roster.now (stmts.Table name.now cols.now)) (action_of roster.now (stmts.Table name.now cols.now)) result }
+    ensures { Resolves pos roster.now (stmts.Table name.now cols.now) result }
 {
     new_name(pos, roster, name, roster.tables.len())?;
     check_columns(pos, cols.items())?;
@@ -81,7 +80,7 @@ fn table(pos: u64, roster: &Roster, name: &Name, cols: &Seq<Column>) -> Result<A
 /// SELECT create_hypertable.
 fn hyper(pos: u64, roster: &Roster, name: &Name, col: &Name, interval: i64) -> Result<Action, Stop>
     requires { IsNumbered roster.now }
-    ensures { Checks (refusal_of pos roster.now (stmts.Hyper name.now col.now interval)) (action_of roster.now (stmts.Hyper name.now col.now interval)) result }
+    ensures { Resolves pos roster.now (stmts.Hyper name.now col.now interval) result }
 {
     let table = plain_table(pos, roster, name)?;
     let info = table_info(roster, table);
@@ -103,7 +102,7 @@ fn view(
     fold: &NamedFold,
 ) -> Result<Action, Stop>
     requires { IsNumbered roster.now }
-    ensures { Checks (refusal_of pos roster.now (stmts.View name.now only filled fold.now)) (action_of roster.now (stmts.View name.now only filled fold.now)) result }
+    ensures { Resolves pos roster.now (stmts.View name.now only filled fold.now) result }
 {
     new_name(pos, roster, name, roster.views.len())?;
     let table = hypertable(pos, roster, &fold.table)?;
@@ -121,7 +120,7 @@ fn view(
 /// ALTER MATERIALIZED VIEW.
 fn mode(pos: u64, roster: &Roster, name: &Name, only: bool) -> Result<Action, Stop>
     requires { IsNumbered roster.now }
-    ensures { Checks (refusal_of pos roster.now (stmts.Mode name.now only)) (action_of roster.now (stmts.Mode name.now only)) result }
+    ensures { Resolves pos roster.now (stmts.Mode name.now only) result }
 {
     let view = aggregate(pos, roster, name)?;
     Ok(Action::Mode { view, only })
@@ -137,7 +136,7 @@ fn insert(
     rows: &Seq<Seq<Option<i64>>>,
 ) -> Result<Action, Stop>
     requires { IsNumbered roster.now }
-    ensures { Checks (refusal_of pos roster.now (stmts.Insert name.now cols.now rows.now)) (action_of roster.now (stmts.Insert name.now cols.now rows.now)) result }
+    ensures { Resolves pos roster.now (stmts.Insert name.now cols.now rows.now) result }
 {
     let table = hypertable(pos, roster, name)?;
     let info = table_info(roster, table);
@@ -155,7 +154,7 @@ fn delete(
     tests: &[NamedTest],
 ) -> Result<Action, Stop>
     requires { IsNumbered roster.now }
-    ensures { Checks (refusal_of pos roster.now (stmts.Delete name.now tests.now)) (action_of roster.now (stmts.Delete name.now tests.now)) result }
+    ensures { Resolves pos roster.now (stmts.Delete name.now tests.now) result }
 {
     let table = hypertable(pos, roster, name)?;
     let tests = check_tests(alloc, pos, table_info(roster, table), tests)?;
@@ -171,7 +170,7 @@ fn drop_chunks(
     below: i64,
 ) -> Result<Action, Stop>
     requires { IsNumbered roster.now }
-    ensures { Checks (refusal_of pos roster.now (stmts.Drop name.now below)) (action_of roster.now (stmts.Drop name.now below)) result }
+    ensures { Resolves pos roster.now (stmts.Drop name.now below) result }
 {
     let table = hypertable(pos, roster, name)?;
     check_bound(pos, Some(below))?;
@@ -189,7 +188,7 @@ fn refresh(
     hi: Option<i64>,
 ) -> Result<Action, Stop>
     requires { IsNumbered roster.now }
-    ensures { Checks (refusal_of pos roster.now (stmts.Refresh name.now lo hi)) (action_of roster.now (stmts.Refresh name.now lo hi)) result }
+    ensures { Resolves pos roster.now (stmts.Refresh name.now lo hi) result }
 {
     let view = aggregate(pos, roster, name)?;
     check_bound(pos, lo)?;
@@ -206,7 +205,7 @@ fn cut(
     hi: Option<i64>,
 ) -> Result<Action, Stop>
     requires { IsNumbered roster.now }
-    ensures { Checks (refusal_of pos roster.now (stmts.Cut name.now lo hi)) (action_of roster.now (stmts.Cut name.now lo hi)) result }
+    ensures { Resolves pos roster.now (stmts.Cut name.now lo hi) result }
 {
     let view = aggregate(pos, roster, name)?;
     check_bound(pos, lo)?;
@@ -217,7 +216,7 @@ fn cut(
 /// A fold over a hypertable.
 fn buckets(alloc: Global, pos: u64, roster: &Roster, fold: &NamedFold) -> Result<Action, Stop>
     requires { IsNumbered roster.now }
-    ensures { Checks (refusal_of pos roster.now (stmts.Buckets fold.now)) (action_of roster.now (stmts.Buckets fold.now)) result }
+    ensures { Resolves pos roster.now (stmts.Buckets fold.now) result }
 {
     let table = hypertable(pos, roster, &fold.table)?;
     let fold = check_fold(alloc, pos, false, table_info(roster, table), fold)?;
@@ -233,7 +232,7 @@ fn rows(
     tests: &[NamedTest],
 ) -> Result<Action, Stop>
     requires { IsNumbered roster.now }
-    ensures { Checks (refusal_of pos roster.now (stmts.Rows name.now tests.now)) (action_of roster.now (stmts.Rows name.now tests.now)) result }
+    ensures { Resolves pos roster.now (stmts.Rows name.now tests.now) result }
 {
     match queryable(pos, roster, name)? {
         Queried::Table(table) => {

@@ -1,8 +1,7 @@
 //! Tables and hypertables to be made.
-ghost use Rattle.std.specs.Prelude.{◌≡◌, ◌<◌, ◌≤◌, ◌^◌, ◌++◌, [], length, take, unwrap_or};
-ghost use Rattle.ts_catalog.specs.Columns.{column_from};
-ghost use Rattle.stmt_check.specs.Results.{Checks, Passes};
-ghost use Rattle.stmt_check.specs.Tables.{columns_refusal, hyper_refusal, is_column, is_interval};
+ghost use Rattle.std.specs.Prelude.{◌≡◌, ◌<◌, ◌^◌, [], length};
+ghost use Rattle.stmt_check.specs.Results.{Passes};
+ghost use Rattle.stmt_check.specs.Tables.{columns_refusal, is_column, is_interval, ChecksHyper};
 
 use crate::actions::Stop;
 use crate::codes::{BAD_WIDTH, MAX_COLUMNS, NAME_TAKEN, NO_COLUMN, TOO_MANY};
@@ -40,7 +39,7 @@ pub(crate) fn check_hyper(
     interval: i64,
 ) -> Result<u32, Stop>
     requires { length columns.now < 2 ^ 32 }
-    ensures { Checks (hyper_refusal pos columns.now name.now interval) (unwrap_or (column_from name.now 0 columns.now) 0) result }
+    ensures { ChecksHyper pos columns.now name.now interval result }
 {
     let place = present(pos, NO_COLUMN, column_place(columns, name))?;
     refuse_if(pos, BAD_WIDTH, !is_in_range(interval))?;

@@ -9,7 +9,7 @@ use Rattle.stmt_reader.specs.Streams.{Placed, Stream, onto, plain, heads}
 use Rattle.stmt_reader.specs.Reading as read
 use Rattle.stmt_reader.specs.Reading.{parts}
 use Rattle.stmt_reader.specs.Grammar as rule
-use Rattle.stmt_reader.specs.Grammar.{Rule, says, sequence, either}
+use Rattle.stmt_reader.specs.Grammar.{Rule, means, sequence, either}
 use Rattle.stmt_reader.specs.declared.folds.Head.{Head}
 use Rattle.stmt_reader.specs.declared.keywords.Keyword.TheVariants as kw
 use Rattle.stmt_reader.specs.declared.tokens.Mark.TheVariants as marks
@@ -18,7 +18,7 @@ use Rattle.stmt_reader.specs.declared.statements.Stmt.{Stmt}
 use Rattle.stmt_reader.specs.declared.statements.Stmt.TheVariants as stmt
 use Rattle.stmt_reader.proofs.Placed.{splits, onto-append}
 use Rattle.stmt_reader.proofs.Rules.{Reads, none, any, heads-any, Avoids, alike-refl, reads_alike, reads_gives, reads_bind, reads_then}
-use Rattle.stmt_reader.proofs.RuleTokens.{behind, Leads, reads_keyword, reads_mark, reads_number, reads_choose, takes_keyword, takes_mark, mark_only, avoids_says, avoids_keyword, avoids_mark, avoids_number, avoids_sequence, avoids_either}
+use Rattle.stmt_reader.proofs.RuleTokens.{behind, Leads, reads_keyword, reads_mark, reads_number, reads_choose, takes_keyword, takes_mark, mark_only, avoids_means, avoids_keyword, avoids_mark, avoids_number, avoids_sequence, avoids_either}
 use Rattle.stmt_reader.proofs.RuleLists.{reads_listed}
 use Rattle.stmt_reader.proofs.PartRules.{reads_last, avoids_end, reads_name, reads_quoted, reads_flag, reads_value, reads_row, reads_column, reads_source, on_filters, on_aggregates, on_as, reads_bucket, reads_grouping}
 use Rattle.stmt_reader.proofs.SelectRules.{reads_select_list, avoids_select_list}
@@ -54,7 +54,7 @@ reads_fold n =
 -- ---- CREATE
 
 abbrev table_rule : Rule Stmt
-table_rule = sequence rule.name (λ n. behind (is_mark marks.Open) (sequence (rule.listed (rule.mark marks.Comma) rule.column) (λ cols. behind (is_mark marks.Close) (says (stmt.Table n cols)))))
+table_rule = sequence rule.name (λ n. behind (is_mark marks.Open) (sequence (rule.listed (rule.mark marks.Comma) rule.column) (λ cols. behind (is_mark marks.Close) (means (stmt.Table n cols)))))
 
 reads_table : (n : ℕ) → Reads n read.table_rest table_rule none
 unfolding read.table_rest
@@ -74,14 +74,14 @@ on_affirmed = any (is_mark marks.Equal) (any none none)
 
 reads_affirmed : (n : ℕ) → Reads n read.affirmed rule.affirmed on_affirmed
 unfolding read.affirmed
-reads_affirmed n = takes_mark n marks.Equal (λ m. reads_keyword m kw.True) (reads_gives n tt) (avoids_says _ _ _)
+reads_affirmed n = takes_mark n marks.Equal (λ m. reads_keyword m kw.True) (reads_gives n tt) (avoids_means _ _ _)
 
 abbrev on_mode : Seen → Bool
 on_mode = any (is_mark marks.Comma) (any none none)
 
 reads_mode : (n : ℕ) → Reads n read.mode rule.mode on_mode
 unfolding read.mode
-reads_mode n = takes_mark n marks.Comma reads_setting (reads_gives n true) (avoids_says _ _ _)
+reads_mode n = takes_mark n marks.Comma reads_setting (reads_gives n true) (avoids_means _ _ _)
 
 reads_options : (n : ℕ) → Reads n read.options rule.options none
 unfolding read.options
@@ -104,11 +104,11 @@ reads_filling n =
     takes_keyword n kw.With
     (λ m. takes_keyword m kw.No (λ k. reads_then k (reads_keyword k kw.Data) (λ _. reads_gives k false)) (reads_then m (reads_keyword m kw.Data) (λ _. reads_gives m true))
     (avoids_sequence _ _ _ _ (avoids_keyword _ kw.Data _ refl)))
-    (reads_gives n true) (avoids_says _ _ _)
+    (reads_gives n true) (avoids_means _ _ _)
 
 abbrev view_rule : Rule Stmt
 view_rule = behind (is_keyword kw.View) (sequence rule.name (λ n. behind (is_keyword kw.With) (sequence rule.options (λ only. behind (is_keyword kw.As) (behind (is_keyword kw.Select)
-    (sequence rule.fold (λ f. sequence rule.filling (λ filled. says (stmt.View n only filled f)))))))))
+    (sequence rule.fold (λ f. sequence rule.filling (λ filled. means (stmt.View n only filled f)))))))))
 
 reads_view : (n : ℕ) → Reads n read.view_rest view_rule on_filling
 unfolding read.view_rest
@@ -130,7 +130,7 @@ reads_create n = takes_keyword n kw.Materialized reads_view (reads_then n (reads
 -- ---- ALTER, INSERT, DELETE
 
 abbrev alter_rule : Rule Stmt
-alter_rule = behind (is_keyword kw.Materialized) (behind (is_keyword kw.View) (sequence rule.name (λ n. behind (is_keyword kw.Set) (behind (is_mark marks.Open) (sequence rule.setting (λ only. behind (is_mark marks.Close) (says (stmt.Mode n only))))))))
+alter_rule = behind (is_keyword kw.Materialized) (behind (is_keyword kw.View) (sequence rule.name (λ n. behind (is_keyword kw.Set) (behind (is_mark marks.Open) (sequence rule.setting (λ only. behind (is_mark marks.Close) (means (stmt.Mode n only))))))))
 
 reads_alter : (n : ℕ) → Reads n read.alter_rest alter_rule none
 unfolding read.alter_rest
@@ -148,13 +148,13 @@ reads_column_list n =
     (λ m. reads_bind m (reads_listed m separators.Comma (mark marks.Comma) refl refl reads_name (mark_only _ marks.Comma refl))
     (λ cs. reads_then m (reads_mark m marks.Close) (λ _. reads_gives m (Some cs)))
     (λ cs. avoids_sequence _ _ _ _ (avoids_mark _ marks.Close _ refl)))
-    (reads_gives n None) (avoids_says _ _ _)
+    (reads_gives n None) (avoids_means _ _ _)
 
 abbrev on_rows : Seen → Bool
 on_rows = any (parts separators.Comma) none
 
 abbrev insert_rule : Rule Stmt
-insert_rule = behind (is_keyword kw.Into) (sequence rule.name (λ n. sequence rule.column_list (λ cols. behind (is_keyword kw.Values) (sequence (rule.listed (rule.mark marks.Comma) rule.row) (λ rows. says (stmt.Insert n cols rows))))))
+insert_rule = behind (is_keyword kw.Into) (sequence rule.name (λ n. sequence rule.column_list (λ cols. behind (is_keyword kw.Values) (sequence (rule.listed (rule.mark marks.Comma) rule.row) (λ rows. means (stmt.Insert n cols rows))))))
 
 reads_insert : (n : ℕ) → Reads n read.insert_rest insert_rule on_rows
 unfolding read.insert_rest
@@ -164,7 +164,7 @@ reads_insert n =
     (λ cols. reads_then n (reads_keyword n kw.Values) (λ _. reads_last n (stmt.Insert t cols) (reads_listed n separators.Comma (mark marks.Comma) refl refl reads_row (mark_only _ marks.Comma refl))))
     (λ cols. avoids_sequence _ _ _ _ (avoids_keyword on_columns kw.Values _ refl))))
 
-reads_delete : (n : ℕ) → Reads n read.delete_rest (sequence rule.source (λ s. says (stmt.Delete s.0 s.1))) on_filters
+reads_delete : (n : ℕ) → Reads n read.delete_rest (sequence rule.source (λ s. means (stmt.Delete s.0 s.1))) on_filters
 unfolding read.delete_rest
 reads_delete n = reads_last n (λ s. stmt.Delete s.0 s.1) (reads_source n)
 
@@ -172,7 +172,7 @@ reads_delete n = reads_last n (λ s. stmt.Delete s.0 s.1) (reads_source n)
 
 abbrev hyper_rule : Rule Stmt
 hyper_rule = behind (is_mark marks.Open) (sequence rule.quoted (λ n. behind (is_mark marks.Comma) (sequence rule.quoted (λ c. behind (is_mark marks.Comma) (behind (is_keyword kw.ChunkTimeInterval) (behind (is_mark marks.Arrow)
-    (sequence rule.number (λ z. behind (is_mark marks.Close) (says (stmt.Hyper n c z))))))))))
+    (sequence rule.number (λ z. behind (is_mark marks.Close) (means (stmt.Hyper n c z))))))))))
 
 reads_hyper : (n : ℕ) → Reads n read.hyper_rest hyper_rule none
 unfolding read.hyper_rest
@@ -185,10 +185,10 @@ on_older = any (is_keyword kw.OlderThan) (any none none)
 
 reads_older_than : (n : ℕ) → Reads n read.older_than rule.older_than on_older
 unfolding read.older_than
-reads_older_than n = takes_keyword n kw.OlderThan (λ m. reads_mark m marks.Arrow) (reads_gives n tt) (avoids_says _ _ _)
+reads_older_than n = takes_keyword n kw.OlderThan (λ m. reads_mark m marks.Arrow) (reads_gives n tt) (avoids_means _ _ _)
 
 abbrev drop_rule : Rule Stmt
-drop_rule = behind (is_mark marks.Open) (sequence rule.quoted (λ n. behind (is_mark marks.Comma) (sequence rule.older_than (λ _. sequence rule.number (λ z. behind (is_mark marks.Close) (says (stmt.Drop n z)))))))
+drop_rule = behind (is_mark marks.Open) (sequence rule.quoted (λ n. behind (is_mark marks.Comma) (sequence rule.older_than (λ _. sequence rule.number (λ z. behind (is_mark marks.Close) (means (stmt.Drop n z)))))))
 
 reads_drop : (n : ℕ) → Reads n read.drop_rest drop_rule none
 unfolding read.drop_rest
@@ -198,12 +198,12 @@ reads_drop n =
     (λ _. reads_then n (reads_number n) (λ z. reads_then n (reads_mark n marks.Close) (λ _. reads_gives n (stmt.Drop t z))))
     (λ _. avoids_sequence _ _ _ _ (avoids_number on_older _ (λ o. refl))))))
 
-reads_rows : (n : ℕ) → Reads n read.rows_rest (sequence rule.source (λ s. says (stmt.Rows s.0 s.1))) on_filters
+reads_rows : (n : ℕ) → Reads n read.rows_rest (sequence rule.source (λ s. means (stmt.Rows s.0 s.1))) on_filters
 unfolding read.rows_rest
 reads_rows n = reads_last n (λ s. stmt.Rows s.0 s.1) (reads_source n)
 
 abbrev fold_rule : Rule Stmt
-fold_rule = sequence rule.fold (λ f. says (stmt.Buckets f))
+fold_rule = sequence rule.fold (λ f. means (stmt.Buckets f))
 
 avoids_fold : (test on : Seen → Bool) → test (scan.word (codes "time_bucket")) ≡ false → Avoids test fold_rule on
 avoids_fold test on h = avoids_sequence _ _ _ _ (avoids_sequence _ _ _ _ (avoids_sequence _ _ _ _ (avoids_keyword test kw.TimeBucket _ h)))
@@ -221,7 +221,7 @@ abbrev select_rule : Rule Stmt
 select_rule =
     either (behind (is_keyword kw.CreateHypertable) hyper_rule)
     (either (behind (is_keyword kw.DropChunks) drop_rule)
-    (either (behind (is_mark marks.Star) (sequence rule.source (λ s. says (stmt.Rows s.0 s.1)))) fold_rule))
+    (either (behind (is_mark marks.Star) (sequence rule.source (λ s. means (stmt.Rows s.0 s.1)))) fold_rule))
 
 reads_select : (n : ℕ) → Reads n read.select_rest select_rule on_select
 unfolding read.select_rest
@@ -246,7 +246,7 @@ reads_window n =
     (λ lo. avoids_sequence _ _ _ _ (avoids_mark on_value marks.Comma _ refl))))
 
 abbrev call_rule : Rule Stmt
-call_rule = behind (is_keyword kw.RefreshContinuousAggregate) (behind (is_mark marks.Open) (sequence rule.window (λ w. behind (is_mark marks.Close) (says (stmt.Refresh w.view w.lo w.hi)))))
+call_rule = behind (is_keyword kw.RefreshContinuousAggregate) (behind (is_mark marks.Open) (sequence rule.window (λ w. behind (is_mark marks.Close) (means (stmt.Refresh w.view w.lo w.hi)))))
 
 reads_call : (n : ℕ) → Reads n read.call_rest call_rule none
 unfolding read.call_rest
@@ -259,7 +259,7 @@ reads_call n =
 abbrev on_chosen : Seen → Bool
 on_chosen = any is_number (any none none)
 
-leads_number : Leads is_number (sequence rule.number (λ z. says (Some z)))
+leads_number : Leads is_number (sequence rule.number (λ z. means (Some z)))
 unfolding sequence rule.number
 leads_number ts a left (us, vs, z, e, k, m) = number_first ts z vs left (e ∙ ap (λ x. x ++ vs) k)
   where
@@ -269,16 +269,16 @@ leads_number ts a left (us, vs, z, e, k, m) = number_first ts z vs left (e ∙ a
 
 reads_chosen : (n : ℕ) → Reads n read.chosen rule.chosen on_chosen
 unfolding read.chosen
-reads_chosen n = reads_choose n is_number (reads_last n Some (reads_number n)) (reads_gives n None) leads_number (avoids_says _ _ _)
+reads_chosen n = reads_choose n is_number (reads_last n Some (reads_number n)) (reads_gives n None) leads_number (avoids_means _ _ _)
 
 abbrev cut_rule : Rule Stmt
-cut_rule = sequence rule.window (λ w. says (stmt.Cut w.view w.lo w.hi))
+cut_rule = sequence rule.window (λ w. means (stmt.Cut w.view w.lo w.hi))
 
 abbrev snap_rule : Rule Stmt
-snap_rule = sequence rule.chosen (λ c. says (stmt.Snap c))
+snap_rule = sequence rule.chosen (λ c. means (stmt.Snap c))
 
 abbrev finish_rule : Rule Stmt
-finish_rule = sequence rule.chosen (λ c. says (stmt.Finish c))
+finish_rule = sequence rule.chosen (λ c. means (stmt.Finish c))
 
 abbrev refresh_rule : Rule Stmt
 refresh_rule = either (behind (is_keyword kw.Cut) cut_rule) (either (behind (is_keyword kw.Snap) snap_rule) (behind (is_keyword kw.Finish) finish_rule))
@@ -304,14 +304,14 @@ abbrev on_begin : Seen → Bool
 on_begin = any (is_keyword kw.Read) (any none none)
 
 abbrev begin_rule : Rule Stmt
-begin_rule = either (behind (is_keyword kw.Read) (behind (is_keyword kw.Only) (says stmt.BeginRead))) (says stmt.Begin)
+begin_rule = either (behind (is_keyword kw.Read) (behind (is_keyword kw.Only) (means stmt.BeginRead))) (means stmt.Begin)
 
 reads_begin : (n : ℕ) → Reads n read.begin_rest begin_rule on_begin
 unfolding read.begin_rest
-reads_begin n = takes_keyword n kw.Read (λ m. reads_then m (reads_keyword m kw.Only) (λ _. reads_gives m stmt.BeginRead)) (reads_gives n stmt.Begin) (avoids_says _ _ _)
+reads_begin n = takes_keyword n kw.Read (λ m. reads_then m (reads_keyword m kw.Only) (λ _. reads_gives m stmt.BeginRead)) (reads_gives n stmt.Begin) (avoids_means _ _ _)
 
 abbrev end_rule : Rule Stmt
-end_rule = either (behind (is_keyword kw.Commit) (says stmt.Commit)) (behind (is_keyword kw.Rollback) (says stmt.Rollback))
+end_rule = either (behind (is_keyword kw.Commit) (means stmt.Commit)) (behind (is_keyword kw.Rollback) (means stmt.Rollback))
 
 abbrev block_rule : Rule Stmt
 block_rule = either (behind (is_keyword kw.Begin) begin_rule) end_rule
@@ -339,7 +339,7 @@ abbrev from_call : Rule Stmt
 from_call = either (behind (is_keyword kw.Call) call_rule) from_refresh
 
 abbrev from_delete : Rule Stmt
-from_delete = either (behind (is_keyword kw.Delete) (sequence rule.source (λ s. says (stmt.Delete s.0 s.1)))) from_call
+from_delete = either (behind (is_keyword kw.Delete) (sequence rule.source (λ s. means (stmt.Delete s.0 s.1)))) from_call
 
 abbrev from_insert : Rule Stmt
 from_insert = either (behind (is_keyword kw.Insert) insert_rule) from_delete
@@ -463,7 +463,7 @@ on_semicolon = any (is_mark marks.Semicolon) (any none none)
 
 reads_semicolon : (n : ℕ) → Reads n read.semicolon rule.semicolon on_semicolon
 unfolding read.semicolon
-reads_semicolon n = takes_mark n marks.Semicolon (λ m. reads_gives m tt) (reads_gives n tt) (avoids_says _ _ _)
+reads_semicolon n = takes_mark n marks.Semicolon (λ m. reads_gives m tt) (reads_gives n tt) (avoids_means _ _ _)
 
 -- what may follow a statement: what may go on with it
 abbrev pub on_statement : Seen → Bool
@@ -479,9 +479,9 @@ heads_first s e = (heads-any on_form on_semicolon s e).0
 heads_second : (s : Stream) → heads on_statement s ≡ false → heads on_semicolon s ≡ false
 heads_second s e = (heads-any on_form on_semicolon s e).1
 
-avoids_semicolon : (a : Stmt) → Avoids on_form (sequence rule.semicolon (λ _. says a)) on_statement
+avoids_semicolon : (a : Stmt) → Avoids on_form (sequence rule.semicolon (λ _. means a)) on_statement
 avoids_semicolon a =
-    avoids_through on_form on_form rule.semicolon (λ _. says a) on_statement
+    avoids_through on_form on_form rule.semicolon (λ _. means a) on_statement
     (avoids_either on_form _ _ on_form (avoids_sequence _ _ _ _ (avoids_mark on_form marks.Semicolon _ refl)) (avoids_end on_form tt))
     (λ _ ts b left m free. avoids_end on_form a ts b left m (heads_first left free))
 
@@ -489,6 +489,6 @@ pub reads_whole : (n : ℕ) → Reads n whole rule.statement on_statement
 unfolding rule.statement
 reads_whole n =
     reads_bind n (reads_form n)
-    (λ a. reads_alike n (read.bind read.semicolon (λ _. read.gives a)) (read.bind read.semicolon (λ _. read.gives a)) (sequence rule.semicolon (λ _. says a)) (sequence rule.semicolon (λ _. says a)) on_semicolon on_statement
+    (λ a. reads_alike n (read.bind read.semicolon (λ _. read.gives a)) (read.bind read.semicolon (λ _. read.gives a)) (sequence rule.semicolon (λ _. means a)) (sequence rule.semicolon (λ _. means a)) on_semicolon on_statement
     (λ s. refl) (alike-refl _) heads_second (reads_last n (λ _. a) (reads_semicolon n)))
     avoids_semicolon

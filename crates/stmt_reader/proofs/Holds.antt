@@ -7,7 +7,7 @@ use Rattle.stmt_reader.specs.Scan.{Seen, seen}
 use Rattle.stmt_reader.specs.Words.{word_of, quoted_of}
 use Rattle.stmt_reader.specs.Proper.{IsName, IsWord}
 use Rattle.stmt_reader.specs.Grammar as rule
-use Rattle.stmt_reader.specs.Grammar.{Rule, says, sequence, either, many, listed, one, wanted}
+use Rattle.stmt_reader.specs.Grammar.{Rule, means, sequence, either, many, listed, one, wanted}
 
 -- a token's name is a name, and its number of 64 bits
 abbrev pub IsProperToken : Token → Type 0
@@ -31,9 +31,9 @@ pub record Holds {A : Type 0} (L : Rule A) (P : A → Type 0) : Type 0 where
 pub holds_any : {A : Type 0} (L : Rule A) → Holds L (λ _. Unit {0})
 holds_any L = record { holds = λ ts a h l. tt }
 
-pub holds_says : {A : Type 0} (a : A) (P : A → Type 0) → P a → Holds (says a) P
-unfolding says
-holds_says a P h = record { holds = λ ts b p l. subst P l.1 h }
+pub holds_means : {A : Type 0} (a : A) (P : A → Type 0) → P a → Holds (means a) P
+unfolding means
+holds_means a P h = record { holds = λ ts b p l. subst P l.1 h }
 
 pub holds_then : {A B : Type 0} {L : Rule A} {M : A → Rule B} {P : A → Type 0} {Q : B → Type 0} → Holds L P → ((a : A) → P a → Holds (M a) Q) → Holds (sequence L M) Q
 unfolding sequence
@@ -66,7 +66,7 @@ pub holds_many : {A : Type 0} {L : Rule A} {P : A → Type 0} → Holds L P → 
 holds_many y = record { holds = λ ts items h l. many_hold y ts items h l }
 
 pub holds_listed : {A B : Type 0} (S : Rule B) {L : Rule A} {P : A → Type 0} → Holds L P → Holds (listed S L) (AllByRecursion P)
-holds_listed S y = holds_then y (λ first h. holds_then (holds_many (past S y)) (λ others k. holds_says (first ∷ others) _ (h, k)))
+holds_listed S y = holds_then y (λ first h. holds_then (holds_many (past S y)) (λ others k. holds_means (first ∷ others) _ (h, k)))
 
 -- ---- one token
 

@@ -13,6 +13,7 @@ pub mod RuleLists
 pub mod RuleTokens
 pub mod Rules
 pub mod SelectRules
+pub mod StatementLines
 pub mod Verdict
 pub mod WrittenForms
 pub mod WrittenLaws

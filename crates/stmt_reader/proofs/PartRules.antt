@@ -24,7 +24,7 @@ use Rattle.stmt_reader.specs.declared.folds.Head.{Head}
 use Rattle.stmt_reader.specs.declared.statements.NamedAgg.{NamedAgg}
 use Rattle.stmt_reader.proofs.Placed.{nothing_placed}
 use Rattle.stmt_reader.proofs.Rules.{Reads, none, heads-none, any, Avoids, alike-refl, reads_alike, reads_gives, reads_bind, reads_then}
-use Rattle.stmt_reader.proofs.RuleTokens.{behind, reads_one, reads_wanted, reads_keyword, reads_mark, reads_number, reads_takes, takes_keyword, takes_mark, inner_of, same_text, keyword_only, mark_only, avoids_says, avoids_keyword, avoids_mark, avoids_one, avoids_number, avoids_sequence}
+use Rattle.stmt_reader.proofs.RuleTokens.{behind, reads_one, reads_wanted, reads_keyword, reads_mark, reads_number, reads_takes, takes_keyword, takes_mark, inner_of, same_text, keyword_only, mark_only, avoids_means, avoids_keyword, avoids_mark, avoids_one, avoids_number, avoids_sequence}
 use Rattle.stmt_reader.proofs.RuleLists.{reads_listed, reads_rest, avoids_rest, reads_items_from}
 
 begins_one : {A : Type 0} (f : Seen → Option A) (t : Token) (a : A) → f (seen t) ≡ Some a → Begins (rule.one f) []
@@ -32,14 +32,14 @@ unfolding rule.one
 begins_one f t a e = (t ∷ [], a, (t, refl, e))
 
 -- what was read, said in another way
-pub avoids_end : {B : Type 0} (c : Seen → Bool) (b : B) → Avoids c (rule.says b) c
-unfolding rule.says
+pub avoids_end : {B : Type 0} (c : Seen → Bool) (b : B) → Avoids c (rule.means b) c
+unfolding rule.means
 avoids_end c b ts a left (e, k) free = subst (λ us. heads c (onto us left) ≡ false) (sym (nothing_placed ts e)) free
 
-reads_gives_on : (n : ℕ) {A : Type 0} (c : Seen → Bool) (a : A) → Reads n (read.gives a) (rule.says a) c
-reads_gives_on n c a = reads_alike n (read.gives a) (read.gives a) (rule.says a) (rule.says a) none c (λ s. refl) (alike-refl (rule.says a)) (λ s _. heads-none s) (reads_gives n a)
+reads_gives_on : (n : ℕ) {A : Type 0} (c : Seen → Bool) (a : A) → Reads n (read.gives a) (rule.means a) c
+reads_gives_on n c a = reads_alike n (read.gives a) (read.gives a) (rule.means a) (rule.means a) none c (λ s. refl) (alike-refl (rule.means a)) (λ s _. heads-none s) (reads_gives n a)
 
-pub reads_last : (n : ℕ) {A B : Type 0} {p : read.Parser A} {L : Rule A} {c : Seen → Bool} (f : A → B) → Reads n p L c → Reads n (read.bind p (λ a. read.gives (f a))) (sequence L (λ a. rule.says (f a))) c
+pub reads_last : (n : ℕ) {A B : Type 0} {p : read.Parser A} {L : Rule A} {c : Seen → Bool} (f : A → B) → Reads n p L c → Reads n (read.bind p (λ a. read.gives (f a))) (sequence L (λ a. rule.means (f a))) c
 reads_last n {c = c} f r = reads_bind n r (λ a. reads_gives_on n c (f a)) (λ a. avoids_end c (f a))
 
 -- a way that is never taken
@@ -106,7 +106,7 @@ on_not = any (is_keyword kw.Not) (any none none)
 reads_not_null : (n : ℕ) → Reads n read.not_null rule.not_null on_not
 unfolding read.not_null
 reads_not_null n =
-    takes_keyword n kw.Not (λ m. reads_then m (reads_keyword m kw.Null) (λ _. reads_gives m true)) (reads_gives n false) (avoids_says _ _ _)
+    takes_keyword n kw.Not (λ m. reads_then m (reads_keyword m kw.Null) (λ _. reads_gives m true)) (reads_gives n false) (avoids_means _ _ _)
 
 pub reads_column : (n : ℕ) → Reads n read.column rule.column on_not
 unfolding read.column
@@ -150,7 +150,7 @@ unfolding read.filters
 reads_filters n =
     takes_keyword n kw.Where
     (λ m. reads_listed m separators.And (word (codes "and")) refl refl reads_test (keyword_only _ kw.And refl))
-    (reads_gives n []) (avoids_says _ _ _)
+    (reads_gives n []) (avoids_means _ _ _)
 
 pub reads_source : (n : ℕ) → Reads n read.source rule.source on_filters
 unfolding read.source
@@ -163,7 +163,7 @@ on_as = any (is_keyword kw.As) (any none none)
 
 pub reads_alias : (n : ℕ) → Reads n read.alias rule.alias on_as
 unfolding read.alias
-reads_alias n = takes_keyword n kw.As (λ m. reads_last m Some (reads_name m)) (reads_gives n None) (avoids_says _ _ _)
+reads_alias n = takes_keyword n kw.As (λ m. reads_last m Some (reads_name m)) (reads_gives n None) (avoids_means _ _ _)
 
 abbrev pub on_star : Fun → Seen → Bool
 on_star f = any (is_star_of f) (any none none)
@@ -185,23 +185,23 @@ column_of f c = (f, Some c)
 abbrev star_of : Fun × Option (List ℕ)
 star_of = (fun.CountAll, None)
 
-reads_column_of : (n : ℕ) (f : Fun) → Reads n (read.bind read.name (λ c. read.gives (column_of f c))) (sequence rule.name (λ c. rule.says (column_of f c))) none
+reads_column_of : (n : ℕ) (f : Fun) → Reads n (read.bind read.name (λ c. read.gives (column_of f c))) (sequence rule.name (λ c. rule.means (column_of f c))) none
 reads_column_of n f = reads_last n (column_of f) (reads_name n)
 
 reads_star : (n : ℕ) → Reads n (read.argument fun.Count) (rule.argument fun.Count) (on_star fun.Count)
 unfolding read.argument
 reads_star n =
-    reads_takes n (is_star_of fun.Count) (mark marks.Star) (read.gives star_of) (rule.says star_of) none refl refl (inner_of n (λ m. reads_gives m star_of)) (reads_gives 0 star_of).starts (reads_column_of n fun.Count)
+    reads_takes n (is_star_of fun.Count) (mark marks.Star) (read.gives star_of) (rule.means star_of) none refl refl (inner_of n (λ m. reads_gives m star_of)) (reads_gives 0 star_of).starts (reads_column_of n fun.Count)
     (avoids_sequence _ _ _ _ (avoids_one _ word_of _ (word_only fun.Count)))
 
 reads_argument : (n : ℕ) (f : Fun) → Reads n (read.argument f) (rule.argument f) (on_star f)
 unfolding read.argument
-reads_argument n fun.CountAll = reads_never n (is_star_of fun.CountAll) _ (rule.says star_of) (λ t. refl) (λ s _. heads-none s) (reads_column_of n fun.CountAll)
+reads_argument n fun.CountAll = reads_never n (is_star_of fun.CountAll) _ (rule.means star_of) (λ t. refl) (λ s _. heads-none s) (reads_column_of n fun.CountAll)
 reads_argument n fun.Count = reads_star n
-reads_argument n fun.Sum = reads_never n (is_star_of fun.Sum) _ (rule.says star_of) (λ t. refl) (λ s _. heads-none s) (reads_column_of n fun.Sum)
-reads_argument n fun.Min = reads_never n (is_star_of fun.Min) _ (rule.says star_of) (λ t. refl) (λ s _. heads-none s) (reads_column_of n fun.Min)
-reads_argument n fun.Max = reads_never n (is_star_of fun.Max) _ (rule.says star_of) (λ t. refl) (λ s _. heads-none s) (reads_column_of n fun.Max)
-reads_argument n fun.Avg = reads_never n (is_star_of fun.Avg) _ (rule.says star_of) (λ t. refl) (λ s _. heads-none s) (reads_column_of n fun.Avg)
+reads_argument n fun.Sum = reads_never n (is_star_of fun.Sum) _ (rule.means star_of) (λ t. refl) (λ s _. heads-none s) (reads_column_of n fun.Sum)
+reads_argument n fun.Min = reads_never n (is_star_of fun.Min) _ (rule.means star_of) (λ t. refl) (λ s _. heads-none s) (reads_column_of n fun.Min)
+reads_argument n fun.Max = reads_never n (is_star_of fun.Max) _ (rule.means star_of) (λ t. refl) (λ s _. heads-none s) (reads_column_of n fun.Max)
+reads_argument n fun.Avg = reads_never n (is_star_of fun.Avg) _ (rule.means star_of) (λ t. refl) (λ s _. heads-none s) (reads_column_of n fun.Avg)
 
 close_is_no_star : (f : Fun) → on_star f (scan.mark marks.Close) ≡ false
 close_is_no_star fun.CountAll = refl
@@ -227,7 +227,7 @@ on_aggregates = any (parts separators.Comma) on_as
 
 -- the aggregates, of which the first begins behind its opening parenthesis
 abbrev pub aggregates_of : Fun → Rule (List NamedAgg)
-aggregates_of f = sequence (rule.aggregate_rest f) (λ a. sequence (rule.many (behind (parts separators.Comma) rule.aggregate)) (λ others. rule.says (a ∷ others)))
+aggregates_of f = sequence (rule.aggregate_rest f) (λ a. sequence (rule.many (behind (parts separators.Comma) rule.aggregate)) (λ others. rule.means (a ∷ others)))
 
 pub reads_aggregates : (n : ℕ) (f : Fun) → Reads n (read.aggregates f) (aggregates_of f) on_aggregates
 unfolding read.aggregates
@@ -240,7 +240,7 @@ reads_aggregates n f =
 
 reads_offset : (n : ℕ) → Reads n read.offset rule.offset (any (is_mark marks.Comma) (any none none))
 unfolding read.offset
-reads_offset n = takes_mark n marks.Comma reads_number (reads_gives n (pos 0)) (avoids_says _ _ _)
+reads_offset n = takes_mark n marks.Comma reads_number (reads_gives n (pos 0)) (avoids_means _ _ _)
 
 pub reads_bucket : (n : ℕ) → Reads n read.bucket rule.bucket on_as
 unfolding read.bucket

@@ -7,7 +7,7 @@ use Rattle.ts_num.specs.declared.values.Fun.TheVariants as fun
 use Rattle.ts_schema.specs.declared.conditions.Cmp.{Cmp}
 use Rattle.ts_schema.specs.declared.conditions.Cmp.TheVariants as cmp
 use Rattle.stmt_reader.specs.Grammar as rule
-use Rattle.stmt_reader.specs.Grammar.{Rule, says, sequence}
+use Rattle.stmt_reader.specs.Grammar.{Rule, means, sequence}
 use Rattle.stmt_reader.specs.Words.{function_of, comparison_of, is_star_of, head_name, bucket_word}
 use Rattle.stmt_reader.specs.Proper.{IsName, IsWord, IsValue, IsAlias, IsProperColumn, IsProperTest, IsProperAgg, AreProperTests, AreProperRows, IsProperFold, IsProper}
 use Rattle.stmt_reader.specs.declared.keywords.Keyword.TheVariants as kw
@@ -18,27 +18,27 @@ use Rattle.stmt_reader.specs.declared.statements.Stmt.{Stmt}
 use Rattle.stmt_reader.specs.declared.statements.Stmt.TheVariants as stmt
 use Rattle.stmt_reader.specs.declared.statements.NamedAgg.{NamedAgg}
 use Rattle.stmt_reader.specs.declared.statements.NamedTest.{NamedTest}
-use Rattle.stmt_reader.proofs.Holds.{Holds, holds_any, holds_says, holds_then, past, holds_either, holds_many, holds_listed, holds_name, holds_quoted, holds_number}
+use Rattle.stmt_reader.proofs.Holds.{Holds, holds_any, holds_means, holds_then, past, holds_either, holds_many, holds_listed, holds_name, holds_quoted, holds_number}
 
 -- ---- parts
 
 value : Holds rule.value IsValue
 value =
     holds_either
-    (past (rule.keyword kw.Null) (holds_says None IsValue tt))
-    (holds_then holds_number (λ z h. holds_says (Some z) IsValue h))
+    (past (rule.keyword kw.Null) (holds_means None IsValue tt))
+    (holds_then holds_number (λ z h. holds_means (Some z) IsValue h))
 
 row : Holds rule.row (AllByRecursion IsValue)
 row =
     past (rule.mark marks.Open)
     (holds_then (holds_listed (rule.mark marks.Comma) value) (λ values h.
-    past (rule.mark marks.Close) (holds_says values _ h)))
+    past (rule.mark marks.Close) (holds_means values _ h)))
 
 column : Holds rule.column IsProperColumn
 column =
     holds_then holds_name (λ name h.
     past (rule.keyword kw.Bigint)
-    (holds_then (holds_any rule.not_null) (λ must _. holds_says (record { name = name; must = must }) IsProperColumn h)))
+    (holds_then (holds_any rule.not_null) (λ must _. holds_means (record { name = name; must = must }) IsProperColumn h)))
 
 zero_is_word : IsWord (pos 0)
 zero_is_word = refl
@@ -46,13 +46,13 @@ zero_is_word = refl
 null_test : (c : List ℕ) → IsName c → Holds (rule.null_test c) IsProperTest
 null_test c h =
     holds_either
-    (past (rule.keyword kw.Not) (past (rule.keyword kw.Null) (holds_says _ IsProperTest (record { col = h; num = zero_is_word }))))
-    (past (rule.keyword kw.Null) (holds_says _ IsProperTest (record { col = h; num = zero_is_word })))
+    (past (rule.keyword kw.Not) (past (rule.keyword kw.Null) (holds_means _ IsProperTest (record { col = h; num = zero_is_word }))))
+    (past (rule.keyword kw.Null) (holds_means _ IsProperTest (record { col = h; num = zero_is_word })))
 
 number_test : (c : List ℕ) → IsName c → Holds (rule.number_test c) IsProperTest
 number_test c h =
     holds_then (holds_any (rule.one comparison_of)) (λ op _.
-    holds_then holds_number (λ z k. holds_says (record { col = c; cmp = op; num = z }) IsProperTest (record { col = h; num = k })))
+    holds_then holds_number (λ z k. holds_means (record { col = c; cmp = op; num = z }) IsProperTest (record { col = h; num = k })))
 
 test : Holds rule.test IsProperTest
 test = holds_then holds_name (λ c h. holds_either (past (rule.keyword kw.Is) (null_test c h)) (number_test c h))
@@ -61,7 +61,7 @@ filters : Holds rule.filters AreProperTests
 filters =
     holds_either
     (past (rule.keyword kw.Where) (holds_listed (rule.keyword kw.And) test))
-    (holds_says [] AreProperTests tt)
+    (holds_means [] AreProperTests tt)
 
 record IsProperSource (from : List ℕ × List NamedTest) : Type 0 where
   table : IsName from.0
@@ -71,13 +71,13 @@ source : Holds rule.source IsProperSource
 source =
     past (rule.keyword kw.From)
     (holds_then holds_name (λ n h.
-    holds_then filters (λ tests k. holds_says (n, tests) IsProperSource (record { table = h; tests = k }))))
+    holds_then filters (λ tests k. holds_means (n, tests) IsProperSource (record { table = h; tests = k }))))
 
 alias : Holds rule.alias IsAlias
 alias =
     holds_either
-    (past (rule.keyword kw.As) (holds_then holds_name (λ x h. holds_says (Some x) IsAlias h)))
-    (holds_says None IsAlias tt)
+    (past (rule.keyword kw.As) (holds_then holds_name (λ x h. holds_means (Some x) IsAlias h)))
+    (holds_means None IsAlias tt)
 
 -- ---- folds
 
@@ -87,8 +87,8 @@ IsProperArgument a = IsAlias a.1
 argument : (f : Fun) → Holds (rule.argument f) IsProperArgument
 argument f =
     holds_either
-    (past (rule.wanted (is_star_of f)) (holds_says (fun.CountAll, None) IsProperArgument tt))
-    (holds_then holds_name (λ c h. holds_says (f, Some c) IsProperArgument h))
+    (past (rule.wanted (is_star_of f)) (holds_means (fun.CountAll, None) IsProperArgument tt))
+    (holds_then holds_name (λ c h. holds_means (f, Some c) IsProperArgument h))
 
 aggregate : Holds rule.aggregate IsProperAgg
 aggregate =
@@ -96,10 +96,10 @@ aggregate =
     past (rule.mark marks.Open)
     (holds_then (argument f) (λ a h.
     past (rule.mark marks.Close)
-    (holds_then alias (λ x k. holds_says (record { fun = a.0; col = a.1; name = x }) IsProperAgg (record { col = h; name = k }))))))
+    (holds_then alias (λ x k. holds_means (record { fun = a.0; col = a.1; name = x }) IsProperAgg (record { col = h; name = k }))))))
 
 offset : Holds rule.offset IsWord
-offset = holds_either (past (rule.mark marks.Comma) holds_number) (holds_says (pos 0) IsWord zero_is_word)
+offset = holds_either (past (rule.mark marks.Comma) holds_number) (holds_means (pos 0) IsWord zero_is_word)
 
 pub record IsProperHead (b : Head) : Type 0 where
   pub step : IsWord b.step
@@ -117,7 +117,7 @@ bucket =
     holds_then offset (λ shift m.
     past (rule.mark marks.Close)
     (holds_then alias (λ x n.
-    holds_says (record { step = step; shift = shift; at = c; name = x }) IsProperHead (record { step = h; shift = m; at = k; name = n })))))))))
+    holds_means (record { step = step; shift = shift; at = c; name = x }) IsProperHead (record { step = h; shift = m; at = k; name = n })))))))))
 
 record IsProperList (list : List (List ℕ) × List NamedAgg) : Type 0 where
   keys : AllByRecursion IsName list.0
@@ -128,14 +128,14 @@ select_list =
     holds_then (holds_many (past (rule.mark marks.Comma) holds_name)) (λ keys h.
     past (rule.mark marks.Comma)
     (holds_then (holds_listed (rule.mark marks.Comma) aggregate) (λ aggs k.
-    holds_says (keys, aggs) IsProperList (record { keys = h; aggs = k }))))
+    holds_means (keys, aggs) IsProperList (record { keys = h; aggs = k }))))
 
 pub holds_fold_behind : (own : List ℕ) (b : Head) → IsProperHead b → Holds (rule.fold_behind own b) IsProperFold
 holds_fold_behind own b h =
     holds_then select_list (λ list k.
     holds_then source (λ from m.
     past (rule.grouping (head_name own b.name) list.0)
-    (holds_says (record { step = b.step; shift = b.shift; at = b.at; name = b.name; keys = list.0; aggs = list.1; table = from.0; tests = from.1 }) IsProperFold
+    (holds_means (record { step = b.step; shift = b.shift; at = b.at; name = b.name; keys = list.0; aggs = list.1; table = from.0; tests = from.1 }) IsProperFold
     (record { step = h.step; shift = h.shift; at = h.at; name = h.name; keys = k.keys; aggs = k.aggs; table = m.table; tests = m.tests }))))
 
 fold : Holds rule.fold IsProperFold
@@ -150,7 +150,7 @@ create_table =
     (holds_then holds_name (λ n h.
     past (rule.mark marks.Open)
     (holds_then (holds_listed (rule.mark marks.Comma) column) (λ cols k.
-    past (rule.mark marks.Close) (holds_says (stmt.Table n cols) IsProper (h, k)))))))
+    past (rule.mark marks.Close) (holds_means (stmt.Table n cols) IsProper (h, k)))))))
 
 create_hypertable : Holds rule.create_hypertable IsProper
 create_hypertable =
@@ -164,7 +164,7 @@ create_hypertable =
     (past (rule.keyword kw.ChunkTimeInterval)
     (past (rule.mark marks.Arrow)
     (holds_then holds_number (λ z m.
-    past (rule.mark marks.Close) (holds_says (stmt.Hyper n c z) IsProper (h, k, m))))))))))))
+    past (rule.mark marks.Close) (holds_means (stmt.Hyper n c z) IsProper (h, k, m))))))))))))
 
 create_view : Holds rule.create_view IsProper
 create_view =
@@ -177,7 +177,7 @@ create_view =
     past (rule.keyword kw.As)
     (past (rule.keyword kw.Select)
     (holds_then fold (λ f k.
-    holds_then (holds_any rule.filling) (λ filled _. holds_says (stmt.View n only filled f) IsProper (h, k)))))))))))
+    holds_then (holds_any rule.filling) (λ filled _. holds_means (stmt.View n only filled f) IsProper (h, k)))))))))))
 
 alter_view : Holds rule.alter_view IsProper
 alter_view =
@@ -188,7 +188,7 @@ alter_view =
     past (rule.keyword kw.Set)
     (past (rule.mark marks.Open)
     (holds_then (holds_any rule.setting) (λ only _.
-    past (rule.mark marks.Close) (holds_says (stmt.Mode n only) IsProper h))))))))
+    past (rule.mark marks.Close) (holds_means (stmt.Mode n only) IsProper h))))))))
 
 abbrev AreProperNames : Option (List (List ℕ)) → Type 0
 AreProperNames cols = IfSome cols (AllByRecursion IsName)
@@ -198,8 +198,8 @@ column_list =
     holds_either
     (past (rule.mark marks.Open)
     (holds_then (holds_listed (rule.mark marks.Comma) holds_name) (λ cols h.
-    past (rule.mark marks.Close) (holds_says (Some cols) AreProperNames h))))
-    (holds_says None AreProperNames tt)
+    past (rule.mark marks.Close) (holds_means (Some cols) AreProperNames h))))
+    (holds_means None AreProperNames tt)
 
 insert : Holds rule.insert IsProper
 insert =
@@ -208,12 +208,12 @@ insert =
     (holds_then holds_name (λ n h.
     holds_then column_list (λ cols k.
     past (rule.keyword kw.Values)
-    (holds_then (holds_listed (rule.mark marks.Comma) row) (λ rows m. holds_says (stmt.Insert n cols rows) IsProper (h, k, m)))))))
+    (holds_then (holds_listed (rule.mark marks.Comma) row) (λ rows m. holds_means (stmt.Insert n cols rows) IsProper (h, k, m)))))))
 
 delete : Holds rule.delete IsProper
 delete =
     past (rule.keyword kw.Delete)
-    (holds_then source (λ from h. holds_says (stmt.Delete from.0 from.1) IsProper (h.table, h.tests)))
+    (holds_then source (λ from h. holds_means (stmt.Delete from.0 from.1) IsProper (h.table, h.tests)))
 
 drop_chunks : Holds rule.drop_chunks IsProper
 drop_chunks =
@@ -224,7 +224,7 @@ drop_chunks =
     past (rule.mark marks.Comma)
     (past rule.older_than
     (holds_then holds_number (λ z k.
-    past (rule.mark marks.Close) (holds_says (stmt.Drop n z) IsProper (h, k)))))))))
+    past (rule.mark marks.Close) (holds_means (stmt.Drop n z) IsProper (h, k)))))))))
 
 record IsProperWindow (w : Window) : Type 0 where
   view : IsName w.view
@@ -237,7 +237,7 @@ window =
     past (rule.mark marks.Comma)
     (holds_then value (λ lo k.
     past (rule.mark marks.Comma)
-    (holds_then value (λ hi m. holds_says (record { view = n; lo = lo; hi = hi }) IsProperWindow (record { view = h; lo = k; hi = m }))))))
+    (holds_then value (λ hi m. holds_means (record { view = n; lo = lo; hi = hi }) IsProperWindow (record { view = h; lo = k; hi = m }))))))
 
 call_refresh : Holds rule.call_refresh IsProper
 call_refresh =
@@ -245,47 +245,47 @@ call_refresh =
     (past (rule.keyword kw.RefreshContinuousAggregate)
     (past (rule.mark marks.Open)
     (holds_then window (λ w h.
-    past (rule.mark marks.Close) (holds_says (stmt.Refresh w.view w.lo w.hi) IsProper (h.view, h.lo, h.hi))))))
+    past (rule.mark marks.Close) (holds_means (stmt.Refresh w.view w.lo w.hi) IsProper (h.view, h.lo, h.hi))))))
 
 refresh_cut : Holds rule.refresh_cut IsProper
 refresh_cut =
     past (rule.keyword kw.Refresh)
     (past (rule.keyword kw.Cut)
-    (holds_then window (λ w h. holds_says (stmt.Cut w.view w.lo w.hi) IsProper (h.view, h.lo, h.hi))))
+    (holds_then window (λ w h. holds_means (stmt.Cut w.view w.lo w.hi) IsProper (h.view, h.lo, h.hi))))
 
 chosen : Holds rule.chosen IsValue
-chosen = holds_either (holds_then holds_number (λ z h. holds_says (Some z) IsValue h)) (holds_says None IsValue tt)
+chosen = holds_either (holds_then holds_number (λ z h. holds_means (Some z) IsValue h)) (holds_means None IsValue tt)
 
 refresh_snap : Holds rule.refresh_snap IsProper
 refresh_snap =
     past (rule.keyword kw.Refresh)
-    (past (rule.keyword kw.Snap) (holds_then chosen (λ c h. holds_says (stmt.Snap c) IsProper h)))
+    (past (rule.keyword kw.Snap) (holds_then chosen (λ c h. holds_means (stmt.Snap c) IsProper h)))
 
 refresh_finish : Holds rule.refresh_finish IsProper
 refresh_finish =
     past (rule.keyword kw.Refresh)
-    (past (rule.keyword kw.Finish) (holds_then chosen (λ c h. holds_says (stmt.Finish c) IsProper h)))
+    (past (rule.keyword kw.Finish) (holds_then chosen (λ c h. holds_means (stmt.Finish c) IsProper h)))
 
 begin : Holds rule.begin IsProper
-begin = past (rule.keyword kw.Begin) (holds_says stmt.Begin IsProper tt)
+begin = past (rule.keyword kw.Begin) (holds_means stmt.Begin IsProper tt)
 
 begin_read : Holds rule.begin_read IsProper
-begin_read = past (rule.keyword kw.Begin) (past (rule.keyword kw.Read) (past (rule.keyword kw.Only) (holds_says stmt.BeginRead IsProper tt)))
+begin_read = past (rule.keyword kw.Begin) (past (rule.keyword kw.Read) (past (rule.keyword kw.Only) (holds_means stmt.BeginRead IsProper tt)))
 
 commit : Holds rule.commit IsProper
-commit = past (rule.keyword kw.Commit) (holds_says stmt.Commit IsProper tt)
+commit = past (rule.keyword kw.Commit) (holds_means stmt.Commit IsProper tt)
 
 rollback : Holds rule.rollback IsProper
-rollback = past (rule.keyword kw.Rollback) (holds_says stmt.Rollback IsProper tt)
+rollback = past (rule.keyword kw.Rollback) (holds_means stmt.Rollback IsProper tt)
 
 buckets : Holds rule.buckets IsProper
-buckets = past (rule.keyword kw.Select) (holds_then fold (λ f h. holds_says (stmt.Buckets f) IsProper h))
+buckets = past (rule.keyword kw.Select) (holds_then fold (λ f h. holds_means (stmt.Buckets f) IsProper h))
 
 select_rows : Holds rule.select_rows IsProper
 select_rows =
     past (rule.keyword kw.Select)
     (past (rule.mark marks.Star)
-    (holds_then source (λ from h. holds_says (stmt.Rows from.0 from.1) IsProper (h.table, h.tests))))
+    (holds_then source (λ from h. holds_means (stmt.Rows from.0 from.1) IsProper (h.table, h.tests))))
 
 form : Holds rule.form IsProper
 unfolding rule.form
@@ -310,4 +310,4 @@ form =
 -- a whole statement
 pub holds_statement : Holds rule.statement IsProper
 unfolding rule.statement
-holds_statement = holds_then form (λ s h. past rule.semicolon (holds_says s IsProper h))
+holds_statement = holds_then form (λ s h. past rule.semicolon (holds_means s IsProper h))

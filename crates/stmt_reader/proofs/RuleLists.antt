@@ -10,7 +10,7 @@ use Rattle.stmt_reader.specs.Streams.{Placed, Stream, ends, stops, ◌then◌, o
 use Rattle.stmt_reader.specs.Reading.{Parser, gives, bind, takes, more, listed, parts, items_from}
 use Rattle.stmt_reader.specs.Words.{is_item}
 use Rattle.stmt_reader.specs.Grammar as rule
-use Rattle.stmt_reader.specs.Grammar.{Rule, says, sequence, either, many}
+use Rattle.stmt_reader.specs.Grammar.{Rule, means, sequence, either, many}
 use Rattle.stmt_reader.specs.Refusals.{Begins}
 use Rattle.stmt_reader.specs.Forward.{Forward}
 use Rattle.stmt_reader.specs.declared.phrases.Separator.{Separator}
@@ -18,7 +18,7 @@ use Rattle.stmt_reader.specs.declared.tokens.Mark.TheVariants as marks
 use Rattle.stmt_reader.proofs.Loops.{more_ends, more_goes}
 use Rattle.stmt_reader.proofs.Placed.{size-onto, nothing_placed}
 use Rattle.stmt_reader.proofs.Rules.{Reads, none, any, heads-any, or_false, Avoids, Alike, reads_alike, reads_gives, reads_bind, reads_then}
-use Rattle.stmt_reader.proofs.RuleTokens.{Inner, behind, reads_takes, reads_mark, reads_wanted, same_text, avoids_says}
+use Rattle.stmt_reader.proofs.RuleTokens.{Inner, behind, reads_takes, reads_mark, reads_wanted, same_text, avoids_means}
 
 -- a reading that reads a rule never goes back
 pub forward_of_reads : {A : Type 0} {p : Parser A} {L : Rule A} {c : Seen → Bool} → ((m : ℕ) → Reads m p L c) → Forward p
@@ -55,16 +55,16 @@ weaker test c (t then s) e =
 
 -- one more item, or none
 abbrev one_more : {A : Type 0} → (Seen → Bool) → Rule A → List A → Rule (List A)
-one_more test L front = either (behind test (sequence L (λ a. After (front ++ a ∷ []) (many (behind test L))))) (says front)
+one_more test L front = either (behind test (sequence L (λ a. After (front ++ a ∷ []) (many (behind test L))))) (means front)
 
 after_to : {A : Type 0} (test : Seen → Bool) (L : Rule A) (front : List A) (ts : List Token) (items : List A) → one_more test L front ts items → After front (many (behind test L)) ts items
-unfolding either sequence says many
+unfolding either sequence means many
 after_to test L front ts items (inl (us, vs, u, e, w, (us2, vs2, a, e2, l, (new, k, m)))) =
     (a ∷ new, k ∙ append_assoc front (a ∷ []) new, (us ++ us2, vs2, e ∙ ap (λ x. us ++ x) e2 ∙ sym (append_assoc us us2 vs2), (us, us2, u, refl, w, l), m))
 after_to test L front ts items (inr (e, k)) = ([], sym k ∙ sym (append-nil front), e)
 
 after_back : {A : Type 0} (test : Seen → Bool) (L : Rule A) (front : List A) (ts : List Token) (items new : List A) → items ≡ front ++ new → many (behind test L) ts new → one_more test L front ts items
-unfolding either sequence says many
+unfolding either sequence means many
 after_back test L front ts items [] k e = inr (e, sym (k ∙ append-nil front))
 after_back test L front ts items (a ∷ new) k (xs, vs2, e, (us, us2, u, e2, w, l), m) =
     inl (us, us2 ++ vs2, u, e ∙ ap (λ x. x ++ vs2) e2 ∙ append_assoc us us2 vs2, w, (us2, vs2, a, refl, l, (new, k ∙ sym (append_assoc front (a ∷ []) new), m)))
@@ -102,7 +102,7 @@ reads_more_at : (n : ℕ) {A : Type 0} (test : Seen → Bool) (t : Token) (p : P
 reads_more_at n test t p L c front rejects e r inner =
     reads_alike n (takes test (item_then test p front) (gives front)) (more test p front) (one_more test L front) (After front (many (behind test L))) (any test (any (any test c) none)) (any test c)
     (λ s. more_step test p front s (forward_of_reads r) (cases_Bool (heads test s))) (after_alike test L front) (weaker test c)
-    (reads_takes n test t (item_then test p front) (item_and test L front) (any test c) rejects e inner (begins_item test L front (r 0).starts) (reads_gives n front) (avoids_says test front (any (any test c) none)))
+    (reads_takes n test t (item_then test p front) (item_and test L front) (any test c) rejects e inner (begins_item test L front (r 0).starts) (reads_gives n front) (avoids_means test front (any (any test c) none)))
 
 pub reads_more : (n : ℕ) {A : Type 0} (test : Seen → Bool) (t : Token) (p : Parser A) (L : Rule A) (c : Seen → Bool) (front : List A) → test (scan.number None) ≡ false → test (seen t) ≡ true → ((m : ℕ) → Reads m p L c) → ((x : Seen) → test x ≡ true → c x ≡ false)
     → Reads n (more test p front) (After front (many (behind test L))) (any test c)
@@ -123,30 +123,30 @@ alike-sequence L M N same = record {
   back = λ ts b (us, vs, a, e, l, m). (us, vs, a, e, l, (same a).back vs b m);
 }
 
-others_to : {A : Type 0} (test : Seen → Bool) (L : Rule A) (a : A) (ts : List Token) (items : List A) → After (a ∷ []) (many (behind test L)) ts items → sequence (many (behind test L)) (λ others. says (a ∷ others)) ts items
-unfolding sequence says
+others_to : {A : Type 0} (test : Seen → Bool) (L : Rule A) (a : A) (ts : List Token) (items : List A) → After (a ∷ []) (many (behind test L)) ts items → sequence (many (behind test L)) (λ others. means (a ∷ others)) ts items
+unfolding sequence means
 others_to test L a ts items (new, k, m) = (ts, [], new, sym (append-nil ts), m, (refl, sym k))
 
-others_back : {A : Type 0} (test : Seen → Bool) (L : Rule A) (a : A) (ts : List Token) (items : List A) → sequence (many (behind test L)) (λ others. says (a ∷ others)) ts items → After (a ∷ []) (many (behind test L)) ts items
-unfolding sequence says
+others_back : {A : Type 0} (test : Seen → Bool) (L : Rule A) (a : A) (ts : List Token) (items : List A) → sequence (many (behind test L)) (λ others. means (a ∷ others)) ts items → After (a ∷ []) (many (behind test L)) ts items
+unfolding sequence means
 others_back test L a ts items (us, vs, others, e, m, (v, k)) =
     let h : us ≡ ts = sym (e ∙ ap (λ x. us ++ x) v ∙ append-nil us) in
     (others, sym k, subst (λ x. many (behind test L) x others) h m)
 
-others_alike : {A : Type 0} (test : Seen → Bool) (L : Rule A) (a : A) → Alike (After (a ∷ []) (many (behind test L))) (sequence (many (behind test L)) (λ others. says (a ∷ others)))
+others_alike : {A : Type 0} (test : Seen → Bool) (L : Rule A) (a : A) → Alike (After (a ∷ []) (many (behind test L))) (sequence (many (behind test L)) (λ others. means (a ∷ others)))
 others_alike test L a = record { to = others_to test L a; back = others_back test L a }
 
 -- the rule of a list parted by tokens that pass a test
 abbrev pub list_of : {A : Type 0} → (Seen → Bool) → Rule A → Rule (List A)
-list_of test L = sequence L (λ a. sequence (many (behind test L)) (λ others. says (a ∷ others)))
+list_of test L = sequence L (λ a. sequence (many (behind test L)) (λ others. means (a ∷ others)))
 
 pub reads_rest : (n : ℕ) {A : Type 0} (test : Seen → Bool) (t : Token) (p : Parser A) (L : Rule A) (c : Seen → Bool) (a : A) → test (scan.number None) ≡ false → test (seen t) ≡ true → ((m : ℕ) → Reads m p L c) → ((x : Seen) → test x ≡ true → c x ≡ false)
-    → Reads n (more test p (a ∷ [])) (sequence (many (behind test L)) (λ others. says (a ∷ others))) (any test c)
+    → Reads n (more test p (a ∷ [])) (sequence (many (behind test L)) (λ others. means (a ∷ others))) (any test c)
 reads_rest n test t p L c a rejects e r apart =
-    reads_alike n (more test p (a ∷ [])) (more test p (a ∷ [])) (After (a ∷ []) (many (behind test L))) (sequence (many (behind test L)) (λ others. says (a ∷ others))) (any test c) (any test c)
+    reads_alike n (more test p (a ∷ [])) (more test p (a ∷ [])) (After (a ∷ []) (many (behind test L))) (sequence (many (behind test L)) (λ others. means (a ∷ others))) (any test c) (any test c)
     (λ s. refl) (others_alike test L a) (λ s h. h) (reads_more n test t p L c (a ∷ []) rejects e r apart)
 
-pub avoids_rest : {A : Type 0} (test c : Seen → Bool) (L : Rule A) (a : A) → ((x : Seen) → test x ≡ true → c x ≡ false) → Avoids c (sequence (many (behind test L)) (λ others. says (a ∷ others))) (any test c)
+pub avoids_rest : {A : Type 0} (test c : Seen → Bool) (L : Rule A) (a : A) → ((x : Seen) → test x ≡ true → c x ≡ false) → Avoids c (sequence (many (behind test L)) (λ others. means (a ∷ others))) (any test c)
 avoids_rest test c L a apart ts items left m free = avoids_after test c L (a ∷ []) apart ts items left (others_back test L a (plain ts) items m) free
 
 pub reads_listed : (n : ℕ) {A : Type 0} (separator : Separator) (t : Token) {p : Parser A} {L : Rule A} {c : Seen → Bool} → parts separator (scan.number None) ≡ false → parts separator (seen t) ≡ true → ((m : ℕ) → Reads m p L c) → ((x : Seen) → parts separator x ≡ true → c x ≡ false)

@@ -12,7 +12,7 @@ use Rattle.stmt_reader.specs.Streams.{Placed, Stream, ends, stops, ◌then◌, o
 use Rattle.stmt_reader.specs.Reading as read
 use Rattle.stmt_reader.specs.Reading.{Parser, go_on, bind, said, one, wanted, fitting, takes, choose}
 use Rattle.stmt_reader.specs.Grammar as rule
-use Rattle.stmt_reader.specs.Grammar.{Rule, says, sequence, either}
+use Rattle.stmt_reader.specs.Grammar.{Rule, means, sequence, either}
 use Rattle.stmt_reader.specs.Refusals.{is_fit, Begins}
 use Rattle.stmt_reader.specs.declared.faults.Fault.{Fault}
 use Rattle.stmt_reader.specs.declared.faults.Fault.TheVariants.{BadNumber}
@@ -423,9 +423,9 @@ takes_mark n m {p = p} {L = L} {c = c} r o apart = reads_takes n (is_mark m) (ma
 
 -- ---- rules that begin with other tokens
 
-pub avoids_says : {A : Type 0} (test : Seen → Bool) (a : A) (on : Seen → Bool) → Avoids test (says a) (any test on)
-unfolding says
-avoids_says test a on ts b left (e, k) free = subst (λ us. heads test (onto us left) ≡ false) (sym (nothing_placed ts e)) (heads-any test on left free).0
+pub avoids_means : {A : Type 0} (test : Seen → Bool) (a : A) (on : Seen → Bool) → Avoids test (means a) (any test on)
+unfolding means
+avoids_means test a on ts b left (e, k) free = subst (λ us. heads test (onto us left) ≡ false) (sym (nothing_placed ts e)) (heads-any test on left free).0
 
 avoids_token : (test : Seen → Bool) (ts : List Placed) (t : Token) (left : Stream) → plain ts ≡ t ∷ [] → test (seen t) ≡ false → heads test (onto ts left) ≡ false
 avoids_token test ts t left e k =

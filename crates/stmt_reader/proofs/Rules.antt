@@ -5,7 +5,7 @@ use Rattle.stmt_reader.specs.Tokens.{Token}
 use Rattle.stmt_reader.specs.Scan.{Seen, seen}
 use Rattle.stmt_reader.specs.Streams.{Placed, Stream, ends, stops, ◌then◌, onto, plain, size, seen_ahead, heads}
 use Rattle.stmt_reader.specs.Reading.{Parser, gives, go_on, bind}
-use Rattle.stmt_reader.specs.Grammar.{Rule, says, sequence}
+use Rattle.stmt_reader.specs.Grammar.{Rule, means, sequence}
 use Rattle.stmt_reader.specs.Refusals.{is_fit, Begins}
 use Rattle.stmt_reader.specs.declared.faults.Fault.{Fault}
 use Rattle.stmt_reader.specs.declared.faults.Fault.TheVariants.{NoToken, Syntax, BadNumber}
@@ -146,8 +146,8 @@ reads_alike n p q L M c d e same weaker r = record {
 
 -- ---- no token
 
-pub reads_gives : (n : ℕ) {A : Type 0} (a : A) → Reads n (gives a) (says a) none
-unfolding says
+pub reads_gives : (n : ℕ) {A : Type 0} (a : A) → Reads n (gives a) (means a) none
+unfolding means
 reads_gives n a = record {
   starts = ([], a, (refl, refl));
   finds = λ s b left le h.

@@ -13,7 +13,7 @@ use Rattle.stmt_reader.specs.Streams.{Stream, ends, stops, ◌then◌, plain, he
 use Rattle.stmt_reader.specs.Reading as read
 use Rattle.stmt_reader.specs.Reading.{Parser, gives, go_on, bind, wanted, choose, known, keys_and_function}
 use Rattle.stmt_reader.specs.Grammar as rule
-use Rattle.stmt_reader.specs.Grammar.{Rule, says, sequence, either, many}
+use Rattle.stmt_reader.specs.Grammar.{Rule, means, sequence, either, many}
 use Rattle.stmt_reader.specs.Refusals.{Begins}
 use Rattle.stmt_reader.specs.declared.faults.Fault.{Fault}
 use Rattle.stmt_reader.specs.declared.tokens.Mark.TheVariants as marks
@@ -27,7 +27,7 @@ use Rattle.stmt_reader.proofs.PartRules.{reads_name, reads_last, reads_aggregate
 
 -- , fun (
 abbrev function_rule : Rule Fun
-function_rule = behind (is_mark marks.Comma) (sequence (rule.one function_of) (λ f. behind (is_mark marks.Open) (says f)))
+function_rule = behind (is_mark marks.Comma) (sequence (rule.one function_of) (λ f. behind (is_mark marks.Open) (means f)))
 
 abbrev key_rule : Rule (List ℕ)
 key_rule = behind (is_mark marks.Comma) rule.name
@@ -42,7 +42,7 @@ keys_rule front ts x = (us : List Token) × (vs : List Token) × (new : List (Li
 -- behind the word after a comma, by the function that it names
 abbrev word_rule : List (List ℕ) → List ℕ → Option Fun → Rule (List (List ℕ) × Fun)
 word_rule front w None = keys_rule (front ++ w ∷ [])
-word_rule front w (Some f) = either (behind (is_mark marks.Open) (says (keyed front f))) (keys_rule (front ++ w ∷ []))
+word_rule front w (Some f) = either (behind (is_mark marks.Open) (means (keyed front f))) (keys_rule (front ++ w ∷ []))
 
 abbrev step_rule : List (List ℕ) → Rule (List (List ℕ) × Fun)
 step_rule front = behind (is_mark marks.Comma) (sequence rule.name (λ w. word_rule front w (function_of_word w)))
@@ -62,12 +62,12 @@ word_from (number z) f e = absurd cc
 word_from (quoted v) f e = absurd cc
 word_from (mark m) f e = absurd cc
 
-open_is : (g f : Fun) (xs : List Token) → behind (is_mark marks.Open) (says g) xs f → g ≡ f
-unfolding sequence says
+open_is : (g f : Fun) (xs : List Token) → behind (is_mark marks.Open) (means g) xs f → g ≡ f
+unfolding sequence means
 open_is g f xs (us, vs, u, e, m, (v, k)) = k
 
-open_same : (g f : Fun) (xs : List Token) → g ≡ f → behind (is_mark marks.Open) (says g) xs f → behind (is_mark marks.Open) (says f) xs f
-open_same g f xs h m = subst (λ y. behind (is_mark marks.Open) (says y) xs f) h m
+open_same : (g f : Fun) (xs : List Token) → g ≡ f → behind (is_mark marks.Open) (means g) xs f → behind (is_mark marks.Open) (means f) xs f
+open_same g f xs h m = subst (λ y. behind (is_mark marks.Open) (means y) xs f) h m
 
 -- the keys of a longer front
 longer : (front : List (List ℕ)) (w : List ℕ) (us vs xs : List Token) (u : Unit {0}) (ts : List Token) (x : List (List ℕ) × Fun) → rule.mark marks.Comma us u → rule.name vs w → ts ≡ us ++ (vs ++ xs) → keys_rule (front ++ w ∷ []) xs x → keys_rule front ts x
@@ -75,12 +75,12 @@ unfolding sequence many
 longer front w us vs xs u ts x comma n e (ys, zs, new, e2, k, m, f) =
     ((us ++ vs) ++ ys, zs, w ∷ new, e ∙ ap (λ y. us ++ (vs ++ y)) e2 ∙ simp append_assoc, k ∙ append_assoc front (w ∷ []) new, (us ++ vs, ys, refl, (us, vs, u, refl, comma, n), m), f)
 
-function_here : (w : List ℕ) (f : Fun) (us vs xs : List Token) (u : Unit {0}) → rule.mark marks.Comma us u → rule.name vs w → function_of_word w ≡ Some f → behind (is_mark marks.Open) (says f) xs f → function_rule (us ++ (vs ++ xs)) f
+function_here : (w : List ℕ) (f : Fun) (us vs xs : List Token) (u : Unit {0}) → rule.mark marks.Comma us u → rule.name vs w → function_of_word w ≡ Some f → behind (is_mark marks.Open) (means f) xs f → function_rule (us ++ (vs ++ xs)) f
 unfolding sequence rule.one
 function_here w f us vs xs u comma (t, e, k) fun paren = (us, vs ++ xs, u, refl, comma, (vs, xs, f, refl, (t, e, word_function t w f k fun), paren))
 
-open_function : (front : List (List ℕ)) (f : Fun) (xs : List Token) (x : List (List ℕ) × Fun) → behind (is_mark marks.Open) (says (keyed front f)) xs x → behind (is_mark marks.Open) (says f) xs f × ((keyed front f) ≡ x)
-unfolding sequence says
+open_function : (front : List (List ℕ)) (f : Fun) (xs : List Token) (x : List (List ℕ) × Fun) → behind (is_mark marks.Open) (means (keyed front f)) xs x → behind (is_mark marks.Open) (means f) xs f × ((keyed front f) ≡ x)
+unfolding sequence means
 open_function front f xs x (us, vs, u, e, m, (v, k)) = ((us, vs, u, e, m, (v, refl)), k)
 
 step_to_at : (front : List (List ℕ)) (w : List ℕ) (o : Option Fun) (us vs xs : List Token) (u : Unit {0}) (ts : List Token) (x : List (List ℕ) × Fun) → function_of_word w ≡ o → rule.mark marks.Comma us u → rule.name vs w → ts ≡ us ++ (vs ++ xs) → word_rule front w o xs x → keys_rule front ts x
@@ -100,8 +100,8 @@ unfolding either
 step_back_none front w None xs x m = m
 step_back_none front w (Some f) xs x m = inr m
 
-step_back_function : (front : List (List ℕ)) (w : List ℕ) (o : Option Fun) (f : Fun) (xs : List Token) → o ≡ Some f → behind (is_mark marks.Open) (says f) xs f → word_rule front w o xs (keyed front f)
-unfolding either sequence says
+step_back_function : (front : List (List ℕ)) (w : List ℕ) (o : Option Fun) (f : Fun) (xs : List Token) → o ≡ Some f → behind (is_mark marks.Open) (means f) xs f → word_rule front w o xs (keyed front f)
+unfolding either sequence means
 step_back_function front w None f xs e m = absurd cc
 step_back_function front w (Some g) f xs e (us, vs, u, e2, m, (v, k)) =
     let h : g ≡ f = cc in
@@ -130,7 +130,7 @@ step_alike front = record { to = step_to front; back = step_back front }
 -- ---- reading the keys
 
 begins_function : Begins function_rule []
-unfolding sequence says rule.one rule.wanted
+unfolding sequence means rule.one rule.wanted
 begins_function = (
   mark marks.Comma ∷ word (codes "sum") ∷ mark marks.Open ∷ [],
   fun.Sum,
@@ -180,9 +180,9 @@ reads_word n front w None e r =
     (λ s. word_without_function front w s e (cases_Bool (heads (is_mark marks.Open) s))) (alike-refl (keys_rule (front ++ w ∷ []))) (λ s h. h) r
 reads_word n front w (Some f) e r =
     reads_alike n (choose (is_mark marks.Open) (bind (wanted (is_mark marks.Open)) (λ _. gives (keyed front f))) (keys_and_function (front ++ w ∷ []))) (after_word front w)
-    (either (behind (is_mark marks.Open) (says (keyed front f))) (keys_rule (front ++ w ∷ []))) (either (behind (is_mark marks.Open) (says (keyed front f))) (keys_rule (front ++ w ∷ []))) none none
+    (either (behind (is_mark marks.Open) (means (keyed front f))) (keys_rule (front ++ w ∷ []))) (either (behind (is_mark marks.Open) (means (keyed front f))) (keys_rule (front ++ w ∷ []))) none none
     (λ s. word_with_function front w f s e) (alike-refl _) (λ s h. h)
-    (reads_choose_on n (is_mark marks.Open) none (reads_then n (reads_mark n marks.Open) (λ _. reads_gives n (keyed front f))) r (leads_behind (is_mark marks.Open) (says (keyed front f)))
+    (reads_choose_on n (is_mark marks.Open) none (reads_then n (reads_mark n marks.Open) (λ _. reads_gives n (keyed front f))) r (leads_behind (is_mark marks.Open) (means (keyed front f)))
     (avoids_keys (is_mark marks.Open) none (front ++ w ∷ []) refl) (λ s h. h) (λ s h. h))
 
 begins_word : (front : List (List ℕ)) → Begins (sequence rule.name (λ w. word_rule front w (function_of_word w))) []
@@ -203,10 +203,10 @@ reads_keys (suc m) front = keys_inner (suc m) front (reads_then m (reads_name m)
 -- ---- the whole list
 
 abbrev read_list : Rule (List (List ℕ) × List NamedAgg)
-read_list = sequence (keys_rule []) (λ k. sequence (aggregates_of k.1) (λ aggs. says (k.0, aggs)))
+read_list = sequence (keys_rule []) (λ k. sequence (aggregates_of k.1) (λ aggs. means (k.0, aggs)))
 
 list_to : (ts : List Token) (x : List (List ℕ) × List NamedAgg) → read_list ts x → rule.select_list ts x
-unfolding sequence says
+unfolding sequence means
 list_to ts x (us, vs, k, e, (xs, cs, new, e1, k1, m, (c1, c2, u, e2, comma, (c3, c4, g, e3, fn, (c5, c6, u2, e4, paren, (e5, gk))))), (vs1, vs2, aggs, e6, (ns, bs, a, e7, ar, rest), (e8, xk))) = (
   xs,
   c1 ++ ((c3 ++ (c5 ++ ns)) ++ bs),
@@ -231,7 +231,7 @@ list_to ts x (us, vs, k, e, (xs, cs, new, e1, k1, m, (c1, c2, u, e2, comma, (c3,
 )
 
 list_back : (ts : List Token) (x : List (List ℕ) × List NamedAgg) → rule.select_list ts x → read_list ts x
-unfolding sequence says
+unfolding sequence means
 list_back ts x (xs, r1, keys, e1, m, (c1, r2, u, e2, comma, (r3, r4, aggs, e3, (ag, bs, a, e4, (c3, r5, f, e5, fn, (c5, ns, u2, e6, paren, ar)), rest), (e7, xk)))) = (
   xs ++ (c1 ++ (c3 ++ c5)),
   ns ++ bs,
@@ -250,4 +250,4 @@ reads_select_list n =
 
 pub avoids_select_list : (test on : Seen → Bool) → test (scan.mark marks.Comma) ≡ false → Avoids test rule.select_list on
 avoids_select_list test on h ts x left m free =
-    avoids_sequence test (keys_rule []) (λ k. sequence (aggregates_of k.1) (λ aggs. says (k.0, aggs))) on (avoids_keys test none [] h) ts x left (list_back (plain ts) x m) free
+    avoids_sequence test (keys_rule []) (λ k. sequence (aggregates_of k.1) (λ aggs. means (k.0, aggs))) on (avoids_keys test none [] h) ts x left (list_back (plain ts) x m) free

@@ -7,7 +7,7 @@ use Rattle.stmt_reader.specs.declared.keywords.Keyword.TheVariants as kw
 use Rattle.stmt_reader.specs.declared.tokens.Mark.TheVariants as marks
 use Rattle.stmt_reader.specs.declared.statements.Stmt.{Stmt}
 use Rattle.stmt_reader.specs.declared.statements.Stmt.TheVariants as stmt
-use Rattle.stmt_reader.proofs.Yields.{Yields, Item, yields_says, yields_then, yields_either, yields_listed, yields_keyword, yields_mark, yields_name, yields_quoted, yields_number}
+use Rattle.stmt_reader.proofs.Yields.{Yields, Item, yields_means, yields_then, yields_either, yields_listed, yields_keyword, yields_mark, yields_name, yields_quoted, yields_number}
 use Rattle.stmt_reader.proofs.WrittenParts.{Any, yields_value, yields_row, yields_column, yields_source, yields_fold}
 
 -- a statement by tokens of so many bytes
@@ -22,7 +22,7 @@ create_table =
     yields_then (yields_mark marks.Open) (λ _ d hd.
     yields_then (yields_listed 1 column_size (yields_mark marks.Comma) yields_column) (λ cols e he.
     yields_then (yields_mark marks.Close) (λ _ f hf.
-    yields_says (stmt.Table name cols) _ (record { whole = he.some; size = omega (arith, he.size) })))))))
+    yields_means (stmt.Table name cols) _ (record { whole = he.some; size = omega (arith, he.size) })))))))
 
 create_hypertable : Yields rule.create_hypertable Holds
 create_hypertable =
@@ -37,7 +37,7 @@ create_hypertable =
     yields_then (yields_mark marks.Arrow) (λ _ i hi.
     yields_then yields_number (λ z j hj.
     yields_then (yields_mark marks.Close) (λ _ k hk.
-    yields_says (stmt.Hyper name col z) _ (record { whole = tt; size = omega arith }))))))))))))
+    yields_means (stmt.Hyper name col z) _ (record { whole = tt; size = omega arith }))))))))))))
 
 -- whatever is written, it takes no bytes less than none
 anything : {A : Type 0} (L : Rule A) → Yields L (λ _ n. 0 ≤ n)
@@ -55,7 +55,7 @@ create_view =
     yields_then (yields_keyword kw.Select) (λ _ h hh.
     yields_then yields_fold (λ fold i hi.
     yields_then (anything rule.filling) (λ filled j hj.
-    yields_says (stmt.View name only filled fold) _ (record { whole = hi.is; size = omega (arith, hi.size) })))))))))))
+    yields_means (stmt.View name only filled fold) _ (record { whole = hi.is; size = omega (arith, hi.size) })))))))))))
 
 alter_view : Yields rule.alter_view Holds
 alter_view =
@@ -67,7 +67,7 @@ alter_view =
     yields_then (yields_mark marks.Open) (λ _ f hf.
     yields_then (anything rule.setting) (λ only g hg.
     yields_then (yields_mark marks.Close) (λ _ h hh.
-    yields_says (stmt.Mode name only) _ (record { whole = tt; size = omega arith })))))))))
+    yields_means (stmt.Mode name only) _ (record { whole = tt; size = omega arith })))))))))
 
 name_item : Yields rule.name (λ w n. Item Any name_size w (1 + n))
 name_item = record { holds = λ ts w l. record { is = tt; size = omega (arith, yields_name.holds ts w l) } }
@@ -78,8 +78,8 @@ column_list =
     (yields_then (yields_mark marks.Open) (λ _ a ha.
     yields_then (yields_listed 1 name_size (yields_mark marks.Comma) name_item) (λ cols b hb.
     yields_then (yields_mark marks.Close) (λ _ c hc.
-    yields_says (Some cols) _ (omega (arith, hb.size))))))
-    (yields_says None _ (omega arith))
+    yields_means (Some cols) _ (omega (arith, hb.size))))))
+    (yields_means None _ (omega arith))
 
 row_item : Yields rule.row (λ r n. Item IsWholeRow row_size r (0 + n))
 row_item = record { holds = λ ts r l. let k = yields_row.holds ts r l in record { is = k.is; size = omega (arith, k.size) } }
@@ -95,13 +95,13 @@ insert =
     yields_then column_list (λ cols d hd.
     yields_then (yields_keyword kw.Values) (λ _ e he.
     yields_then (yields_listed 0 row_size comma row_item) (λ rows f hf.
-    yields_says (stmt.Insert name cols rows) _ (record { whole = record { some = hf.some; each = hf.each }; size = omega (arith, hf.size) })))))))
+    yields_means (stmt.Insert name cols rows) _ (record { whole = record { some = hf.some; each = hf.each }; size = omega (arith, hf.size) })))))))
 
 delete : Yields rule.delete Holds
 delete =
     yields_then (yields_keyword kw.Delete) (λ _ a ha.
     yields_then yields_source (λ from b hb.
-    yields_says (stmt.Delete from.0 from.1) _ (record { whole = hb.tests; size = omega (arith, hb.size) })))
+    yields_means (stmt.Delete from.0 from.1) _ (record { whole = hb.tests; size = omega (arith, hb.size) })))
 
 drop_chunks : Yields rule.drop_chunks Holds
 drop_chunks =
@@ -113,7 +113,7 @@ drop_chunks =
     yields_then (anything rule.older_than) (λ _ f hf.
     yields_then yields_number (λ z g hg.
     yields_then (yields_mark marks.Close) (λ _ h hh.
-    yields_says (stmt.Drop name z) _ (record { whole = tt; size = omega arith })))))))))
+    yields_means (stmt.Drop name z) _ (record { whole = tt; size = omega arith })))))))))
 
 window : Yields rule.window (λ w n. length w.view ≤ n)
 window =
@@ -122,7 +122,7 @@ window =
     yields_then yields_value (λ lo c hc.
     yields_then (yields_mark marks.Comma) (λ _ d hd.
     yields_then yields_value (λ hi e he.
-    yields_says (record { view = name; lo = lo; hi = hi }) _ (omega arith))))))
+    yields_means (record { view = name; lo = lo; hi = hi }) _ (omega arith))))))
 
 call_refresh : Yields rule.call_refresh Holds
 call_refresh =
@@ -131,57 +131,57 @@ call_refresh =
     yields_then (yields_mark marks.Open) (λ _ c hc.
     yields_then window (λ w d hd.
     yields_then (yields_mark marks.Close) (λ _ e he.
-    yields_says (stmt.Refresh w.view w.lo w.hi) _ (record { whole = tt; size = omega arith }))))))
+    yields_means (stmt.Refresh w.view w.lo w.hi) _ (record { whole = tt; size = omega arith }))))))
 
 refresh_cut : Yields rule.refresh_cut Holds
 refresh_cut =
     yields_then (yields_keyword kw.Refresh) (λ _ a ha.
     yields_then (yields_keyword kw.Cut) (λ _ b hb.
     yields_then window (λ w c hc.
-    yields_says (stmt.Cut w.view w.lo w.hi) _ (record { whole = tt; size = omega arith }))))
+    yields_means (stmt.Cut w.view w.lo w.hi) _ (record { whole = tt; size = omega arith }))))
 
 refresh_snap : Yields rule.refresh_snap Holds
 refresh_snap =
     yields_then (yields_keyword kw.Refresh) (λ _ a ha.
     yields_then (yields_keyword kw.Snap) (λ _ b hb.
     yields_then (anything rule.chosen) (λ cut c hc.
-    yields_says (stmt.Snap cut) _ (record { whole = tt; size = omega arith }))))
+    yields_means (stmt.Snap cut) _ (record { whole = tt; size = omega arith }))))
 
 refresh_finish : Yields rule.refresh_finish Holds
 refresh_finish =
     yields_then (yields_keyword kw.Refresh) (λ _ a ha.
     yields_then (yields_keyword kw.Finish) (λ _ b hb.
     yields_then (anything rule.chosen) (λ cut c hc.
-    yields_says (stmt.Finish cut) _ (record { whole = tt; size = omega arith }))))
+    yields_means (stmt.Finish cut) _ (record { whole = tt; size = omega arith }))))
 
 begin : Yields rule.begin Holds
-begin = yields_then (yields_keyword kw.Begin) (λ _ a ha. yields_says stmt.Begin _ (record { whole = tt; size = omega arith }))
+begin = yields_then (yields_keyword kw.Begin) (λ _ a ha. yields_means stmt.Begin _ (record { whole = tt; size = omega arith }))
 
 begin_read : Yields rule.begin_read Holds
 begin_read =
     yields_then (yields_keyword kw.Begin) (λ _ a ha.
     yields_then (yields_keyword kw.Read) (λ _ b hb.
     yields_then (yields_keyword kw.Only) (λ _ c hc.
-    yields_says stmt.BeginRead _ (record { whole = tt; size = omega arith }))))
+    yields_means stmt.BeginRead _ (record { whole = tt; size = omega arith }))))
 
 commit : Yields rule.commit Holds
-commit = yields_then (yields_keyword kw.Commit) (λ _ a ha. yields_says stmt.Commit _ (record { whole = tt; size = omega arith }))
+commit = yields_then (yields_keyword kw.Commit) (λ _ a ha. yields_means stmt.Commit _ (record { whole = tt; size = omega arith }))
 
 rollback : Yields rule.rollback Holds
-rollback = yields_then (yields_keyword kw.Rollback) (λ _ a ha. yields_says stmt.Rollback _ (record { whole = tt; size = omega arith }))
+rollback = yields_then (yields_keyword kw.Rollback) (λ _ a ha. yields_means stmt.Rollback _ (record { whole = tt; size = omega arith }))
 
 buckets : Yields rule.buckets Holds
 buckets =
     yields_then (yields_keyword kw.Select) (λ _ a ha.
     yields_then yields_fold (λ f b hb.
-    yields_says (stmt.Buckets f) _ (record { whole = hb.is; size = omega (arith, hb.size) })))
+    yields_means (stmt.Buckets f) _ (record { whole = hb.is; size = omega (arith, hb.size) })))
 
 select_rows : Yields rule.select_rows Holds
 select_rows =
     yields_then (yields_keyword kw.Select) (λ _ a ha.
     yields_then (yields_mark marks.Star) (λ _ b hb.
     yields_then yields_source (λ from c hc.
-    yields_says (stmt.Rows from.0 from.1) _ (record { whole = hc.tests; size = omega (arith, hc.size) }))))
+    yields_means (stmt.Rows from.0 from.1) _ (record { whole = hc.tests; size = omega (arith, hc.size) }))))
 
 form : Yields rule.form Holds
 unfolding rule.form
@@ -209,4 +209,4 @@ unfolding rule.statement
 yields_statement =
     yields_then form (λ s a ha.
     yields_then (anything rule.semicolon) (λ _ b hb.
-    yields_says s _ (record { whole = ha.whole; size = omega (arith, ha.size) })))
+    yields_means s _ (record { whole = ha.whole; size = omega (arith, ha.size) })))

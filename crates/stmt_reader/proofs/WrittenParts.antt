@@ -21,7 +21,7 @@ use Rattle.stmt_reader.specs.declared.tokens.Mark.TheVariants as marks
 use Rattle.stmt_reader.specs.declared.folds.Head.{Head}
 use Rattle.stmt_reader.specs.declared.statements.NamedAgg.{NamedAgg}
 use Rattle.stmt_reader.specs.declared.statements.NamedTest.{NamedTest}
-use Rattle.stmt_reader.proofs.Yields.{Yields, Item, Items, Listed, token_size, yields_says, yields_then, yields_either, yields_many, yields_listed, yields_one, yields_wanted, yields_keyword, yields_mark, yields_name, yields_number}
+use Rattle.stmt_reader.proofs.Yields.{Yields, Item, Items, Listed, token_size, yields_means, yields_then, yields_either, yields_many, yields_listed, yields_one, yields_wanted, yields_keyword, yields_mark, yields_name, yields_number}
 
 -- nothing more to say of a value
 abbrev pub Any : {A : Type 0} → A → Type 0
@@ -32,8 +32,8 @@ Any a = Unit {0}
 pub yields_value : Yields rule.value (λ v n. 1 ≤ n)
 yields_value =
     yields_either
-    (yields_then (yields_keyword kw.Null) (λ _ a ha. yields_says None _ (omega arith)))
-    (yields_then yields_number (λ z a ha. yields_says (Some z) _ (omega arith)))
+    (yields_then (yields_keyword kw.Null) (λ _ a ha. yields_means None _ (omega arith)))
+    (yields_then yields_number (λ z a ha. yields_means (Some z) _ (omega arith)))
 
 two_each : (values : List (Option ℤ)) → sum_by (λ _. 2) values ≡ 2 * length values
 two_each [] = refl
@@ -49,22 +49,22 @@ yields_row =
     yields_then (yields_mark marks.Open) (λ _ a ha.
     yields_then (yields_listed 1 (λ _. 2) (yields_mark marks.Comma) value_item) (λ values b hb.
     yields_then (yields_mark marks.Close) (λ _ c hc.
-    yields_says values _ (record { is = record { some = hb.some }; size = omega (arith, hb.size, two_each values) }))))
+    yields_means values _ (record { is = record { some = hb.some }; size = omega (arith, hb.size, two_each values) }))))
 
 -- ---- columns
 
 yields_not_null : Yields rule.not_null (λ _ n. 0 ≤ n)
 yields_not_null =
     yields_either
-    (yields_then (yields_keyword kw.Not) (λ _ a ha. yields_then (yields_keyword kw.Null) (λ _ b hb. yields_says true _ (omega arith))))
-    (yields_says false _ (omega arith))
+    (yields_then (yields_keyword kw.Not) (λ _ a ha. yields_then (yields_keyword kw.Null) (λ _ b hb. yields_means true _ (omega arith))))
+    (yields_means false _ (omega arith))
 
 pub yields_column : Yields rule.column (λ c n. Item Any column_size c (1 + n))
 yields_column =
     yields_then yields_name (λ name a ha.
     yields_then (yields_keyword kw.Bigint) (λ _ b hb.
     yields_then yields_not_null (λ must c hc.
-    yields_says (record { name = name; must = must }) _ (record { is = tt; size = omega arith }))))
+    yields_means (record { name = name; must = must }) _ (record { is = tt; size = omega arith }))))
 
 -- ---- tests
 
@@ -107,8 +107,8 @@ null_test_of c op n some = record { col = refl; whole = record { number = λ e. 
 yields_null_test : (c : List ℕ) → Yields (rule.null_test c) (TestOf c)
 yields_null_test c =
     yields_either
-    (yields_then (yields_keyword kw.Not) (λ _ a ha. yields_then (yields_keyword kw.Null) (λ _ b hb. yields_says _ _ (null_test_of c cmp.NotNull _ (omega arith)))))
-    (yields_then (yields_keyword kw.Null) (λ _ a ha. yields_says _ _ (null_test_of c cmp.IsNull _ (omega arith))))
+    (yields_then (yields_keyword kw.Not) (λ _ a ha. yields_then (yields_keyword kw.Null) (λ _ b hb. yields_means _ _ (null_test_of c cmp.NotNull _ (omega arith)))))
+    (yields_then (yields_keyword kw.Null) (λ _ a ha. yields_means _ _ (null_test_of c cmp.IsNull _ (omega arith))))
 
 number_test_of : (c : List ℕ) (op : Cmp) (z : ℤ) (n : ℕ) → is_null_test op ≡ false → 2 ≤ n → TestOf c (record { col = c; cmp = op; num = z }) n
 number_test_of c op z n plain some = record {
@@ -121,7 +121,7 @@ yields_number_test : (c : List ℕ) → Yields (rule.number_test c) (TestOf c)
 yields_number_test c =
     yields_then (yields_one comparison_of Compares compares) (λ op a ha.
     yields_then yields_number (λ z b hb.
-    yields_says _ _ (number_test_of c op z _ ha.plain (omega (arith, ha.size)))))
+    yields_means _ _ (number_test_of c op z _ ha.plain (omega (arith, ha.size)))))
 
 test_of_column : (c : List ℕ) (a n : ℕ) (t : NamedTest) → length c ≤ a → TestOf c t n → Item IsWholeTest test_size t (3 + (a + n))
 test_of_column c a n t ha r = record { is = r.whole; size = omega (arith, ap length r.col, r.size) }
@@ -144,7 +144,7 @@ yields_filters =
     yields_either
     (yields_then (yields_keyword kw.Where) (λ _ a ha.
     weaker (yields_listed 3 test_size (yields_keyword kw.And) yields_test) a ha))
-    (yields_says [] _ (record { each = tt; size = omega arith }))
+    (yields_means [] _ (record { each = tt; size = omega arith }))
   where
     weaker : {L : Rule (List NamedTest)} → Yields L (Listed 3 IsWholeTest test_size) → (a : ℕ) → 5 ≤ a → Yields L (λ tests n. Items IsWholeTest test_size tests (a + n))
     weaker y a ha = record { holds = λ ts tests l. let k = y.holds ts tests l in record { each = k.each; size = omega (arith, k.size) } }
@@ -159,7 +159,7 @@ yields_source =
     yields_then (yields_keyword kw.From) (λ _ a ha.
     yields_then yields_name (λ table b hb.
     yields_then yields_filters (λ tests c hc.
-    yields_says (table, tests) _ (record { tests = hc.each; size = omega (arith, hc.size) }))))
+    yields_means (table, tests) _ (record { tests = hc.each; size = omega (arith, hc.size) }))))
 
 -- ---- folds
 
@@ -167,8 +167,8 @@ yields_source =
 yields_alias : Yields rule.alias (λ x n. alias_size x ≤ n)
 yields_alias =
     yields_either
-    (yields_then (yields_keyword kw.As) (λ _ a ha. yields_then yields_name (λ x b hb. yields_says (Some x) _ (omega arith))))
-    (yields_says None _ (omega arith))
+    (yields_then (yields_keyword kw.As) (λ _ a ha. yields_then yields_name (λ x b hb. yields_means (Some x) _ (omega arith))))
+    (yields_means None _ (omega arith))
 
 -- a function that is written by a word: it takes an argument
 record Named (f : Fun) (n : ℕ) : Type 0 where
@@ -219,15 +219,15 @@ star_mark fun.Avg t e = absurd cc
 yields_argument : (f : Fun) → takes_argument f ≡ true → Yields (rule.argument f) ArgumentOf
 yields_argument f takes =
     yields_either
-    (yields_then (yields_wanted (is_star_of f) (λ n. 1 ≤ n) (star_mark f)) (λ _ a ha. yields_says (fun.CountAll, None) _ (record { whole = refl; size = omega arith })))
-    (yields_then yields_name (λ c a ha. yields_says (f, Some c) _ (record { whole = sym takes; size = omega arith })))
+    (yields_then (yields_wanted (is_star_of f) (λ n. 1 ≤ n) (star_mark f)) (λ _ a ha. yields_means (fun.CountAll, None) _ (record { whole = refl; size = omega arith })))
+    (yields_then yields_name (λ c a ha. yields_means (f, Some c) _ (record { whole = sym takes; size = omega arith })))
 
 yields_aggregate_rest : (f : Fun) (n : ℕ) → Named f n → Yields (rule.aggregate_rest f) (λ a m. Item IsWholeAgg agg_size a (2 + (n + m)))
 yields_aggregate_rest f n h =
     yields_then (yields_argument f h.takes) (λ arg b hb.
     yields_then (yields_mark marks.Close) (λ _ c hc.
     yields_then yields_alias (λ x d hd.
-    yields_says (record { fun = arg.0; col = arg.1; name = x }) _
+    yields_means (record { fun = arg.0; col = arg.1; name = x }) _
     (record { is = record { argument = hb.whole }; size = omega (arith, hb.size, h.size) }))))
 
 pub yields_aggregate : Yields rule.aggregate (λ a n. Item IsWholeAgg agg_size a (1 + n))
@@ -243,7 +243,7 @@ yields_offset : Yields rule.offset (λ z n. 0 ≤ n)
 yields_offset =
     yields_either
     (yields_then (yields_mark marks.Comma) (λ _ a ha. record { holds = λ ts z l. omega arith }))
-    (yields_says (pos 0) _ (omega arith))
+    (yields_means (pos 0) _ (omega arith))
 
 -- time_bucket ( num , c ) AS x
 yields_bucket : Yields rule.bucket (λ b n. 15 + length b.at + alias_size b.name ≤ n)
@@ -256,7 +256,7 @@ yields_bucket =
     yields_then yields_offset (λ shift f hf.
     yields_then (yields_mark marks.Close) (λ _ g hg.
     yields_then yields_alias (λ x i hi.
-    yields_says (record { step = step; shift = shift; at = col; name = x }) _ (omega arith)))))))))
+    yields_means (record { step = step; shift = shift; at = col; name = x }) _ (omega arith)))))))))
 
 -- { , c } , agg { , agg }
 record ListOf (list : List (List ℕ) × List NamedAgg) (n : ℕ) : Type 0 where
@@ -272,7 +272,7 @@ yields_select_list =
     yields_then (yields_many key_item) (λ keys a ha.
     yields_then (yields_mark marks.Comma) (λ _ b hb.
     yields_then (yields_listed 1 agg_size (yields_mark marks.Comma) yields_aggregate) (λ aggs c hc.
-    yields_says (keys, aggs) _ (record { some = hc.some; aggs = hc.each; size = omega (arith, ha.size, hc.size) }))))
+    yields_means (keys, aggs) _ (record { some = hc.some; aggs = hc.each; size = omega (arith, ha.size, hc.size) }))))
 
 yields_items : (i : ℕ) (names : List (List ℕ)) → Yields (rule.items_from i names) (λ _ n. 0 ≤ n)
 yields_items i names = record { holds = λ ts u l. omega arith }
@@ -289,5 +289,5 @@ yields_fold =
     yields_then yields_select_list (λ list n hn.
     yields_then yields_source (λ from k hk.
     yields_then (yields_grouping (head_name bucket_word b.name) list.0) (λ _ i hi.
-    yields_says (record { step = b.step; shift = b.shift; at = b.at; name = b.name; keys = list.0; aggs = list.1; table = from.0; tests = from.1 }) _
+    yields_means (record { step = b.step; shift = b.shift; at = b.at; name = b.name; keys = list.0; aggs = list.1; table = from.0; tests = from.1 }) _
     (record { is = record { some = hn.some; aggs = hn.aggs; tests = hk.tests }; size = omega (arith, hn.size, hk.size) })))))

@@ -8,7 +8,7 @@ use Rattle.stmt_reader.specs.Tokens.{Token, word, number, quoted, mark}
 use Rattle.stmt_reader.specs.Scan.{Seen, seen}
 use Rattle.stmt_reader.specs.Words.{keyword_text, is_keyword, is_mark, word_of, quoted_of}
 use Rattle.stmt_reader.specs.Grammar as rule
-use Rattle.stmt_reader.specs.Grammar.{Rule, says, sequence, either, many, listed, one, wanted}
+use Rattle.stmt_reader.specs.Grammar.{Rule, means, sequence, either, many, listed, one, wanted}
 use Rattle.stmt_reader.specs.declared.keywords.Keyword.{Keyword}
 use Rattle.stmt_reader.specs.declared.tokens.Mark.{Mark}
 
@@ -33,9 +33,9 @@ pub record Yields {A : Type 0} (L : Rule A) (P : A → ℕ → Type 0) : Type 0 
 
 -- ---- rules put together
 
-pub yields_says : {A : Type 0} (a : A) (P : A → ℕ → Type 0) → P a 0 → Yields (says a) P
-unfolding says
-yields_says {A} a P h = record {
+pub yields_means : {A : Type 0} (a : A) (P : A → ℕ → Type 0) → P a 0 → Yields (means a) P
+unfolding means
+yields_means {A} a P h = record {
   holds = λ ts b l.
       subst (λ (us : List Token). P b (weight us)) (sym l.0) (subst (λ (x : A). P x 0) l.1 h);
 }
@@ -90,7 +90,7 @@ pub yields_listed : {A B : Type 0} {S : Rule B} {L : Rule A} {R : A → Type 0} 
 yields_listed {A} {R = R} c f s y =
     yields_then y (λ first n h.
     yields_then (yields_many (behind c s y)) (λ others m k.
-    yields_says (first ∷ others) _
+    yields_means (first ∷ others) _
     (let total : sum_by f (first ∷ others) ≡ f first + sum_by f others = sum_by-cons f first others in
     record { some = omega arith; each = (h.is, k.each); size = omega (arith, h.size, k.size) })))
   where

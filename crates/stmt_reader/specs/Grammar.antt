@@ -1,4 +1,4 @@
--- The grammar: which tokens are which statement. A rule relates some tokens to what they say.
+-- The grammar: which tokens are which statement. A rule relates some tokens to what they mean.
 use Rattle.std.specs.Prelude.{◌≡◌, ℕ, suc, ℤ, pos, Bool, true, false, ◌⊎◌, List, [], ◌∷◌, ◌++◌, Option, Some, None}
 use Rattle.stmt_reader.specs.Tokens.{Token, number as number_token}
 use Rattle.stmt_reader.specs.Scan.{Seen, seen}
@@ -19,25 +19,27 @@ use Rattle.ts_num.specs.declared.values.Fun.TheVariants as fun
 use Rattle.ts_schema.specs.declared.columns.Column.{Column}
 use Rattle.ts_schema.specs.declared.conditions.Cmp.TheVariants as cmp
 
--- these tokens say this
+-- these tokens mean this
 abbrev pub Rule : Type 0 → Type 1
 Rule A = List Token → A → Type 0
 
 -- ---- how rules are put together
 
--- no token
-unfoldable pub says : {A : Type 0} → A → Rule A
-says a ts b = (ts ≡ []) × (a ≡ b)
+-- no token, which means this
+unfoldable pub means : {A : Type 0} → A → Rule A
+means a ts b = (ts ≡ []) × (a ≡ b)
 
--- one rule and then another, which may depend on what the first one says
+-- one rule and then another, which may depend on what the first one means
 unfoldable pub sequence : {A B : Type 0} → Rule A → (A → Rule B) → Rule B
 sequence {A} L M ts b = (us : List Token) × (vs : List Token) × (a : A) × (ts ≡ us ++ vs) × L us a × M a vs b
 
 infixr 10 ◌>>=◌
+-- the same as an operator
 abbrev pub ◌>>=◌ : {A B : Type 0} → Rule A → (A → Rule B) → Rule B
 L >>= M = sequence L M
 
 infixr 10 ◌>>◌
+-- one rule and then another, of which the first one means nothing
 abbrev pub ◌>>◌ : {A B : Type 0} → Rule A → Rule B → Rule B
 L >> M = sequence L (λ _. M)
 
@@ -47,7 +49,7 @@ either L M ts a = L ts a ⊎ M ts a
 
 -- a rule, or no token and this
 abbrev pub optional : {A : Type 0} → Rule A → A → Rule A
-optional L d = either L (says d)
+optional L d = either L (means d)
 
 -- a rule from zero times on
 unfoldable pub many : {A : Type 0} → Rule A → Rule (List A)
@@ -59,11 +61,11 @@ abbrev pub listed : {A B : Type 0} → Rule B → Rule A → Rule (List A)
 listed separator L = do
   first ← L
   others ← many (separator >> L)
-  says (first ∷ others)
+  means (first ∷ others)
 
 -- ---- one token
 
--- a token that says something
+-- a token that means something
 unfoldable pub one : {A : Type 0} → (Seen → Option A) → Rule A
 one f ts a = (t : Token) × (ts ≡ t ∷ []) × (f (seen t) ≡ Some a)
 
@@ -75,14 +77,15 @@ wanted test ts u = (t : Token) × (ts ≡ t ∷ []) × (test (seen t) ≡ true)
 abbrev pub keyword : Keyword → Rule (Unit {0})
 keyword k = wanted (is_keyword k)
 
+-- a mark of the grammar
 abbrev pub mark : Mark → Rule (Unit {0})
 mark m = wanted (is_mark m)
 
--- n, c and x
+-- n, c and x: a name
 abbrev pub name : Rule (List ℕ)
 name = one word_of
 
--- 'n' and 'c'
+-- 'n' and 'c': a name in quotes
 abbrev pub quoted : Rule (List ℕ)
 quoted = one quoted_of
 
@@ -98,7 +101,7 @@ flag = one flag_of
 
 -- bound and value: NULL or num
 abbrev pub value : Rule (Option ℤ)
-value = either (keyword kw.Null >> says None) (number >>= λ z. says (Some z))
+value = either (keyword kw.Null >> means None) (number >>= λ z. means (Some z))
 
 -- row: ( value { , value } )
 abbrev pub row : Rule (List (Option ℤ))
@@ -106,21 +109,21 @@ row = do
   mark marks.Open
   values ← listed (mark marks.Comma) value
   mark marks.Close
-  says values
+  means values
 
 -- IS NULL or IS NOT NULL, behind IS
 abbrev pub null_test : List ℕ → Rule NamedTest
 null_test c =
     either
-    (keyword kw.Not >> keyword kw.Null >> says (record { col = c; cmp = cmp.NotNull; num = pos 0 }))
-    (keyword kw.Null >> says (record { col = c; cmp = cmp.IsNull; num = pos 0 }))
+    (keyword kw.Not >> keyword kw.Null >> means (record { col = c; cmp = cmp.NotNull; num = pos 0 }))
+    (keyword kw.Null >> means (record { col = c; cmp = cmp.IsNull; num = pos 0 }))
 
 -- op num
 abbrev pub number_test : List ℕ → Rule NamedTest
 number_test c = do
   op ← one comparison_of
   z ← number
-  says (record { col = c; cmp = op; num = z })
+  means (record { col = c; cmp = op; num = z })
 
 -- test: c IS NULL, c IS NOT NULL or c op num
 abbrev pub test : Rule NamedTest
@@ -136,15 +139,15 @@ source = do
   keyword kw.From
   n ← name
   tests ← filters
-  says (n, tests)
+  means (n, tests)
 
 -- [AS x]
 abbrev pub alias : Rule (Option (List ℕ))
-alias = optional (keyword kw.As >> name >>= λ x. says (Some x)) None
+alias = optional (keyword kw.As >> name >>= λ x. means (Some x)) None
 
 -- * behind count (, or c
 abbrev pub argument : Fun → Rule (Fun × Option (List ℕ))
-argument f = either (wanted (is_star_of f) >> says (fun.CountAll, None)) (name >>= λ c. says (f, Some c))
+argument f = either (wanted (is_star_of f) >> means (fun.CountAll, None)) (name >>= λ c. means (f, Some c))
 
 -- agg: count ( * ) [AS x], or fun ( c ) [AS x]
 abbrev pub aggregate_rest : Fun → Rule NamedAgg
@@ -152,8 +155,9 @@ aggregate_rest f = do
   a ← argument f
   mark marks.Close
   x ← alias
-  says (record { fun = a.0; col = a.1; name = x })
+  means (record { fun = a.0; col = a.1; name = x })
 
+-- an aggregate from its function on
 abbrev pub aggregate : Rule NamedAgg
 aggregate = do
   f ← one function_of
@@ -175,7 +179,7 @@ bucket = do
   shift ← offset
   mark marks.Close
   x ← alias
-  says (record { step = step; shift = shift; at = c; name = x })
+  means (record { step = step; shift = shift; at = c; name = x })
 
 -- { , c } , agg { , agg }
 abbrev pub select_list : Rule (List (List ℕ) × List NamedAgg)
@@ -183,11 +187,11 @@ select_list = do
   keys ← many (mark marks.Comma >> name)
   mark marks.Comma
   aggs ← listed (mark marks.Comma) aggregate
-  says (keys, aggs)
+  means (keys, aggs)
 
 -- { , item }, one for each name; the item of output column i is its name or the number i
 abbrev pub items_from : ℕ → List (List ℕ) → Rule (Unit {0})
-items_from i [] = says tt
+items_from i [] = means tt
 items_from i (n ∷ names) = mark marks.Comma >> wanted (is_item i n) >> items_from (suc i) names
 
 -- GROUP BY item { , item }, where the items are as many as the head, which has this name, and the keys together
@@ -204,7 +208,7 @@ fold_behind own h = do
   list ← select_list
   from ← source
   grouping (head_name own h.name) list.0
-  says (record { step = h.step; shift = h.shift; at = h.at; name = h.name; keys = list.0; aggs = list.1; table = from.0; tests = from.1 })
+  means (record { step = h.step; shift = h.shift; at = h.at; name = h.name; keys = list.0; aggs = list.1; table = from.0; tests = from.1 })
 
 -- fold, behind its SELECT: bucket { , c } , agg { , agg } FROM n [WHERE tests] GROUP BY item { , item }
 abbrev pub fold : Rule NamedFold
@@ -214,7 +218,7 @@ fold = bucket >>= fold_behind bucket_word
 
 -- [NOT NULL]
 abbrev pub not_null : Rule Bool
-not_null = optional (keyword kw.Not >> keyword kw.Null >> says true) false
+not_null = optional (keyword kw.Not >> keyword kw.Null >> means true) false
 
 -- c BIGINT [NOT NULL]
 abbrev pub column : Rule Column
@@ -222,7 +226,7 @@ column = do
   c ← name
   keyword kw.Bigint
   must ← not_null
-  says (record { name = c; must = must })
+  means (record { name = c; must = must })
 
 -- CREATE TABLE n ( column { , column } )
 abbrev pub create_table : Rule Stmt
@@ -233,7 +237,7 @@ create_table = do
   mark marks.Open
   cols ← listed (mark marks.Comma) column
   mark marks.Close
-  says (stmt.Table n cols)
+  means (stmt.Table n cols)
 
 -- SELECT create_hypertable ( 'n' , 'c' , chunk_time_interval => num )
 abbrev pub create_hypertable : Rule Stmt
@@ -249,7 +253,7 @@ create_hypertable = do
   mark marks.Arrow
   z ← number
   mark marks.Close
-  says (stmt.Hyper n c z)
+  means (stmt.Hyper n c z)
 
 -- timescaledb . materialized_only = flag
 abbrev pub setting : Rule Bool
@@ -270,7 +274,7 @@ mode = optional (mark marks.Comma >> setting) true
 
 -- [WITH DATA | WITH NO DATA]
 abbrev pub filling : Rule Bool
-filling = optional (keyword kw.With >> either (keyword kw.No >> keyword kw.Data >> says false) (keyword kw.Data >> says true)) true
+filling = optional (keyword kw.With >> either (keyword kw.No >> keyword kw.Data >> means false) (keyword kw.Data >> means true)) true
 
 -- ( timescaledb . continuous [= true] [, setting] )
 abbrev pub options : Rule Bool
@@ -282,7 +286,7 @@ options = do
   affirmed
   only ← mode
   mark marks.Close
-  says only
+  means only
 
 -- 'n' , bound , bound
 abbrev pub window : Rule Window
@@ -292,7 +296,7 @@ window = do
   lo ← value
   mark marks.Comma
   hi ← value
-  says (record { view = n; lo = lo; hi = hi })
+  means (record { view = n; lo = lo; hi = hi })
 
 -- CREATE MATERIALIZED VIEW n WITH options AS SELECT fold [WITH DATA | WITH NO DATA]
 abbrev pub create_view : Rule Stmt
@@ -307,7 +311,7 @@ create_view = do
   keyword kw.Select
   f ← fold
   filled ← filling
-  says (stmt.View n only filled f)
+  means (stmt.View n only filled f)
 
 -- ALTER MATERIALIZED VIEW n SET ( setting )
 abbrev pub alter_view : Rule Stmt
@@ -320,13 +324,13 @@ alter_view = do
   mark marks.Open
   only ← setting
   mark marks.Close
-  says (stmt.Mode n only)
+  means (stmt.Mode n only)
 
 -- [( c { , c } )]
 abbrev pub column_list : Rule (Option (List (List ℕ)))
 column_list =
     optional
-    (mark marks.Open >> listed (mark marks.Comma) name >>= λ cols. mark marks.Close >> says (Some cols))
+    (mark marks.Open >> listed (mark marks.Comma) name >>= λ cols. mark marks.Close >> means (Some cols))
     None
 
 -- INSERT INTO n [( c { , c } )] VALUES row { , row }
@@ -338,14 +342,14 @@ insert = do
   cols ← column_list
   keyword kw.Values
   rows ← listed (mark marks.Comma) row
-  says (stmt.Insert n cols rows)
+  means (stmt.Insert n cols rows)
 
 -- DELETE FROM n [WHERE tests]
 abbrev pub delete : Rule Stmt
 delete = do
   keyword kw.Delete
   from ← source
-  says (stmt.Delete from.0 from.1)
+  means (stmt.Delete from.0 from.1)
 
 -- [older_than =>]
 abbrev pub older_than : Rule (Unit {0})
@@ -362,7 +366,7 @@ drop_chunks = do
   older_than
   z ← number
   mark marks.Close
-  says (stmt.Drop n z)
+  means (stmt.Drop n z)
 
 -- CALL refresh_continuous_aggregate ( 'n' , bound , bound )
 abbrev pub call_refresh : Rule Stmt
@@ -372,7 +376,7 @@ call_refresh = do
   mark marks.Open
   w ← window
   mark marks.Close
-  says (stmt.Refresh w.view w.lo w.hi)
+  means (stmt.Refresh w.view w.lo w.hi)
 
 -- REFRESH CUT 'n' , bound , bound
 abbrev pub refresh_cut : Rule Stmt
@@ -380,11 +384,11 @@ refresh_cut = do
   keyword kw.Refresh
   keyword kw.Cut
   w ← window
-  says (stmt.Cut w.view w.lo w.hi)
+  means (stmt.Cut w.view w.lo w.hi)
 
 -- [num]
 abbrev pub chosen : Rule (Option ℤ)
-chosen = optional (number >>= λ z. says (Some z)) None
+chosen = optional (number >>= λ z. means (Some z)) None
 
 -- REFRESH SNAP [num]
 abbrev pub refresh_snap : Rule Stmt
@@ -392,7 +396,7 @@ refresh_snap = do
   keyword kw.Refresh
   keyword kw.Snap
   c ← chosen
-  says (stmt.Snap c)
+  means (stmt.Snap c)
 
 -- REFRESH FINISH [num]
 abbrev pub refresh_finish : Rule Stmt
@@ -400,27 +404,27 @@ refresh_finish = do
   keyword kw.Refresh
   keyword kw.Finish
   c ← chosen
-  says (stmt.Finish c)
+  means (stmt.Finish c)
 
 -- BEGIN
 abbrev pub begin : Rule Stmt
-begin = keyword kw.Begin >> says stmt.Begin
+begin = keyword kw.Begin >> means stmt.Begin
 
 -- BEGIN READ ONLY
 abbrev pub begin_read : Rule Stmt
-begin_read = keyword kw.Begin >> keyword kw.Read >> keyword kw.Only >> says stmt.BeginRead
+begin_read = keyword kw.Begin >> keyword kw.Read >> keyword kw.Only >> means stmt.BeginRead
 
 -- COMMIT
 abbrev pub commit : Rule Stmt
-commit = keyword kw.Commit >> says stmt.Commit
+commit = keyword kw.Commit >> means stmt.Commit
 
 -- ROLLBACK
 abbrev pub rollback : Rule Stmt
-rollback = keyword kw.Rollback >> says stmt.Rollback
+rollback = keyword kw.Rollback >> means stmt.Rollback
 
 -- SELECT fold
 abbrev pub buckets : Rule Stmt
-buckets = keyword kw.Select >> fold >>= λ f. says (stmt.Buckets f)
+buckets = keyword kw.Select >> fold >>= λ f. means (stmt.Buckets f)
 
 -- SELECT * FROM n [WHERE tests]
 abbrev pub select_rows : Rule Stmt
@@ -428,7 +432,7 @@ select_rows = do
   keyword kw.Select
   mark marks.Star
   from ← source
-  says (stmt.Rows from.0 from.1)
+  means (stmt.Rows from.0 from.1)
 
 -- one of the forms of statements
 unfoldable pub form : Rule Stmt
@@ -452,11 +456,11 @@ form =
 
 -- [;]
 abbrev pub semicolon : Rule (Unit {0})
-semicolon = optional (mark marks.Semicolon >> says tt) tt
+semicolon = optional (mark marks.Semicolon >> means tt) tt
 
 -- a statement may end with one ;
 unfoldable pub statement : Rule Stmt
 statement = do
   s ← form
   semicolon
-  says s
+  means s

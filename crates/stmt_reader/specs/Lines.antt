@@ -1,6 +1,8 @@
-use Rattle.std.specs.Prelude.{ℕ, ◌+◌, Bool, false, not, ◌&&◌, ◌||◌, ◌==◌, if◌then◌else◌, List, [], ◌∷◌, length, take, drop, nat_le}
+-- The parts of a line: the session that speaks, its statement, and a comment.
+use Rattle.std.specs.Prelude.{ℕ, suc, ◌+◌, ◌-◌, ◌≤◌, Bool, false, not, ◌&&◌, ◌||◌, ◌==◌, if◌then◌else◌, List, [], ◌∷◌, length, take, drop, nat_le, IsTrue}
 use Rattle.std.specs.List.{prefix_len, list_all}
 use Rattle.std.specs.Char.{is_ascii}
+use Rattle.ts_schema.specs.Names.{is_name}
 use Rattle.stmt_reader.specs.Tokens.{blank_len, begins_with}
 use Rattle.stmt_reader.specs.declared.lines.LineKind.{LineKind}
 use Rattle.stmt_reader.specs.declared.lines.LineKind.TheVariants.{Blank, NotAscii, NoSession, Stmt}
@@ -40,3 +42,14 @@ of_text text blanks =
 -- the length of the session name, how many bytes stand up to the colon and with it, and how many stand before the comment
 abbrev pub line_kind : List ℕ → LineKind
 line_kind line = let text = take (comment_at line) line in of_text text (blank_len text)
+
+-- the name of the session of a line: it stands before the colon, which is the last of the bytes to skip
+abbrev pub session_name : List ℕ → ℕ → ℕ → List ℕ
+session_name line len skip = take len (drop (skip - suc len) line)
+
+-- the places of a line with a statement: the name, which is a good one, stands directly before the colon, the colon before the statement, and the statement before the comment
+pub record IsStatementLine (line : List ℕ) (len skip end : ℕ) : Type 0 where
+  pub named : IsTrue (is_name (session_name line len skip))
+  pub colon : suc len ≤ skip
+  pub statement : skip ≤ end
+  pub within : end ≤ length line

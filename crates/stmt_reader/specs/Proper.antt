@@ -11,9 +11,11 @@ use Rattle.stmt_reader.specs.declared.statements.NamedTest.{NamedTest}
 use Rattle.stmt_reader.specs.declared.statements.Stmt.{Stmt}
 use Rattle.stmt_reader.specs.declared.statements.Stmt.TheVariants as stmt
 
+-- a name of at most 63 bytes in lower case
 abbrev pub IsName : List ℕ → Type 0
 IsName w = is_name w ≡ true
 
+-- a number of 64 bits
 abbrev pub IsWord : ℤ → Type 0
 IsWord z = is_i64 z ≡ true
 
@@ -25,23 +27,29 @@ IsValue v = IfSome v IsWord
 abbrev pub IsAlias : Option (List ℕ) → Type 0
 IsAlias x = IfSome x IsName
 
+-- its name is one
 abbrev pub IsProperColumn : Column → Type 0
 IsProperColumn c = IsName c.name
 
+-- its column is a name, and its number one of 64 bits
 pub record IsProperTest (t : NamedTest) : Type 0 where
   pub col : IsName t.col
   pub num : IsWord t.num
 
+-- its column and its name are names, where it has them
 pub record IsProperAgg (a : NamedAgg) : Type 0 where
   pub col : IsAlias a.col
   pub name : IsAlias a.name
 
+-- each test is proper
 abbrev pub AreProperTests : List NamedTest → Type 0
 AreProperTests tests = AllByRecursion IsProperTest tests
 
+-- each value is NULL or a number of 64 bits
 abbrev pub AreProperRows : List (List (Option ℤ)) → Type 0
 AreProperRows rows = AllByRecursion (AllByRecursion IsValue) rows
 
+-- its names are names, and its numbers of 64 bits
 pub record IsProperFold (f : NamedFold) : Type 0 where
   pub step : IsWord f.step
   pub shift : IsWord f.shift
@@ -52,6 +60,7 @@ pub record IsProperFold (f : NamedFold) : Type 0 where
   pub table : IsName f.table
   pub tests : AreProperTests f.tests
 
+-- a proper statement
 abbrev pub IsProper : Stmt → Type 0
 IsProper (stmt.Table name cols) = IsName name × AllByRecursion IsProperColumn cols
 IsProper (stmt.Hyper table col interval) = IsName table × IsName col × IsWord interval

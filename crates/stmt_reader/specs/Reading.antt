@@ -34,12 +34,14 @@ abbrev pub Fails : {A : Type 0} → ReadError → Result (A × Stream) Fault →
 Fails errors.Memory read = Unit {0}
 Fails (errors.Fault f) read = read ≡ Err f
 
+-- what a function returned is what reading gives
 abbrev pub Gives : {A : Type 0} → Result A ReadError → Result (A × Stream) Fault → Stream → Type 0
 Gives (Ok a) read left = read ≡ Ok (a, left)
 Gives (Err e) read left = Fails e read
 
 -- ---- how readings are put together
 
+-- no token is read, and this is what it gives
 abbrev pub gives : {A : Type 0} → A → Parser A
 gives a s = Ok (a, s)
 
@@ -48,14 +50,17 @@ abbrev pub go_on : {A B : Type 0} → Result (A × Stream) Fault → (A → Pars
 go_on (Ok x) q = q x.0 x.1
 go_on (Err f) q = Err f
 
+-- one parser and then another, by what the first one gave
 unfoldable pub bind : {A B : Type 0} → Parser A → (A → Parser B) → Parser B
 bind p q s = go_on (p s) q
 
 infixr 10 ◌>>=◌
+-- the same as an operator
 abbrev pub ◌>>=◌ : {A B : Type 0} → Parser A → (A → Parser B) → Parser B
 p >>= q = bind p q
 
 infixr 10 ◌>>◌
+-- one parser and then another, of which the first one gives nothing
 abbrev pub ◌>>◌ : {A B : Type 0} → Parser A → Parser B → Parser B
 p >> q = bind p (λ _. q)
 
@@ -82,18 +87,23 @@ one f s = said s (option_and_then f (seen_ahead s))
 unfoldable pub wanted : (Seen → Bool) → Parser (Unit {0})
 wanted test s = if heads test s then Ok (tt, tail s) else Err (refused s)
 
+-- a word of the grammar
 abbrev pub keyword : Keyword → Parser (Unit {0})
 keyword k = wanted (is_keyword k)
 
+-- a mark of the grammar
 abbrev pub mark : Mark → Parser (Unit {0})
 mark m = wanted (is_mark m)
 
+-- a name
 abbrev pub name : Parser (List ℕ)
 name = one word_of
 
+-- a name in quotes
 abbrev pub quoted : Parser (List ℕ)
 quoted = one quoted_of
 
+-- a comparison
 abbrev pub comparison : Parser Cmp
 comparison = one comparison_of
 
@@ -103,6 +113,7 @@ fitting s None = Err (refused s)
 fitting s (Some None) = Err (BadNumber (place s))
 fitting s (Some (Some z)) = Ok (z, tail s)
 
+-- a number of 64 bits
 unfoldable pub number : Parser ℤ
 number s = fitting s (option_and_then number_of (seen_ahead s))
 
@@ -132,6 +143,7 @@ listed separator p = p >>= λ a. more (parts separator) p (a ∷ [])
 unfoldable pub value : Parser (Option ℤ)
 value = takes (is_keyword kw.Null) (gives None) (number >>= λ z. gives (Some z))
 
+-- ( value { , value } )
 unfoldable pub row : Parser (List (Option ℤ))
 row = do
   mark marks.Open
@@ -139,9 +151,11 @@ row = do
   mark marks.Close
   gives vs
 
+-- [NOT NULL]
 unfoldable pub not_null : Parser Bool
 not_null = takes (is_keyword kw.Not) (keyword kw.Null >> gives true) (gives false)
 
+-- c BIGINT [NOT NULL]
 unfoldable pub column : Parser Column
 column = do
   c ← name
@@ -156,12 +170,14 @@ null_test c =
     (keyword kw.Null >> gives (record { col = c; cmp = cmp.NotNull; num = pos 0 }))
     (keyword kw.Null >> gives (record { col = c; cmp = cmp.IsNull; num = pos 0 }))
 
+-- op num
 unfoldable pub number_test : List ℕ → Parser NamedTest
 number_test c = do
   op ← comparison
   z ← number
   gives (record { col = c; cmp = op; num = z })
 
+-- c IS NULL, c IS NOT NULL or c op num
 unfoldable pub any_test : Parser NamedTest
 any_test = name >>= λ c. takes (is_keyword kw.Is) (null_test c) (number_test c)
 
@@ -175,6 +191,7 @@ alias = takes (is_keyword kw.As) (name >>= λ x. gives (Some x)) (gives None)
 
 -- ---- folds
 
+-- * behind count (, or c
 unfoldable pub argument : Fun → Parser (Fun × Option (List ℕ))
 argument f = takes (is_star_of f) (gives (fun.CountAll, None)) (name >>= λ c. gives (f, Some c))
 
@@ -186,6 +203,7 @@ aggregate_rest f = do
   x ← alias
   gives (record { fun = a.0; col = a.1; name = x })
 
+-- an aggregate from its function on
 unfoldable pub aggregate : Parser NamedAgg
 aggregate = do
   f ← one function_of
@@ -205,6 +223,7 @@ keys_within (suc n) front = do
   w ← name
   choose (is_mark marks.Open) (known (function_of_word w) >>= λ f. gives (front, f)) (keys_within n (front ++ w ∷ []))
 
+-- the keys after these, and the function of the first aggregate with its opening parenthesis
 unfoldable pub keys_and_function : List (List ℕ) → Parser (List (List ℕ) × Fun)
 keys_and_function front s = keys_within (size s) front s
 
@@ -212,6 +231,7 @@ keys_and_function front s = keys_within (size s) front s
 unfoldable pub offset : Parser ℤ
 offset = takes (is_mark marks.Comma) number (gives (pos 0))
 
+-- time_bucket ( num , c [, num] ) [AS x]
 unfoldable pub bucket : Parser Head
 bucket = do
   keyword kw.TimeBucket
@@ -241,6 +261,7 @@ source = do
   tests ← filters
   gives (t, tests)
 
+-- the aggregates, of which the first has this function, from its opening parenthesis on
 unfoldable pub aggregates : Fun → Parser (List NamedAgg)
 aggregates f = do
   first ← aggregate_rest f
@@ -253,6 +274,7 @@ select_list = do
   aggs ← aggregates k.1
   gives (k.0, aggs)
 
+-- GROUP BY item { , item }
 unfoldable pub grouping : List ℕ → List (List ℕ) → Parser (Unit {0})
 grouping first keys = do
   keyword kw.Group
@@ -273,6 +295,7 @@ fold_rest = bucket >>= fold_behind bucket_word
 
 -- ---- statements, after the words that tell them apart
 
+-- n ( column { , column } )
 unfoldable pub table_rest : Parser Stmt
 table_rest = do
   n ← name
@@ -317,6 +340,7 @@ filling =
     (takes (is_keyword kw.No) (keyword kw.Data >> gives false) (keyword kw.Data >> gives true))
     (gives true)
 
+-- VIEW n WITH options AS SELECT fold [WITH DATA | WITH NO DATA]
 unfoldable pub view_rest : Parser Stmt
 view_rest = do
   keyword kw.View
@@ -329,9 +353,11 @@ view_rest = do
   filled ← filling
   gives (stmt.View n only filled f)
 
+-- what follows CREATE
 unfoldable pub create_rest : Parser Stmt
 create_rest = takes (is_keyword kw.Materialized) view_rest (keyword kw.Table >> table_rest)
 
+-- MATERIALIZED VIEW n SET ( setting )
 unfoldable pub alter_rest : Parser Stmt
 alter_rest = do
   keyword kw.Materialized
@@ -350,6 +376,7 @@ column_list =
     (listed separators.Comma name >>= λ cs. mark marks.Close >> gives (Some cs))
     (gives None)
 
+-- INTO n [( c { , c } )] VALUES row { , row }
 unfoldable pub insert_rest : Parser Stmt
 insert_rest = do
   keyword kw.Into
@@ -359,9 +386,11 @@ insert_rest = do
   rows ← listed separators.Comma row
   gives (stmt.Insert t cols rows)
 
+-- FROM n [WHERE tests]
 unfoldable pub delete_rest : Parser Stmt
 delete_rest = source >>= λ s. gives (stmt.Delete s.0 s.1)
 
+-- ( 'n' , 'c' , chunk_time_interval => num )
 unfoldable pub hyper_rest : Parser Stmt
 hyper_rest = do
   mark marks.Open
@@ -379,6 +408,7 @@ hyper_rest = do
 unfoldable pub older_than : Parser (Unit {0})
 older_than = takes (is_keyword kw.OlderThan) (mark marks.Arrow) (gives tt)
 
+-- ( 'n' , [older_than =>] num )
 unfoldable pub drop_rest : Parser Stmt
 drop_rest = do
   mark marks.Open
@@ -389,9 +419,11 @@ drop_rest = do
   mark marks.Close
   gives (stmt.Drop t z)
 
+-- FROM n [WHERE tests], behind SELECT *
 unfoldable pub rows_rest : Parser Stmt
 rows_rest = source >>= λ s. gives (stmt.Rows s.0 s.1)
 
+-- what follows SELECT
 unfoldable pub select_rest : Parser Stmt
 select_rest =
     takes (is_keyword kw.CreateHypertable) hyper_rest
@@ -409,6 +441,7 @@ window = do
   hi ← value
   gives (record { view = v; lo = lo; hi = hi })
 
+-- refresh_continuous_aggregate ( 'n' , bound , bound )
 unfoldable pub call_rest : Parser Stmt
 call_rest = do
   keyword kw.RefreshContinuousAggregate
@@ -421,21 +454,25 @@ call_rest = do
 unfoldable pub chosen : Parser (Option ℤ)
 chosen = choose is_number (number >>= λ z. gives (Some z)) (gives None)
 
+-- what follows REFRESH
 unfoldable pub refresh_rest : Parser Stmt
 refresh_rest =
     takes (is_keyword kw.Cut) (window >>= λ w. gives (stmt.Cut w.view w.lo w.hi))
     (takes (is_keyword kw.Snap) (chosen >>= λ c. gives (stmt.Snap c))
     (keyword kw.Finish >> chosen >>= λ c. gives (stmt.Finish c)))
 
+-- [READ ONLY]
 unfoldable pub begin_rest : Parser Stmt
 begin_rest = takes (is_keyword kw.Read) (keyword kw.Only >> gives stmt.BeginRead) (gives stmt.Begin)
 
+-- BEGIN, COMMIT or ROLLBACK
 unfoldable pub block : Parser Stmt
 block =
     takes (is_keyword kw.Begin) begin_rest
     (takes (is_keyword kw.Commit) (gives stmt.Commit)
     (keyword kw.Rollback >> gives stmt.Rollback))
 
+-- one of the forms of statements
 unfoldable pub form : Parser Stmt
 form =
     takes (is_keyword kw.Create) create_rest

@@ -36,6 +36,7 @@ NothingAt L s p = (ts : List Placed) × (t : Placed) × (left : Stream) × (s �
 abbrev pub IncompleteAt : {A : Type 0} → Rule A → Stream → ℕ → Type 0
 IncompleteAt {A} L s p = (ts : List Placed) × (s ≡ onto ts (ends p)) × ((a : A) → L (plain ts) a → ⊥)
 
+-- why tokens are refused at a place
 abbrev pub Refuses : {A : Type 0} → Rule A → Stream → Fault → Type 0
 -- no token begins there
 Refuses L s (NoToken p) = (ts : List Placed) × (s ≡ onto ts (stops p))
@@ -45,6 +46,7 @@ Refuses L s (BadNumber p) = (ts : List Placed) × (t : Placed) × (left : Stream
 
 -- ---- which comes first
 
+-- the place of a fault
 abbrev pub fault_place : Fault → ℕ
 fault_place (NoToken p) = p
 fault_place (Syntax p) = p

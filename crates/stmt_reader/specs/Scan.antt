@@ -24,12 +24,14 @@ pub data Seen : Type 0 where
 abbrev pub i64_of : ℤ → Option ℤ
 i64_of z = if is_i64 z then Some z else None
 
+-- what the code keeps of a token
 abbrev pub seen : spec.Token → Seen
 seen (spec.word w) = word w
 seen (spec.number z) = number (i64_of z)
 seen (spec.quoted w) = quoted w
 seen (spec.mark m) = mark m
 
+-- what the code has of a token
 abbrev pub view : Token → Seen
 view (tokens.Word w) = word (lower w.now)
 view (tokens.Number n) = number n
@@ -41,10 +43,12 @@ pub record SeenLexeme : Type 0 where
   pub token : Seen
   pub len : ℕ
 
+-- what the code keeps of a token and its bytes
 abbrev pub seen_lexeme : Option spec.Lexeme → Option SeenLexeme
 seen_lexeme None = None
 seen_lexeme (Some l) = Some (record { token = seen l.token; len = l.len })
 
+-- what the code has of them
 abbrev pub view_lexeme : Option Lexeme → Option SeenLexeme
 view_lexeme None = None
 view_lexeme (Some l) = Some (record { token = view l.token; len = l.len })
@@ -55,11 +59,13 @@ pub data SeenNext : Type 0 where
   ended : SeenNext
   nothing : ℕ → SeenNext
 
+-- what the code keeps of what comes next
 abbrev pub seen_next : spec.Next → SeenNext
 seen_next (spec.token t begin end) = token (seen t) begin end
 seen_next spec.ended = ended
 seen_next (spec.nothing begin) = nothing begin
 
+-- what the code has of it
 abbrev pub view_ahead : Ahead → SeenNext
 view_ahead (heads.Token t begin end) = token (view t) begin end
 view_ahead heads.End = ended
@@ -86,6 +92,7 @@ IsNamedToken (number z) = Unit {0}
 IsNamedToken (quoted w) = IsTrue (is_name w) × (length w ≤ 63)
 IsNamedToken (mark m) = Unit {0}
 
+-- a token that is there is a name where it is a word or quoted
 abbrev pub IsNamed : Option Token → Type 0
 IsNamed None = Unit {0}
 IsNamed (Some t) = IsNamedToken (view t)

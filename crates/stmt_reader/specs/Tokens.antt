@@ -79,10 +79,12 @@ short_mark a =
     else if a == 62 then Some Greater
     else None
 
+-- a mark of so many bytes
 abbrev pub mark_of_len : ℕ → Option Mark → Option Lexeme
 mark_of_len n None = None
 mark_of_len n (Some m) = Some (record { token = mark m; len = n })
 
+-- one token, or the other where the first is none
 abbrev pub or_else : Option Lexeme → Option Lexeme → Option Lexeme
 or_else (Some l) other = Some l
 or_else None other = other
@@ -121,10 +123,12 @@ pub data Next : Type 0 where
   ended : Next
   nothing : ℕ → Next
 
+-- a token that begins at a place, if one does
 abbrev pub of_lexeme : ℕ → Option Lexeme → Next
 of_lexeme begin None = nothing begin
 of_lexeme begin (Some l) = token l.token begin (begin + l.len)
 
+-- what comes next at a place, where no blank stands
 abbrev pub next_here : ℕ → List ℕ → Next
 next_here begin [] = ended
 next_here begin (b ∷ bytes) = of_lexeme begin (lexeme_at (b ∷ bytes))

@@ -92,37 +92,32 @@ mark_number marks.Differs = 11
 mark_number marks.Unequal = 12
 mark_number marks.Arrow = 13
 
+-- it is this mark
 abbrev pub is_mark : Mark → Seen → Bool
 is_mark m (word w) = false
 is_mark m (number z) = false
 is_mark m (quoted w) = false
 is_mark m (mark n) = mark_number n == mark_number m
 
+-- it is a number
 abbrev pub is_number : Seen → Bool
-is_number (word w) = false
 is_number (number z) = true
-is_number (quoted w) = false
-is_number (mark m) = false
+is_number other = false
 
 -- a relation, a column or another name
 abbrev pub word_of : Seen → Option (List ℕ)
 word_of (word w) = Some w
-word_of (number z) = None
-word_of (quoted w) = None
-word_of (mark m) = None
+word_of other = None
 
+-- a name in quotes
 abbrev pub quoted_of : Seen → Option (List ℕ)
-quoted_of (word w) = None
-quoted_of (number z) = None
 quoted_of (quoted w) = Some w
-quoted_of (mark m) = None
+quoted_of other = None
 
 -- a number, where it is an i64
 abbrev pub number_of : Seen → Option (Option ℤ)
-number_of (word w) = None
 number_of (number z) = Some z
-number_of (quoted w) = None
-number_of (mark m) = None
+number_of other = None
 
 -- true or false
 abbrev pub flag_of : Seen → Option Bool
@@ -130,12 +125,6 @@ flag_of t = if is_keyword kw.True t then Some true else if is_keyword kw.False t
 
 -- = <> < <= > >=, and != for <>
 abbrev pub comparison_of_mark : Mark → Option Cmp
-comparison_of_mark marks.Open = None
-comparison_of_mark marks.Close = None
-comparison_of_mark marks.Comma = None
-comparison_of_mark marks.Semicolon = None
-comparison_of_mark marks.Point = None
-comparison_of_mark marks.Star = None
 comparison_of_mark marks.Equal = Some cmp.Eq
 comparison_of_mark marks.Less = Some cmp.Lt
 comparison_of_mark marks.Greater = Some cmp.Gt
@@ -143,13 +132,12 @@ comparison_of_mark marks.AtMost = Some cmp.Le
 comparison_of_mark marks.AtLeast = Some cmp.Ge
 comparison_of_mark marks.Differs = Some cmp.Ne
 comparison_of_mark marks.Unequal = Some cmp.Ne
-comparison_of_mark marks.Arrow = None
+comparison_of_mark other = None
 
+-- the comparison of a mark
 abbrev pub comparison_of : Seen → Option Cmp
-comparison_of (word w) = None
-comparison_of (number z) = None
-comparison_of (quoted w) = None
 comparison_of (mark m) = comparison_of_mark m
+comparison_of other = None
 
 -- the function of an aggregate
 abbrev pub function_of_word : List ℕ → Option Fun
@@ -161,11 +149,10 @@ function_of_word w =
     else if bytes_eq w (codes "avg") then Some fun.Avg
     else None
 
+-- the function that a word names
 abbrev pub function_of : Seen → Option Fun
 function_of (word w) = function_of_word w
-function_of (number z) = None
-function_of (quoted w) = None
-function_of (mark m) = None
+function_of other = None
 
 -- the output column with i before it, by its number, which counts from 1, or by its name
 abbrev pub is_item : ℕ → List ℕ → Seen → Bool

@@ -21,15 +21,11 @@ use Rattle.stmt_reader.specs.declared.statements.NamedTest.{NamedTest}
 
 -- ---- whole statements
 
+-- a test on NULL
 abbrev pub is_null_test : Cmp → Bool
-is_null_test cmp.Eq = false
-is_null_test cmp.Ne = false
-is_null_test cmp.Lt = false
-is_null_test cmp.Le = false
-is_null_test cmp.Gt = false
-is_null_test cmp.Ge = false
 is_null_test cmp.IsNull = true
 is_null_test cmp.NotNull = true
+is_null_test other = false
 
 -- the number of a test on NULL is 0
 pub record IsWholeTest (t : NamedTest) : Type 0 where
@@ -38,12 +34,9 @@ pub record IsWholeTest (t : NamedTest) : Type 0 where
 -- each function but count(*) has an argument
 abbrev pub takes_argument : Fun → Bool
 takes_argument fun.CountAll = false
-takes_argument fun.Count = true
-takes_argument fun.Sum = true
-takes_argument fun.Min = true
-takes_argument fun.Max = true
-takes_argument fun.Avg = true
+takes_argument other = true
 
+-- an aggregate has an argument exactly where its function takes one
 pub record IsWholeAgg (a : NamedAgg) : Type 0 where
   pub argument : is_some a.col ≡ takes_argument a.fun
 
@@ -123,6 +116,7 @@ abbrev pub list_size : Option (List (List ℕ)) → ℕ
 list_size None = 0
 list_size (Some cols) = 1 + sum_by name_size cols
 
+-- at least so many bytes are written of a statement
 abbrev pub size_of : Stmt → ℕ
 size_of (stmt.Table name cols) = 12 + length name + sum_by column_size cols
 size_of (stmt.Hyper table col interval) = length table + length col

@@ -38,7 +38,8 @@ impl<'a> Model for Reader<'a> {
 
     ghost view = { λ r. record { text = r.text.now; at = r.at } };
 
-    ghost invariant = { λ r. (length r.text.now ≤ longest_line) × (r.at ≤ length r.text.now) × (view_ahead r.ahead ≡ seen_next (next r.text.now r.at)) };
+    ghost invariant = { λ r. (length r.text.now ≤ longest_line) × (r.at ≤ length r.text.now)
+        × (view_ahead r.ahead ≡ seen_next (next r.text.now r.at)) };
 }
 
 impl<'a> Reader<'a> {

@@ -7,7 +7,7 @@ use Rattle.ts_model.specs.declared.outcomes.Outcome.TheVariants as outcomes
 use Rattle.ts_model.specs.declared.outcomes.Refusal.{Refusal}
 use Rattle.ts_model.specs.History.{History, position}
 use Rattle.ts_model.specs.States.{State}
-use Rattle.ts_model.specs.Calls.{Act, refuses, says, makes, Answered, Called}
+use Rattle.ts_model.specs.Calls.{Act, refuses, returns, makes, Answered, Called}
 use Rattle.result_text.specs.declared.replies.Said.{Said}
 use Rattle.ts_sessions.specs.declared.changes.Change.{Change}
 use Rattle.ts_sessions.specs.declared.changes.Completion.{Completion}
@@ -25,22 +25,22 @@ use Rattle.ts_sessions.proofs.WalkLaws.{walks_as, walks_break}
 
 tries_done : {A : Type 0} (alone : Bool) (act : Act A) (found : State) (a : A) (new : State) → Answered act found (outcomes.Done a) new → Walks alone false found (tries_at found.history act) new (Ok a)
 tries_done alone (refuses r) found a new w = absurd w
-tries_done alone (says b) found a new w = (refl, kept found new w.1, ap Ok w.0)
+tries_done alone (returns b) found a new w = (refl, kept found new w.1, ap Ok w.0)
 tries_done alone (makes e b) found a new w = inr (inl (record { mid = new; first = w.1; rest = (refl, refl, ap Ok w.0) }))
 
 tries_refused : {A : Type 0} (alone : Bool) (act : Act A) (found : State) (q : Refusal) (new : State) → Answered act found (outcomes.Refused q) new → Walks alone false found (tries_at found.history act) new (Err q)
 tries_refused alone (refuses r) found q new w = (refl, kept found new w.1, ap Err w.0)
-tries_refused alone (says b) found q new w = absurd w
+tries_refused alone (returns b) found q new w = absurd w
 tries_refused alone (makes e b) found q new w = inl (w.0, (refl, kept found new w.2, ap Err w.1))
 
 tries_failed : {A : Type 0} (alone : Bool) (act : Act A) (found new : State) → Answered act found outcomes.DiskFault new → Walks alone true found (tries_at found.history act) new (Err (stopped_at (position new.history)))
 tries_failed alone (refuses r) found new w = absurd w
-tries_failed alone (says b) found new w = absurd w
+tries_failed alone (returns b) found new w = absurd w
 tries_failed alone (makes e b) found new w = inr (inr (refl, record { mid = new; first = w; rest = (refl, refl, ap (λ h. Err (stopped_at (position h))) w.history) }))
 
 tries_broken : {A : Type 0} (alone : Bool) (act : Act A) (found new : State) → Answered act found outcomes.NoMemory new → Breaks alone found (tries_at found.history act) new
 tries_broken alone (refuses r) found new w = kept found new w
-tries_broken alone (says b) found new w = kept found new w
+tries_broken alone (returns b) found new w = kept found new w
 tries_broken alone (makes e b) found new w = inl (kept found new w)
 
 pub answered_tries : {A : Type 0} (alone : Bool) (act : Act A) (found : State) (outcome : Outcome A) (new : State) (result : Result (Tried A) NoMemory) → Answered act found outcome new → IsTried (position new.history) outcome result → Tries alone found (tries_at found.history act) result new

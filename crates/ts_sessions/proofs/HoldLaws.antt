@@ -19,41 +19,42 @@ use Rattle.ts_sessions.specs.Held.{GoesOn, HoldsBlock, block_of, most_queued, qu
 use Rattle.ts_sessions.specs.Places.{Block, none, writing, reading, Places, Turn}
 use Rattle.ts_sessions.specs.Sessions.{BringsLittle, BringsNothing, ChangeFits, ChangeHolds, Ends, EndsAt, Completes, changed, queued_on, turn_of}
 use Rattle.ts_sessions.proofs.WalkLaws.{goes_breaks, goes_walks}
+use Rattle.ts_model.specs.declared.snapshots.Shown.{Ghosts as Shown}
 
 -- ---- what statements bring
 
-pub completes_holds : {T J : Type 0} (stands : T → History → Type 0) (fits : J → History → Type 0) (cut_of snap_of : J → ℕ) (bytes : ℕ) (h : History) (said : List Said) (change : Change T J) (failed : Bool) (result : Result (Completion T J) NoMemory) → Completes said change failed result → ChangeHolds stands fits cut_of snap_of bytes change h → IfOk result (λ t. ChangeHolds stands fits cut_of snap_of bytes t.change h)
-completes_holds stands fits cut_of snap_of bytes h said change failed (Ok t) s k = subst (λ c. ChangeHolds stands fits cut_of snap_of bytes c h) (sym s.1) k
-completes_holds stands fits cut_of snap_of bytes h said change failed (Err e) s k = tt
+pub completes_holds : {T J : Type 0} (shown : Shown T J) (bytes : ℕ) (h : History) (said : List Said) (change : Change T J) (failed : Bool) (result : Result (Completion T J) NoMemory) → Completes said change failed result → ChangeHolds shown bytes change h → IfOk result (λ t. ChangeHolds shown bytes t.change h)
+completes_holds shown bytes h said change failed (Ok t) s k = subst (λ c. ChangeHolds shown bytes c h) (sym s.1) k
+completes_holds shown bytes h said change failed (Err e) s k = tt
 
-nothing_holds : {T J : Type 0} (stands : T → History → Type 0) (fits : J → History → Type 0) (cut_of snap_of : J → ℕ) (bytes : ℕ) (h : History) (c : Change T J) → BringsNothing c → ChangeHolds stands fits cut_of snap_of bytes c h
-nothing_holds stands fits cut_of snap_of bytes h changes.Nothing b = tt
-nothing_holds stands fits cut_of snap_of bytes h (changes.Cuts c) b = tt
-nothing_holds stands fits cut_of snap_of bytes h (changes.Holds c at job) b = absurd b
-nothing_holds stands fits cut_of snap_of bytes h (changes.GivesUp c) b = tt
-nothing_holds stands fits cut_of snap_of bytes h (changes.Enters o) b = absurd b
-nothing_holds stands fits cut_of snap_of bytes h (changes.Queues op more) b = absurd b
+nothing_holds : {T J : Type 0} (shown : Shown T J) (bytes : ℕ) (h : History) (c : Change T J) → BringsNothing c → ChangeHolds shown bytes c h
+nothing_holds shown bytes h changes.Nothing b = tt
+nothing_holds shown bytes h (changes.Cuts c) b = tt
+nothing_holds shown bytes h (changes.Holds c at job) b = absurd b
+nothing_holds shown bytes h (changes.GivesUp c) b = tt
+nothing_holds shown bytes h (changes.Enters o) b = absurd b
+nothing_holds shown bytes h (changes.Queues op more) b = absurd b
 
-pub brings_nothing : {T J : Type 0} (stands : T → History → Type 0) (fits : J → History → Type 0) (cut_of snap_of : J → ℕ) (bytes : ℕ) (h : History) (result : Result (Completion T J) NoMemory) → IfOk result (λ t. BringsNothing t.change) → IfOk result (λ t. ChangeHolds stands fits cut_of snap_of bytes t.change h)
-brings_nothing stands fits cut_of snap_of bytes h (Ok t) b = nothing_holds stands fits cut_of snap_of bytes h t.change b
-brings_nothing stands fits cut_of snap_of bytes h (Err e) b = tt
+pub brings_nothing : {T J : Type 0} (shown : Shown T J) (bytes : ℕ) (h : History) (result : Result (Completion T J) NoMemory) → IfOk result (λ t. BringsNothing t.change) → IfOk result (λ t. ChangeHolds shown bytes t.change h)
+brings_nothing shown bytes h (Ok t) b = nothing_holds shown bytes h t.change b
+brings_nothing shown bytes h (Err e) b = tt
 
 out_holds : {T : Type 0} (stands : T → History → Type 0) (h : History) (o : Open T) → block_of o ≡ none → HoldsBlock stands o h × (queued (block_of o) ≡ 0)
 out_holds stands h opens.Nothing e = (tt, refl)
 out_holds stands h (opens.Write q) e = absurd cc
 out_holds stands h (opens.Read at shot) e = absurd cc
 
-little_holds : {T J : Type 0} (stands : T → History → Type 0) (fits : J → History → Type 0) (cut_of snap_of : J → ℕ) (bytes : ℕ) (h : History) (c : Change T J) → BringsLittle c → ChangeHolds stands fits cut_of snap_of bytes c h
-little_holds stands fits cut_of snap_of bytes h changes.Nothing b = tt
-little_holds stands fits cut_of snap_of bytes h (changes.Cuts c) b = tt
-little_holds stands fits cut_of snap_of bytes h (changes.Holds c at job) b = absurd b
-little_holds stands fits cut_of snap_of bytes h (changes.GivesUp c) b = tt
-little_holds stands fits cut_of snap_of bytes h (changes.Enters o) b = out_holds stands h o b
-little_holds stands fits cut_of snap_of bytes h (changes.Queues op more) b = absurd b
+little_holds : {T J : Type 0} (shown : Shown T J) (bytes : ℕ) (h : History) (c : Change T J) → BringsLittle c → ChangeHolds shown bytes c h
+little_holds shown bytes h changes.Nothing b = tt
+little_holds shown bytes h (changes.Cuts c) b = tt
+little_holds shown bytes h (changes.Holds c at job) b = absurd b
+little_holds shown bytes h (changes.GivesUp c) b = tt
+little_holds shown bytes h (changes.Enters o) b = out_holds shown.stands h o b
+little_holds shown bytes h (changes.Queues op more) b = absurd b
 
-pub brings_little : {T J : Type 0} (stands : T → History → Type 0) (fits : J → History → Type 0) (cut_of snap_of : J → ℕ) (bytes : ℕ) (h : History) (result : Result (Completion T J) NoMemory) → IfOk result (λ t. BringsLittle t.change) → IfOk result (λ t. ChangeHolds stands fits cut_of snap_of bytes t.change h)
-brings_little stands fits cut_of snap_of bytes h (Ok t) b = little_holds stands fits cut_of snap_of bytes h t.change b
-brings_little stands fits cut_of snap_of bytes h (Err e) b = tt
+pub brings_little : {T J : Type 0} (shown : Shown T J) (bytes : ℕ) (h : History) (result : Result (Completion T J) NoMemory) → IfOk result (λ t. BringsLittle t.change) → IfOk result (λ t. ChangeHolds shown bytes t.change h)
+brings_little shown bytes h (Ok t) b = little_holds shown bytes h t.change b
+brings_little shown bytes h (Err e) b = tt
 
 -- the snapshot of a whole history is that at its position
 pub whole_holds : {T : Type 0} (stands : T → History → Type 0) (shot : T) (at : ℕ) (h : History) → stands shot h → IsTrue (all_allowed h) → at ≡ position h → HoldsBlock stands (opens.Read at shot) h × (queued (block_of (opens.Read at shot)) ≡ 0)
@@ -68,13 +69,13 @@ empty_holds stands h = ((queues_are_sound.begins h, omega arith), refl)
 -- ---- after a change
 
 -- there is room for what a change brings
-pub change_fits : {T J : Type 0} (stands : T → History → Type 0) (fits : J → History → Type 0) (cut_of snap_of : J → ℕ) (bytes : ℕ) (h : History) (c : Change T J) (b : Block) → queued b + bytes ≤ most_queued → ChangeHolds stands fits cut_of snap_of bytes c h → ChangeFits c b
-change_fits stands fits cut_of snap_of bytes h changes.Nothing b room k = tt
-change_fits stands fits cut_of snap_of bytes h (changes.Cuts c) b room k = tt
-change_fits stands fits cut_of snap_of bytes h (changes.Holds c at job) b room k = tt
-change_fits stands fits cut_of snap_of bytes h (changes.GivesUp c) b room k = tt
-change_fits stands fits cut_of snap_of bytes h (changes.Enters o) b room k = tt
-change_fits stands fits cut_of snap_of bytes h (changes.Queues op more) b room k = let is : more ≡ bytes = k.1 in omega (arith, is, room)
+pub change_fits : {T J : Type 0} (shown : Shown T J) (bytes : ℕ) (h : History) (c : Change T J) (b : Block) → queued b + bytes ≤ most_queued → ChangeHolds shown bytes c h → ChangeFits c b
+change_fits shown bytes h changes.Nothing b room k = tt
+change_fits shown bytes h (changes.Cuts c) b room k = tt
+change_fits shown bytes h (changes.Holds c at job) b room k = tt
+change_fits shown bytes h (changes.GivesUp c) b room k = tt
+change_fits shown bytes h (changes.Enters o) b room k = tt
+change_fits shown bytes h (changes.Queues op more) b room k = let is : more ≡ bytes = k.1 in omega (arith, is, room)
 
 queued_push : (op : Op) (more : ℕ) (b : Block) → queued (queued_on op more b) ≤ queued b + more
 queued_push op more none = omega arith
@@ -82,13 +83,13 @@ queued_push op more (writing ops n) = omega arith
 queued_push op more (reading at) = omega arith
 
 -- the queue grows by at most the bytes of the text
-pub change_queues : {T J : Type 0} (stands : T → History → Type 0) (fits : J → History → Type 0) (cut_of snap_of : J → ℕ) (bytes : ℕ) (h : History) (c : Change T J) (p : Places) → ChangeHolds stands fits cut_of snap_of bytes c h → queued (changed c p).block ≤ queued p.block + bytes
-change_queues stands fits cut_of snap_of bytes h changes.Nothing p k = omega arith
-change_queues stands fits cut_of snap_of bytes h (changes.Cuts c) p k = omega arith
-change_queues stands fits cut_of snap_of bytes h (changes.Holds c at job) p k = omega arith
-change_queues stands fits cut_of snap_of bytes h (changes.GivesUp c) p k = omega arith
-change_queues stands fits cut_of snap_of bytes h (changes.Enters o) p k = let e : queued (block_of o) ≡ 0 = k.1 in omega (arith, e)
-change_queues stands fits cut_of snap_of bytes h (changes.Queues op more) p k = let is : more ≡ bytes = k.1 in omega (arith, is, queued_push op more p.block)
+pub change_queues : {T J : Type 0} (shown : Shown T J) (bytes : ℕ) (h : History) (c : Change T J) (p : Places) → ChangeHolds shown bytes c h → queued (changed c p).block ≤ queued p.block + bytes
+change_queues shown bytes h changes.Nothing p k = omega arith
+change_queues shown bytes h (changes.Cuts c) p k = omega arith
+change_queues shown bytes h (changes.Holds c at job) p k = omega arith
+change_queues shown bytes h (changes.GivesUp c) p k = omega arith
+change_queues shown bytes h (changes.Enters o) p k = let e : queued (block_of o) ≡ 0 = k.1 in omega (arith, e)
+change_queues shown bytes h (changes.Queues op more) p k = let is : more ≡ bytes = k.1 in omega (arith, is, queued_push op more p.block)
 
 -- ---- going on
 

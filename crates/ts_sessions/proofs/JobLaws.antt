@@ -30,6 +30,7 @@ use Rattle.ts_sessions.specs.Step.{finish_turn, finishes_held, finishes_refresh,
 use Rattle.ts_sessions.specs.Walks.{Walks, Breaks}
 use Rattle.ts_sessions.proofs.StateLaws.{goes_seen}
 use Rattle.ts_sessions.proofs.WalkLaws.{not_begun}
+use Rattle.ts_model.specs.declared.snapshots.Shown.{Ghosts as Shown}
 
 -- ---- keys
 
@@ -82,31 +83,31 @@ removed_positions c at (e ∷ es) =
 
 -- ---- what is held
 
-pub held_holds : {J : Type 0} (fits : J → History → Type 0) (cut_of snap_of : J → ℕ) (g : State) (c : ℕ) (es : List (ℕ × Snapshot J)) (s : Snapshot J) → HoldsSnapshots fits cut_of snap_of g es → held_for c es ≡ Some s → HoldsJob fits cut_of snap_of g c s.at s.job
-held_holds fits cut_of snap_of g c [] s k e = absurd cc
-held_holds fits cut_of snap_of g c (x ∷ es) s k e =
-    (elim (is_at (nat_cmp c) x.0) as (λ t. is_at (nat_cmp c) x.0 ≡ t → cond t (Some x.1) (held_for c es) ≡ Some s → HoldsJob fits cut_of snap_of g c s.at s.job) [
-      | true ↦ λ is f. subst (λ y. HoldsJob fits cut_of snap_of g c y.at y.job) (some_same x.1 s f) (subst (λ n. HoldsJob fits cut_of snap_of g n x.1.at x.1.job) (same_key c x.0 is) k.0)
-      | false ↦ λ _ f. held_holds fits cut_of snap_of g c es s k.1 f
+pub held_holds : {T J : Type 0} (shown : Shown T J) (g : State) (c : ℕ) (es : List (ℕ × Snapshot J)) (s : Snapshot J) → HoldsSnapshots shown g es → held_for c es ≡ Some s → HoldsJob shown g c s.at s.job
+held_holds shown g c [] s k e = absurd cc
+held_holds shown g c (x ∷ es) s k e =
+    (elim (is_at (nat_cmp c) x.0) as (λ t. is_at (nat_cmp c) x.0 ≡ t → cond t (Some x.1) (held_for c es) ≡ Some s → HoldsJob shown g c s.at s.job) [
+      | true ↦ λ is f. subst (λ y. HoldsJob shown g c y.at y.job) (some_same x.1 s f) (subst (λ n. HoldsJob shown g n x.1.at x.1.job) (same_key c x.0 is) k.0)
+      | false ↦ λ _ f. held_holds shown g c es s k.1 f
     ]) refl e
   where
     some_same : {X : Type 0} (x y : X) → Some x ≡ Some y → x ≡ y
     some_same x y e = cc
 
-pub taken_holds : {J : Type 0} (fits : J → History → Type 0) (cut_of snap_of : J → ℕ) (fits_on : (job : J) (g h : History) → Begins g h → fits job g → fits job h) (g h : State) (c at : ℕ) (es : List (ℕ × Snapshot J)) → GoesOn g h → IsTrue (is_lost h c) → HoldsSnapshots fits cut_of snap_of g es → HoldsSnapshots fits cut_of snap_of h (without_job c at es)
-taken_holds fits cut_of snap_of fits_on g h c at [] on lost k = tt
-taken_holds fits cut_of snap_of fits_on g h c at (e ∷ es) on lost k =
-    elim (is_at (nat_cmp c) e.0) as (λ t. is_at (nat_cmp c) e.0 ≡ t → HoldsSnapshots fits cut_of snap_of h (cond t ((e.0, record { at = at; job = None }) ∷ es) (e ∷ without_job c at es))) [
-      | true ↦ λ is. (subst (λ n. IsTrue (is_lost h n)) (sym (same_key c e.0 is)) lost, snapshots_on fits cut_of snap_of fits_on g h es on k.1)
-      | false ↦ λ is. (job_on fits cut_of snap_of fits_on g h e.0 e.1.at e.1.job on k.0, taken_holds fits cut_of snap_of fits_on g h c at es on lost k.1)
+pub taken_holds : {T J : Type 0} (shown : Shown T J) (fits_on : (job : J) (g h : History) → Begins g h → shown.fits job g → shown.fits job h) (g h : State) (c at : ℕ) (es : List (ℕ × Snapshot J)) → GoesOn g h → IsTrue (is_lost h c) → HoldsSnapshots shown g es → HoldsSnapshots shown h (without_job c at es)
+taken_holds shown fits_on g h c at [] on lost k = tt
+taken_holds shown fits_on g h c at (e ∷ es) on lost k =
+    elim (is_at (nat_cmp c) e.0) as (λ t. is_at (nat_cmp c) e.0 ≡ t → HoldsSnapshots shown h (cond t ((e.0, record { at = at; job = None }) ∷ es) (e ∷ without_job c at es))) [
+      | true ↦ λ is. (subst (λ n. IsTrue (is_lost h n)) (sym (same_key c e.0 is)) lost, snapshots_on shown fits_on g h es on k.1)
+      | false ↦ λ is. (job_on shown fits_on g h e.0 e.1.at e.1.job on k.0, taken_holds shown fits_on g h c at es on lost k.1)
     ] refl
 
-pub removed_holds : {J : Type 0} (fits : J → History → Type 0) (cut_of snap_of : J → ℕ) (fits_on : (job : J) (g h : History) → Begins g h → fits job g → fits job h) (g h : State) (c at : ℕ) (es : List (ℕ × Snapshot J)) → GoesOn g h → HoldsSnapshots fits cut_of snap_of g es → HoldsSnapshots fits cut_of snap_of h (remove_entry (is_at (nat_cmp c)) (without_job c at es))
-removed_holds fits cut_of snap_of fits_on g h c at [] on k = tt
-removed_holds fits cut_of snap_of fits_on g h c at (e ∷ es) on k =
-    elim (is_at (nat_cmp c) e.0) as (λ t. is_at (nat_cmp c) e.0 ≡ t → HoldsSnapshots fits cut_of snap_of h (remove_entry (is_at (nat_cmp c)) (cond t ((e.0, record { at = at; job = None }) ∷ es) (e ∷ without_job c at es)))) [
-      | true ↦ λ is. subst (λ t. HoldsSnapshots fits cut_of snap_of h (cond t es ((e.0, record { at = at; job = None }) ∷ remove_entry (is_at (nat_cmp c)) es))) (sym is) (snapshots_on fits cut_of snap_of fits_on g h es on k.1)
-      | false ↦ λ is. subst (λ t. HoldsSnapshots fits cut_of snap_of h (cond t (without_job c at es) (e ∷ remove_entry (is_at (nat_cmp c)) (without_job c at es)))) (sym is) (job_on fits cut_of snap_of fits_on g h e.0 e.1.at e.1.job on k.0, removed_holds fits cut_of snap_of fits_on g h c at es on k.1)
+pub removed_holds : {T J : Type 0} (shown : Shown T J) (fits_on : (job : J) (g h : History) → Begins g h → shown.fits job g → shown.fits job h) (g h : State) (c at : ℕ) (es : List (ℕ × Snapshot J)) → GoesOn g h → HoldsSnapshots shown g es → HoldsSnapshots shown h (remove_entry (is_at (nat_cmp c)) (without_job c at es))
+removed_holds shown fits_on g h c at [] on k = tt
+removed_holds shown fits_on g h c at (e ∷ es) on k =
+    elim (is_at (nat_cmp c) e.0) as (λ t. is_at (nat_cmp c) e.0 ≡ t → HoldsSnapshots shown h (remove_entry (is_at (nat_cmp c)) (cond t ((e.0, record { at = at; job = None }) ∷ es) (e ∷ without_job c at es)))) [
+      | true ↦ λ is. subst (λ t. HoldsSnapshots shown h (cond t es ((e.0, record { at = at; job = None }) ∷ remove_entry (is_at (nat_cmp c)) es))) (sym is) (snapshots_on shown fits_on g h es on k.1)
+      | false ↦ λ is. subst (λ t. HoldsSnapshots shown h (cond t (without_job c at es) (e ∷ remove_entry (is_at (nat_cmp c)) (without_job c at es)))) (sym is) (job_on shown fits_on g h e.0 e.1.at e.1.job on k.0, removed_holds shown fits_on g h c at es on k.1)
     ] refl
 
 -- ---- a refresh that can't be finished any more

@@ -16,12 +16,13 @@ use Rattle.ts_sessions.specs.declared.blocks.Open.{Open}
 use Rattle.ts_sessions.specs.declared.blocks.Open.TheVariants as opens
 use Rattle.ts_sessions.specs.declared.sessions.Session.{Session}
 use Rattle.ts_sessions.specs.declared.sessions.Snapshot.{Snapshot}
-use Rattle.ts_sessions.specs.Held.{Carries, GoesOn, HoldsBlock, HoldsJob, HoldsOf, HoldsSnapshots, block_of, is_lost, most_queued, places_in, positions, pushed, queued}
+use Rattle.ts_sessions.specs.Held.{Carries, GoesOn, HoldsBlock, HoldsJob, HoldsOf, HoldsSnapshots, block_of, is_lost, most_queued, places_in, positions, pushed, queued, IsJobOf}
 use Rattle.ts_sessions.specs.Holding.{block_on, snapshots_on}
 use Rattle.ts_sessions.specs.Jobs.{without_job}
 use Rattle.ts_sessions.specs.Places.{Places, gives_up, held_for, holds}
 use Rattle.ts_sessions.specs.Sessions.{Spares, queued_on}
 use Rattle.ts_sessions.proofs.JobLaws.{removed_holds, removed_positions, same_key, taken_holds, taken_positions}
+use Rattle.ts_model.specs.declared.snapshots.Shown.{Ghosts as Shown}
 
 -- ---- places
 
@@ -49,33 +50,33 @@ on_err P (Err e) p = p
 
 -- ---- what is held
 
-module _ {T J : Type 0} (stands : T → History → Type 0) (fits : J → History → Type 0) (cut_of snap_of : J → ℕ) (fits_on : (job : J) (g h : History) → Begins g h → fits job g → fits job h) where
-  pub taken_held : (s t : Session T J) (c at : ℕ) (g h : State) → t.block ≡ s.block → t.held.entries ≡ without_job c at s.held.entries → GoesOn g h → IsTrue (is_lost h c) → HoldsOf stands fits cut_of snap_of s g → HoldsOf stands fits cut_of snap_of t h
+module _ {T J : Type 0} (shown : Shown T J) (fits_on : (job : J) (g h : History) → Begins g h → shown.fits job g → shown.fits job h) where
+  pub taken_held : (s t : Session T J) (c at : ℕ) (g h : State) → t.block ≡ s.block → t.held.entries ≡ without_job c at s.held.entries → GoesOn g h → IsTrue (is_lost h c) → HoldsOf shown s g → HoldsOf shown t h
   taken_held s t c at g h b e on lost k = record {
-    block = subst (λ x. HoldsBlock stands x h.history) (sym b) (block_on stands s.block g.history h.history on.begins k.block);
-    snapshots = subst (λ x. HoldsSnapshots fits cut_of snap_of h x) (sym e) (taken_holds fits cut_of snap_of fits_on g h c at s.held.entries on lost k.snapshots);
+    block = subst (λ x. HoldsBlock shown.stands x h.history) (sym b) (block_on shown.stands s.block g.history h.history on.begins k.block);
+    snapshots = subst (λ x. HoldsSnapshots shown h x) (sym e) (taken_holds shown fits_on g h c at s.held.entries on lost k.snapshots);
   }
 
-  pub forgotten_held : (s t u : Session T J) (c at : ℕ) (g h : State) → t.block ≡ s.block → t.held.entries ≡ without_job c at s.held.entries → u.block ≡ t.block → u.held.entries ≡ remove_entry (is_at (nat_cmp c)) t.held.entries → GoesOn g h → HoldsOf stands fits cut_of snap_of s g → HoldsOf stands fits cut_of snap_of u h
+  pub forgotten_held : (s t u : Session T J) (c at : ℕ) (g h : State) → t.block ≡ s.block → t.held.entries ≡ without_job c at s.held.entries → u.block ≡ t.block → u.held.entries ≡ remove_entry (is_at (nat_cmp c)) t.held.entries → GoesOn g h → HoldsOf shown s g → HoldsOf shown u h
   forgotten_held s t u c at g h b e x z on k = record {
-    block = subst (λ q. HoldsBlock stands q h.history) (sym (x ∙ b)) (block_on stands s.block g.history h.history on.begins k.block);
-    snapshots = subst (λ q. HoldsSnapshots fits cut_of snap_of h q) (sym (z ∙ ap (remove_entry (is_at (nat_cmp c))) e)) (removed_holds fits cut_of snap_of fits_on g h c at s.held.entries on k.snapshots);
+    block = subst (λ q. HoldsBlock shown.stands q h.history) (sym (x ∙ b)) (block_on shown.stands s.block g.history h.history on.begins k.block);
+    snapshots = subst (λ q. HoldsSnapshots shown h q) (sym (z ∙ ap (remove_entry (is_at (nat_cmp c))) e)) (removed_holds shown fits_on g h c at s.held.entries on k.snapshots);
   }
 
-  pub kept_held : (s t : Session T J) (g h : State) → t.block ≡ s.block → t.held.entries ≡ s.held.entries → GoesOn g h → HoldsOf stands fits cut_of snap_of s g → HoldsOf stands fits cut_of snap_of t h
+  pub kept_held : (s t : Session T J) (g h : State) → t.block ≡ s.block → t.held.entries ≡ s.held.entries → GoesOn g h → HoldsOf shown s g → HoldsOf shown t h
   kept_held s t g h b e on k = record {
-    block = subst (λ x. HoldsBlock stands x h.history) (sym b) (block_on stands s.block g.history h.history on.begins k.block);
-    snapshots = subst (λ x. HoldsSnapshots fits cut_of snap_of h x) (sym e) (snapshots_on fits cut_of snap_of fits_on g h s.held.entries on k.snapshots);
+    block = subst (λ x. HoldsBlock shown.stands x h.history) (sym b) (block_on shown.stands s.block g.history h.history on.begins k.block);
+    snapshots = subst (λ x. HoldsSnapshots shown h x) (sym e) (snapshots_on shown fits_on g h s.held.entries on k.snapshots);
   }
 
 -- a session that carries the same
 pub carried_places : {T J : Type 0} (s t : Session T J) → Carries s t → places_in t ≡ places_in s
 carried_places s t k = same_places s t k.block k.cut (ap positions k.held)
 
-pub carried_held : {T J : Type 0} (stands : T → History → Type 0) (fits : J → History → Type 0) (cut_of snap_of : J → ℕ) (s t : Session T J) (g : State) → Carries s t → HoldsOf stands fits cut_of snap_of s g → HoldsOf stands fits cut_of snap_of t g
-carried_held stands fits cut_of snap_of s t g k h = record {
-  block = subst (λ x. HoldsBlock stands x g.history) (sym k.block) h.block;
-  snapshots = subst (λ x. HoldsSnapshots fits cut_of snap_of g x) (sym k.held) h.snapshots;
+pub carried_held : {T J : Type 0} (shown : Shown T J) (s t : Session T J) (g : State) → Carries s t → HoldsOf shown s g → HoldsOf shown t g
+carried_held shown s t g k h = record {
+  block = subst (λ x. HoldsBlock shown.stands x g.history) (sym k.block) h.block;
+  snapshots = subst (λ x. HoldsSnapshots shown g x) (sym k.held) h.snapshots;
 }
 
 -- ---- changes
@@ -104,18 +105,18 @@ by_order Greater P a b c = c
 equal_keys : (c k : ℕ) → nat_cmp c k ≡ Equal → k ≡ c
 equal_keys c k e = same_key c k (ap is_eq e)
 
-pub put_holds : {J : Type 0} (fits : J → History → Type 0) (cut_of snap_of : J → ℕ) (g : State) (es : List (ℕ × Snapshot J)) (c : ℕ) (s : Snapshot J) → HoldsJob fits cut_of snap_of g c s.at s.job → HoldsSnapshots fits cut_of snap_of g es → HoldsSnapshots fits cut_of snap_of g (insert_entry nat_cmp es c s)
-put_holds fits cut_of snap_of g [] c s j k = (j, tt)
-put_holds fits cut_of snap_of g (e ∷ es) c s j k =
-    by_order (nat_cmp c e.0) (λ o. nat_cmp c e.0 ≡ o → HoldsSnapshots fits cut_of snap_of g (match_ordering o ((c, s) ∷ e ∷ es) ((e.0, s) ∷ es) (e ∷ insert_entry nat_cmp es c s)))
+pub put_holds : {T J : Type 0} (shown : Shown T J) (g : State) (es : List (ℕ × Snapshot J)) (c : ℕ) (s : Snapshot J) → HoldsJob shown g c s.at s.job → HoldsSnapshots shown g es → HoldsSnapshots shown g (insert_entry nat_cmp es c s)
+put_holds shown g [] c s j k = (j, tt)
+put_holds shown g (e ∷ es) c s j k =
+    by_order (nat_cmp c e.0) (λ o. nat_cmp c e.0 ≡ o → HoldsSnapshots shown g (match_ordering o ((c, s) ∷ e ∷ es) ((e.0, s) ∷ es) (e ∷ insert_entry nat_cmp es c s)))
     (λ _. (j, k))
-    (λ is. (subst (λ n. HoldsJob fits cut_of snap_of g n s.at s.job) (sym (equal_keys c e.0 is)) j, k.1))
-    (λ _. (k.0, put_holds fits cut_of snap_of g es c s j k.1))
+    (λ is. (subst (λ n. HoldsJob shown g n s.at s.job) (sym (equal_keys c e.0 is)) j, k.1))
+    (λ _. (k.0, put_holds shown g es c s j k.1))
     refl
 
-pub gone_holds : {J : Type 0} (fits : J → History → Type 0) (cut_of snap_of : J → ℕ) (g : State) (es : List (ℕ × Snapshot J)) (c : ℕ) → HoldsSnapshots fits cut_of snap_of g es → HoldsSnapshots fits cut_of snap_of g (remove_entry (is_at (nat_cmp c)) es)
-gone_holds fits cut_of snap_of g [] c k = tt
-gone_holds fits cut_of snap_of g (e ∷ es) c k = elim (is_at (nat_cmp c) e.0) as (λ t. HoldsSnapshots fits cut_of snap_of g (cond t es (e ∷ remove_entry (is_at (nat_cmp c)) es))) [ true ↦ k.1 | false ↦ (k.0, gone_holds fits cut_of snap_of g es c k.1) ]
+pub gone_holds : {T J : Type 0} (shown : Shown T J) (g : State) (es : List (ℕ × Snapshot J)) (c : ℕ) → HoldsSnapshots shown g es → HoldsSnapshots shown g (remove_entry (is_at (nat_cmp c)) es)
+gone_holds shown g [] c k = tt
+gone_holds shown g (e ∷ es) c k = elim (is_at (nat_cmp c) e.0) as (λ t. HoldsSnapshots shown g (cond t es (e ∷ remove_entry (is_at (nat_cmp c)) es))) [ true ↦ k.1 | false ↦ (k.0, gone_holds shown g es c k.1) ]
 
 -- an operation more
 pub pushed_holds : {T : Type 0} (stands : T → History → Type 0) (o : Open T) (op : Op) (more : ℕ) (h : History) → queued (block_of o) + more ≤ most_queued → IsOperation h more op → HoldsBlock stands o h → HoldsBlock stands (pushed op more o) h
@@ -134,10 +135,10 @@ put_places s t c at job b k e =
     ap (λ x. record { block = block_of x; cut = t.cut; held = positions t.held.entries }) b ∙ ap (λ x. record { block = block_of s.block; cut = x; held = positions t.held.entries }) k
     ∙ ap (λ x. record { block = block_of s.block; cut = s.cut; held = x }) (ap positions e ∙ put_positions s.held.entries c (record { at = at; job = Some job }))
 
-pub put_held : {T J : Type 0} (stands : T → History → Type 0) (fits : J → History → Type 0) (cut_of snap_of : J → ℕ) (s t : Session T J) (g : State) (c at : ℕ) (job : J) → t.block ≡ s.block → t.held.entries ≡ insert_entry nat_cmp s.held.entries c (record { at = at; job = Some job }) → HoldsOf stands fits cut_of snap_of s g → fits job g.history × (cut_of job ≡ c) × (snap_of job ≡ at) → HoldsOf stands fits cut_of snap_of t g
-put_held stands fits cut_of snap_of s t g c at job b e h j = record {
-  block = subst (λ x. HoldsBlock stands x g.history) (sym b) h.block;
-  snapshots = subst (λ x. HoldsSnapshots fits cut_of snap_of g x) (sym e) (put_holds fits cut_of snap_of g s.held.entries c (record { at = at; job = Some job }) j h.snapshots);
+pub put_held : {T J : Type 0} (shown : Shown T J) (s t : Session T J) (g : State) (c at : ℕ) (job : J) → t.block ≡ s.block → t.held.entries ≡ insert_entry nat_cmp s.held.entries c (record { at = at; job = Some job }) → HoldsOf shown s g → IsJobOf shown c at g.history job → HoldsOf shown t g
+put_held shown s t g c at job b e h j = record {
+  block = subst (λ x. HoldsBlock shown.stands x g.history) (sym b) h.block;
+  snapshots = subst (λ x. HoldsSnapshots shown g x) (sym e) (put_holds shown g s.held.entries c (record { at = at; job = Some job }) j h.snapshots);
 }
 
 -- a snapshot less
@@ -146,10 +147,10 @@ gone_places s t c b k e =
     ap (λ x. record { block = block_of x; cut = t.cut; held = positions t.held.entries }) b ∙ ap (λ x. record { block = block_of s.block; cut = x; held = positions t.held.entries }) k
     ∙ ap (λ x. record { block = block_of s.block; cut = s.cut; held = x }) (ap positions e ∙ gone_positions s.held.entries c)
 
-pub gone_held : {T J : Type 0} (stands : T → History → Type 0) (fits : J → History → Type 0) (cut_of snap_of : J → ℕ) (s t : Session T J) (g : State) (c : ℕ) → t.block ≡ s.block → t.held.entries ≡ remove_entry (is_at (nat_cmp c)) s.held.entries → HoldsOf stands fits cut_of snap_of s g → HoldsOf stands fits cut_of snap_of t g
-gone_held stands fits cut_of snap_of s t g c b e h = record {
-  block = subst (λ x. HoldsBlock stands x g.history) (sym b) h.block;
-  snapshots = subst (λ x. HoldsSnapshots fits cut_of snap_of g x) (sym e) (gone_holds fits cut_of snap_of g s.held.entries c h.snapshots);
+pub gone_held : {T J : Type 0} (shown : Shown T J) (s t : Session T J) (g : State) (c : ℕ) → t.block ≡ s.block → t.held.entries ≡ remove_entry (is_at (nat_cmp c)) s.held.entries → HoldsOf shown s g → HoldsOf shown t g
+gone_held shown s t g c b e h = record {
+  block = subst (λ x. HoldsBlock shown.stands x g.history) (sym b) h.block;
+  snapshots = subst (λ x. HoldsSnapshots shown g x) (sym e) (gone_holds shown g s.held.entries c h.snapshots);
 }
 
 pub on_ok_by : {A : Type 0} (result : Result A NoMemory) (P Q : Type 0) → (P → Q) → OnOk result P → OnOk result Q

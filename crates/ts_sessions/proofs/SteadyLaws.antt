@@ -9,7 +9,7 @@ use Rattle.ts_model.specs.declared.outcomes.CutDone.TheVariants.{Cut as CutMade,
 use Rattle.ts_model.specs.declared.outcomes.Refusal.{Refusal}
 use Rattle.ts_model.specs.declared.rosters.Roster.{Roster}
 use Rattle.ts_model.specs.declared.views.ViewDef.{ViewDef}
-use Rattle.ts_model.specs.Calls.{Act, refuses as is_refused, says, makes, committing, cutting, finishing, making_hyper, making_table, making_view, setting_mode}
+use Rattle.ts_model.specs.Calls.{Act, refuses as is_refused, returns, makes, committing, cutting, finishing, making_hyper, making_table, making_view, setting_mode}
 use Rattle.ts_model.specs.History.{History, position, prefix, Begins}
 use Rattle.ts_model.specs.Roster.{roster, view_of}
 use Rattle.ts_model.proofs.HistoryLaws.{position_begins, prefix_stays}
@@ -38,13 +38,13 @@ use Rattle.ts_sessions.proofs.ReplyLaws.{stays_named}
 -- a call after a look, or after an event, and what follows
 steady_tries : {A B : Type 0} (base h : History) (act : Act A) (then : Result A Refusal → Procedure B) → ((r : Result A Refusal) → Steady true base (then r)) → Steady true base (followed_by (tries_at h act) then)
 steady_tries base h (is_refused r) then s = s (Err r)
-steady_tries base h (says a) then s = s (Ok a)
+steady_tries base h (returns a) then s = s (Ok a)
 steady_tries base h (makes e a) then s = (refl, s (Ok a), s (Err _))
 
 -- a call of which something is said
 steady_said : {A B : Type 0} (base h : History) (act : Act A) (g : Result A Refusal → B) → Steady true base (ending_as g (tries_at h act))
 steady_said base h (is_refused r) g = tt
-steady_said base h (says a) g = tt
+steady_said base h (returns a) g = tt
 steady_said base h (makes e a) g = (refl, tt, tt)
 
 -- a call with a look of its own

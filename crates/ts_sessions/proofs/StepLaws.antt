@@ -22,13 +22,14 @@ use Rattle.ts_sessions.proofs.HoldLaws.{change_queues, goes_ended}
 use Rattle.ts_sessions.proofs.MadeLaws.{step_made}
 use Rattle.ts_sessions.proofs.SessionLaws.{carried_places, kept_held, spared}
 use Rattle.ts_sessions.proofs.WalkLaws.{walks_break}
+use Rattle.ts_model.specs.declared.snapshots.Shown.{Ghosts as Shown}
 
 -- ---- what is held after a statement
 
-module _ {T J : Type 0} (stands : T → History → Type 0) (fits : J → History → Type 0) (cut_of snap_of : J → ℕ) (fits_on : (job : J) (g h : History) → Begins g h → fits job g → fits job h) where
+module _ {T J : Type 0} (shown : Shown T J) (fits_on : (job : J) (g h : History) → Begins g h → shown.fits job g → shown.fits job h) where
   -- a session that a statement leaves as it is
-  pub ended_held : (s : Session T J) (alone : Bool) (old : State) (procedure : Procedure (Turn Places)) (p : Places) (result : Result (Completion T J) NoMemory) (new : State) (before after : ℕ) → Ends alone old procedure p result new before after → HoldsOf stands fits cut_of snap_of s old → HoldsOf stands fits cut_of snap_of s new
-  ended_held s alone old procedure p result new before after e k = kept_held stands fits cut_of snap_of fits_on s s old new refl refl (goes_ended alone old procedure p result new before after e) k
+  pub ended_held : (s : Session T J) (alone : Bool) (old : State) (procedure : Procedure (Turn Places)) (p : Places) (result : Result (Completion T J) NoMemory) (new : State) (before after : ℕ) → Ends alone old procedure p result new before after → HoldsOf shown s old → HoldsOf shown s new
+  ended_held s alone old procedure p result new before after e k = kept_held shown fits_on s s old new refl refl (goes_ended alone old procedure p result new before after e) k
 
 -- ---- answers
 
@@ -91,7 +92,7 @@ spared_queue p q bytes s =
     omega (arith, same)
 
 -- the queue grows by at most the bytes of the line
-pub queue_then : {T J : Type 0} (stands : T → History → Type 0) (fits : J → History → Type 0) (cut_of snap_of : J → ℕ) (bytes : ℕ) (h : History) (c : Change T J) (p q : Places) (end : StepEnd) → ChangeHolds stands fits cut_of snap_of bytes c h → IfAnswered end (q ≡ changed c p) → IfNoMemory end (Spares p q) → queued q.block ≤ queued p.block + bytes
-queue_then stands fits cut_of snap_of bytes h c p q (steps.Reply r) k e s = subst (λ x. queued x.block ≤ queued p.block + bytes) (sym e) (change_queues stands fits cut_of snap_of bytes h c p k)
-queue_then stands fits cut_of snap_of bytes h c p q (steps.DiskFault r) k e s = subst (λ x. queued x.block ≤ queued p.block + bytes) (sym e) (change_queues stands fits cut_of snap_of bytes h c p k)
-queue_then stands fits cut_of snap_of bytes h c p q steps.NoMemory k e s = spared_queue p q bytes s
+pub queue_then : {T J : Type 0} (shown : Shown T J) (bytes : ℕ) (h : History) (c : Change T J) (p q : Places) (end : StepEnd) → ChangeHolds shown bytes c h → IfAnswered end (q ≡ changed c p) → IfNoMemory end (Spares p q) → queued q.block ≤ queued p.block + bytes
+queue_then shown bytes h c p q (steps.Reply r) k e s = subst (λ x. queued x.block ≤ queued p.block + bytes) (sym e) (change_queues shown bytes h c p k)
+queue_then shown bytes h c p q (steps.DiskFault r) k e s = subst (λ x. queued x.block ≤ queued p.block + bytes) (sym e) (change_queues shown bytes h c p k)
+queue_then shown bytes h c p q steps.NoMemory k e s = spared_queue p q bytes s

@@ -14,9 +14,11 @@ use Rattle.ts_sessions.specs.declared.blocks.Open.TheVariants.{Nothing, Write, R
 use Rattle.ts_sessions.specs.declared.sessions.Session.{Session}
 use Rattle.ts_sessions.specs.declared.sessions.Snapshot.{Snapshot}
 use Rattle.ts_sessions.specs.Places.{Block, none, writing, reading, Places}
+use Rattle.ts_model.specs.declared.snapshots.Shown.{Ghosts as Shown}
 
 -- ---- the places of a session
 
+-- the block that an open one is
 abbrev pub block_of : {T : Type 0} → Open T → Block
 block_of Nothing = none
 block_of (Write queue) = writing queue.ops queue.bytes
@@ -26,6 +28,7 @@ block_of (Read at shot) = reading at
 abbrev pub positions : {J : Type 0} → List (ℕ × Snapshot J) → List (ℕ × ℕ)
 positions entries = map (λ e. (e.0, e.1.at)) entries
 
+-- what a session carries
 abbrev pub places_in : {T J : Type 0} → Session T J → Places
 places_in s = record { block = block_of s.block; cut = s.cut; held = positions s.held.entries }
 
@@ -40,6 +43,10 @@ abbrev pub queued : Block → ℕ
 queued none = 0
 queued (writing ops bytes) = bytes
 queued (reading at) = 0
+
+-- the bytes of the texts whose operations wait in the block of a session
+abbrev pub waiting_bytes : {T J : Type 0} → Session T J → ℕ
+waiting_bytes s = queued (places_in s).block
 
 -- an operation from a text of so many bytes waits for the end of a write block
 abbrev pub pushed : {T : Type 0} → Op → ℕ → Open T → Open T
@@ -64,6 +71,7 @@ HoldsBlock stands Nothing h = ⊤
 HoldsBlock stands (Write queue) h = IsQueue h queue.bytes queue.ops × (queue.bytes ≤ most_queued)
 HoldsBlock stands (Read at shot) h = stands shot (prefix h at) × (at ≤ position h) × IsTrue (all_allowed (prefix h at))
 
+-- a refresh was finished
 abbrev pub is_finished : Pending → Bool
 is_finished (Waiting n) = false
 is_finished (Finished f) = true
@@ -73,15 +81,20 @@ is_finished Unknown = false
 abbrev pub is_lost : State → ℕ → Bool
 is_lost s c = is_finished (pending s.history c) || stands_still s
 
--- a job fits what was seen, and is that of a snapshot of this refresh. A store may have taken it: then the refresh can't be finished any more
-abbrev pub HoldsJob : {J : Type 0} → (J → History → Type 0) → (J → ℕ) → (J → ℕ) → State → ℕ → ℕ → Option J → Type 0
-HoldsJob fits cut_of snap_of s c at None = IsTrue (is_lost s c)
-HoldsJob fits cut_of snap_of s c at (Some job) = fits job s.history × (cut_of job ≡ c) × (snap_of job ≡ at)
+-- a job fits what was seen, and is that of a snapshot at this position for this refresh
+abbrev pub IsJobOf : {T J : Type 0} → Shown T J → ℕ → ℕ → History → J → Type 0
+IsJobOf shown c at h job = shown.fits job h × (shown.cut_of job ≡ c) × (shown.snap_of job ≡ at)
 
-abbrev pub HoldsSnapshots : {J : Type 0} → (J → History → Type 0) → (J → ℕ) → (J → ℕ) → State → List (ℕ × Snapshot J) → Type 0
-HoldsSnapshots fits cut_of snap_of s entries = AllByRecursion (λ e. HoldsJob fits cut_of snap_of s e.0 e.1.at e.1.job) entries
+-- what is held of a snapshot goes with what was seen. A store may have taken its job: then the refresh can't be finished any more
+abbrev pub HoldsJob : {T J : Type 0} → Shown T J → State → ℕ → ℕ → Option J → Type 0
+HoldsJob shown s c at None = IsTrue (is_lost s c)
+HoldsJob shown s c at (Some job) = IsJobOf shown c at s.history job
+
+-- so does each job that a session holds
+abbrev pub HoldsSnapshots : {T J : Type 0} → Shown T J → State → List (ℕ × Snapshot J) → Type 0
+HoldsSnapshots shown s entries = AllByRecursion (λ e. HoldsJob shown s e.0 e.1.at e.1.job) entries
 
 -- what a session holds goes with what its store has seen
-pub record HoldsOf {T J : Type 0} (stands : T → History → Type 0) (fits : J → History → Type 0) (cut_of snap_of : J → ℕ) (session : Session T J) (s : State) : Type 0 where
-  pub block : HoldsBlock stands session.block s.history
-  pub snapshots : HoldsSnapshots fits cut_of snap_of s session.held.entries
+pub record HoldsOf {T J : Type 0} (shown : Shown T J) (session : Session T J) (s : State) : Type 0 where
+  pub block : HoldsBlock shown.stands session.block s.history
+  pub snapshots : HoldsSnapshots shown s session.held.entries

@@ -18,6 +18,7 @@ use Rattle.ts_sessions.specs.declared.sessions.Session.{Session}
 use Rattle.ts_sessions.specs.declared.sessions.Snapshot.{Snapshot}
 use Rattle.ts_sessions.specs.Held.{GoesOn, HoldsBlock, HoldsJob, HoldsSnapshots, HoldsOf, is_finished, is_lost}
 use Rattle.stmt_check.proofs.QueueLaws.{queues_are_sound}
+use Rattle.ts_model.specs.declared.snapshots.Shown.{Ghosts as Shown}
 
 pub prefix_on : {g h : History} (p : ℕ) → Begins g h → p ≤ position g → prefix h p ≡ prefix g p
 prefix_on p same le = refl
@@ -92,17 +93,17 @@ block_on stands (Read at shot) g h on k =
     let same_there : prefix h at ≡ prefix g at = prefix_on at on k.1 in
     (subst (stands shot) (sym same_there) k.0, omega (arith, k.1, position_begins on), subst (λ x. IsTrue (all_allowed x)) (sym same_there) k.2)
 
-pub job_on : {J : Type 0} (fits : J → History → Type 0) (cut_of snap_of : J → ℕ) (fits_on : (job : J) (g h : History) → Begins g h → fits job g → fits job h) (g h : State) (c at : ℕ) (job : Option J) → GoesOn g h → HoldsJob fits cut_of snap_of g c at job → HoldsJob fits cut_of snap_of h c at job
-job_on fits cut_of snap_of fits_on g h c at None on k = lost_stays g h c on k
-job_on fits cut_of snap_of fits_on g h c at (Some job) on k = (fits_on job g.history h.history on.begins k.0, k.1, k.2)
+pub job_on : {T J : Type 0} (shown : Shown T J) (fits_on : (job : J) (g h : History) → Begins g h → shown.fits job g → shown.fits job h) (g h : State) (c at : ℕ) (job : Option J) → GoesOn g h → HoldsJob shown g c at job → HoldsJob shown h c at job
+job_on shown fits_on g h c at None on k = lost_stays g h c on k
+job_on shown fits_on g h c at (Some job) on k = (fits_on job g.history h.history on.begins k.0, k.1, k.2)
 
-pub snapshots_on : {J : Type 0} (fits : J → History → Type 0) (cut_of snap_of : J → ℕ) (fits_on : (job : J) (g h : History) → Begins g h → fits job g → fits job h) (g h : State) (entries : List (ℕ × Snapshot J)) → GoesOn g h → HoldsSnapshots fits cut_of snap_of g entries → HoldsSnapshots fits cut_of snap_of h entries
-snapshots_on fits cut_of snap_of fits_on g h [] on k = tt
-snapshots_on fits cut_of snap_of fits_on g h (e ∷ es) on k = (job_on fits cut_of snap_of fits_on g h e.0 e.1.at e.1.job on k.0, snapshots_on fits cut_of snap_of fits_on g h es on k.1)
+pub snapshots_on : {T J : Type 0} (shown : Shown T J) (fits_on : (job : J) (g h : History) → Begins g h → shown.fits job g → shown.fits job h) (g h : State) (entries : List (ℕ × Snapshot J)) → GoesOn g h → HoldsSnapshots shown g entries → HoldsSnapshots shown h entries
+snapshots_on shown fits_on g h [] on k = tt
+snapshots_on shown fits_on g h (e ∷ es) on k = (job_on shown fits_on g h e.0 e.1.at e.1.job on k.0, snapshots_on shown fits_on g h es on k.1)
 
 -- what a session holds goes on going with what its store has seen
-pub holds_on : {T J : Type 0} (stands : T → History → Type 0) (fits : J → History → Type 0) (cut_of snap_of : J → ℕ) (fits_on : (job : J) (g h : History) → Begins g h → fits job g → fits job h) (session : Session T J) (g h : State) → GoesOn g h → HoldsOf stands fits cut_of snap_of session g → HoldsOf stands fits cut_of snap_of session h
-holds_on stands fits cut_of snap_of fits_on session g h on k = record {
-  block = block_on stands session.block g.history h.history on.begins k.block;
-  snapshots = snapshots_on fits cut_of snap_of fits_on g h session.held.entries on k.snapshots;
+pub holds_on : {T J : Type 0} (shown : Shown T J) (fits_on : (job : J) (g h : History) → Begins g h → shown.fits job g → shown.fits job h) (session : Session T J) (g h : State) → GoesOn g h → HoldsOf shown session g → HoldsOf shown session h
+holds_on shown fits_on session g h on k = record {
+  block = block_on shown.stands session.block g.history h.history on.begins k.block;
+  snapshots = snapshots_on shown fits_on g h session.held.entries on k.snapshots;
 }

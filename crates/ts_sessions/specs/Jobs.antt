@@ -2,7 +2,7 @@
 use Rattle.std.specs.Prelude.{◌≡◌, ℕ, List, Option, Some, None}
 use Rattle.std.specs.Map.{set_value}
 use Rattle.std.specs.Ordering.{nat_cmp}
-use Rattle.std.specs.BTreeMap.{is_at}
+use Rattle.std.specs.BTreeMap.{is_at, insert_entry}
 use Rattle.ts_sessions.specs.declared.endings.Held.{Held}
 use Rattle.ts_sessions.specs.declared.endings.Held.TheVariants.{Nothing, Lost, Job}
 use Rattle.ts_sessions.specs.declared.sessions.Snapshot.{Snapshot}
@@ -16,6 +16,10 @@ took_of at (Some job) = Job at job
 -- the snapshot for a refresh has no job any more
 abbrev pub without_job : {J : Type 0} → ℕ → ℕ → List (ℕ × Snapshot J) → List (ℕ × Snapshot J)
 without_job c at entries = set_value (is_at (nat_cmp c)) entries (record { at = at; job = None })
+
+-- the snapshot for a refresh has this job, and stands in place of one that was held
+abbrev pub with_job : {J : Type 0} → ℕ → ℕ → J → List (ℕ × Snapshot J) → List (ℕ × Snapshot J)
+with_job c at job entries = insert_entry nat_cmp entries c (record { at = at; job = Some job })
 
 -- the job of the snapshot that is held for a refresh was taken, if there is one
 abbrev pub TakesJob : {J : Type 0} → ℕ → List (ℕ × Snapshot J) → Held J → List (ℕ × Snapshot J) → Type 0

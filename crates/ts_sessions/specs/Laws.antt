@@ -50,5 +50,6 @@ pub record IsGiven {A : Type 0} (old new : State) (at : ℕ) (procedure : Proced
   pub made : new.made ≡ old.made ++ numbers given
   pub within : last ≤ position new.history
 
+-- what was walked from a steady procedure on, it gives over the history that was left
 abbrev pub WalksAreGiven : (A : Type 0) → Type 0
 WalksAreGiven A = (alone failed : Bool) (old : State) (at : ℕ) (procedure : Procedure A) (new : State) (y : A) → Steady false old.history procedure → at ≤ position old.history → Walks alone failed old procedure new y → IsGiven old new at procedure y

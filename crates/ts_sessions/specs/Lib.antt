@@ -15,3 +15,4 @@ pub mod Tried
 pub mod Jobs
 pub mod Sessions
 pub mod Sound
+pub mod Parts

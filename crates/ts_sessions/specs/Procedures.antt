@@ -3,8 +3,9 @@ use Rattle.std.specs.Prelude.{Bool, true, Result, Ok, Err}
 use Rattle.ts_model.specs.declared.events.Event.{Event}
 use Rattle.ts_model.specs.declared.outcomes.Refusal.{Refusal}
 use Rattle.ts_model.specs.History.{History}
-use Rattle.ts_model.specs.Calls.{Act, refuses, says, makes, refusal, stopped}
+use Rattle.ts_model.specs.Calls.{Act, refuses, returns, makes, refusal, stopped}
 
+-- what a statement does, up to what it ends with
 pub data Procedure (A : Type 0) : Type 0 where
   -- looks at the history, and goes on by what is there. The test says of which histories the reply prints the position; of any other what follows is the same at each longer history
   sees : (History → Bool) → (History → Procedure A) → Procedure A
@@ -30,7 +31,7 @@ ending_as f procedure = followed_by procedure (λ a. ends (f a))
 -- what a call comes to at the history that it found: a refusal, which is E24 where an event was to be made and the store stands still, or what it says
 abbrev pub tries_at : {A : Type 0} → History → Act A → Procedure (Result A Refusal)
 tries_at h (refuses r) = ends (Err r)
-tries_at h (says a) = ends (Ok a)
+tries_at h (returns a) = ends (Ok a)
 tries_at h (makes e a) = adds e (ends (Ok a)) (ends (Err (refusal stopped h 0)))
 
 -- a call: it looks, and then does what it does there

@@ -1,11 +1,11 @@
 -- Scripts: lines of sessions, one after the other, over a history that nobody else changes.
-use Rattle.std.specs.Prelude.{ℕ, suc, ◌+◌, ◌-◌, Bool, true, false, ◌||◌, cond, nat_lt, List, [], ◌∷◌, ◌++◌, length, take, drop, Option, Some, None}
+use Rattle.std.specs.Prelude.{ℕ, suc, ◌+◌, ◌-◌, Bool, true, false, ◌||◌, cond, nat_lt, List, [], ◌∷◌, ◌++◌, length, take, Option, Some, None}
 use Rattle.std.specs.List.{list_any}
 use Rattle.ts_model.specs.History.{History}
 use Rattle.ts_model.specs.Roster.{same_name}
 use Rattle.stmt_reader.specs.declared.lines.LineKind.{LineKind}
 use Rattle.stmt_reader.specs.declared.lines.LineKind.TheVariants.{Blank, NotAscii, NoSession, Stmt}
-use Rattle.stmt_reader.specs.Lines.{line_kind}
+use Rattle.stmt_reader.specs.Lines.{line_kind, session_name}
 use Rattle.result_text.specs.declared.codes.TheConstants.{LINE_LONG, NOT_ASCII, NO_SESSION, TOO_MANY_SESSIONS}
 use Rattle.result_text.specs.declared.replies.Said.{Said}
 use Rattle.result_text.specs.declared.replies.Said.TheVariants as said
@@ -15,10 +15,11 @@ use Rattle.ts_sessions.specs.Places.{Places, Turn, no_places}
 use Rattle.ts_sessions.specs.Step.{bare, step}
 use Rattle.ts_sessions.specs.Walks.{history_after, ending}
 
--- the most bytes of a line, and the most sessions of a script
+-- the most bytes of a line
 abbrev pub line_limit : ℕ
 line_limit = 65536
 
+-- the most sessions of a script
 abbrev pub most_sessions : ℕ
 most_sessions = 64
 
@@ -72,25 +73,10 @@ abbrev pub text_of : List ℕ → List Said → List ℕ
 text_of name [] = []
 text_of name (s ∷ lines) = reply_text name s ++ text_of name lines
 
+-- a line of a reply is a FAULT
 abbrev pub is_fault : Said → Bool
-is_fault (said.Table pos) = false
-is_fault (said.Hypertable pos) = false
-is_fault (said.View pos) = false
-is_fault (said.Mode pos) = false
-is_fault (said.Commit done) = false
-is_fault said.Queued = false
-is_fault (said.Refresh cut pos snap span min) = false
-is_fault (said.Nothing pos) = false
-is_fault (said.Cut cut span min) = false
-is_fault (said.Snap cut snap) = false
-is_fault (said.Finish cut pos snap) = false
-is_fault said.Begin = false
-is_fault (said.BeginRead pos) = false
-is_fault said.CommitEmpty = false
-is_fault said.Rollback = false
-is_fault said.End = false
-is_fault (said.Answered answer pos min) = false
 is_fault (said.Fault refusal) = true
+is_fault other = false
 
 -- a reply is a FAULT where one of its lines is
 abbrev pub has_fault : List Said → Bool
@@ -124,10 +110,6 @@ abbrev pub executes_as : {P : Type 0} → Semantics P → ScriptState P → List
 executes_as semantics s name text skip (Some p) = takes_turn s name (semantics.does p text skip)
 executes_as semantics s name text skip None =
     cond (nat_lt (length s.sessions) most_sessions) (takes_turn s name (semantics.does (semantics.opening (length s.sessions)) text skip)) (refused s (reply_text name (said.Fault (bare TOO_MANY_SESSIONS))))
-
--- the name that stands before the colon, which is the last of the bytes to skip
-abbrev pub session_name : List ℕ → ℕ → ℕ → List ℕ
-session_name text len skip = take len (drop (skip - suc len) text)
 
 -- a line of this kind, which has this number
 abbrev pub executes_kind : {P : Type 0} → Semantics P → ScriptState P → ℕ → List ℕ → LineKind → LineResult P

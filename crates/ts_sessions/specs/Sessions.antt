@@ -1,5 +1,5 @@
 -- What contracts see of how calls and statements end, and of what a line came to.
-use Rattle.std.specs.Prelude.{◌≡◌, ℕ, ◌+◌, ◌≤◌, Bool, true, false, List, [], ◌∷◌, ◌++◌, Option, Some, None, Result, Ok, Err, ⊤}
+use Rattle.std.specs.Prelude.{◌≡◌, ℕ, ◌+◌, ◌≤◌, Bool, true, false, List, [], ◌∷◌, ◌++◌, Option, Some, None, Result, Ok, Err, ⊤, IfOk}
 use Rattle.ts_schema.specs.Counts.{raised_by}
 use Rattle.ts_schema.specs.declared.memory.NoMemory.{NoMemory}
 use Rattle.ts_model.specs.declared.events.Op.{Op}
@@ -21,19 +21,23 @@ use Rattle.ts_sessions.specs.declared.replies.StepEnd.TheVariants as steps
 use Rattle.ts_sessions.specs.Procedures.{Procedure}
 use Rattle.ts_sessions.specs.Walks.{Walks, Breaks}
 use Rattle.ts_sessions.specs.Places.{Block, none, writing, reading, Places, Turn, enters, cuts, holds, gives_up}
-use Rattle.ts_sessions.specs.Held.{block_of, queued, most_queued, HoldsBlock}
+use Rattle.ts_sessions.specs.Held.{block_of, queued, most_queued, HoldsBlock, IsJobOf, HoldsOf}
 use Rattle.ts_sessions.specs.Made.{made_in}
 use Rattle.ts_sessions.specs.Script.{text_of, has_fault}
 use Rattle.ts_sessions.specs.Step.{Taken, takes_snapshot}
+use Rattle.ts_model.specs.declared.snapshots.Shown.{Ghosts as Shown}
+use Rattle.ts_sessions.specs.declared.sessions.Session.{Session}
+use Rattle.ts_model.specs.declared.backends.Backend.{Ghosts as Backend}
 
 -- ---- calls of a store
 
--- what came of a call, and whether the disk failed in it
+-- what came of a call
 abbrev pub came : {A : Type 0} → Tried A → Result A Refusal
 came (tried.Done a) = Ok a
 came (tried.Refused r) = Err r
 came (tried.Failed r) = Err r
 
+-- the disk failed in a call
 abbrev pub has_failed : {A : Type 0} → Tried A → Bool
 has_failed (tried.Done a) = false
 has_failed (tried.Refused r) = false
@@ -55,9 +59,9 @@ read_by read (snapped.Taken at job) = read
 read_by read (snapped.Refused r) = 0
 
 -- the job of a snapshot fits what was seen, and is that of a snapshot of this refresh
-abbrev pub FitsSnapped : {J : Type 0} → (J → History → Type 0) → (J → ℕ) → (J → ℕ) → ℕ → History → Snapped J → Type 0
-FitsSnapped fits cut_of snap_of c h (snapped.Taken at job) = fits job h × (cut_of job ≡ c) × (snap_of job ≡ at)
-FitsSnapped fits cut_of snap_of c h (snapped.Refused r) = ⊤
+abbrev pub FitsSnapped : {T J : Type 0} → Shown T J → ℕ → History → Snapped J → Type 0
+FitsSnapped shown c h (snapped.Taken at job) = IsJobOf shown c at h job
+FitsSnapped shown c h (snapped.Refused r) = ⊤
 
 -- a snapshot was taken for a refresh, or the refresh isn't pending; the rows that it read were counted
 pub record Snaps {J : Type 0} (alone : Bool) (old : State) (c : ℕ) (s : Snapped J) (new : State) (before after : ℕ) : Type 0 where
@@ -65,6 +69,7 @@ pub record Snaps {J : Type 0} (alone : Bool) (old : State) (c : ℕ) (s : Snappe
   pub walks : Walks alone false old (takes_snapshot c) new (taken_as read s)
   pub counted : after ≡ raised_by (read_by read s) before
 
+-- so ended a snapshot for a refresh, or it broke off for want of memory
 abbrev pub SnapEnds : {J : Type 0} → Bool → State → ℕ → Result (Snapped J) NoMemory → State → ℕ → ℕ → Type 0
 SnapEnds alone old c (Ok s) new before after = Snaps alone old c s new before after
 SnapEnds alone old c (Err e) new before after = Breaks alone old (takes_snapshot c) new × (before ≤ after)
@@ -87,40 +92,39 @@ changed (changes.Enters b) p = enters (block_of b) p
 changed (changes.Queues op more) p = enters (queued_on op more p.block) p
 
 -- what a change brings goes with what was seen; an operation that is to wait came from a text of so many bytes
-abbrev pub ChangeHolds : {T J : Type 0} → (T → History → Type 0) → (J → History → Type 0) → (J → ℕ) → (J → ℕ) → ℕ → Change T J → History → Type 0
-ChangeHolds stands fits cut_of snap_of bytes changes.Nothing h = ⊤
-ChangeHolds stands fits cut_of snap_of bytes (changes.Cuts c) h = ⊤
-ChangeHolds stands fits cut_of snap_of bytes (changes.Holds c at job) h = fits job h × (cut_of job ≡ c) × (snap_of job ≡ at)
-ChangeHolds stands fits cut_of snap_of bytes (changes.GivesUp c) h = ⊤
-ChangeHolds stands fits cut_of snap_of bytes (changes.Enters b) h = HoldsBlock stands b h × (queued (block_of b) ≡ 0)
-ChangeHolds stands fits cut_of snap_of bytes (changes.Queues op more) h = IsOperation h more op × (more ≡ bytes)
+abbrev pub ChangeHolds : {T J : Type 0} → Shown T J → ℕ → Change T J → History → Type 0
+ChangeHolds shown bytes (changes.Holds c at job) h = IsJobOf shown c at h job
+ChangeHolds shown bytes (changes.Enters b) h = HoldsBlock shown.stands b h × (queued (block_of b) ≡ 0)
+ChangeHolds shown bytes (changes.Queues op more) h = IsOperation h more op × (more ≡ bytes)
+ChangeHolds shown bytes other h = ⊤
+
+-- what a statement brings to its session, where it came to an end, goes with what was seen
+abbrev pub Brings : {T J : Type 0} → Shown T J → ℕ → Result (Completion T J) NoMemory → History → Type 0
+Brings shown bytes result h = IfOk result (λ t. ChangeHolds shown bytes t.change h)
+
+-- a session that went with what was seen goes with it after a change that does
+abbrev pub HoldsAfter : {T J : Type 0} → Shown T J → Change T J → Session T J → Session T J → Type 0
+HoldsAfter shown change old new =
+    (s : State) (bytes : ℕ) → HoldsOf shown old s → ChangeHolds shown bytes change s.history → HoldsOf shown new s
 
 -- there is room in a queue for what a change brings there
 abbrev pub ChangeFits : {T J : Type 0} → Change T J → Block → Type 0
-ChangeFits changes.Nothing b = ⊤
-ChangeFits (changes.Cuts c) b = ⊤
-ChangeFits (changes.Holds c at job) b = ⊤
-ChangeFits (changes.GivesUp c) b = ⊤
-ChangeFits (changes.Enters c) b = ⊤
 ChangeFits (changes.Queues op more) b = queued b + more ≤ most_queued
+ChangeFits other b = ⊤
 
 -- a change that brings nothing that has to go with what was seen
 abbrev pub BringsNothing : {T J : Type 0} → Change T J → Type 0
-BringsNothing changes.Nothing = ⊤
-BringsNothing (changes.Cuts c) = ⊤
 BringsNothing (changes.Holds c at job) = ⊥
-BringsNothing (changes.GivesUp c) = ⊤
 BringsNothing (changes.Enters b) = ⊥
 BringsNothing (changes.Queues op more) = ⊥
+BringsNothing other = ⊤
 
 -- the same, but that the session may come out of its block
 abbrev pub BringsLittle : {T J : Type 0} → Change T J → Type 0
-BringsLittle changes.Nothing = ⊤
-BringsLittle (changes.Cuts c) = ⊤
 BringsLittle (changes.Holds c at job) = ⊥
-BringsLittle (changes.GivesUp c) = ⊤
 BringsLittle (changes.Enters b) = block_of b ≡ none
 BringsLittle (changes.Queues op more) = ⊥
+BringsLittle other = ⊤
 
 -- what a statement came to, with places that it began with, where so many rows were read
 abbrev pub turn_of : {T J : Type 0} → Places → ℕ → Completion T J → Turn Places
@@ -131,15 +135,25 @@ abbrev pub EndsAt : {T J : Type 0} → Bool → State → Procedure (Turn Places
 EndsAt alone old procedure p read (Ok t) new = Walks alone t.failed old procedure new (turn_of p read t)
 EndsAt alone old procedure p read (Err e) new = Breaks alone old procedure new
 
+-- the rows that were read were counted; where there was no memory the count has not fallen
 abbrev pub Counts : {A : Type 0} → Result A NoMemory → ℕ → ℕ → ℕ → Type 0
 Counts (Ok a) read before after = after ≡ raised_by read before
 Counts (Err e) read before after = before ≤ after
 
--- and the rows that it read were counted
+-- a statement ended so, and the rows that it read were counted
 pub record Ends {T J : Type 0} (alone : Bool) (old : State) (procedure : Procedure (Turn Places)) (p : Places) (result : Result (Completion T J) NoMemory) (new : State) (before after : ℕ) : Type 0 where
   pub read : ℕ
   pub ends : EndsAt alone old procedure p read result new
   pub counted : Counts result read before after
+
+-- a statement of a session with these places did this over a store, and read no stored row
+abbrev pub Does : {B T J : Type 0} → Backend B T J → B → Procedure (Turn Places) → Places → Result (Completion T J) NoMemory → B → Type 0
+Does b old procedure p result new = EndsAt b.alone (b.state old) procedure p 0 result (b.state new)
+
+-- the same of a statement that may read rows, which were counted
+abbrev pub DoesReading : {B T J : Type 0} → Backend B T J → B → Procedure (Turn Places) → Places → Result (Completion T J) NoMemory → B → ℕ → ℕ → Type 0
+DoesReading b old procedure p result new before after =
+    Ends b.alone (b.state old) procedure p result (b.state new) before after
 
 -- what a statement says and changes, and whether the disk failed
 abbrev pub Completes : {T J : Type 0} → List Said → Change T J → Bool → Result (Completion T J) NoMemory → Type 0

@@ -1,9 +1,9 @@
 -- What may be asked of a store.
-use Rattle.std.specs.Prelude.{◌≡◌, ℕ, ◌+◌, List, [], ◌∷◌, if◌then◌else◌, IsTrue, None}
+use Rattle.std.specs.Prelude.{◌≡◌, ℕ, ◌+◌, List, [], ◌∷◌, if◌then◌else◌, IsTrue, None, IsSome, Some}
 use Rattle.ts_model.specs.declared.views.ViewDef.{ViewDef}
 use Rattle.ts_model.specs.History.{History, position}
 use Rattle.ts_model.specs.declared.rosters.Roster.{Roster}
-use Rattle.ts_model.specs.Roster.{roster, same_name}
+use Rattle.ts_model.specs.Roster.{roster, same_name, view_named, view_of}
 use Rattle.ts_model.specs.Allowed.{all_allowed}
 use Rattle.stmt_reader.specs.declared.statements.Stmt.{Stmt}
 use Rattle.stmt_check.specs.declared.actions.Action.{Action}
@@ -45,5 +45,18 @@ abbrev pub number_from : List ℕ → ℕ → List ViewDef → ℕ
 number_from name k [] = k
 number_from name k (v ∷ vs) = if same_name v.name name then k else number_from name (k + 1) vs
 
+-- the number of the aggregate with a name in a roster
 abbrev pub view_number : Roster → List ℕ → ℕ
 view_number r name = number_from name 0 r.views
+
+-- the number of the aggregate with a name in a history
+abbrev pub number_at : History → List ℕ → ℕ
+number_at h name = view_number (roster h) name
+
+-- that number is the one under which the name stands
+abbrev pub IsNamed : History → List ℕ → Type 0
+IsNamed h name = view_named (roster h) name ≡ Some (number_at h name)
+
+-- and an aggregate has it
+abbrev pub IsThere : History → List ℕ → Type 0
+IsThere h name = IsSome (view_of (roster h) (number_at h name))

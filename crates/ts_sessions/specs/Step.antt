@@ -47,6 +47,7 @@ bare code = record { code = code; pos = 0; mark = 0 }
 abbrev pub placed : ℕ → ℕ → Refusal
 placed code place = record { code = code; pos = 0; mark = place }
 
+-- what can't be read is refused at its place
 abbrev pub misread : Fault → Refusal
 misread (faults.NoToken place) = placed NO_TOKEN place
 misread (faults.Syntax place) = placed SYNTAX place
@@ -74,40 +75,25 @@ kind_of (stmts.Rows table tests) = kinds.Asks
 
 -- why a statement of this kind may not be outside a block, where there is nothing to end
 abbrev pub refusal_outside : Kind → Option Refusal
-refusal_outside kinds.Defines = None
-refusal_outside kinds.Changes = None
-refusal_outside kinds.Asks = None
-refusal_outside kinds.Snaps = None
-refusal_outside kinds.Finishes = None
-refusal_outside kinds.Begins = None
-refusal_outside kinds.BeginsRead = None
 refusal_outside kinds.Commits = Some (bare NO_BLOCK)
 refusal_outside kinds.RollsBack = Some (bare NO_BLOCK)
+refusal_outside other = None
 
 -- and in a write block, which lets changes pass, and what ends it
 abbrev pub refusal_writing : Kind → Option Refusal
-refusal_writing kinds.Defines = Some (bare IN_WRITE_BLOCK)
 refusal_writing kinds.Changes = None
-refusal_writing kinds.Asks = Some (bare IN_WRITE_BLOCK)
-refusal_writing kinds.Snaps = Some (bare IN_WRITE_BLOCK)
-refusal_writing kinds.Finishes = Some (bare IN_WRITE_BLOCK)
-refusal_writing kinds.Begins = Some (bare IN_WRITE_BLOCK)
-refusal_writing kinds.BeginsRead = Some (bare IN_WRITE_BLOCK)
 refusal_writing kinds.Commits = None
 refusal_writing kinds.RollsBack = None
+refusal_writing other = Some (bare IN_WRITE_BLOCK)
 
 -- and in a read block, which lets queries pass, and what ends it
 abbrev pub refusal_reading : Kind → Option Refusal
-refusal_reading kinds.Defines = Some (bare IN_READ_BLOCK)
-refusal_reading kinds.Changes = Some (bare IN_READ_BLOCK)
 refusal_reading kinds.Asks = None
-refusal_reading kinds.Snaps = Some (bare IN_READ_BLOCK)
-refusal_reading kinds.Finishes = Some (bare IN_READ_BLOCK)
-refusal_reading kinds.Begins = Some (bare IN_READ_BLOCK)
-refusal_reading kinds.BeginsRead = Some (bare IN_READ_BLOCK)
 refusal_reading kinds.Commits = None
 refusal_reading kinds.RollsBack = None
+refusal_reading other = Some (bare IN_READ_BLOCK)
 
+-- and in any block
 abbrev pub block_refusal : Block → Kind → Option Refusal
 block_refusal none kind = refusal_outside kind
 block_refusal (writing ops bytes) kind = refusal_writing kind
@@ -138,16 +124,19 @@ taken_of h c (Waiting n) = Ok (record { at = position h; reads = job_reads h c }
 taken_of h c (Finished f) = Err (refusal no_refresh h f)
 taken_of h c Unknown = Err (refusal no_refresh h 0)
 
+-- a snapshot of a history for a refresh
 abbrev pub taken : ℕ → History → Result Taken Refusal
 taken c h = taken_of h c (pending h c)
 
--- the three phases of a refresh, each with one look: its cut, a snapshot, and its finish
+-- the three phases of a refresh, each with one look. Its cut
 abbrev pub cuts_refresh : ℕ → Option ℤ → Option ℤ → Procedure (Result CutDone Refusal)
 cuts_refresh n lo hi = tries (cutting n lo hi)
 
+-- its snapshot
 abbrev pub takes_snapshot : ℕ → Procedure (Result Taken Refusal)
 takes_snapshot c = looks (λ h. ends (taken c h))
 
+-- its finish, with the snapshot at a position
 abbrev pub finishes_refresh : ℕ → ℕ → Procedure (Result ℕ Refusal)
 finishes_refresh c at = tries (finishing c at)
 
@@ -190,6 +179,7 @@ abbrev pub view_made : Places → ℕ → ℤ → ℕ → Bool → Procedure (Tu
 view_made p n min k false = ends (turns p (said.View k))
 view_made p n min k true = ending_as (after_line (said.View k)) (refreshes p n None None min)
 
+-- whether an aggregate was made or not
 abbrev pub after_view : Places → ℕ → ViewDef → Bool → Result ℕ Refusal → Procedure (Turn Places)
 after_view p n def filled (Ok k) = view_made p n (first_of def.fold.width) k filled
 after_view p n def filled (Err r) = ends (refuses p r)
@@ -209,6 +199,7 @@ abbrev pub snap_turn : Places → ℕ → Result Taken Refusal → Turn Places
 snap_turn p c (Ok t) = record { places = holds c t.at p; said = said.Snap c t.at ∷ []; reads = t.reads }
 snap_turn p c (Err r) = refuses p r
 
+-- a snapshot for the refresh that is meant, if one is
 abbrev pub snaps : Places → History → Option ℕ → Turn Places
 snaps p h None = refuses p (refusal no_refresh h 0)
 snaps p h (Some c) = snap_turn p c (taken c h)
@@ -224,10 +215,12 @@ abbrev pub finish_turn : Places → ℕ → ℕ → Result ℕ Refusal → Turn 
 finish_turn p c at (Ok k) = turns (gives_up c p) (said.Finish c k at)
 finish_turn p c at (Err r) = refuses p r
 
+-- a refresh is finished with the snapshot at this position, if the session holds one for it
 abbrev pub finishes_held : Places → History → ℕ → Option ℕ → Procedure (Turn Places)
 finishes_held p h c None = ends (refuses p (unfinished NO_SNAPSHOT h (pending h c)))
 finishes_held p h c (Some at) = ending_as (finish_turn p c at) (tries_at h (finishing c at h))
 
+-- the refresh that is meant is finished, if one is
 abbrev pub finishes : Places → History → Option ℕ → Procedure (Turn Places)
 finishes p h None = ends (refuses p (refusal no_refresh h 0))
 finishes p h (Some c) = finishes_held p h c (held_for c p.held)
@@ -255,6 +248,7 @@ abbrev pub committed : Places → Places → Result Committed Refusal → Turn P
 committed p after (Ok done) = turns after (said.Commit done)
 committed p after (Err r) = refuses p r
 
+-- operations are to take effect at a history, and the session then has these places
 abbrev pub commits : Places → Places → History → List Op → Procedure (Turn Places)
 commits p after h ops = ending_as (committed p after) (tries_at h (committing ops h))
 
@@ -317,46 +311,27 @@ read_at (reading at) h = prefix h at
 abbrev pub makes_event : Kind → Bool
 makes_event kinds.Defines = true
 makes_event kinds.Changes = true
-makes_event kinds.Asks = false
-makes_event kinds.Snaps = false
-makes_event kinds.Finishes = false
-makes_event kinds.Begins = false
-makes_event kinds.BeginsRead = false
-makes_event kinds.Commits = false
-makes_event kinds.RollsBack = false
+makes_event other = false
 
--- a statement that makes an event, outside a block: its names are looked at first, and the reply prints where only if they are refused. Then the event has its own look
+-- a statement that makes an event, whose names were looked at in a history, and refused or not: the event has a look of its own
 abbrev pub passed_first : Places → ℕ → History → Stmt → Option Refusal → Procedure (Turn Places)
 passed_first p bytes g stmt (Some r) = ends (refuses p r)
 passed_first p bytes g stmt None = looks (λ h. acts p bytes h (action_of (roster g) stmt))
 
+-- a statement that makes an event, outside a block: its names are looked at first, and the reply prints where only if they are refused
 abbrev pub named_first : Places → ℕ → Stmt → Procedure (Turn Places)
 named_first p bytes stmt = sees (λ h. is_some (refusal_of (position h) (roster h) stmt)) (λ h. passed_first p bytes h stmt (refusal_of (position h) (roster h) stmt))
 
 -- the reply to any other statement outside a block prints its look, unless it only begins a block
 abbrev pub begins : Kind → Bool
-begins kinds.Defines = false
-begins kinds.Changes = false
-begins kinds.Asks = false
-begins kinds.Snaps = false
-begins kinds.Finishes = false
 begins kinds.Begins = true
-begins kinds.BeginsRead = false
-begins kinds.Commits = false
-begins kinds.RollsBack = false
+begins other = false
 
 -- in a write block with these operations it prints where names are refused, or the operations take effect
 abbrev pub prints_writing : List Op → Kind → Option Refusal → Bool
-prints_writing ops kinds.Defines r = false
 prints_writing ops kinds.Changes r = is_some r
-prints_writing ops kinds.Asks r = false
-prints_writing ops kinds.Snaps r = false
-prints_writing ops kinds.Finishes r = false
-prints_writing ops kinds.Begins r = false
-prints_writing ops kinds.BeginsRead r = false
-prints_writing [] kinds.Commits r = false
 prints_writing (op ∷ ops) kinds.Commits r = true
-prints_writing ops kinds.RollsBack r = false
+prints_writing ops other r = false
 
 -- in a read block it prints the position of the block, whatever the look was
 abbrev pub prints : Block → Kind → Option Refusal → Bool
@@ -374,16 +349,22 @@ performs_in p bytes stmt none = cond (makes_event (kind_of stmt)) (named_first p
 performs_in p bytes stmt (writing ops n) = named_here p bytes stmt
 performs_in p bytes stmt (reading at) = named_here p bytes stmt
 
+-- the same in the block of its session
 abbrev pub performs : Places → ℕ → Stmt → Procedure (Turn Places)
 performs p bytes stmt = performs_in p bytes stmt p.block
 
+-- a statement that its session's block refuses, or lets pass
 abbrev pub let_pass : Places → ℕ → Stmt → Option Refusal → Procedure (Turn Places)
 let_pass p bytes stmt (Some r) = ends (refuses p r)
 let_pass p bytes stmt None = performs p bytes stmt
 
+-- a statement, by what its session's block says to its kind
+abbrev pub passes_block : Places → ℕ → Stmt → Procedure (Turn Places)
+passes_block p bytes stmt = let_pass p bytes stmt (block_refusal p.block (kind_of stmt))
+
 -- what was read of a text of so many bytes
 abbrev pub reads_as : Places → ℕ → Result (Stmt × Stream) Fault → Procedure (Turn Places)
-reads_as p bytes (Ok read) = let_pass p bytes read.0 (block_refusal p.block (kind_of read.0))
+reads_as p bytes (Ok read) = passes_block p bytes read.0
 reads_as p bytes (Err f) = ends (refuses p (misread f))
 
 -- a line of a session with these places: its text before the comment, in which a statement stands after the first `skip` bytes

@@ -12,6 +12,7 @@ use Rattle.ts_sessions.specs.declared.tries.Tried.TheVariants as tried
 abbrev pub stopped_at : ℕ → Refusal
 stopped_at position = record { code = stopped; pos = position; mark = 0 }
 
+-- this came of the answer of a call, where the store has this position
 abbrev pub IsTried : {A : Type 0} → ℕ → Outcome A → Result (Tried A) NoMemory → Type 0
 IsTried position (outcomes.Done a) (Ok t) = t ≡ tried.Done a
 IsTried position (outcomes.Done a) (Err e) = ⊥

@@ -80,7 +80,9 @@ pub trait Actor {
         requires within { skip ≤ length text.now }
         requires room { Self.waiting self.old + length text.now ≤ most_queued }
         requires holds { Self.holds self.old (B.state backend.old) }
-        ensures stepped { Stepped B.alone (B.state backend.old) (Self.semantics.does (Self.places self.old) text.now skip) (Self.named self.old) result (B.state backend.new) (Self.places self.new) steps.old steps.new }
+        ensures stepped { Stepped B.alone (B.state backend.old)
+            (Self.semantics.does (Self.places self.old) text.now skip) (Self.named self.old) result
+            (B.state backend.new) (Self.places self.new) steps.old steps.new }
         ensures name { Self.named self.new ≡ Self.named self.old }
         ensures number { Self.numbered self.new ≡ Self.numbered self.old }
         ensures waiting { Self.waiting self.new ≤ Self.waiting self.old + length text.now }
@@ -94,7 +96,7 @@ impl<T: Shown + Drop> Actor for Session<T>
 where
     T::Job: Drop,
 {
-    ghost use Rattle.ts_sessions.specs.Held.{HoldsOf, places_in, queued as queued_in};
+    ghost use Rattle.ts_sessions.specs.Held.{HoldsOf, places_in, waiting_bytes};
     ghost use Rattle.ts_sessions.specs.Places.{Places};
     ghost use Rattle.ts_sessions.specs.Script.{session_semantics};
     ghost use Rattle.ts_sessions.specs.Holding.{holds_on as goes_on};
@@ -111,13 +113,13 @@ where
 
     ghost numbered = { λ s. s.number };
 
-    ghost waiting = { λ s. queued_in (places_in s).block };
+    ghost waiting = { λ s. waiting_bytes s };
 
     ghost within = { λ p. p.block };
 
-    ghost holds = { λ s h. HoldsOf T.stands T.fits T.cut_of T.snap_of s h };
+    ghost holds = { λ s h. HoldsOf T.Shown s h };
 
-    ghost holds_on = { λ s g h b k. goes_on T.stands T.fits T.cut_of T.snap_of T.fits_on s g h b k };
+    ghost holds_on = { λ s g h b k. goes_on T.Shown.own T.fits_on s g h b k };
 
     fn begin(alloc: Global, name: Name, number: u32) -> Session<T> {
         Session::new(alloc, name, number)

@@ -1,17 +1,15 @@
 //! Statements that begin or end blocks, and the phases of refreshes that a session holds snapshots for.
 ghost use Rattle.std.specs.Prelude.{◌≡◌, ℕ, ◌<◌, ◌≤◌, ◌^◌, Bool, [], ◌∷◌, ◌==◌, false, length, IfOk, OnOk, OnErr, IsTrue};
 ghost use Rattle.std.specs.Thread.{IsSync};
-ghost use Rattle.ts_model.specs.Pending.{pending};
-ghost use Rattle.ts_model.specs.Calls.{no_refresh, refusal};
 ghost use Rattle.ts_model.specs.States.{State};
 ghost use Rattle.stmt_check.specs.Sound.{IsQueue};
 ghost use Rattle.stmt_reader.specs.declared.statements.Stmt.TheVariants as stmts;
-ghost use Rattle.ts_sessions.specs.Procedures.{ending_as, ends, looks};
 ghost use Rattle.ts_sessions.specs.Held.{HoldsBlock, HoldsOf, is_lost, most_queued, places_in};
-ghost use Rattle.ts_sessions.specs.Places.{Places, held_for, none, refuses, writing};
-ghost use Rattle.ts_sessions.specs.Sessions.{BringsLittle, BringsNothing, ChangeHolds, Ends, EndsAt, Completes, Spares};
+ghost use Rattle.ts_sessions.specs.Places.{Places, none, writing};
+ghost use Rattle.ts_sessions.specs.Sessions.{Brings, BringsLittle, BringsNothing, Completes, EndsAt, Spares, Does, DoesReading};
 ghost use Rattle.ts_sessions.specs.Jobs.{TakesJob, took_of};
-ghost use Rattle.ts_sessions.specs.Step.{finish_turn, finishes, finishes_held, finishes_refresh, performs, refresh_meant, snap_turn, snaps, takes_snapshot, unfinished};
+ghost use Rattle.ts_sessions.specs.Step.{performs};
+ghost use Rattle.ts_sessions.specs.Parts.{finishes_cut, finishes_meant, finishes_with, refuses_unfinished, refuses_unknown, snaps_cut, snaps_meant};
 
 use crate::blocks::{Open, Queue};
 use crate::changes::{Change, Completion, failed, refused, reply_with};
@@ -41,8 +39,9 @@ enum Held<J> {
 pub(crate) fn begin<T: Shown + Drop>(alloc: Global) -> Result<Completion<T>, NoMemory>
 where
     T::Job: Drop,
-    ensures ends { (alone : Bool) (s : State) (p : Places) (bytes : ℕ) → EndsAt alone s (performs p bytes stmts.Begin) p 0 result s }
-    ensures change { (s : State) (bytes : ℕ) → IfOk result (λ t. ChangeHolds T.stands T.fits T.cut_of T.snap_of bytes t.change s.history) }
+    ensures ends { (alone : Bool) (s : State) (p : Places) (bytes : ℕ) →
+        EndsAt alone s (performs p bytes stmts.Begin) p 0 result s }
+    ensures change { (s : State) (bytes : ℕ) → Brings T.Shown bytes result s.history }
 {
     reply_with(
         alloc,
@@ -68,8 +67,9 @@ pub(crate) fn begin_read<B: Backend>(
 ) -> Result<Completion<B::Shot>, NoMemory>
 where
     <B::Shot as Shown>::Job: Drop,
-    ensures ends { (p : Places) (bytes : ℕ) → p.block ≡ none → EndsAt B.alone (B.state backend.old) (performs p bytes stmts.BeginRead) p 0 result (B.state backend.new) }
-    ensures change { (bytes : ℕ) → IfOk result (λ t. ChangeHolds B.Shot.stands B.Shot.fits B.Shot.cut_of B.Shot.snap_of bytes t.change (B.state backend.new).history) }
+    ensures ends { (p : Places) (bytes : ℕ) → p.block ≡ none →
+        Does B.Backend backend.old (performs p bytes stmts.BeginRead) p result backend.new }
+    ensures change { (bytes : ℕ) → Brings B.Shot.Shown bytes result (B.state backend.new).history }
     ensures kin { B.kin backend.new ≡ B.kin backend.old }
 {
     let shot = backend.snap()?;
@@ -101,7 +101,8 @@ where
         backend: &mut B,
     ) -> Result<Completion<T>, NoMemory>
         requires block { HoldsBlock T.stands self.now.block (B.state backend.old).history }
-        ensures ends { (bytes : ℕ) → EndsAt B.alone (B.state backend.old) (performs (places_in self.now) bytes stmts.Commit) (places_in self.now) 0 result (B.state backend.new) }
+        ensures ends { (bytes : ℕ) → Does B.Backend backend.old
+            (performs (places_in self.now) bytes stmts.Commit) (places_in self.now) result backend.new }
         ensures change { IfOk result (λ t. BringsLittle t.change) }
         ensures kin { B.kin backend.new ≡ B.kin backend.old }
     {
@@ -114,7 +115,8 @@ where
 
     /// Gives a block up.
     pub(crate) fn roll_back(&self, alloc: Global) -> Result<Completion<T>, NoMemory>
-        ensures ends { (alone : Bool) (s : State) (bytes : ℕ) → EndsAt alone s (performs (places_in self.now) bytes stmts.Rollback) (places_in self.now) 0 result s }
+        ensures ends { (alone : Bool) (s : State) (bytes : ℕ) →
+            EndsAt alone s (performs (places_in self.now) bytes stmts.Rollback) (places_in self.now) 0 result s }
         ensures change { IfOk result (λ t. BringsLittle t.change) }
     {
         match &self.block {
@@ -135,8 +137,9 @@ where
     ) -> Result<Completion<T>, NoMemory>
         requires sync { IsSync R.row }
         requires counts { steps.old < 2 ^ 64 }
-        ensures ends { Ends B.alone (B.state backend.old) (looks (λ h. ends (snaps (places_in self.now) h (refresh_meant (places_in self.now) number)))) (places_in self.now) result (B.state backend.new) steps.old steps.new }
-        ensures change { (bytes : ℕ) → IfOk result (λ t. ChangeHolds T.stands T.fits T.cut_of T.snap_of bytes t.change (B.state backend.new).history) }
+        ensures ends { DoesReading B.Backend backend.old (snaps_meant (places_in self.now) number) (places_in self.now)
+            result backend.new steps.old steps.new }
+        ensures change { (bytes : ℕ) → Brings T.Shown bytes result (B.state backend.new).history }
         ensures kin { B.kin backend.new ≡ B.kin backend.old }
     {
         match self.meant(number) {
@@ -153,14 +156,15 @@ where
         gate: &G,
         number: Option<i64>,
     ) -> Result<Completion<T>, NoMemory>
-        requires holds { HoldsOf T.stands T.fits T.cut_of T.snap_of self.old (B.state backend.old) }
-        ensures ends { EndsAt B.alone (B.state backend.old) (looks (λ h. finishes (places_in self.old) h (refresh_meant (places_in self.old) number))) (places_in self.old) 0 result (B.state backend.new) }
+        requires holds { HoldsOf T.Shown self.old (B.state backend.old) }
+        ensures ends { Does B.Backend backend.old (finishes_meant (places_in self.old) number) (places_in self.old)
+            result backend.new }
         ensures change { IfOk result (λ t. BringsNothing t.change) }
         ensures places { OnOk result (places_in self.new ≡ places_in self.old) }
         ensures spared { OnErr result (Spares (places_in self.old) (places_in self.new)) }
         ensures name { self.new.name ≡ self.old.name }
         ensures number { self.new.number ≡ self.old.number }
-        ensures holds { HoldsOf T.stands T.fits T.cut_of T.snap_of self.new (B.state backend.new) }
+        ensures holds { HoldsOf T.Shown self.new (B.state backend.new) }
         ensures kin { B.kin backend.new ≡ B.kin backend.old }
     {
         match self.meant(number) {
@@ -177,14 +181,15 @@ where
         gate: &G,
         cut: u64,
     ) -> Result<Completion<T>, NoMemory>
-        requires holds { HoldsOf T.stands T.fits T.cut_of T.snap_of self.old (B.state backend.old) }
-        ensures ends { EndsAt B.alone (B.state backend.old) (looks (λ h. finishes_held (places_in self.old) h cut (held_for cut (places_in self.old).held))) (places_in self.old) 0 result (B.state backend.new) }
+        requires holds { HoldsOf T.Shown self.old (B.state backend.old) }
+        ensures ends { Does B.Backend backend.old (finishes_cut (places_in self.old) cut) (places_in self.old)
+            result backend.new }
         ensures change { IfOk result (λ t. BringsNothing t.change) }
         ensures places { OnOk result (places_in self.new ≡ places_in self.old) }
         ensures spared { OnErr result (Spares (places_in self.old) (places_in self.new)) }
         ensures name { self.new.name ≡ self.old.name }
         ensures number { self.new.number ≡ self.old.number }
-        ensures holds { HoldsOf T.stands T.fits T.cut_of T.snap_of self.new (B.state backend.new) }
+        ensures holds { HoldsOf T.Shown self.new (B.state backend.new) }
         ensures kin { B.kin backend.new ≡ B.kin backend.old }
     {
         match self.take_job(cut) {
@@ -237,7 +242,8 @@ where
     <B::Shot as Shown>::Job: Drop,
     requires sound { IsQueue (B.state backend.old).history queue.now.bytes queue.now.ops }
     requires fits { queue.now.bytes ≤ most_queued }
-    ensures ends { (p : Places) (bytes : ℕ) → p.block ≡ writing queue.now.ops queue.now.bytes → EndsAt B.alone (B.state backend.old) (performs p bytes stmts.Commit) p 0 result (B.state backend.new) }
+    ensures ends { (p : Places) (bytes : ℕ) → p.block ≡ writing queue.now.ops queue.now.bytes →
+        Does B.Backend backend.old (performs p bytes stmts.Commit) p result backend.new }
     ensures change { IfOk result (λ t. BringsLittle t.change) }
     ensures kin { B.kin backend.new ≡ B.kin backend.old }
 {
@@ -258,7 +264,8 @@ where
     requires sound { IsQueue (B.state backend.old).history queue.now.bytes queue.now.ops }
     requires fits { queue.now.bytes ≤ most_queued }
     requires some { (length queue.now.ops == 0) ≡ false }
-    ensures ends { (p : Places) (bytes : ℕ) → p.block ≡ writing queue.now.ops queue.now.bytes → EndsAt B.alone (B.state backend.old) (performs p bytes stmts.Commit) p 0 result (B.state backend.new) }
+    ensures ends { (p : Places) (bytes : ℕ) → p.block ≡ writing queue.now.ops queue.now.bytes →
+        Does B.Backend backend.old (performs p bytes stmts.Commit) p result backend.new }
     ensures change { IfOk result (λ t. BringsLittle t.change) }
     ensures kin { B.kin backend.new ≡ B.kin backend.old }
 {
@@ -282,8 +289,9 @@ where
     <B::Shot as Shown>::Job: Drop,
     requires sync { IsSync R.row }
     requires counts { steps.old < 2 ^ 64 }
-    ensures ends { (p : Places) → Ends B.alone (B.state backend.old) (ending_as (snap_turn p cut) (takes_snapshot cut)) p result (B.state backend.new) steps.old steps.new }
-    ensures change { (bytes : ℕ) → IfOk result (λ t. ChangeHolds B.Shot.stands B.Shot.fits B.Shot.cut_of B.Shot.snap_of bytes t.change (B.state backend.new).history) }
+    ensures ends { (p : Places) →
+        DoesReading B.Backend backend.old (snaps_cut p cut) p result backend.new steps.old steps.new }
+    ensures change { (bytes : ℕ) → Brings B.Shot.Shown bytes result (B.state backend.new).history }
     ensures kin { B.kin backend.new ≡ B.kin backend.old }
 {
     match take_snapshot(rt, backend, cut, steps)? {
@@ -310,7 +318,7 @@ where
     requires fits { B.Shot.fits job (B.state backend.old).history }
     requires cut { B.Shot.cut_of job ≡ cut }
     requires snap { B.Shot.snap_of job ≡ at }
-    ensures ends { (p : Places) → EndsAt B.alone (B.state backend.old) (ending_as (finish_turn p cut at) (finishes_refresh cut at)) p 0 result (B.state backend.new) }
+    ensures ends { (p : Places) → Does B.Backend backend.old (finishes_with p cut at) p result backend.new }
     ensures lost { OnOk result (IsTrue (is_lost (B.state backend.new) cut)) }
     ensures change { IfOk result (λ t. BringsNothing t.change) }
     ensures kin { B.kin backend.new ≡ B.kin backend.old }
@@ -332,7 +340,7 @@ fn refuse_unknown<B: Backend>(
 ) -> Result<Completion<B::Shot>, NoMemory>
 where
     <B::Shot as Shown>::Job: Drop,
-    ensures ends { (p : Places) → EndsAt B.alone (B.state backend.old) (looks (λ h. ends (refuses p (refusal no_refresh h 0)))) p 0 result (B.state backend.new) }
+    ensures ends { (p : Places) → Does B.Backend backend.old (refuses_unknown p) p result backend.new }
     ensures change { IfOk result (λ t. BringsNothing t.change) }
     ensures kin { B.kin backend.new ≡ B.kin backend.old }
 {
@@ -350,7 +358,8 @@ fn refuse_finish<B: Backend>(
 ) -> Result<Completion<B::Shot>, NoMemory>
 where
     <B::Shot as Shown>::Job: Drop,
-    ensures ends { (p : Places) → EndsAt B.alone (B.state backend.old) (looks (λ h. ends (refuses p (unfinished waiting h (pending h cut))))) p 0 result (B.state backend.new) }
+    ensures ends { (p : Places) →
+        Does B.Backend backend.old (refuses_unfinished p waiting cut) p result backend.new }
     ensures change { IfOk result (λ t. BringsNothing t.change) }
     ensures kin { B.kin backend.new ≡ B.kin backend.old }
 {

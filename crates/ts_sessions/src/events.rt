@@ -1,17 +1,17 @@
 //! Statements that make one event, or make an aggregate with data.
-ghost use Rattle.std.specs.Prelude.{◌≡◌, ℕ, ◌<◌, ◌^◌, ◌∷◌, [], length, Some, None, IsSome, IsTrue, IfOk};
+ghost use Rattle.std.specs.Prelude.{◌≡◌, ◌<◌, ◌^◌, ◌∷◌, [], length, None, IsTrue, IfOk, true};
 ghost use Rattle.std.specs.Thread.{IsSync};
 ghost use Rattle.ts_bucket.specs.Bucket.{first_of};
 ghost use Rattle.ts_model.specs.declared.events.Event.TheVariants.{Table, Hyper as HyperMade, View, Mode, Commit};
 ghost use Rattle.ts_model.specs.Sound.{sound};
-ghost use Rattle.ts_model.specs.Calls.{committing, making_hyper, making_table, making_view, setting_mode};
-ghost use Rattle.ts_model.specs.Roster.{roster, view_named, view_of};
+ghost use Rattle.ts_model.specs.Calls.{committing};
 ghost use Rattle.result_text.specs.declared.replies.Said.TheVariants as said;
-ghost use Rattle.ts_sessions.specs.Procedures.{ending_as, followed_by, looks, tries, tries_at};
+ghost use Rattle.ts_sessions.specs.Procedures.{tries};
 ghost use Rattle.ts_sessions.specs.Places.{Places};
-ghost use Rattle.ts_sessions.specs.Sessions.{BringsNothing, Ends, EndsAt, Tries};
-ghost use Rattle.ts_sessions.specs.Sound.{number_from, view_number as number_of};
-ghost use Rattle.ts_sessions.specs.Step.{after_line, after_view, committed, refreshes, reported, view_made};
+ghost use Rattle.ts_sessions.specs.Sessions.{BringsNothing, Tries, Does, DoesReading};
+ghost use Rattle.ts_sessions.specs.Sound.{number_from, number_at, IsNamed, IsThere};
+ghost use Rattle.ts_sessions.specs.Step.{view_made};
+ghost use Rattle.ts_sessions.specs.Parts.{commits_now, makes_hyper, makes_table, makes_view, sets_mode};
 
 use crate::changes::{Change, Completion, failed, refused, reply_line};
 use crate::refreshes::{Asked, refresh};
@@ -33,7 +33,7 @@ pub(crate) fn make_table<B: Backend>(
 where
     <B::Shot as Shown>::Job: Drop,
     requires { IsTrue (sound (B.state backend.old).history (Table def)) }
-    ensures ends { (p : Places) → EndsAt B.alone (B.state backend.old) (ending_as (reported p said.Table) (tries (making_table def))) p 0 result (B.state backend.new) }
+    ensures ends { (p : Places) → Does B.Backend backend.old (makes_table p def) p result backend.new }
     ensures change { IfOk result (λ t. BringsNothing t.change) }
     ensures kin { B.kin backend.new ≡ B.kin backend.old }
 {
@@ -56,7 +56,7 @@ pub(crate) fn make_hyper<B: Backend>(
 where
     <B::Shot as Shown>::Job: Drop,
     requires { IsTrue (sound (B.state backend.old).history (HyperMade table hyper)) }
-    ensures ends { (p : Places) → EndsAt B.alone (B.state backend.old) (ending_as (reported p said.Hypertable) (tries (making_hyper table hyper))) p 0 result (B.state backend.new) }
+    ensures ends { (p : Places) → Does B.Backend backend.old (makes_hyper p table hyper) p result backend.new }
     ensures change { IfOk result (λ t. BringsNothing t.change) }
     ensures kin { B.kin backend.new ≡ B.kin backend.old }
 {
@@ -79,7 +79,7 @@ pub(crate) fn set_mode<B: Backend>(
 where
     <B::Shot as Shown>::Job: Drop,
     requires { IsTrue (sound (B.state backend.old).history (Mode view only)) }
-    ensures ends { (p : Places) → EndsAt B.alone (B.state backend.old) (ending_as (reported p said.Mode) (tries (setting_mode view only))) p 0 result (B.state backend.new) }
+    ensures ends { (p : Places) → Does B.Backend backend.old (sets_mode p view only) p result backend.new }
     ensures change { IfOk result (λ t. BringsNothing t.change) }
     ensures kin { B.kin backend.new ≡ B.kin backend.old }
 {
@@ -101,7 +101,7 @@ pub(crate) fn change<B: Backend>(
 where
     <B::Shot as Shown>::Job: Drop,
     requires { IsTrue (sound (B.state backend.old).history (Commit (op ∷ []))) }
-    ensures ends { (p : Places) → EndsAt B.alone (B.state backend.old) (ending_as (committed p p) (tries (committing (op ∷ [])))) p 0 result (B.state backend.new) }
+    ensures ends { (p : Places) → Does B.Backend backend.old (commits_now p (op ∷ [])) p result backend.new }
     ensures change { IfOk result (λ t. BringsNothing t.change) }
     ensures kin { B.kin backend.new ≡ B.kin backend.old }
 {
@@ -121,7 +121,7 @@ fn commit_alone<B: Backend>(
 where
     <B::Shot as Shown>::Job: Drop,
     requires { IsTrue (sound (B.state backend.old).history (Commit ops)) }
-    ensures ends { (p : Places) → EndsAt B.alone (B.state backend.old) (ending_as (committed p p) (tries (committing ops))) p 0 result (B.state backend.new) }
+    ensures ends { (p : Places) → Does B.Backend backend.old (commits_now p ops) p result backend.new }
     ensures change { IfOk result (λ t. BringsNothing t.change) }
     ensures kin { B.kin backend.new ≡ B.kin backend.old }
 {
@@ -172,7 +172,8 @@ where
     requires sync { IsSync R.row }
     requires counts { steps.old < 2 ^ 64 }
     requires sound { IsTrue (sound (B.state backend.old).history (View def)) }
-    ensures ends { (p : Places) → Ends B.alone (B.state backend.old) (looks (λ h. followed_by (tries_at h (making_view def h)) (after_view p (length (roster h).views) def filled))) p result (B.state backend.new) steps.old steps.new }
+    ensures ends { (p : Places) →
+        DoesReading B.Backend backend.old (makes_view p def filled) p result backend.new steps.old steps.new }
     ensures change { IfOk result (λ t. BringsNothing t.change) }
     ensures kin { B.kin backend.new ≡ B.kin backend.old }
 {
@@ -225,11 +226,11 @@ where
     <B::Shot as Shown>::Job: Drop,
     requires sync { IsSync R.row }
     requires counts { steps.old < 2 ^ 64 }
-    requires named { view_named (roster (B.state backend.old).history) new.now.name ≡ Some (number_of (roster (B.state backend.old).history) new.now.name) }
-    requires there { IsSome (view_of (roster (B.state backend.old).history) (number_of (roster (B.state backend.old).history) new.now.name)) }
-    ensures ends { (p : Places) → Ends B.alone (B.state backend.old)
-        (view_made p (number_of (roster (B.state backend.old).history) new.now.name) (first_of new.now.width) number filled)
-        p result (B.state backend.new) steps.old steps.new }
+    requires named { IsNamed (B.state backend.old).history new.now.name }
+    requires there { IsThere (B.state backend.old).history new.now.name }
+    ensures ends { (p : Places) → DoesReading B.Backend backend.old
+        (view_made p (number_at (B.state backend.old).history new.now.name) (first_of new.now.width) number filled)
+        p result backend.new steps.old steps.new }
     ensures change { IfOk result (λ t. BringsNothing t.change) }
     ensures kin { B.kin backend.new ≡ B.kin backend.old }
 {
@@ -254,11 +255,11 @@ where
     <B::Shot as Shown>::Job: Drop,
     requires sync { IsSync R.row }
     requires counts { steps.old < 2 ^ 64 }
-    requires named { view_named (roster (B.state backend.old).history) new.now.name ≡ Some (number_of (roster (B.state backend.old).history) new.now.name) }
-    requires there { IsSome (view_of (roster (B.state backend.old).history) (number_of (roster (B.state backend.old).history) new.now.name)) }
-    ensures ends { (p : Places) → Ends B.alone (B.state backend.old)
-        (ending_as (after_line (said.View number)) (refreshes p (number_of (roster (B.state backend.old).history) new.now.name) None None (first_of new.now.width)))
-        p result (B.state backend.new) steps.old steps.new }
+    requires named { IsNamed (B.state backend.old).history new.now.name }
+    requires there { IsThere (B.state backend.old).history new.now.name }
+    ensures ends { (p : Places) → DoesReading B.Backend backend.old
+        (view_made p (number_at (B.state backend.old).history new.now.name) (first_of new.now.width) number true)
+        p result backend.new steps.old steps.new }
     ensures change { IfOk result (λ t. BringsNothing t.change) }
     ensures kin { B.kin backend.new ≡ B.kin backend.old }
 {

@@ -8,7 +8,7 @@ ghost use Rattle.stmt_check.specs.declared.actions.Action.TheVariants as actions
 ghost use Rattle.ts_sessions.specs.Procedures.{looks};
 ghost use Rattle.ts_sessions.specs.declared.kinds.Kind.TheVariants.{Changes};
 ghost use Rattle.ts_sessions.specs.Places.{Places, none, writing};
-ghost use Rattle.ts_sessions.specs.Sessions.{BringsNothing, ChangeHolds, Ends, EndsAt};
+ghost use Rattle.ts_sessions.specs.Sessions.{BringsNothing, Brings, Does, DoesReading};
 ghost use Rattle.ts_sessions.specs.Sound.{AsksSoundly, kind_of_action};
 ghost use Rattle.ts_sessions.specs.Step.{acts, kind_of, least_start as least_start_of, makes_event, named_first, performs};
 
@@ -41,7 +41,8 @@ where
     requires counts { steps.old < 2 ^ 64 }
     requires sound { (bytes : ℕ) × AsksSoundly bytes stmt.now }
     requires makes { IsTrue (makes_event (kind_of stmt.now)) }
-    ensures ends { (p : Places) (bytes : ℕ) → p.block ≡ none → Ends B.alone (B.state backend.old) (named_first p bytes stmt.now) p result (B.state backend.new) steps.old steps.new }
+    ensures ends { (p : Places) (bytes : ℕ) → p.block ≡ none →
+        DoesReading B.Backend backend.old (named_first p bytes stmt.now) p result backend.new steps.old steps.new }
     ensures change { IfOk result (λ t. BringsNothing t.change) }
     ensures kin { B.kin backend.new ≡ B.kin backend.old }
 {
@@ -71,7 +72,8 @@ where
     requires sound { (bytes : ℕ) × IsSound (B.state backend.old).history bytes action }
     requires makes { IsTrue (makes_event (kind_of_action action)) }
     requires stands { B.Shot.stands shot.now (B.state backend.old).history }
-    ensures ends { (p : Places) (bytes : ℕ) → p.block ≡ none → Ends B.alone (B.state backend.old) (looks (λ h. acts p bytes h action)) p result (B.state backend.new) steps.old steps.new }
+    ensures ends { (p : Places) (bytes : ℕ) → p.block ≡ none → DoesReading B.Backend backend.old
+        (looks (λ h. acts p bytes h action)) p result backend.new steps.old steps.new }
     ensures change { IfOk result (λ t. BringsNothing t.change) }
     ensures kin { B.kin backend.new ≡ B.kin backend.old }
 {
@@ -125,8 +127,9 @@ where
     <B::Shot as Shown>::Job: Drop,
     requires sound { AsksSoundly bytes stmt.now }
     requires changes { kind_of stmt.now ≡ Changes }
-    ensures ends { (p : Places) (ops : List Op) (n : ℕ) → p.block ≡ writing ops n → EndsAt B.alone (B.state backend.old) (performs p bytes stmt.now) p 0 result (B.state backend.new) }
-    ensures change { IfOk result (λ t. ChangeHolds B.Shot.stands B.Shot.fits B.Shot.cut_of B.Shot.snap_of bytes t.change (B.state backend.new).history) }
+    ensures ends { (p : Places) (ops : List Op) (n : ℕ) → p.block ≡ writing ops n →
+        Does B.Backend backend.old (performs p bytes stmt.now) p result backend.new }
+    ensures change { Brings B.Shot.Shown bytes result (B.state backend.new).history }
     ensures kin { B.kin backend.new ≡ B.kin backend.old }
 {
     let shot = backend.snap()?;

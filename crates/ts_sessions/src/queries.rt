@@ -48,7 +48,8 @@ where
     requires sound { (bytes : ℕ) × AsksSoundly bytes stmt.now }
     requires asks { kind_of stmt.now ≡ Asks }
     requires stands { StandsForAllowed T.stands shot.now }
-    ensures ends { (h : History) → T.stands shot.now h → (p : Places) (bytes : ℕ) (alone : Bool) (s : State) → Ends alone s (named p bytes stmt.now h) p result s steps.old steps.new }
+    ensures ends { (h : History) → T.stands shot.now h → (p : Places) (bytes : ℕ) (alone : Bool) (s : State) →
+        Ends alone s (named p bytes stmt.now h) p result s steps.old steps.new }
     ensures change { IfOk result (λ t. BringsNothing t.change) }
 {
     match check(alloc, stmt, shot.roster(), shot.position()) {
@@ -74,7 +75,8 @@ where
     requires sync { IsSync R.row }
     requires counts { steps.old < 2 ^ 64 }
     requires asks { (h : History) → T.stands shot.now h → IsTrue (can_ask (roster_of h) plan.query) }
-    ensures ends { (h : History) → T.stands shot.now h → (p : Places) (alone : Bool) (s : State) → Ends alone s (ends (answers p h plan)) p result s steps.old steps.new }
+    ensures ends { (h : History) → T.stands shot.now h → (p : Places) (alone : Bool) (s : State) →
+        Ends alone s (ends (answers p h plan)) p result s steps.old steps.new }
     ensures change { IfOk result (λ t. BringsNothing t.change) }
 {
     let answer = shot.answer(rt, &plan.query, steps)?;

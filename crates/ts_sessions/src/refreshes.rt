@@ -5,10 +5,10 @@ ghost use Rattle.std.specs.Thread.{IsSync};
 ghost use Rattle.ts_bucket.specs.Bucket.{is_time};
 ghost use Rattle.ts_model.specs.Roster.{roster, view_of};
 ghost use Rattle.result_text.specs.declared.replies.Said.TheVariants.{Cut, Fault, Refresh};
-ghost use Rattle.ts_sessions.specs.Procedures.{ending_as, followed_by};
 ghost use Rattle.ts_sessions.specs.Places.{Places, cuts};
-ghost use Rattle.ts_sessions.specs.Sessions.{BringsNothing, Ends, EndsAt, FitsSnapped, Completes, SnapEnds, Tries, turn_of};
-ghost use Rattle.ts_sessions.specs.Step.{after_cut, after_snapshot, cut_turn, cuts_refresh, finishes_refresh, refreshed, refreshes, takes_snapshot};
+ghost use Rattle.ts_sessions.specs.Sessions.{BringsNothing, EndsAt, FitsSnapped, Completes, SnapEnds, Tries, turn_of, Does, DoesReading};
+ghost use Rattle.ts_sessions.specs.Step.{after_cut, after_snapshot, cut_turn, cuts_refresh, finishes_refresh};
+ghost use Rattle.ts_sessions.specs.Parts.{only_cuts, refreshes_whole};
 
 use crate::changes::{Change, Completion, broken_off, failed, refused, reply_line, reply_with};
 use crate::refusals::at;
@@ -81,7 +81,7 @@ pub fn take_snapshot<R: Threads + Sync, B: Backend, L>(
     requires sync { IsSync R.row }
     requires counts { steps.old < 2 ^ 64 }
     ensures snaps { SnapEnds B.alone (B.state backend.old) cut result (B.state backend.new) steps.old steps.new }
-    ensures fits { IfOk result (λ s. FitsSnapped B.Shot.fits B.Shot.cut_of B.Shot.snap_of cut (B.state backend.new).history s) }
+    ensures fits { IfOk result (FitsSnapped B.Shot.Shown cut (B.state backend.new).history) }
     ensures kin { B.kin backend.new ≡ B.kin backend.old }
 {
     let shot = backend.snap()?;
@@ -112,7 +112,8 @@ pub fn finish<B: Backend, G: Gate>(
     job: <B::Shot as Shown>::Job,
 ) -> Result<Tried<u64>, NoMemory>
     requires fits { B.Shot.fits job (B.state backend.old).history }
-    ensures tries { Tries B.alone (B.state backend.old) (finishes_refresh (B.Shot.cut_of job) (B.Shot.snap_of job)) result (B.state backend.new) }
+    ensures tries { Tries B.alone (B.state backend.old) (finishes_refresh (B.Shot.cut_of job) (B.Shot.snap_of job))
+        result (B.state backend.new) }
     ensures kin { B.kin backend.new ≡ B.kin backend.old }
 {
     gate.between(session);
@@ -138,7 +139,8 @@ where
     requires view { IsSome (view_of (roster (B.state backend.old).history) asked.now.view) }
     requires low { ForSome asked.now.lo (λ t. IsTrue (is_time t)) }
     requires high { ForSome asked.now.hi (λ t. IsTrue (is_time t)) }
-    ensures ends { (p : Places) → Ends B.alone (B.state backend.old) (refreshes p asked.now.view asked.now.lo asked.now.hi asked.now.min) p result (B.state backend.new) steps.old steps.new }
+    ensures ends { (p : Places) →
+        DoesReading B.Backend backend.old (refreshes_whole p asked.now) p result backend.new steps.old steps.new }
     ensures change { IfOk result (λ t. BringsNothing t.change) }
     ensures kin { B.kin backend.new ≡ B.kin backend.old }
 {
@@ -164,7 +166,8 @@ where
     <B::Shot as Shown>::Job: Drop,
     requires sync { IsSync R.row }
     requires counts { steps.old < 2 ^ 64 }
-    ensures ends { (p : Places) → Ends B.alone (B.state backend.old) (after_cut p asked.now.min (Ok done)) p result (B.state backend.new) steps.old steps.new }
+    ensures ends { (p : Places) → DoesReading B.Backend backend.old
+        (after_cut p asked.now.min (Ok done)) p result backend.new steps.old steps.new }
     ensures change { IfOk result (λ t. BringsNothing t.change) }
     ensures kin { B.kin backend.new ≡ B.kin backend.old }
 {
@@ -193,7 +196,9 @@ where
     <B::Shot as Shown>::Job: Drop,
     requires sync { IsSync R.row }
     requires counts { steps.old < 2 ^ 64 }
-    ensures ends { (p : Places) → Ends B.alone (B.state backend.old) (followed_by (takes_snapshot begun.now.cut) (after_snapshot (cuts begun.now.cut p) begun.now.cut begun.now.span asked.now.min)) p result (B.state backend.new) steps.old steps.new }
+    ensures ends { (p : Places) → DoesReading B.Backend backend.old
+        (after_cut p asked.now.min (Ok (CutDone.Cut begun.now.cut begun.now.span)))
+        p result backend.new steps.old steps.new }
     ensures change { IfOk result (λ t. BringsNothing t.change) }
     ensures kin { B.kin backend.new ≡ B.kin backend.old }
 {
@@ -222,7 +227,10 @@ where
     requires fits { B.Shot.fits job (B.state backend.old).history }
     requires cut { B.Shot.cut_of job ≡ begun.now.cut }
     requires snap { B.Shot.snap_of job ≡ at }
-    ensures ends { (p : Places) (read : ℕ) → EndsAt B.alone (B.state backend.old) (ending_as (refreshed (cuts begun.now.cut p) begun.now.cut begun.now.span asked.now.min (record { at = at; reads = read })) (finishes_refresh begun.now.cut at)) p read result (B.state backend.new) }
+    ensures ends { (p : Places) (read : ℕ) → EndsAt B.alone (B.state backend.old)
+        (after_snapshot (cuts begun.now.cut p) begun.now.cut begun.now.span asked.now.min
+        (Ok (record { at = at; reads = read })))
+        p read result (B.state backend.new) }
     ensures change { IfOk result (λ t. BringsNothing t.change) }
     ensures kin { B.kin backend.new ≡ B.kin backend.old }
 {
@@ -259,7 +267,8 @@ fn refuse_begun<T: Shown + Drop>(
 ) -> Result<Completion<T>, NoMemory>
 where
     T::Job: Drop,
-    ensures { Completes (Cut begun.now.cut begun.now.span asked.now.min ∷ Fault refusal ∷ []) (Change.Cuts begun.now.cut) failed result }
+    ensures { Completes (Cut begun.now.cut begun.now.span asked.now.min ∷ Fault refusal ∷ [])
+        (Change.Cuts begun.now.cut) failed result }
 {
     let did = Said::Cut {
         cut: begun.cut,
@@ -281,7 +290,7 @@ where
     requires view { IsSome (view_of (roster (B.state backend.old).history) asked.now.view) }
     requires low { ForSome asked.now.lo (λ t. IsTrue (is_time t)) }
     requires high { ForSome asked.now.hi (λ t. IsTrue (is_time t)) }
-    ensures ends { (p : Places) → EndsAt B.alone (B.state backend.old) (ending_as (cut_turn p asked.now.min) (cuts_refresh asked.now.view asked.now.lo asked.now.hi)) p 0 result (B.state backend.new) }
+    ensures ends { (p : Places) → Does B.Backend backend.old (only_cuts p asked.now) p result backend.new }
     ensures change { IfOk result (λ t. BringsNothing t.change) }
     ensures kin { B.kin backend.new ≡ B.kin backend.old }
 {

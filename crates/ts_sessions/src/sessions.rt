@@ -1,13 +1,14 @@
 //! Sessions.
-ghost use Rattle.std.specs.Prelude.{◌≡◌, ℕ, Some, OnOk, OnErr};
+ghost use Rattle.std.specs.Prelude.{◌≡◌, Some, OnOk, OnErr};
 ghost use Rattle.std.specs.Ordering.{nat_cmp};
 ghost use Rattle.std.specs.Map.{remove_entry};
-ghost use Rattle.std.specs.BTreeMap.{insert_entry, is_at};
+ghost use Rattle.std.specs.BTreeMap.{is_at};
 ghost use Rattle.ts_model.specs.States.{State};
-ghost use Rattle.ts_sessions.specs.Held.{Carries, HoldsOf, places_in, queued as queued_in};
+ghost use Rattle.ts_sessions.specs.Held.{Carries, HoldsOf, places_in, waiting_bytes};
 ghost use Rattle.ts_sessions.specs.Places.{no_places, block_kind};
-ghost use Rattle.ts_sessions.specs.Sessions.{ChangeFits, ChangeHolds, changed};
+ghost use Rattle.ts_sessions.specs.Sessions.{ChangeFits, changed, HoldsAfter};
 ghost use Rattle.ts_sessions.specs.Step.{natural as natural_of, refresh_meant};
+ghost use Rattle.ts_sessions.specs.Jobs.{with_job};
 
 use crate::blocks::{Block, Open};
 use crate::changes::Change;
@@ -53,7 +54,7 @@ where
         ensures name { result.name ≡ name }
         ensures number { result.number ≡ number }
         ensures places { places_in result ≡ no_places }
-        ensures holds { (s : State) → HoldsOf T.stands T.fits T.cut_of T.snap_of result s }
+        ensures holds { (s : State) → HoldsOf T.Shown result s }
     {
         Session {
             name,
@@ -66,7 +67,7 @@ where
 
     /// The bytes of the texts whose operations wait for the end of its write block, or 0.
     pub fn queued(&self) -> u64
-        ensures { result ≡ queued_in (places_in self.now).block }
+        ensures { result ≡ waiting_bytes self.now }
     {
         self.block.queued()
     }
@@ -95,7 +96,7 @@ where
         ensures kept { OnErr result (Carries self.old self.new) }
         ensures name { self.new.name ≡ self.old.name }
         ensures number { self.new.number ≡ self.old.number }
-        ensures holds { (s : State) (bytes : ℕ) → HoldsOf T.stands T.fits T.cut_of T.snap_of self.old s → ChangeHolds T.stands T.fits T.cut_of T.snap_of bytes change s.history → HoldsOf T.stands T.fits T.cut_of T.snap_of self.new s }
+        ensures holds { HoldsAfter T.Shown change self.old self.new }
     {
         match change {
             Change::Nothing => Ok(()),
@@ -129,7 +130,7 @@ where
 
     /// Holds a snapshot for a refresh, in place of one that it held.
     fn hold(&mut self, cut: u64, at: u64, job: T::Job) -> Result<(), NoMemory>
-        ensures held { OnOk result (self.new.held.entries ≡ insert_entry nat_cmp self.old.held.entries cut (record { at = at; job = Some job })) }
+        ensures held { OnOk result (self.new.held.entries ≡ with_job cut at job self.old.held.entries) }
         ensures block { self.new.block ≡ self.old.block }
         ensures cut { self.new.cut ≡ self.old.cut }
         ensures name { self.new.name ≡ self.old.name }

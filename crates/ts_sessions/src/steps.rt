@@ -1,12 +1,11 @@
 //! The step of a session: one line.
 ghost use Rattle.std.specs.Prelude.{◌≡◌, ℕ, ◌+◌, ◌<◌, ◌≤◌, ◌^◌, length, None, IfOk, OnOk, OnErr};
 ghost use Rattle.std.specs.Thread.{IsSync};
-ghost use Rattle.ts_model.specs.States.{State};
 ghost use Rattle.ts_sessions.specs.declared.kinds.Kind.TheVariants.{Asks, Changes};
-ghost use Rattle.ts_sessions.specs.Held.{Carries, HoldsOf, most_queued, places_in, queued as queued_in};
-ghost use Rattle.ts_sessions.specs.Sessions.{AnswersSo, BringsNothing, ChangeFits, ChangeHolds, Ends, IfAnswered, IfNoMemory, IsReplied, Spares, Stepped, changed};
+ghost use Rattle.ts_sessions.specs.Held.{Carries, HoldsOf, most_queued, places_in, waiting_bytes};
+ghost use Rattle.ts_sessions.specs.Sessions.{AnswersSo, BringsNothing, ChangeFits, IfAnswered, IfNoMemory, IsReplied, Spares, Stepped, changed, Brings, DoesReading, HoldsAfter};
 ghost use Rattle.ts_sessions.specs.Sound.{AsksSoundly};
-ghost use Rattle.ts_sessions.specs.Step.{block_refusal, kind_of as kind_of_stmt, let_pass, performs, step as step_of};
+ghost use Rattle.ts_sessions.specs.Step.{block_refusal, kind_of as kind_of_stmt, performs, step as step_of, passes_block};
 
 use crate::blocks::Open;
 use crate::changes::{Change, Completion, refused};
@@ -44,14 +43,15 @@ where
         requires sync { IsSync R.row }
         requires short { length text.now ≤ 65536 }
         requires within { skip ≤ length text.now }
-        requires room { queued_in (places_in self.old).block + length text.now ≤ most_queued }
-        requires holds { HoldsOf T.stands T.fits T.cut_of T.snap_of self.old (B.state backend.old) }
-        ensures stepped { Stepped B.alone (B.state backend.old) (step_of (places_in self.old) text.now skip) self.old.name result (B.state backend.new) (places_in self.new) steps.old steps.new }
+        requires room { waiting_bytes self.old + length text.now ≤ most_queued }
+        requires holds { HoldsOf T.Shown self.old (B.state backend.old) }
+        ensures stepped { Stepped B.alone (B.state backend.old) (step_of (places_in self.old) text.now skip)
+            self.old.name result (B.state backend.new) (places_in self.new) steps.old steps.new }
         ensures spared { IfNoMemory result (Spares (places_in self.old) (places_in self.new)) }
         ensures name { self.new.name ≡ self.old.name }
         ensures number { self.new.number ≡ self.old.number }
-        ensures holds { HoldsOf T.stands T.fits T.cut_of T.snap_of self.new (B.state backend.new) }
-        ensures queued { queued_in (places_in self.new).block ≤ queued_in (places_in self.old).block + length text.now }
+        ensures holds { HoldsOf T.Shown self.new (B.state backend.new) }
+        ensures queued { waiting_bytes self.new ≤ waiting_bytes self.old + length text.now }
         ensures kin { B.kin backend.new ≡ B.kin backend.old }
     {
         let _so_far = steps.count();
@@ -70,7 +70,7 @@ where
         ensures kept { IfNoMemory result (Carries self.old self.new) }
         ensures name { self.new.name ≡ self.old.name }
         ensures number { self.new.number ≡ self.old.number }
-        ensures holds { (s : State) (bytes : ℕ) → HoldsOf T.stands T.fits T.cut_of T.snap_of self.old s → ChangeHolds T.stands T.fits T.cut_of T.snap_of bytes completion.change s.history → HoldsOf T.stands T.fits T.cut_of T.snap_of self.new s }
+        ensures holds { HoldsAfter T.Shown completion.change self.old self.new }
     {
         match write_reply(alloc, &self.name, completion.said.items()) {
             Ok(reply) => self.close(completion.change, completion.failed, reply),
@@ -86,7 +86,7 @@ where
         ensures kept { IfNoMemory result (Carries self.old self.new) }
         ensures name { self.new.name ≡ self.old.name }
         ensures number { self.new.number ≡ self.old.number }
-        ensures holds { (s : State) (bytes : ℕ) → HoldsOf T.stands T.fits T.cut_of T.snap_of self.old s → ChangeHolds T.stands T.fits T.cut_of T.snap_of bytes change s.history → HoldsOf T.stands T.fits T.cut_of T.snap_of self.new s }
+        ensures holds { HoldsAfter T.Shown change self.old self.new }
     {
         match self.settle(change) {
             Ok(()) => replied(reply, failed),
@@ -109,14 +109,15 @@ where
         requires counts { steps.old < 2 ^ 64 }
         requires short { length text.now ≤ 65536 }
         requires within { skip ≤ length text.now }
-        requires holds { HoldsOf T.stands T.fits T.cut_of T.snap_of self.old (B.state backend.old) }
-        ensures ends { Ends B.alone (B.state backend.old) (step_of (places_in self.old) text.now skip) (places_in self.old) result (B.state backend.new) steps.old steps.new }
-        ensures change { IfOk result (λ t. ChangeHolds T.stands T.fits T.cut_of T.snap_of (length text.now) t.change (B.state backend.new).history) }
+        requires holds { HoldsOf T.Shown self.old (B.state backend.old) }
+        ensures ends { DoesReading B.Backend backend.old (step_of (places_in self.old) text.now skip)
+            (places_in self.old) result backend.new steps.old steps.new }
+        ensures change { Brings T.Shown (length text.now) result (B.state backend.new).history }
         ensures places { OnOk result (places_in self.new ≡ places_in self.old) }
         ensures spared { OnErr result (Spares (places_in self.old) (places_in self.new)) }
         ensures name { self.new.name ≡ self.old.name }
         ensures number { self.new.number ≡ self.old.number }
-        ensures holds { HoldsOf T.stands T.fits T.cut_of T.snap_of self.new (B.state backend.new) }
+        ensures holds { HoldsOf T.Shown self.new (B.state backend.new) }
         ensures kin { B.kin backend.new ≡ B.kin backend.old }
     {
         match read_stmt(alloc, text, skip) {
@@ -144,14 +145,16 @@ where
         requires sync { IsSync R.row }
         requires counts { steps.old < 2 ^ 64 }
         requires sound { AsksSoundly bytes stmt.now }
-        requires holds { HoldsOf T.stands T.fits T.cut_of T.snap_of self.old (B.state backend.old) }
-        ensures ends { Ends B.alone (B.state backend.old) (let_pass (places_in self.old) bytes stmt.now (block_refusal (places_in self.old).block (kind_of_stmt stmt.now))) (places_in self.old) result (B.state backend.new) steps.old steps.new }
-        ensures change { IfOk result (λ t. ChangeHolds T.stands T.fits T.cut_of T.snap_of bytes t.change (B.state backend.new).history) }
+        requires holds { HoldsOf T.Shown self.old (B.state backend.old) }
+        ensures ends { DoesReading B.Backend backend.old
+            (passes_block (places_in self.old) bytes stmt.now) (places_in self.old)
+            result backend.new steps.old steps.new }
+        ensures change { Brings T.Shown bytes result (B.state backend.new).history }
         ensures places { OnOk result (places_in self.new ≡ places_in self.old) }
         ensures spared { OnErr result (Spares (places_in self.old) (places_in self.new)) }
         ensures name { self.new.name ≡ self.old.name }
         ensures number { self.new.number ≡ self.old.number }
-        ensures holds { HoldsOf T.stands T.fits T.cut_of T.snap_of self.new (B.state backend.new) }
+        ensures holds { HoldsOf T.Shown self.new (B.state backend.new) }
         ensures kin { B.kin backend.new ≡ B.kin backend.old }
     {
         match self.block.barrier(kind_of(stmt)) {
@@ -175,14 +178,15 @@ where
         requires counts { steps.old < 2 ^ 64 }
         requires sound { AsksSoundly bytes stmt.now }
         requires passes { block_refusal (places_in self.old).block (kind_of_stmt stmt.now) ≡ None }
-        requires holds { HoldsOf T.stands T.fits T.cut_of T.snap_of self.old (B.state backend.old) }
-        ensures ends { Ends B.alone (B.state backend.old) (performs (places_in self.old) bytes stmt.now) (places_in self.old) result (B.state backend.new) steps.old steps.new }
-        ensures change { IfOk result (λ t. ChangeHolds T.stands T.fits T.cut_of T.snap_of bytes t.change (B.state backend.new).history) }
+        requires holds { HoldsOf T.Shown self.old (B.state backend.old) }
+        ensures ends { DoesReading B.Backend backend.old (performs (places_in self.old) bytes stmt.now)
+            (places_in self.old) result backend.new steps.old steps.new }
+        ensures change { Brings T.Shown bytes result (B.state backend.new).history }
         ensures places { OnOk result (places_in self.new ≡ places_in self.old) }
         ensures spared { OnErr result (Spares (places_in self.old) (places_in self.new)) }
         ensures name { self.new.name ≡ self.old.name }
         ensures number { self.new.number ≡ self.old.number }
-        ensures holds { HoldsOf T.stands T.fits T.cut_of T.snap_of self.new (B.state backend.new) }
+        ensures holds { HoldsOf T.Shown self.new (B.state backend.new) }
         ensures kin { B.kin backend.new ≡ B.kin backend.old }
     {
         match stmt {
@@ -222,8 +226,9 @@ where
         requires sound { AsksSoundly bytes stmt.now }
         requires changes { kind_of_stmt stmt.now ≡ Changes }
         requires passes { block_refusal (places_in self.now).block Changes ≡ None }
-        ensures ends { Ends B.alone (B.state backend.old) (performs (places_in self.now) bytes stmt.now) (places_in self.now) result (B.state backend.new) steps.old steps.new }
-        ensures change { IfOk result (λ t. ChangeHolds T.stands T.fits T.cut_of T.snap_of bytes t.change (B.state backend.new).history) }
+        ensures ends { DoesReading B.Backend backend.old (performs (places_in self.now) bytes stmt.now)
+            (places_in self.now) result backend.new steps.old steps.new }
+        ensures change { Brings T.Shown bytes result (B.state backend.new).history }
         ensures kin { B.kin backend.new ≡ B.kin backend.old }
     {
         match &self.block {
@@ -247,8 +252,9 @@ where
         requires sound { (bytes : ℕ) × AsksSoundly bytes stmt.now }
         requires asks { kind_of_stmt stmt.now ≡ Asks }
         requires passes { block_refusal (places_in self.now).block Asks ≡ None }
-        requires holds { HoldsOf T.stands T.fits T.cut_of T.snap_of self.now (B.state backend.old) }
-        ensures ends { (bytes : ℕ) → Ends B.alone (B.state backend.old) (performs (places_in self.now) bytes stmt.now) (places_in self.now) result (B.state backend.new) steps.old steps.new }
+        requires holds { HoldsOf T.Shown self.now (B.state backend.old) }
+        ensures ends { (bytes : ℕ) → DoesReading B.Backend backend.old
+            (performs (places_in self.now) bytes stmt.now) (places_in self.now) result backend.new steps.old steps.new }
         ensures change { IfOk result (λ t. BringsNothing t.change) }
         ensures kin { B.kin backend.new ≡ B.kin backend.old }
     {

@@ -1,5 +1,5 @@
 -- One view of a list changes, and the others stay: who has a ticket, who has the turn, what fits, and the sums.
-use Rattle.std.proofs.Common.{◌≡◌, ℕ, ◌+◌, ◌<◌, Bool, List, get_or, set, refl, sym, ap, ◌∙◌, subst, arith}
+use Rattle.std.proofs.Common.{◌≡◌, ℕ, ◌+◌, ◌<◌, List, get_or, set, refl, sym, ap, ◌∙◌, subst, arith}
 use Rattle.std.specs.Prelude.{Option, Some, None}
 use mathlib.Core.Logic.{dite}
 use mathlib.Core.Option.{none, some}

@@ -1,5 +1,5 @@
 -- What the rule says of every moment, in sentences over the words, the slot and the views. A view without shares is what a joined pass left behind.
-use Rattle.std.specs.Prelude.{◌≡◌, ℕ, ◌<◌, ◌≤◌, ◌⊎◌, ◌&&◌, Bool, true, cond, nat_lt, nat_le, Option, Some, List, slice_index}
+use Rattle.std.specs.Prelude.{◌≡◌, ℕ, ◌<◌, ◌≤◌, ◌⊎◌, ◌&&◌, cond, nat_lt, nat_le, Option, Some, List, slice_index}
 use mathlib.Core.Option.{some}
 use mathlib.Core.List.{IsPrefix}
 use lib.ListN.{get_elem?}

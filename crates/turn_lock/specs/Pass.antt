@@ -1,5 +1,6 @@
 -- What clauses say of a lock, of its passes, and of a turn.
-use Rattle.std.specs.Prelude.{◌≡◌, ℕ, ◌+◌, ◌<◌, ◌^◌, ◌||◌, Bool, true, false, cond, nat_lt, Option, Some, None, List, [], ◌∷◌, length, fold}
+use Rattle.std.specs.Prelude.{◌≡◌, ℕ, ◌+◌, ◌<◌, ◌^◌, cond, nat_lt, Option, Some, None, List, [], ◌∷◌, length, fold}
+use mathlib.Core.List.{IsPrefix}
 use Rattle.atomic_table.specs.Seated.{TableId}
 use Rattle.turn_lock.specs.declared.view.Stage.{Stage}
 use Rattle.turn_lock.specs.declared.view.Stage.TheVariants.{Idle, Waiting, Turn}
@@ -101,6 +102,10 @@ module _ {V B E : Type 0} where
   -- where the pass has seen the value closed, the whole has seen so, with the same events
   abbrev pub StaysIn : Carried V B E → Carried V B E → Type 0
   StaysIn whole pass = StaysClosed (closed_of pass) (seen_of pass) (closed_of whole) (seen_of whole)
+
+  -- what the pass has seen begins what the whole has seen
+  abbrev pub BeginsIn : Carried V B E → Carried V B E → Type 0
+  BeginsIn whole pass = IsPrefix (seen_of pass) (seen_of whole)
 
   -- the pass, but for the number of its shares
   abbrev pub with_shares : ℕ → Carried V B E → Carried V B E

@@ -1,6 +1,6 @@
 -- The rule of the lock, which holds at every moment. Word 0 is the next ticket to draw, word 1 the ticket that is served, and word 2 the position at which the events end.
 -- Slot 0 has the value, and is out with the pass that has the turn.
-use Rattle.std.specs.Prelude.{◌≡◌, ℕ, ◌<◌, ◌≤◌, ◌^◌, Bool, true, Option, Some, None, List, [], ◌∷◌, length, sum_by}
+use Rattle.std.specs.Prelude.{◌≡◌, ℕ, ◌<◌, ◌≤◌, ◌^◌, Option, Some, None, List, [], ◌∷◌, length, sum_by}
 use mathlib.Core.Option.{none, some}
 use mathlib.Core.Option as maybe
 use mathlib.Core.List.{IsPrefix}

@@ -1,12 +1,12 @@
 -- What each step of the lock makes of a view, and what it tells its pass.
-use Rattle.std.specs.Prelude.{◌≡◌, ◌≢◌, ℕ, ◌+◌, ◌-◌, ◌<◌, ◌≤◌, ◌^◌, ◌||◌, Bool, true, false, cond, nat_lt, Option, Some, None, List, [], ◌∷◌, ◌++◌, length}
+use Rattle.std.specs.Prelude.{◌≡◌, ◌≢◌, ℕ, ◌+◌, ◌-◌, ◌<◌, ◌≤◌, ◌^◌, cond, nat_lt, Option, Some, None, List, [], ◌∷◌, ◌++◌, length}
 use mathlib.Core.List.{IsPrefix}
 use Rattle.atomic_table.specs.Table.{Me, Step, rest}
 use Rattle.turn_lock.specs.declared.view.Stage.{Stage}
 use Rattle.turn_lock.specs.declared.view.Stage.TheVariants.{Idle, Waiting, Turn}
 use Rattle.turn_lock.specs.declared.view.Knows.{Knows}
 use Rattle.turn_lock.specs.Positions.{positions_between, end_of}
-use Rattle.turn_lock.specs.Pass.{longer, either, StaysClosed}
+use Rattle.turn_lock.specs.Pass.{longer, either, found_at, found_closed_at, StaysClosed}
 
 -- the list that is not the longer one
 abbrev pub shorter : {E : Type 0} → List E → List E → List E
@@ -23,6 +23,14 @@ module _ {B E : Type 0} where
 
   abbrev pub at_stage : Stage E → Knows B E → Knows B E
   at_stage g k = record k { stage = g }
+
+  -- the seat waits with ticket t
+  abbrev pub waiting_with : {S : Type 0} → ℕ → Me S (Knows B E) → Me S (Knows B E)
+  waiting_with t m = (at_stage (Waiting t) m.0, m.1)
+
+  -- the seat has the turn by ticket t, and has taken the value out
+  abbrev pub IsInTurn : {S : Type 0} → ℕ → Me (Option S) (Knows B E) → Type 0
+  IsInTurn t m = (m.0.stage ≡ Turn t (found_at m.0.stage) (found_closed_at m.0.stage)) × (m.1 ≡ (0, None) ∷ []) × (0 < m.0.shares) × (t + 1 < 2 ^ 64)
 
   -- the pass has published the events xs, which a turn found as ys, over a base that ends at p
   abbrev pub published : ℕ → ℕ → List E → List E → Option E → Knows B E → Knows B E
@@ -48,7 +56,7 @@ module _ {B E : Type 0} where
 
   -- a draw gives the ticket where the word was still the one expected
   abbrev pub Draws : {S : Type 0} → Step S → Me S (Knows B E) → ℕ → Me S (Knows B E) → Type 0
-  Draws s m found n = (found ≡ s.first → n ≡ (at_stage (Waiting s.first) m.0, m.1)) × (found ≢ s.first → n ≡ m)
+  Draws s m found n = (found ≡ s.first → n ≡ waiting_with s.first m) × (found ≢ s.first → n ≡ m)
 
   -- a count tells that the shares fit a u32, that the two bases were one, that the shorter list begins the longer, and is as long and closed by the same where its value was closed
   pub record IsCounted (k : Knows B E) : Type 0 where

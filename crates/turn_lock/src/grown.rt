@@ -18,7 +18,8 @@ pub trait Grown {
     // The events after the base, in order.
     ghost events: { Self → List Self.Entry };
 
-    // What closed the value, if it is closed: its events, to which this doesn't belong, stay as they are from now on.
+    // What closed the value, if it is closed: its events, to which this doesn't belong, stay as
+    // they are from now on.
     ghost closed: { Self → Option Self.Entry };
 
     /// The position at which the events end.

@@ -10,5 +10,6 @@ use crate::grown::Grown;
 
 /// What the rule of the lock, which each step keeps, says of every moment. It does nothing.
 pub fn every_moment<V: Grown>()
-    ensures { (key : Opening V) (s : State (Option V) (Knows V.Base V.Entry)) → Kept V.base V.first V.events V.closed key s → IsMoment V.base V.first V.events V.closed key s }
+    ensures { (key : Opening V) (s : State (Option V) (Knows V.Base V.Entry)) →
+        Kept V.base V.first V.events V.closed key s → IsMoment V.base V.first V.events V.closed key s }
 {}

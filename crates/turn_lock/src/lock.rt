@@ -7,7 +7,8 @@ use atomic_table::Table;
 use std::alloc::Global;
 use std::marker::Model;
 
-// The word that has the next ticket to draw, the word that has the ticket served, and the word that has the position at which the events end.
+// The word that has the next ticket to draw, the word that has the ticket served, and the word that
+// has the position at which the events end.
 pub(crate) const NEXT: usize = 0;
 
 pub(crate) const SERVING: usize = 1;

@@ -11,7 +11,8 @@ use std::marker::Model;
 /// A seat at the table of a lock.
 pub(crate) type Place<V> = Seat<Option<V>, Knows<<V as Grown>::Base, <V as Grown>::Entry>>;
 
-/// What one holder carries: shares of the right to the whole, the events that it has seen, and the positions that it added.
+/// What one holder carries: shares of the right to the whole, the events that it has seen, and the
+/// positions that it added.
 pub struct Pass<V: Grown> {
     pub(crate) seat: Place<V>,
     pub(crate) shares: u32,

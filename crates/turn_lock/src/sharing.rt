@@ -1,7 +1,6 @@
 //! Passes that are split and joined.
 ghost use Rattle.std.specs.Prelude.{◌≡◌, ◌+◌, ◌-◌, ◌<◌, ◌++◌, [], All, sum_by, flat_map};
-ghost use mathlib.Core.List.{IsPrefix};
-ghost use Rattle.turn_lock.specs.Pass.{IsPassOf, IsIdle, shares_of, base_of, seen_of, closed_of, made_of, with_shares, longer, longest_seen, any_closed, either, StaysIn};
+ghost use Rattle.turn_lock.specs.Pass.{IsPassOf, IsIdle, shares_of, base_of, seen_of, closed_of, made_of, with_shares, longer, longest_seen, any_closed, either, StaysIn, BeginsIn};
 ghost use Rattle.turn_lock.specs.Steps.{left_with, given};
 
 use crate::grown::Grown;
@@ -55,7 +54,7 @@ impl<V: Grown> TurnLock<V> {
         ensures shares { shares_of result ≡ shares_of a + shares_of b }
         ensures base { (base_of result ≡ base_of a) × (base_of result ≡ base_of b) }
         ensures seen { seen_of result ≡ longer (seen_of a) (seen_of b) }
-        ensures begins { IsPrefix (seen_of a) (seen_of result) × IsPrefix (seen_of b) (seen_of result) }
+        ensures begins { BeginsIn result a × BeginsIn result b }
         ensures closed { closed_of result ≡ either (closed_of a) (closed_of b) }
         ensures stays { StaysIn result a × StaysIn result b }
         ensures made { made_of result ≡ made_of a ++ made_of b }
@@ -80,7 +79,7 @@ impl<V: Grown> TurnLock<V> {
         ensures shares { shares_of result ≡ shares_of first + sum_by shares_of others.items }
         ensures base { base_of result ≡ base_of first }
         ensures seen { seen_of result ≡ longest_seen first others.items }
-        ensures begins { IsPrefix (seen_of first) (seen_of result) × All (λ pass. IsPrefix (seen_of pass) (seen_of result)) others.items }
+        ensures begins { BeginsIn result first × All (BeginsIn result) others.items }
         ensures closed { closed_of result ≡ any_closed first others.items }
         ensures stays { StaysIn result first × All (StaysIn result) others.items }
         ensures made { made_of result ≡ made_of first ++ flat_map made_of others.items }

@@ -4,7 +4,7 @@ ghost use mathlib.Core.List.{IsPrefix};
 ghost use Rattle.turn_lock.specs.declared.view.Stage.TheVariants.{Idle, Waiting, Turn};
 ghost use Rattle.turn_lock.specs.Pass.{found_at, found_closed_at, StaysClosed};
 ghost use Rattle.turn_lock.specs.Positions.{end_of};
-ghost use Rattle.turn_lock.specs.Steps.{at_stage, published, Found};
+ghost use Rattle.turn_lock.specs.Steps.{at_stage, published, Found, waiting_with, IsInTurn};
 
 use crate::grown::Grown;
 use crate::lock::{END, NEXT, SERVING, TurnLock, VALUE};
@@ -20,7 +20,7 @@ impl<V: Grown> TurnLock<V> {
         requires idle { (seat.old.me.0.stage ≡ Idle) × (0 < seat.old.me.0.shares) }
         requires room { ticket + 1 < 2 ^ 64 }
         ensures seat { seat.new.table_id ≡ seat.old.table_id }
-        ensures drawn { MatchBool result (seat.new.me ≡ (at_stage (Waiting ticket) seat.old.me.0, seat.old.me.1)) (seat.new.me ≡ seat.old.me) }
+        ensures drawn { MatchBool result (seat.new.me ≡ waiting_with ticket seat.old.me) (seat.new.me ≡ seat.old.me) }
     {
         self.table
             .shared
@@ -33,7 +33,7 @@ impl<V: Grown> TurnLock<V> {
         requires seat { seat.old.table_id ≡ self.now.lock }
         requires idle { (seat.old.me.0.stage ≡ Idle) × (0 < seat.old.me.0.shares) }
         ensures seat { seat.new.table_id ≡ seat.old.table_id }
-        ensures drawn { seat.new.me ≡ (at_stage (Waiting result) seat.old.me.0, seat.old.me.1) }
+        ensures drawn { seat.new.me ≡ waiting_with result seat.old.me }
         ensures room { result + 1 < 2 ^ 64 }
     {
         for _ in rt.forever() {
@@ -51,7 +51,8 @@ impl<V: Grown> TurnLock<V> {
         requires seat { seat.old.table_id ≡ self.now.lock }
         requires waiting { (seat.old.me.0.stage ≡ Waiting ticket) × (0 < seat.old.me.0.shares) }
         ensures seat { seat.new.table_id ≡ seat.old.table_id }
-        ensures found { MatchBool result ((v : V) × Found V.base V.events V.closed ticket seat.old.me seat.new.me v) (seat.new.me ≡ seat.old.me) }
+        ensures found { MatchBool result
+            ((v : V) × Found V.base V.events V.closed ticket seat.old.me seat.new.me v) (seat.new.me ≡ seat.old.me) }
     {
         self.table.shared.load::<Look>(seat, SERVING) == ticket
     }
@@ -75,7 +76,8 @@ impl<V: Grown> TurnLock<V> {
         requires seat { seat.old.table_id ≡ self.now.lock }
         requires waiting { (seat.old.me.0.stage ≡ Waiting ticket) × (0 < seat.old.me.0.shares) × (seat.old.me.1 ≡ []) }
         ensures seat { seat.new.table_id ≡ seat.old.table_id }
-        ensures turn { seat.new.me ≡ (at_stage (Turn ticket (V.events result) (V.closed result)) seat.old.me.0, (0, None) ∷ []) }
+        ensures turn { seat.new.me ≡
+            (at_stage (Turn ticket (V.events result) (V.closed result)) seat.old.me.0, (0, None) ∷ []) }
         ensures base { seat.old.me.0.base ≡ Some (V.base result) }
         ensures begins { IsPrefix seat.old.me.0.seen (V.events result) }
         ensures stays { StaysClosed seat.old.me.0.shut seat.old.me.0.seen (V.closed result) (V.events result) }
@@ -92,13 +94,16 @@ impl<V: Grown> TurnLock<V> {
     // Puts the value back, publishes where its events end, and serves the next ticket.
     pub(crate) fn publish(&self, seat: &mut Place<V>, value: V, ticket: u64, position: u64)
         requires seat { seat.old.table_id ≡ self.now.lock }
-        requires turn { (seat.old.me.0.stage ≡ Turn ticket (found_at seat.old.me.0.stage) (found_closed_at seat.old.me.0.stage)) × (seat.old.me.1 ≡ (0, None) ∷ []) × (0 < seat.old.me.0.shares) × (ticket + 1 < 2 ^ 64) }
+        requires turn { IsInTurn ticket seat.old.me }
         requires base { seat.old.me.0.base ≡ Some (V.base value) }
         requires grown { IsPrefix (found_at seat.old.me.0.stage) (V.events value) }
-        requires stays { StaysClosed (found_closed_at seat.old.me.0.stage) (found_at seat.old.me.0.stage) (V.closed value) (V.events value) }
+        requires stays { let stage = seat.old.me.0.stage in
+            StaysClosed (found_closed_at stage) (found_at stage) (V.closed value) (V.events value) }
         requires position { position ≡ end_of (V.first (V.base value)) (V.events value) }
         ensures seat { seat.new.table_id ≡ seat.old.table_id }
-        ensures published { seat.new.me ≡ (at_stage Idle (published ticket (V.first (V.base value)) (found_at seat.old.me.0.stage) (V.events value) (V.closed value) seat.old.me.0), []) }
+        ensures published { let start = V.first (V.base value) in let found = found_at seat.old.me.0.stage in
+            seat.new.me ≡
+            (at_stage Idle (published ticket start found (V.events value) (V.closed value) seat.old.me.0), []) }
     {
         let words = &self.table.shared;
         match words.exchange(seat, VALUE, Some(value)) {

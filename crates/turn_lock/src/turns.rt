@@ -2,7 +2,7 @@
 ghost use Rattle.std.specs.Prelude.{◌≡◌, ◌++◌, Some};
 ghost use mathlib.Core.List.{IsPrefix};
 ghost use Rattle.turn_lock.specs.Pass.{IsPassOf, IsIdle, IsTurnOf, IsSamePass, StaysClosed, shares_of, base_of, seen_of, closed_of, made_of, found_of, found_closed_of};
-ghost use Rattle.turn_lock.specs.Positions.{positions_between, end_of};
+ghost use Rattle.turn_lock.specs.Positions.{positions_added};
 
 use crate::grown::Grown;
 use crate::held::Held;
@@ -19,30 +19,35 @@ impl<V: Grown> TurnLock<V> {
         ensures lock { IsPassOf self.now pass.new }
         ensures same { IsSamePass pass.old pass.new }
         ensures turn { IsTurnOf pass.new result }
-        ensures found { (found_of pass.new ≡ V.events result.value) × (found_closed_of pass.new ≡ V.closed result.value) }
+        ensures found { (found_of pass.new ≡ V.events result.value)
+            × (found_closed_of pass.new ≡ V.closed result.value) }
         ensures base { base_of pass.old ≡ Some (V.base result.value) }
         ensures begins { IsPrefix (seen_of pass.old) (V.events result.value) }
-        ensures stays { StaysClosed (closed_of pass.old) (seen_of pass.old) (V.closed result.value) (V.events result.value) }
+        ensures stays { StaysClosed (closed_of pass.old) (seen_of pass.old)
+            (V.closed result.value) (V.events result.value) }
     {
         let ticket = self.draw(rt, &mut pass.seat);
         let value = self.enter(rt, &mut pass.seat, ticket);
         Held { value, ticket }
     }
 
-    /// Puts the value back, and ends the turn. The pass has then seen its events, and has made the positions of those that this turn added.
+    /// Puts the value back, and ends the turn. The pass has then seen its events, and has made the
+    /// positions of those that this turn added.
     pub fn give(&self, pass: &mut Pass<V>, held: Held<V>)
         requires lock { IsPassOf self.now pass.old }
         requires turn { IsTurnOf pass.old held }
         requires base { base_of pass.old ≡ Some (V.base held.value) }
         requires grown { IsPrefix (found_of pass.old) (V.events held.value) }
-        requires stays { StaysClosed (found_closed_of pass.old) (found_of pass.old) (V.closed held.value) (V.events held.value) }
+        requires stays { StaysClosed (found_closed_of pass.old) (found_of pass.old)
+            (V.closed held.value) (V.events held.value) }
         ensures lock { IsPassOf self.now pass.new }
         ensures idle { IsIdle pass.new }
         ensures shares { shares_of pass.new ≡ shares_of pass.old }
         ensures base { base_of pass.new ≡ base_of pass.old }
         ensures seen { seen_of pass.new ≡ V.events held.value }
         ensures closed { closed_of pass.new ≡ V.closed held.value }
-        ensures made { let start = V.first (V.base held.value) in made_of pass.new ≡ made_of pass.old ++ positions_between (end_of start (found_of pass.old)) (end_of start (V.events held.value)) }
+        ensures made { let start = V.first (V.base held.value) in
+            made_of pass.new ≡ made_of pass.old ++ positions_added start (found_of pass.old) (V.events held.value) }
     {
         let Held { value, ticket } = held;
         let position = value.position();

@@ -6,7 +6,8 @@ pub enum Stage<E> {
     Idle,
     /// It has this ticket.
     Waiting(u64),
-    /// It has the turn by this ticket. With it, the events of the value as the others know them, and what closed it, if it is closed.
+    /// It has the turn by this ticket. With it, the events of the value as the others know them,
+    /// and what closed it, if it is closed.
     Turn(u64, LinkedList<E>, Option<E>),
 }
 

@@ -5,7 +5,7 @@ use Rattle.ts_sessions.specs.declared.replies.StepEnd.TheVariants.{Reply}
 use Rattle.ts_sessions.specs.Script.{executes_kind}
 use Rattle.script_run.specs.Sessions.{script_state_of}
 use Rattle.script_run.proofs.LineLaws.{as_kind, refusal_executed, same_answered}
-use Rattle.script_run.proofs.StatementLineLaws.{statement_line}
+use Rattle.stmt_reader.proofs.StatementLines.{statement_line}
 use Rattle.script_run.proofs.lines.execute_line.Goals as goal
 
 pub execute_statement-requires-clause-statement_line : goal.execute_statement-requires-clause-statement_line

@@ -28,7 +28,7 @@ loop-script-init g c =
       progress = input_first (g.S.Source.left c.args.source.now) c.in-Ok.lines.held c.in-Ok.lines.allowed (Come g.A.Actor.semantics state.history written steps state written steps sessions script.line script.refused)
           c.in-Ok.ensures.fresh.0 c.in-Ok.ensures.fresh.1 (λ all. starts g.A.Actor.semantics state.history all state written steps sessions script.line script.refused refl small
           (ap (sessions_of g.A.Actor.places) nobody) c.new-script.ensures.first c.new-script.ensures.quiet);
-      sessions = subst (AreSessions g.A.Actor.named g.A.Actor.numbered g.A.Actor.holds state) (sym nobody) tt;
+      sessions = subst (AreSessions g.A.Actor state) (sym nobody) tt;
       waiting = let none : waiting_in g.A.Actor.waiting script.sessions.entries ≡ 0 = ap (waiting_in g.A.Actor.waiting) nobody in omega (arith, c.in-Ok.ensures.fresh.1);
       counts = small;
       store = went_same state state c.requires.going refl;
@@ -118,7 +118,7 @@ loop-script-preserved g c =
           c.in-Ok-refuse_long.ensures.numbered
           (refused_written g.A.Actor.semantics (script_state_of g.A.Actor.places old.history script.sessions.entries) script.line line long (script_state_of g.A.Actor.places old.history next.sessions.entries) w v script.refused next.refused
           c.loop-script.steps c.loop-script.invariant.counts same_script_state c.in-Ok-refuse_long.ensures.wrote c.in-Ok-refuse_long.ensures.refused)) c.loop-script.invariant.progress;
-      sessions = subst (λ x. AreSessions g.A.Actor.named g.A.Actor.numbered g.A.Actor.holds old x.entries) (sym kept) c.loop-script.invariant.sessions;
+      sessions = subst (λ x. AreSessions g.A.Actor old x.entries) (sym kept) c.loop-script.invariant.sessions;
       waiting = omega (arith, c.in-LineLong.ensures.spends, c.loop-script.invariant.waiting);
       counts = c.loop-script.invariant.counts;
       store = c.loop-script.invariant.store;

@@ -14,7 +14,7 @@ invariant-loop-script g l = record {
   progress : OfInput (g.S.Source.left l.initial.source) l.lines.allowed (prepend_known l.lines.held (g.S.Source.left l.source))
       (Come g.A.Actor.semantics (g.B.Backend.state l.initial.backend).history (g.K.Sink.written l.initial.sink) l.initial.steps (g.B.Backend.state l.backend) (g.K.Sink.written l.sink) l.steps
       (sessions_of g.A.Actor.places l.script.sessions.entries) l.script.line l.script.refused);
-  sessions : AreSessions g.A.Actor.named g.A.Actor.numbered g.A.Actor.holds (g.B.Backend.state l.backend) l.script.sessions.entries;
+  sessions : AreSessions g.A.Actor (g.B.Backend.state l.backend) l.script.sessions.entries;
   waiting : waiting_in g.A.Actor.waiting l.script.sessions.entries + l.lines.allowed ≤ INPUT_LIMIT;
   counts : l.steps < 2 ^ 64;
   store : WentOn false (g.B.Backend.state l.initial.backend) (g.B.Backend.state l.backend);

@@ -33,7 +33,7 @@ returns-clause-sessions g c =
     let inserted = at_ok c.insert.result c.unwrap.result _ c.unwrap.ensures c.insert.ensures.entries in
     let went = stepped_goes g.B.Backend.alone (g.B.Backend.state c.args.backend.now) _ _ c.take_turn-end.result after _ _ _ c.take_turn-end.ensures.stepped in
     let number : g.A.Actor.numbered actor ≡ length entries = omega (arith, c.take_turn-end.ensures.number, c.begin-actor.ensures.number) in
-    let put = λ (has : g.A.Actor.holds actor after). sessions_put_kept g.A.Actor.named g.A.Actor.numbered g.A.Actor.holds g.met.A.Actor.holds_on (g.B.Backend.state c.args.backend.now) after went
+    let put = λ (has : g.A.Actor.holds actor after). sessions_put_kept g.A.Actor g.met.A.Actor.holds_on (g.B.Backend.state c.args.backend.now) after went
     places c.args.session entries c.make_room.new.sessions.entries c.insert.new.self.entries c.in-Ok.key actor c.make_room.ensures.kept c.in-Ok.ensures.key inserted
     c.requires.sessions c.requires.absent (c.take_turn-end.ensures.name ∙ c.begin-actor.ensures.name) number has in
     answered_so c.take_turn-end.result (g.A.Actor.holds actor after) _ put c.take_turn-end.ensures.holds

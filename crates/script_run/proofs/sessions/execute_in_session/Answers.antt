@@ -15,7 +15,7 @@ take_turn-requires-clause-room g c κs within =
 pub take_turn-requires-clause-holds : goal.take_turn-requires-clause-holds
 take_turn-requires-clause-holds g c κs within =
     let entry : Vec ℕ × g.row.A.Denot = (c.pair_mut-actor.result.0.now, c.pair_mut-actor.result.1.now) in
-    (sessions_at g.A.Actor.named g.A.Actor.numbered g.A.Actor.holds (g.B.Backend.state c.args.backend.now) 0 c.args.sessions.now.entries c.in-Some.place entry c.requires.sessions c.pair_mut-actor.ensures.value).holds_well
+    (sessions_at g.A.Actor (g.B.Backend.state c.args.backend.now) 0 c.args.sessions.now.entries c.in-Some.place entry c.requires.sessions c.pair_mut-actor.ensures.value).holds_well
 
 pub meet_session-requires-clause-absent : goal.meet_session-requires-clause-absent
 meet_session-requires-clause-absent g c κs within = no_places_found g.A.Actor.places c.args.name.now c.args.sessions.now.entries (sym c.in-None.ensures.found)
@@ -30,7 +30,7 @@ returns-in-Some-clause-executes g c =
     let entry : Vec ℕ × g.row.A.Denot = (c.pair_mut-actor.result.0.now, c.pair_mut-actor.result.1.now) in
     let index = sym c.in-Some.ensures.index in
     let at = c.pair_mut-actor.ensures.value in
-    let known = sessions_at g.A.Actor.named g.A.Actor.numbered g.A.Actor.holds old 0 entries place entry c.requires.sessions at in
+    let known = sessions_at g.A.Actor old 0 entries place entry c.requires.sessions at in
     let own = known.name ∙ sym (name_found name entries place entry index at) in
     as_found c.take_turn.result old (g.B.Backend.state c.take_turn.new.backend) _ c.args.steps.now c.take_turn.new.steps g.A.Actor.semantics (script_state_of places old.history entries) name c.args.text.now c.args.skip
     _ (places entry.1) (places_at name entries place entry places index at)
@@ -46,7 +46,7 @@ returns-in-Some-clause-sessions g c =
     let actor = c.take_turn.new.actor in
     let entry : Vec ℕ × g.row.A.Denot = (c.pair_mut-actor.result.0.now, c.pair_mut-actor.result.1.now) in
     let went = stepped_goes g.B.Backend.alone old _ _ c.take_turn.result after _ _ _ c.take_turn.ensures.stepped in
-    let set = λ (has : g.A.Actor.holds actor after). sessions_set g.A.Actor.named g.A.Actor.numbered g.A.Actor.holds g.met.A.Actor.holds_on old after went 0 entries c.in-Some.place entry actor
+    let set = λ (has : g.A.Actor.holds actor after). sessions_set g.A.Actor g.met.A.Actor.holds_on old after went 0 entries c.in-Some.place entry actor
     c.requires.sessions c.pair_mut-actor.ensures.value c.take_turn.ensures.name c.take_turn.ensures.number has in
     answered_so c.take_turn.result (g.A.Actor.holds actor after) _ set c.take_turn.ensures.holds
 

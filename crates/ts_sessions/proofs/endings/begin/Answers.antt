@@ -16,5 +16,5 @@ returns-clause-ends g c = λ alone s p bytes.
 
 pub returns-clause-change : goal.returns-clause-change
 returns-clause-change g c = λ s bytes.
-    completes_holds g.T.Shown.stands g.T.Shown.fits g.T.Shown.cut_of g.T.Shown.snap_of bytes s.history _ (changes.Enters (opens.Write (record { ops = []; bytes = 0 }))) _ c.reply_with.result
+    completes_holds g.T.Shown bytes s.history _ (changes.Enters (opens.Write (record { ops = []; bytes = 0 }))) _ c.reply_with.result
     (subst (λ q. Completes (said.Begin ∷ []) (changes.Enters (opens.Write q)) _ c.reply_with.result) c.no_queue.ensures c.reply_with.ensures) (empty_holds g.T.Shown.stands s.history)

@@ -25,5 +25,5 @@ pub returns-clause-change : goal.returns-clause-change
 returns-clause-change g c = λ bytes.
     let mid = g.B.Backend.state c.snap.new.self in
     let t = looked_reports g.B.Backend.alone (g.B.Backend.state c.args.backend.now) _ mid c.in_ok-shot.ensures.looked in
-    completes_holds g.B.Shot.Shown.stands g.B.Shot.Shown.fits g.B.Shot.Shown.cut_of g.B.Shot.Shown.snap_of bytes mid.history _ (changes.Enters (opens.Read c.position-at.result c.in_ok-shot.shot)) _ c.reply_with.result c.reply_with.ensures
+    completes_holds g.B.Shot.Shown bytes mid.history _ (changes.Enters (opens.Read c.position-at.result c.in_ok-shot.shot)) _ c.reply_with.result c.reply_with.ensures
     (whole_holds g.B.Shot.Shown.stands c.in_ok-shot.shot c.position-at.result mid.history t.1 t.0 (c.position-at.ensures mid.history t.1))

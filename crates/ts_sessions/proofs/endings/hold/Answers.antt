@@ -32,5 +32,5 @@ pub returns-in-Taken-clause-change : goal.returns-in-Taken-clause-change
 returns-in-Taken-clause-change g c = λ bytes.
     let mid = g.B.Backend.state c.take_snapshot.new.backend in
     let T = g.B.Shot.Shown in
-    completes_holds T.stands T.fits T.cut_of T.snap_of bytes mid.history (said.Snap c.args.cut c.in-Taken.at ∷ []) (changes.Holds c.args.cut c.in-Taken.at c.in-Taken.job) _ c.reply_with.result c.reply_with.ensures
-    (subst (λ s. FitsSnapped T.fits T.cut_of T.snap_of c.args.cut mid.history s) c.in-Taken.is c.in_ok-at.ensures.fits)
+    completes_holds T bytes mid.history (said.Snap c.args.cut c.in-Taken.at ∷ []) (changes.Holds c.args.cut c.in-Taken.at c.in-Taken.job) _ c.reply_with.result c.reply_with.ensures
+    (subst (λ s. FitsSnapped T c.args.cut mid.history s) c.in-Taken.is c.in_ok-at.ensures.fits)

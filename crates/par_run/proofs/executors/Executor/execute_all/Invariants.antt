@@ -9,7 +9,7 @@ abbrev pub invariant-loop-line : goal.invariant-loop-line
 invariant-loop-line g l = record {
   executed : SessionExecutedTo g.B.Backend.alone (record { name = l.fn.self.session.name; lines = map (line_at l.input) (take l.line-index l.lines) }) (g.B.Backend.state l.fn.backend) (replies_in l.self.replies) (g.B.Backend.state l.backend) (places_in l.self.session);
   name : l.self.session.name ≡ l.fn.self.session.name;
-  holds : HoldsOf g.T.Shown.stands g.T.Shown.fits g.T.Shown.cut_of g.T.Shown.snap_of l.self.session (g.B.Backend.state l.backend);
+  holds : HoldsOf g.T.Shown l.self.session (g.B.Backend.state l.backend);
   room : queued (places_in l.self.session).block + sum_by (λ line. line.len) (drop l.line-index l.lines) ≤ most_queued;
   kin : g.B.Backend.kin l.backend ≡ g.B.Backend.kin l.fn.backend;
 }

@@ -29,4 +29,4 @@ returns-in-None-clause-holds g c =
     let new = g.B.Backend.state c.refuse_unknown.new.backend in
     let p = places_in c.args.self.now in
     let procedure = looks (λ h. ends (refuses p (refusal no_refresh h 0))) in
-    kept_held T.stands T.fits T.cut_of T.snap_of g.met.T.Shown.fits_on c.args.self.now c.args.self.now old new refl refl (goes_ends g.B.Backend.alone old procedure p 0 c.refuse_unknown.result new (c.refuse_unknown.ensures.ends p)) c.requires.holds
+    kept_held T g.met.T.Shown.fits_on c.args.self.now c.args.self.now old new refl refl (goes_ends g.B.Backend.alone old procedure p 0 c.refuse_unknown.result new (c.refuse_unknown.ensures.ends p)) c.requires.holds

@@ -21,19 +21,19 @@ pub finish_job-requires-clause-fits : goal.finish_job-requires-clause-fits
 finish_job-requires-clause-fits g c =
     let T = g.T.Shown in
     let took = subst (λ r. TakesJob c.args.cut c.args.self.now.held.entries r c.take_job.new.self.held.entries) c.in-Job.is c.take_job.ensures.took in
-    (held_holds T.fits T.cut_of T.snap_of (g.B.Backend.state c.args.backend.now) c.args.cut c.args.self.now.held.entries _ c.requires.holds.snapshots took.0).0
+    (held_holds T (g.B.Backend.state c.args.backend.now) c.args.cut c.args.self.now.held.entries _ c.requires.holds.snapshots took.0).0
 
 pub finish_job-requires-clause-cut : goal.finish_job-requires-clause-cut
 finish_job-requires-clause-cut g c =
     let T = g.T.Shown in
     let took = subst (λ r. TakesJob c.args.cut c.args.self.now.held.entries r c.take_job.new.self.held.entries) c.in-Job.is c.take_job.ensures.took in
-    (held_holds T.fits T.cut_of T.snap_of (g.B.Backend.state c.args.backend.now) c.args.cut c.args.self.now.held.entries _ c.requires.holds.snapshots took.0).1
+    (held_holds T (g.B.Backend.state c.args.backend.now) c.args.cut c.args.self.now.held.entries _ c.requires.holds.snapshots took.0).1
 
 pub finish_job-requires-clause-snap : goal.finish_job-requires-clause-snap
 finish_job-requires-clause-snap g c =
     let T = g.T.Shown in
     let took = subst (λ r. TakesJob c.args.cut c.args.self.now.held.entries r c.take_job.new.self.held.entries) c.in-Job.is c.take_job.ensures.took in
-    (held_holds T.fits T.cut_of T.snap_of (g.B.Backend.state c.args.backend.now) c.args.cut c.args.self.now.held.entries _ c.requires.holds.snapshots took.0).2
+    (held_holds T (g.B.Backend.state c.args.backend.now) c.args.cut c.args.self.now.held.entries _ c.requires.holds.snapshots took.0).2
 
 pub returns-in-Ok-clause-ends : goal.returns-in-Ok-clause-ends
 returns-in-Ok-clause-ends g c =
@@ -69,7 +69,7 @@ returns-in-Ok-clause-holds g c =
     let took = subst (λ r. TakesJob c.args.cut s.held.entries r t.held.entries) c.in-Job.is c.take_job.ensures.took in
     let new = g.B.Backend.state c.finish_job.new.backend in
     let goes = goes_ends g.B.Backend.alone old (ending_as (finish_turn p c.args.cut c.in-Job.at) (finishes_refresh c.args.cut c.in-Job.at)) p 0 (Ok c.in-Ok.completion) new (c.in-Ok.ensures.ends p) in
-    taken_held T.stands T.fits T.cut_of T.snap_of on s t c.args.cut c.in-Job.at old new c.take_job.ensures.block took.1 goes c.in-Ok.ensures.lost c.requires.holds
+    taken_held T on s t c.args.cut c.in-Job.at old new c.take_job.ensures.block took.1 goes c.in-Ok.ensures.lost c.requires.holds
 
 pub returns-in-Err-clause-ends : goal.returns-in-Err-clause-ends
 returns-in-Err-clause-ends g c =
@@ -105,7 +105,7 @@ returns-in-Err-clause-holds g c =
     let took = subst (λ r. TakesJob c.args.cut s.held.entries r t.held.entries) c.in-Job.is c.take_job.ensures.took in
     let new = g.B.Backend.state c.finish_job.new.backend in
     let goes = goes_breaks g.B.Backend.alone old (ending_as (finish_turn p c.args.cut c.in-Job.at) (finishes_refresh c.args.cut c.in-Job.at)) new (c.in-Err.ensures.ends p) in
-    forgotten_held T.stands T.fits T.cut_of T.snap_of on s t c.forget.new.self c.args.cut c.in-Job.at old new c.take_job.ensures.block took.1 c.forget.ensures.block c.forget.ensures.held goes c.requires.holds
+    forgotten_held T on s t c.forget.new.self c.args.cut c.in-Job.at old new c.take_job.ensures.block took.1 c.forget.ensures.block c.forget.ensures.held goes c.requires.holds
 
 pub returns-in-Lost-clause-ends : goal.returns-in-Lost-clause-ends
 returns-in-Lost-clause-ends g c =
@@ -117,7 +117,7 @@ returns-in-Lost-clause-ends g c =
     let old = g.B.Backend.state c.args.backend.now in
     let took = subst (λ r. TakesJob c.args.cut s.held.entries r t.held.entries) c.in-Lost.is c.take_job.ensures.took in
     let new = g.B.Backend.state c.refuse_finish.new.backend in
-    let lost = held_holds T.fits T.cut_of T.snap_of old c.args.cut s.held.entries _ c.requires.holds.snapshots took.0 in
+    let lost = held_holds T old c.args.cut s.held.entries _ c.requires.holds.snapshots took.0 in
     subst (λ o. EndsAt g.B.Backend.alone old (looks (λ h. finishes_held p h c.args.cut o)) p 0 c.refuse_finish.result new) (sym (held_at c.args.cut s.held.entries _ took.0))
     (lost_refused g.B.Backend.alone old p c.args.cut c.in-Lost.at c.refuse_finish.result new lost (c.refuse_finish.ensures.ends p))
 
@@ -154,8 +154,8 @@ returns-in-Lost-clause-holds g c =
     let took = subst (λ r. TakesJob c.args.cut s.held.entries r t.held.entries) c.in-Lost.is c.take_job.ensures.took in
     let new = g.B.Backend.state c.refuse_finish.new.backend in
     let goes = goes_ends g.B.Backend.alone old (looks (λ h. ends (refuses p (unfinished stopped h (pending h c.args.cut))))) p 0 c.refuse_finish.result new (c.refuse_finish.ensures.ends p) in
-    let lost = held_holds T.fits T.cut_of T.snap_of old c.args.cut s.held.entries _ c.requires.holds.snapshots took.0 in
-    taken_held T.stands T.fits T.cut_of T.snap_of on s t c.args.cut c.in-Lost.at old new c.take_job.ensures.block took.1 goes (lost_stays old new c.args.cut goes lost) c.requires.holds
+    let lost = held_holds T old c.args.cut s.held.entries _ c.requires.holds.snapshots took.0 in
+    taken_held T on s t c.args.cut c.in-Lost.at old new c.take_job.ensures.block took.1 goes (lost_stays old new c.args.cut goes lost) c.requires.holds
 
 pub returns-in-Nothing-clause-ends : goal.returns-in-Nothing-clause-ends
 returns-in-Nothing-clause-ends g c =
@@ -202,4 +202,4 @@ returns-in-Nothing-clause-holds g c =
     let took = subst (λ r. TakesJob c.args.cut s.held.entries r t.held.entries) c.in-Nothing.is c.take_job.ensures.took in
     let new = g.B.Backend.state c.refuse_finish-in-Nothing.new.backend in
     let goes = goes_ends g.B.Backend.alone old (looks (λ h. ends (refuses p (unfinished NO_SNAPSHOT h (pending h c.args.cut))))) p 0 c.refuse_finish-in-Nothing.result new (c.refuse_finish-in-Nothing.ensures.ends p) in
-    kept_held T.stands T.fits T.cut_of T.snap_of on s t old new c.take_job.ensures.block took.1 goes c.requires.holds
+    kept_held T on s t old new c.take_job.ensures.block took.1 goes c.requires.holds

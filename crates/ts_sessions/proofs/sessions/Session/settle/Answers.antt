@@ -15,10 +15,10 @@ pub returns-in-Holds-clause-holds : goal.returns-in-Holds-clause-holds
 returns-in-Holds-clause-holds g c = λ state bytes held brought.
     let T = g.T.Shown in
     let s = c.args.self.now in
-    let b = subst (λ x. ChangeHolds T.stands T.fits T.cut_of T.snap_of bytes x state.history) c.in-Holds.is brought in
-    held_either c.hold.result (HoldsOf T.stands T.fits T.cut_of T.snap_of c.hold.new.self state) _ _
-    (λ e. put_held T.stands T.fits T.cut_of T.snap_of s c.hold.new.self state c.in-Holds.cut c.in-Holds.at c.in-Holds.job c.hold.ensures.block e held b)
-    (λ k. carried_held T.stands T.fits T.cut_of T.snap_of s c.hold.new.self state k held) c.hold.ensures.held c.hold.ensures.kept
+    let b = subst (λ x. ChangeHolds T bytes x state.history) c.in-Holds.is brought in
+    held_either c.hold.result (HoldsOf T c.hold.new.self state) _ _
+    (λ e. put_held T s c.hold.new.self state c.in-Holds.cut c.in-Holds.at c.in-Holds.job c.hold.ensures.block e held b)
+    (λ k. carried_held T s c.hold.new.self state k held) c.hold.ensures.held c.hold.ensures.kept
 
 pub returns-in-GivesUp-clause-places : goal.returns-in-GivesUp-clause-places
 returns-in-GivesUp-clause-places g c =
@@ -28,4 +28,4 @@ returns-in-GivesUp-clause-places g c =
 pub returns-in-GivesUp-clause-holds : goal.returns-in-GivesUp-clause-holds
 returns-in-GivesUp-clause-holds g c = λ state bytes held brought.
     let T = g.T.Shown in
-    gone_held T.stands T.fits T.cut_of T.snap_of c.args.self.now c.forget.new.self state c.in-GivesUp.cut c.forget.ensures.block c.forget.ensures.held held
+    gone_held T c.args.self.now c.forget.new.self state c.in-GivesUp.cut c.forget.ensures.block c.forget.ensures.held held

@@ -20,4 +20,4 @@ returns-in-None-clause-ends g c =
 
 pub returns-in-None-clause-change : goal.returns-in-None-clause-change
 returns-in-None-clause-change g c = λ bytes.
-    brings_nothing g.T.Shown.stands g.T.Shown.fits g.T.Shown.cut_of g.T.Shown.snap_of bytes (g.B.Backend.state c.refuse_unknown.new.backend).history c.refuse_unknown.result c.refuse_unknown.ensures.change
+    brings_nothing g.T.Shown bytes (g.B.Backend.state c.refuse_unknown.new.backend).history c.refuse_unknown.result c.refuse_unknown.ensures.change

@@ -1,4 +1,4 @@
--- A line with a statement: its session's name, which is a good one, and what stands behind it.
+-- A line with a statement has the name of its session, which is a good one, directly before its colon.
 use Rattle.std.proofs.Common.{◌≡◌, ℕ, zero, suc, ◌+◌, ◌-◌, ◌<◌, ◌≤◌, Bool, true, false, cond, not, ◌&&◌, ◌||◌, ◌==◌, List, [], ◌∷◌, length, take, drop, nat_le, IsTrue, refl, sym, ap, ◌∙◌, true≢false, if◌then◌else◌, arith, length-take, length-drop}
 use Rattle.std.specs.Char.{is_ascii}
 use Rattle.std.specs.List.{list_all}
@@ -7,19 +7,12 @@ use Rattle.std.proofs.lemmas.Bool.Decides.{nat_tests}
 use Rattle.std.proofs.lemmas.List.Folds.{length-prefix_len}
 use Rattle.ts_schema.specs.Names.{is_name, is_head, is_tail}
 use Rattle.stmt_reader.specs.Tokens.{blank_len, begins_with}
-use Rattle.stmt_reader.specs.Lines.{comment_at, begins_session, continues_session, session_len, has_session, line_kind}
+use Rattle.stmt_reader.specs.Lines.{comment_at, begins_session, continues_session, session_len, has_session, line_kind, session_name, IsStatementLine}
 use Rattle.stmt_reader.specs.declared.lines.LineKind.TheVariants.{Blank, NotAscii, NoSession, Stmt}
-use Rattle.ts_sessions.specs.Script.{session_name}
-
--- the name stands directly before the colon, the colon before the statement, and the statement before the comment
-pub record IsStatementLine (line : List ℕ) (len skip end : ℕ) : Type 0 where
-  pub named : IsTrue (is_name (session_name line len skip))
-  pub colon : suc len ≤ skip
-  pub statement : skip ≤ end
-  pub within : end ≤ length line
 
 -- ---- what a line is
 
+-- what follows of the kind of a line that is a statement
 record Parts (session : Bool) (n s e len skip end : ℕ) : Type 0 where
   has : session ≡ true
   lens : n ≡ len
@@ -100,6 +93,7 @@ part_of_front : (b n c : ℕ) (xs : List ℕ) → b + n ≤ c → take n (drop b
 part_of_front b n c xs h =
     sym (drop-take b n (take c xs)) ∙ ap (drop b) (take-take (b + n) c xs h) ∙ drop-take b n xs
 
+-- a line that is a statement has its parts in order
 pub statement_line : (line : List ℕ) (len skip end : ℕ) → line_kind line ≡ Stmt len skip end → IsStatementLine line len skip end
 statement_line line len skip end h =
     let c = comment_at line in
