@@ -1,6 +1,6 @@
 -- Laws of runs: items of a list from a place on.
 use Rattle.std.proofs.Common.{◌≡◌, ℕ, zero, suc, ◌+◌, ◌-◌, ◌<◌, ◌≤◌, List, [], ◌∷◌, ◌++◌, length, take, drop, refl, sym, ap, ◌∙◌, subst, arith}
-use Rattle.std.proofs.lemmas.List.{drop-take, drop-append-le, take-append-le, take-append-drop, length-drop, take_rest, length-append}
+use Rattle.std.proofs.lemmas.List.{drop-take, drop-append-le, take-append-le, length-drop, take_rest, length-append}
 use Rattle.std.proofs.Math.Seq.{drop-append-add, take-add, drop-nil}
 use Rattle.block_list.specs.Blocks.{IsRun}
 
@@ -103,13 +103,6 @@ module _ {X : Type 0} where
       let sum : length (xs ++ ys) ≡ length xs + length ys = length-append xs ys in
       run_second xs ys i len (take (length ys - (i - len)) (drop (i - len) ys)) e le (subst (IsRun ys (i - len) (length ys)) (sym (take_rest ys (i - len))) (run_rest ys (i - len) (omega arith)))
 
-  -- a list from a place on is a run and what is left after it
-  pub run_then : (all : List X) (at end : ℕ) (run : List X) → IsRun all at end run → drop at all ≡ run ++ drop (at + length run) all
-  run_then all at end run r =
-      sym (take-append-drop (length run) (drop at all))
-      ∙ ap (λ xs. xs ++ drop (length run) (drop at all)) r.items
-      ∙ ap (λ ys. run ++ ys) (drop-drop at (length run) all)
-
   -- a run more of what is taken
   pub taken_run : (all : List X) (from at end : ℕ) → from ≤ at → at ≤ end → take (at - from) (drop from all) ++ take (end - at) (drop at all) ≡ take (end - from) (drop from all)
   taken_run all from at end le le' =
@@ -118,3 +111,11 @@ module _ {X : Type 0} where
       sym (ap (λ n. take n (drop from all)) sum
       ∙ take-add (at - from) (end - at) (drop from all)
       ∙ ap (λ ys. take (at - from) (drop from all) ++ take (end - at) ys) (drop-drop from (at - from) all ∙ ap (λ n. drop n all) back))
+
+  -- the items from a place on and below another are a run and what is left after it
+  pub run_first : (all : List X) (at end : ℕ) (run : List X) → IsRun all at end run → take (end - at) (drop at all) ≡ run ++ take (end - (at + length run)) (drop (at + length run) all)
+  run_first all at end run r =
+      let within : at + length run ≤ end = r.within in
+      let count : at + length run - at ≡ length run = omega arith in
+      sym (taken_run all at (at + length run) end (omega arith) within)
+      ∙ ap (λ xs. xs ++ take (end - (at + length run)) (drop (at + length run) all)) (ap (λ n. take n (drop at all)) count ∙ r.items)

@@ -31,6 +31,10 @@ module _ {X : Type 0} where
   AreBlocks n [] = Unit {0}
   AreBlocks n (b ∷ bs) = (b.start ≡ n) × (length b.items ≤ block_len) × AreBlocks (n + length b.items) bs
 
+  -- blocks, and how many items they have: not more than can be counted
+  abbrev pub AreCounted : ℕ → List (BlockValue X) → Type 0
+  AreCounted n bs = AreBlocks 0 bs × (n ≡ length (items_of bs)) × (n ≤ most_items)
+
   -- what is shared, where something is
   abbrev pub shared_if : {Z : Type 0} → Option (Arc (List X) Z) → List X
   shared_if None = []
@@ -41,3 +45,7 @@ module _ {X : Type 0} where
     pub some : 0 < length run
     pub within : at + length run ≤ end
     pub items : take (length run) (drop at all) ≡ run
+
+  -- these are the items of a list from a place on, at least one
+  abbrev pub IsRunFrom : List X → ℕ → List X → Type 0
+  IsRunFrom all at run = IsRun all at (length all) run

@@ -1,5 +1,5 @@
 -- A list in blocks, as contracts see it.
-use Rattle.std.specs.Prelude.{◌≡◌, ℕ, ◌-◌, min, List, refl}
+use Rattle.std.specs.Prelude.{ℕ, ◌-◌, min, List, ◌++◌, take, drop, refl}
 use Rattle.block_list.specs.Blocks.{block_len}
 use Rattle.std.specs.Coded.{Coded, code_by, coded×, coded_ℕ, coded_list}
 
@@ -14,3 +14,7 @@ list_value_code {X} x = code_by (List X × ℕ) (coded× (coded_list x) coded_�
 -- for how many items there is room beside so many, where a vector has this capacity: no more than fill a block
 abbrev pub room_of : ℕ → ℕ → ℕ
 room_of len capacity = min capacity block_len - len
+
+-- the items of a list with new ones in place of those from one place on and below another
+abbrev pub spliced : {X : Type 0} → ℕ → ℕ → List X → List X → List X
+spliced from to new old = take from old ++ new ++ drop to old

@@ -1,6 +1,6 @@
 //! Blocks, and where each of them begins.
 ghost use Rattle.std.specs.Prelude.{◌≡◌, ◌+◌, ◌<◌, ◌≤◌, [], ◌∷◌, ◌++◌, length, take, drop, IfOk, IfSome};
-ghost use Rattle.block_list.specs.Blocks.{AreBlocks, BlockValue, IsRun, block_len, items_of, most_items};
+ghost use Rattle.block_list.specs.Blocks.{AreBlocks, BlockValue, IsRun, IsRunFrom, block_len, items_of, most_items};
 ghost use Rattle.std.specs.Arc.{arc_value};
 
 use std::alloc::Global;
@@ -71,7 +71,7 @@ fn block_of<T>(blocks: &[Block<T>], i: usize) -> &Block<T>
     requires within { i < length (items_of blocks.now) }
     ensures from { result.now.start ≤ i }
     ensures below { i < result.now.start + length result.now.items }
-    ensures run { IsRun (items_of blocks.now) result.now.start (length (items_of blocks.now)) result.now.items }
+    ensures run { IsRunFrom (items_of blocks.now) result.now.start result.now.items }
     ensures few { length result.now.items ≤ block_len }
 {
     let place = place_of(blocks, i);
@@ -87,14 +87,14 @@ pub(crate) struct Closed<T> {
 }
 
 impl<T> Model for Closed<T> {
-    ghost use Rattle.std.specs.Prelude.{◌≡◌, ◌≤◌, List, length};
-    ghost use Rattle.block_list.specs.Blocks.{AreBlocks, items_of, most_items};
+    ghost use Rattle.std.specs.Prelude.{List};
+    ghost use Rattle.block_list.specs.Blocks.{AreCounted, items_of};
 
     ghost Value = { List T };
 
     ghost view = { λ c. items_of c.blocks.items };
 
-    ghost invariant = { λ c. AreBlocks 0 c.blocks.items × (c.len ≡ length (items_of c.blocks.items)) × (c.len ≤ most_items) };
+    ghost invariant = { λ c. AreCounted c.len c.blocks.items };
 }
 
 impl<T: Drop> Closed<T> {
@@ -142,14 +142,14 @@ pub(crate) struct Blocks<T> {
 }
 
 impl<T> Model for Blocks<T> {
-    ghost use Rattle.std.specs.Prelude.{◌≡◌, ◌≤◌, List, length};
-    ghost use Rattle.block_list.specs.Blocks.{AreBlocks, items_of, most_items, shared_if};
+    ghost use Rattle.std.specs.Prelude.{List};
+    ghost use Rattle.block_list.specs.Blocks.{AreCounted, items_of, shared_if};
 
     ghost Value = { List T };
 
     ghost view = { λ b. items_of (shared_if b.list) };
 
-    ghost invariant = { λ b. AreBlocks 0 (shared_if b.list) × (b.len ≡ length (items_of (shared_if b.list))) × (b.len ≤ most_items) };
+    ghost invariant = { λ b. AreCounted b.len (shared_if b.list) };
 }
 
 impl<T> Blocks<T> {
@@ -195,7 +195,7 @@ impl<T> Blocks<T> {
     /// The items from place `i` on that stand in the same block.
     pub(crate) fn run_at(&self, i: usize) -> &[T]
         requires { i < length self.now }
-        ensures { IsRun self.now i (length self.now) result.now }
+        ensures { IsRunFrom self.now i result.now }
     {
         let block = block_of(self.list(), i);
         &block.items().items()[i - block.start()..]

@@ -96,10 +96,9 @@ impl<T: Clone + Drop> Builder<T> {
                 Ok(at + block.len())
             }
             None => {
-                let run = list.run_at(at);
-                let count = run.len().min(to - at);
-                self.push_all(&run[..count])?;
-                Ok(at + count)
+                let run = list.run_below(at, to);
+                self.push_all(run)?;
+                Ok(at + run.len())
             }
         }
     }

@@ -1,5 +1,5 @@
 //! The items of a list, one after another.
-ghost use Rattle.std.specs.Prelude.{◌≡◌};
+ghost use Rattle.std.specs.Prelude.{◌≡◌, ◌-◌, ◌≤◌, length, take, drop};
 ghost use Rattle.std.specs.Iterator.{YieldsFirstRef, item_count};
 
 use crate::lists::BlockList;
@@ -10,27 +10,31 @@ use std::marker::Model;
 pub struct Iter<'a, T> {
     list: &'a BlockList<T>,
     at: usize,
+    end: usize,
     run: &'a [T],
 }
 
 impl<'a, T> Model for Iter<'a, T> {
-    ghost use Rattle.std.specs.Prelude.{◌++◌, ◌≤◌, List, drop, length};
+    ghost use Rattle.std.specs.Prelude.{◌++◌, ◌-◌, ◌≤◌, List, take, drop, length};
 
     ghost Value = { List T };
 
-    ghost view = { λ i. i.run.now ++ drop i.at i.list.now.items };
+    ghost view = { λ i. i.run.now ++ take (i.end - i.at) (drop i.at i.list.now.items) };
 
-    ghost invariant = { λ i. i.at ≤ length i.list.now.items };
+    ghost invariant = { λ i. (i.at ≤ i.end) × (i.end ≤ length i.list.now.items) };
 }
 
 impl<'a, T> Iter<'a, T> {
-    /// All items of a list.
-    pub(crate) fn of(list: &'a BlockList<T>) -> Iter<'a, T>
-        ensures items { result ≡ list.now.items }
+    /// The items of a list from place `from` on and below place `to`.
+    pub(crate) fn of(list: &'a BlockList<T>, from: usize, to: usize) -> Iter<'a, T>
+        requires order { from ≤ to }
+        requires within { to ≤ length list.now.items }
+        ensures items { result ≡ take (to - from) (drop from list.now.items) }
     {
         Iter {
             list,
-            at: 0,
+            at: from,
+            end: to,
             run: &[],
         }
     }
@@ -48,10 +52,10 @@ impl<'a, T> Iterator for Iter<'a, T> {
             self.run = rest;
             return Some(first);
         }
-        if self.at == self.list.len() {
+        if self.at == self.end {
             return None;
         }
-        let run = self.list.run_at(self.at);
+        let run = self.list.run_below(self.at, self.end);
         let (first, rest) = run.split_first()?;
         self.at += run.len();
         self.run = rest;

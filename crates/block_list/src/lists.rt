@@ -1,8 +1,8 @@
 //! Lists.
-ghost use Rattle.std.specs.Prelude.{◌≡◌, ◌==◌, ◌+◌, ◌<◌, ◌≤◌, [], ◌∷◌, ◌++◌, length, take, drop, slice_index_or, vec_len, vec_capacity, IfOk, IfSome, OnOk, OnErr};
+ghost use Rattle.std.specs.Prelude.{◌≡◌, ◌==◌, ◌+◌, ◌-◌, ◌<◌, ◌≤◌, [], ◌∷◌, ◌++◌, length, take, drop, slice_index_or, vec_len, vec_capacity, IfOk, IfSome, OnOk, OnErr};
 ghost use Rattle.std.specs.Arc.{arc_value};
-ghost use Rattle.block_list.specs.Blocks.{IsRun, block_len, shared_if};
-ghost use Rattle.block_list.specs.Lists.{room_of};
+ghost use Rattle.block_list.specs.Blocks.{IsRun, IsRunFrom, block_len, shared_if};
+ghost use Rattle.block_list.specs.Lists.{room_of, spliced};
 
 use crate::blocks::{BLOCK_LEN, Blocks};
 use crate::builders::Builder;
@@ -76,9 +76,20 @@ impl<T> BlockList<T> {
     /// Items from place `i` on, counted from 0: one at least, and as many as stand in one block.
     pub fn run_at(&self, i: usize) -> &[T]
         requires { i < length self.now.items }
-        ensures run { IsRun self.now.items i (length self.now.items) result.now }
+        ensures run { IsRunFrom self.now.items i result.now }
     {
         run_in(&self.blocks, items_if(&self.newest), &self.own, i)
+    }
+
+    /// Items from place `at` on and below place `end`: one at least, and as many as stand in one block.
+    pub(crate) fn run_below(&self, at: usize, end: usize) -> &[T]
+        requires order { at < end }
+        requires within { end ≤ length self.now.items }
+        ensures run { IsRun self.now.items at end result.now }
+    {
+        let run = self.run_at(at);
+        let count = run.len().min(end - at);
+        &run[..count]
     }
 
     /// The item at place `i`, counted from 0.
@@ -93,7 +104,16 @@ impl<T> BlockList<T> {
     pub fn iter(&self) -> Iter<'_, T>
         ensures items { result ≡ self.now.items }
     {
-        Iter::of(self)
+        self.range(0, self.len())
+    }
+
+    /// The items from place `from` on and below place `to`, one after another.
+    pub fn range(&self, from: usize, to: usize) -> Iter<'_, T>
+        requires order { from ≤ to }
+        requires within { to ≤ length self.now.items }
+        ensures items { result ≡ take (to - from) (drop from self.now.items) }
+    {
+        Iter::of(self, from, to)
     }
 }
 
@@ -183,7 +203,7 @@ impl<T: Clone + Drop> BlockList<T> {
         requires order { from ≤ to }
         requires within { to ≤ length self.now.items }
         requires faithful { (x y : T) → T.is_clone x y → x ≡ y }
-        ensures items { IfOk result (λ list. list.items ≡ take from self.now.items ++ items.now ++ drop to self.now.items) }
+        ensures items { IfOk result (λ list. list.items ≡ spliced from to items.now self.now.items) }
     {
         let mut made = Builder::new(self.alloc);
         made.append(self, 0, from)?;

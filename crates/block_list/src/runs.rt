@@ -1,7 +1,7 @@
 //! Runs: items of a list from a place on.
 ghost use Rattle.std.specs.Prelude.{◌≡◌, ◌<◌, ◌≤◌, ◌++◌, length, IfOk, IfSome};
 ghost use Rattle.std.specs.Arc.{arc_value};
-ghost use Rattle.block_list.specs.Blocks.{IsRun, block_len, shared_if};
+ghost use Rattle.block_list.specs.Blocks.{IsRun, IsRunFrom, block_len, shared_if};
 
 use crate::blocks::Blocks;
 use std::alloc::Global;
@@ -21,7 +21,7 @@ pub(crate) fn items_if<T>(block: &Option<Arc<Seq<T>>>) -> &[T]
 /// The items from place `i` on of the one of two lists in which it is.
 fn run_in_two<'a, T>(first: &'a [T], second: &'a [T], i: usize) -> &'a [T]
     requires { i < length (first.now ++ second.now) }
-    ensures { IsRun (first.now ++ second.now) i (length (first.now ++ second.now)) result.now }
+    ensures { IsRunFrom (first.now ++ second.now) i result.now }
 {
     let len = first.len();
     if i < len {
@@ -39,7 +39,7 @@ pub(crate) fn run_in<'a, T>(
     i: usize,
 ) -> &'a [T]
     requires { i < length (blocks.now ++ (first.now ++ second.now)) }
-    ensures { IsRun (blocks.now ++ (first.now ++ second.now)) i (length (blocks.now ++ (first.now ++ second.now))) result.now }
+    ensures { IsRunFrom (blocks.now ++ (first.now ++ second.now)) i result.now }
 {
     let len = blocks.len();
     if i < len {
@@ -97,7 +97,8 @@ pub(crate) fn whole_in<'a, T>(
 ) -> Option<&'a Arc<Seq<T>>>
     requires order { at ≤ end }
     requires few { length (shared_if block.now) ≤ block_len }
-    ensures run { IfSome result (λ whole. IsRun (blocks.now ++ (shared_if block.now ++ own.now)) at end (arc_value whole.now)) }
+    ensures run { IfSome result (λ whole.
+        IsRun (blocks.now ++ (shared_if block.now ++ own.now)) at end (arc_value whole.now)) }
     ensures few { IfSome result (λ whole. length (arc_value whole.now) ≤ block_len) }
 {
     let len = blocks.len();

@@ -1,4 +1,4 @@
--- Calls that make an event: each is refused exactly where its event isn't timely, and tells what the event does.
+-- Calls that make an event: each is refused exactly where its event isn't timely, and answers what the event does.
 use Rattle.std.proofs.Common.{◌≡◌, ℕ, suc, Bool, true, false, ◌&&◌, not, cond, nat_lt, length, Option, Some, None, sym, refl, ap, ◌∙◌, subst}
 use Rattle.std.specs.Prelude.{ℤ, is_some, is_none, unwrap_or, IfSome, IsSome, IsTrue}
 use Rattle.std.proofs.lemmas.Bool.{true≢false, and_parts}
@@ -25,7 +25,7 @@ use Rattle.ts_model.specs.Windows.{window}
 use Rattle.ts_model.specs.Laws.{MakesAllowed}
 use Rattle.ts_model.specs.Calls.{refuses, making, numbered, new_relation, refusal, name_taken, too_many, finish_of, making_table, making_hyper, making_view, setting_mode, finishing, cutting, cut_of_view, cut_over}
 use Rattle.event_check.specs.Checks.{refusal_in, call_refusal, event_refusal, no_number}
-use Rattle.engine_core.specs.Acts.{unless, making_event, told_as}
+use Rattle.engine_core.specs.Acts.{unless, making_event, with_answer}
 use Rattle.engine_core.specs.Effects.{moves_none}
 
 -- ---- a call is refused exactly where its event isn't timely
@@ -74,42 +74,42 @@ none_is (Some x) e = absurd (true≢false (sym e))
 pub free_where_allowed : (h : History) (e : Event) → allowed h e ≡ true → call_refusal h e ≡ None
 free_where_allowed h e is = none_is (call_refusal h e) (none_where_timely h e ∙ (and_parts (sound h e) (timely h e) is).1)
 
--- ---- what each call tells of its event
+-- ---- what each call answers of its event
 
-told_relation : (h : History) (taken : Bool) (many : ℕ) (e : Event) → new_relation h taken many e ≡ told_as (λ c. c.pos) (unless (refusal_in (new_relation h taken many e)) (making h e (moves_none h)))
-told_relation h true many e = refl
-told_relation h false many e =
-    elim (nat_lt many most_relations) as (λ t. cond t (numbered h e) (refuses (refusal too_many h (suc most_relations))) ≡ told_as (λ c. c.pos) (unless (refusal_in (cond t (numbered h e) (refuses (refusal too_many h (suc most_relations))))) (making h e (moves_none h)))) [
+answered_relation : (h : History) (taken : Bool) (many : ℕ) (e : Event) → new_relation h taken many e ≡ with_answer (λ c. c.pos) (unless (refusal_in (new_relation h taken many e)) (making h e (moves_none h)))
+answered_relation h true many e = refl
+answered_relation h false many e =
+    elim (nat_lt many most_relations) as (λ t. cond t (numbered h e) (refuses (refusal too_many h (suc most_relations))) ≡ with_answer (λ c. c.pos) (unless (refusal_in (cond t (numbered h e) (refuses (refusal too_many h (suc most_relations))))) (making h e (moves_none h)))) [
       | true ↦ refl
       | false ↦ refl
     ]
 
-pub told_table : (def : TableDef) (h : History) → making_table def h ≡ told_as (λ c. c.pos) (making_event (Table def) h)
-told_table def h = told_relation h (is_taken (roster h) def.name) (length (roster h).tables) (Table def)
+pub answered_table : (def : TableDef) (h : History) → making_table def h ≡ with_answer (λ c. c.pos) (making_event (Table def) h)
+answered_table def h = answered_relation h (is_taken (roster h) def.name) (length (roster h).tables) (Table def)
 
-pub told_view : (def : ViewDef) (h : History) → making_view def h ≡ told_as (λ c. c.pos) (making_event (View def) h)
-told_view def h = told_relation h (is_taken (roster h) def.name) (length (roster h).views) (View def)
+pub answered_view : (def : ViewDef) (h : History) → making_view def h ≡ with_answer (λ c. c.pos) (making_event (View def) h)
+answered_view def h = answered_relation h (is_taken (roster h) def.name) (length (roster h).views) (View def)
 
-pub told_hyper : (t : ℕ) (hyper : HyperInfo) (h : History) → making_hyper t hyper h ≡ told_as (λ c. c.pos) (making_event (Hyper t hyper) h)
-told_hyper t hyper h = by_kind (is_some (hyper_of (roster h) t))
+pub answered_hyper : (t : ℕ) (hyper : HyperInfo) (h : History) → making_hyper t hyper h ≡ with_answer (λ c. c.pos) (making_event (Hyper t hyper) h)
+answered_hyper t hyper h = by_kind (is_some (hyper_of (roster h) t))
   where
-    by_kind : (made : Bool) → cond made (refuses (refusal name_taken h 0)) (numbered h (Hyper t hyper)) ≡ told_as (λ c. c.pos) (unless (refusal_in (cond made (refuses (refusal name_taken h 0)) (numbered h (Hyper t hyper)))) (making h (Hyper t hyper) (moves_none h)))
+    by_kind : (made : Bool) → cond made (refuses (refusal name_taken h 0)) (numbered h (Hyper t hyper)) ≡ with_answer (λ c. c.pos) (unless (refusal_in (cond made (refuses (refusal name_taken h 0)) (numbered h (Hyper t hyper)))) (making h (Hyper t hyper) (moves_none h)))
     by_kind true = refl
     by_kind false = refl
 
-pub told_mode : (n : ℕ) (only : Bool) (h : History) → setting_mode n only h ≡ told_as (λ c. c.pos) (making_event (Mode n only) h)
-told_mode n only h = refl
+pub answered_mode : (n : ℕ) (only : Bool) (h : History) → setting_mode n only h ≡ with_answer (λ c. c.pos) (making_event (Mode n only) h)
+answered_mode n only h = refl
 
-pub told_finish : (cut snap : ℕ) (h : History) → finishing cut snap h ≡ told_as (λ c. c.pos) (making_event (Built cut snap) h)
-told_finish cut snap h = by_state (pending h cut)
+pub answered_finish : (cut snap : ℕ) (h : History) → finishing cut snap h ≡ with_answer (λ c. c.pos) (making_event (Built cut snap) h)
+answered_finish cut snap h = by_state (pending h cut)
   where
-    by_state : (p : Pending) → finish_of cut snap h p ≡ told_as (λ c. c.pos) (unless (refusal_in (finish_of cut snap h p)) (making h (Built cut snap) (moves_none h)))
+    by_state : (p : Pending) → finish_of cut snap h p ≡ with_answer (λ c. c.pos) (unless (refusal_in (finish_of cut snap h p)) (making h (Built cut snap) (moves_none h)))
     by_state (Waiting n) = refl
     by_state (Finished by) = refl
     by_state Unknown = refl
 
-pub told_cut : (n : ℕ) (span : Span) (h : History) → cut_over n h (Whole span) ≡ told_as (λ c. CutMade c.pos span) (making_event (Cut n span) h)
-told_cut n span h = refl
+pub answered_cut : (n : ℕ) (span : Span) (h : History) → cut_over n h (Whole span) ≡ with_answer (λ c. CutMade c.pos span) (making_event (Cut n span) h)
+answered_cut n span h = refl
 
 -- ---- cuts
 

@@ -8,10 +8,10 @@ use Rattle.ts_model.specs.declared.outcomes.Outcome.TheVariants.{Done, DiskFault
 use Rattle.ts_model.specs.declared.outcomes.Refusal.{Refusal}
 use Rattle.ts_model.specs.History.{History, start, ◌▸◌, same}
 use Rattle.ts_model.specs.States.{State, Found, Keeps, Makes}
-use Rattle.ts_model.specs.Calls.{Act, makes, making, refuses, says, Answered, Called, Looked}
+use Rattle.ts_model.specs.Calls.{Act, makes, making, refuses, returns, Answered, Called, Looked}
 use Rattle.ts_model.proofs.HistoryLaws.{followed_push}
 use Rattle.event_check.specs.Checks.{call_refusal}
-use Rattle.engine_core.specs.Acts.{unless, making_event, told_as, outcome_as}
+use Rattle.engine_core.specs.Acts.{unless, making_event, with_answer, outcome_as}
 use Rattle.engine_core.specs.Effects.{effect_of}
 use Rattle.engine_core.specs.Histories.{history_of}
 use Rattle.engine_core.specs.Stores.{Does, state_of}
@@ -45,7 +45,7 @@ called_where_seen act h outcome new answered = record { found = state_of h; find
 
 -- ---- what a call does
 
--- an event was made, and what it does was told
+-- an event was made, and what it does was answered
 pub does_made : (old new : List Event) (e : Event) (effect : Committed) → call_refusal (history_of old) e ≡ None → new ≡ old ++ (e ∷ []) → effect ≡ effect_of (history_of old) e → Does (making_event e) old (Done effect) new
 does_made old new e effect free with told =
     let h = history_of old in
@@ -69,45 +69,45 @@ does_refused old new e r refused kept =
 -- there was no memory, and nothing changed
 pub kept_by_any : {A : Type 0} (a : Act A) (old new : State) → Keeps old new → Answered a old NoMemory new
 kept_by_any (refuses r) old new keeps = keeps
-kept_by_any (says x) old new keeps = keeps
+kept_by_any (returns x) old new keeps = keeps
 kept_by_any (makes e x) old new keeps = keeps
 
 pub does_without_memory : {A : Type 0} (act : History → Act A) (old new : List Event) → new ≡ old → Does act old NoMemory new
 does_without_memory act old new kept =
     subst (λ es. Does act old NoMemory es) (sym kept) (called_where_seen act (history_of old) NoMemory (state_of (history_of old)) (kept_by_any (act (history_of old)) (state_of (history_of old)) (state_of (history_of old)) (keeps_all (state_of (history_of old)))))
 
--- a call said something, and nothing changed
-pub does_say : {A : Type 0} (act : History → Act A) (old : List Event) (a b : A) → act (history_of old) ≡ says a → b ≡ a → Does act old (Done b) old
-does_say act old a b is told =
+-- a call returned something, and nothing changed
+pub does_return : {A : Type 0} (act : History → Act A) (old : List Event) (a b : A) → act (history_of old) ≡ returns a → b ≡ a → Does act old (Done b) old
+does_return act old a b is told =
     called_where_seen act (history_of old) (Done b) (state_of (history_of old)) (subst (λ x. Answered x (state_of (history_of old)) (Done b) (state_of (history_of old))) (sym is) (told, keeps_all (state_of (history_of old))))
 
--- ---- the same call, of which something else is told
+-- ---- the same call, with another answer
 
-answered_as : {A B : Type 0} (f : A → B) (a : Act A) (found : State) (outcome : Outcome A) (new : State) → Answered a found outcome new → Answered (told_as f a) found (outcome_as f outcome) new
+answered_as : {A B : Type 0} (f : A → B) (a : Act A) (found : State) (outcome : Outcome A) (new : State) → Answered a found outcome new → Answered (with_answer f a) found (outcome_as f outcome) new
 answered_as f (refuses r) found (Done b) new x = x
 answered_as f (refuses r) found (Refused q) new x = x
 answered_as f (refuses r) found DiskFault new x = x
 answered_as f (refuses r) found NoMemory new x = x
-answered_as f (says a) found (Done b) new x = (ap f x.0, x.1)
-answered_as f (says a) found (Refused q) new x = x
-answered_as f (says a) found DiskFault new x = x
-answered_as f (says a) found NoMemory new x = x
+answered_as f (returns a) found (Done b) new x = (ap f x.0, x.1)
+answered_as f (returns a) found (Refused q) new x = x
+answered_as f (returns a) found DiskFault new x = x
+answered_as f (returns a) found NoMemory new x = x
 answered_as f (makes e a) found (Done b) new x = (ap f x.0, x.1)
 answered_as f (makes e a) found (Refused q) new x = x
 answered_as f (makes e a) found DiskFault new x = x
 answered_as f (makes e a) found NoMemory new x = x
 
-pub called_as : {A B : Type 0} (f : A → B) (act : History → Act A) (other : History → Act B) (old : State) (outcome : Outcome A) (new : State) → other old.history ≡ told_as f (act old.history) → Called true old act outcome new → Called true old other (outcome_as f outcome) new
+pub called_as : {A B : Type 0} (f : A → B) (act : History → Act A) (other : History → Act B) (old : State) (outcome : Outcome A) (new : State) → other old.history ≡ with_answer f (act old.history) → Called true old act outcome new → Called true old other (outcome_as f outcome) new
 called_as f act other old outcome new is called =
     let found_is : called.found ≡ old = called.finds.alone_found refl in
-    let same_act : other called.found.history ≡ told_as f (act called.found.history) = subst (λ s. other s.history ≡ told_as f (act s.history)) (sym found_is) is in
+    let same_act : other called.found.history ≡ with_answer f (act called.found.history) = subst (λ s. other s.history ≡ with_answer f (act s.history)) (sym found_is) is in
     record {
       found = called.found;
       finds = called.finds;
       answered = subst (λ a. Answered a called.found (outcome_as f outcome) new) (sym same_act) (answered_as f (act called.found.history) called.found outcome new called.answered);
     }
 
-pub does_as : {A B : Type 0} (f : A → B) (act : History → Act A) (other : History → Act B) (old : List Event) (outcome : Outcome A) (new : List Event) → other (history_of old) ≡ told_as f (act (history_of old)) → Does act old outcome new → Does other old (outcome_as f outcome) new
+pub does_as : {A B : Type 0} (f : A → B) (act : History → Act A) (other : History → Act B) (old : List Event) (outcome : Outcome A) (new : List Event) → other (history_of old) ≡ with_answer f (act (history_of old)) → Does act old outcome new → Does other old (outcome_as f outcome) new
 does_as f act other old outcome new is does = called_as f act other (state_of (history_of old)) outcome (state_of (history_of new)) is does
 
 -- what is looked at where nothing changed

@@ -6,7 +6,7 @@ use Rattle.ts_model.specs.declared.outcomes.Outcome.{Outcome}
 use Rattle.ts_model.specs.declared.outcomes.Outcome.TheVariants.{Done, Refused, DiskFault, NoMemory}
 use Rattle.ts_model.specs.declared.outcomes.Refusal.{Refusal}
 use Rattle.ts_model.specs.History.{History}
-use Rattle.ts_model.specs.Calls.{Act, refuses, says, makes, making}
+use Rattle.ts_model.specs.Calls.{Act, refuses, returns, makes, making}
 use Rattle.event_check.specs.Checks.{call_refusal}
 use Rattle.engine_core.specs.Effects.{effect_of}
 
@@ -15,17 +15,17 @@ abbrev pub unless : {A : Type 0} → Option Refusal → Act A → Act A
 unless (Some r) act = refuses r
 unless None act = act
 
--- an event is made, unless the call that makes it is refused; and what it does is told
+-- an event is made, unless the call that makes it is refused; and what it does is answered
 abbrev pub making_event : Event → History → Act Committed
 making_event e h = unless (call_refusal h e) (making h e (effect_of h e))
 
--- the same act, of which something else is told
-abbrev pub told_as : {A B : Type 0} → (A → B) → Act A → Act B
-told_as f (refuses r) = refuses r
-told_as f (says a) = says (f a)
-told_as f (makes e a) = makes e (f a)
+-- the same act, with something else as its answer
+abbrev pub with_answer : {A B : Type 0} → (A → B) → Act A → Act B
+with_answer f (refuses r) = refuses r
+with_answer f (returns a) = returns (f a)
+with_answer f (makes e a) = makes e (f a)
 
--- the same outcome
+-- the same outcome, with something else as its answer
 abbrev pub outcome_as : {A B : Type 0} → (A → B) → Outcome A → Outcome B
 outcome_as f (Done a) = Done (f a)
 outcome_as f (Refused r) = Refused r

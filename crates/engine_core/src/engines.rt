@@ -85,7 +85,8 @@ fn prepared_for(
 ) -> Result<Prepared, NoMemory>
     requires { IsNext state.now event job }
     ensures event { IfOk result (λ prepared. prepared.event ≡ event) }
-    ensures prepared { (h : History) → StandsFor h state.now → IsTrue (allowed h event) → JobIsFor h event job → IfOk result (λ prepared. IsPreparedFor h prepared) }
+    ensures prepared { (h : History) → StandsFor h state.now → IsTrue (allowed h event) → JobIsFor h event job →
+        IfOk result (λ prepared. IsPreparedFor h prepared) }
 {
     let after = state.after(&event, job)?;
     let made = Arc::new(alloc, after.state)?;
@@ -125,7 +126,8 @@ impl Engine {
     /// makes such an event is, as `E07`, `E21` or `E19`, and else with the number 0.
     pub fn check(&self, event: &Event) -> Result<(), Refusal>
         ensures allowed { IfOk result (λ _. IsTrue (allowed (history_of self.now.events) event.now)) }
-        ensures refused { IfErr result (λ refusal. event_refusal (history_of self.now.events) event.now ≡ Some refusal) }
+        ensures refused { IfErr result (λ refusal.
+            event_refusal (history_of self.now.events) event.now ≡ Some refusal) }
     {
         match next_refusal(&self.state, event) {
             None => Ok(()),
@@ -182,7 +184,8 @@ impl Engine {
         requires low { ForSome lo (λ t. IsTrue (is_time t)) }
         requires high { ForSome hi (λ t. IsTrue (is_time t)) }
         ensures allowed { IsTrue (all_allowed (history_of self.now.events)) }
-        ensures window { IfSome (view_of (roster (history_of self.now.events)) view) (λ def. result ≡ window view def (history_of self.now.events) lo hi) }
+        ensures window { IfSome (view_of (roster (history_of self.now.events)) view) (λ def.
+            result ≡ window view def (history_of self.now.events) lo hi) }
     {
         self.state.window(view, lo, hi)
     }

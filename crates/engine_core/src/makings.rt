@@ -22,7 +22,7 @@ use ts_schema::Seq;
 /// No bucket lies whole in a window with a given end.
 const NO_BUCKET: u8 = 15;
 
-/// Makes an event that is allowed next, and tells what it does.
+/// Makes an event that is allowed next, and answers what it does.
 fn made(engine: &mut Engine, event: Event, job: Option<Job>) -> Outcome<Committed>
     requires allowed { IsTrue (allowed (history_of engine.old.events) event) }
     requires job { JobIsFor (history_of engine.old.events) event job }
@@ -50,7 +50,7 @@ fn make(engine: &mut Engine, event: Event, job: Option<Job>) -> Outcome<Committe
     }
 }
 
-/// The same outcome, of which the event's number alone is told.
+/// The same outcome, with the event's number alone as its answer.
 pub fn numbered(outcome: Outcome<Committed>) -> Outcome<u64>
     ensures { result ≡ outcome_as (λ c. c.pos) outcome }
 {
@@ -62,7 +62,7 @@ pub fn numbered(outcome: Outcome<Committed>) -> Outcome<u64>
     }
 }
 
-/// The same outcome, told of a cut over this span.
+/// The same outcome, with a cut over this span as its answer.
 pub fn cut_over(outcome: Outcome<Committed>, span: Span) -> Outcome<CutDone>
     ensures { result ≡ outcome_as (λ c. CutMade c.pos span) outcome }
 {

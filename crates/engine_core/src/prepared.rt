@@ -29,7 +29,8 @@ impl Model for Prepared {
 
 impl Prepared {
     pub(crate) fn of(event: Event, state: Arc<State>, inserted: u64, removed: u64) -> Prepared
-        ensures of { result ≡ record { event = event; state = arc_value state; inserted = inserted; removed = removed } }
+        ensures of { result ≡
+            record { event = event; state = arc_value state; inserted = inserted; removed = removed } }
     {
         Prepared {
             event,

@@ -11,17 +11,15 @@ use Rattle.ts_bucket.specs.WholeSpans.{IsWholeSpan}
 use Rattle.ts_bucket.specs.declared.spans.Span.{Span}
 use Rattle.ts_bucket.specs.declared.widths.Width.{Width}
 use Rattle.mat_log.specs.Logs.{LogValue, is_renewed, last_at}
-use Rattle.mat_rows.specs.Replacing.{AreInOrder, AreSpans, SpansRise}
+use Rattle.mat_rows.specs.Replacing.{AreSpans, SpansRise}
 use Rattle.ts_model.specs.declared.views.ViewDef.{ViewDef}
 use Rattle.ts_model.specs.History.{History}
 use Rattle.ts_model.specs.Roster.{roster, view_of}
 use Rattle.ts_model.specs.Refreshes.{last}
-use Rattle.ts_model.specs.Jobs.{Fits, is_part_of, job_rows}
+use Rattle.ts_model.specs.Jobs.{Fits, is_part_of}
 use Rattle.ts_model.specs.Sound.{span_fits}
 use Rattle.ts_model.specs.Allowed.{all_allowed}
 use Rattle.ts_model.proofs.CutLaws.{cut_sound}
-use Rattle.ts_model.proofs.SoundLaws.{view_width}
-use Rattle.group_fold.proofs.RowGroups.{sorted-groups_of}
 use Rattle.refresh_build.specs.declared.jobs.Job.{Job}
 use Rattle.refresh_build.specs.Fitting.{FitsView, JobFits}
 use Rattle.engine_state.specs.Groups.{AreRenewed}
@@ -130,6 +128,3 @@ job_renews h job def log renewed whole f width lasts ranges = record {
   groups_are = λ b inside. refl;
   all = λ test e. e;
 }
-
-pub job_order : (h : History) (job : Job) (def : ViewDef) → all_allowed h ≡ true → view_of (roster h) job.view ≡ Some def → Fits job.view def h job.cut job.snap job.span job.spans job.groups job.top → AreInOrder job.groups
-job_order h job def ok there f = subst AreInOrder (sym f.groups_are) (sorted-groups_of def.fold (view_width h job.view def ok there) (job_rows def h job.snap job.spans))

@@ -1,14 +1,13 @@
 //! Answers of queries.
-ghost use Rattle.std.specs.Prelude.{◌≡◌, [], filter, length, map, IfOk, IsSome, IsTrue, MatchResult};
+ghost use Rattle.std.specs.Prelude.{◌≡◌, [], length, IfOk, IsSome, IsTrue};
 ghost use Rattle.std.specs.Option.{ForSome};
 ghost use Rattle.std.specs.Thread.{IsSync};
 ghost use Rattle.ts_bucket.specs.Chunks.{IsInterval};
 ghost use Rattle.ts_bucket.specs.WholeSpans.{IsMark};
-ghost use Rattle.ts_schema.specs.Conditions.{passes_all};
-ghost use Rattle.ts_schema.specs.Counts.{raised_by, RaisedUpTo};
+ghost use Rattle.ts_schema.specs.Counts.{Ticks};
 ghost use Rattle.mat_log.specs.Feeding.{AreWithin};
 ghost use Rattle.ts_model.specs.declared.queries.Query.TheVariants.{Aggregate, Buckets, Rows};
-ghost use Rattle.ts_model.specs.Answers.{all_columns, answer, can_ask};
+ghost use Rattle.ts_model.specs.Answers.{answer, can_ask};
 ghost use Rattle.ts_model.specs.History.{History};
 ghost use Rattle.ts_model.specs.Reads.{reads};
 ghost use Rattle.ts_model.specs.Roster.{hyper_of, roster, view_of};
@@ -17,6 +16,7 @@ ghost use Rattle.ts_model.specs.Scratch.{fold_rows};
 ghost use Rattle.span_fold.specs.Spans.{HaveTimes};
 ghost use Rattle.realtime_union.specs.Laws.{ChunksAreNear};
 ghost use Rattle.realtime_union.specs.Live.{union_rows};
+ghost use Rattle.realtime_union.specs.Whole.{passing};
 ghost use Rattle.engine_state.specs.Scans.{seen_rows, stored_rows};
 ghost use Rattle.engine_state.specs.Shown.{IsShown, view_reads};
 ghost use Rattle.engine_state.specs.Stands.{Stands, StandsFor};
@@ -25,6 +25,8 @@ use crate::parts::Parts;
 use crate::scans::TableAt;
 use crate::states::State;
 use crate::views::ViewState;
+use block_list::Iter;
+use cell_rows::CellRows;
 use partial_agg::Group;
 use realtime_union::{folded_rows, live_span, passing_rows, union_rows};
 use std::alloc::Global;
@@ -43,12 +45,13 @@ fn passing<L>(
     at: u32,
     tests: &Seq<Test>,
     steps: &mut Steps<L>,
-) -> Result<Seq<Seq<Datum>>, NoMemory>
+) -> Result<CellRows<Datum>, NoMemory>
     requires interval { IsInterval rows.now.table.now.rows.interval }
     requires times { HaveTimes (seen_rows rows.now.position rows.now.table.now) }
     requires stored { HaveTimes (stored_rows rows.now.table.now) }
-    ensures rows { IfOk result (λ shown. shown ≡ map (all_columns at) (filter (λ row. passes_all row tests.now) (in_order (seen_rows rows.now.position rows.now.table.now)))) }
-    ensures read { MatchResult result (λ _. steps.new ≡ raised_by (length (stored_rows rows.now.table.now)) steps.old) (λ _. RaisedUpTo (length (stored_rows rows.now.table.now)) steps.old steps.new) }
+    ensures rows { IfOk result (λ shown. shown
+        ≡ passing at tests.now (seen_rows rows.now.position rows.now.table.now)) }
+    ensures read { Ticks result (length (stored_rows rows.now.table.now)) steps.old steps.new }
 {
     passing_rows(alloc, rows, table, at, tests, steps)
 }
@@ -61,12 +64,13 @@ fn folded<R: Threads + Sync, L>(
     table: u32,
     fold: &Fold,
     steps: &mut Steps<L>,
-) -> Result<Seq<Seq<Datum>>, NoMemory>
+) -> Result<CellRows<Datum>, NoMemory>
     requires interval { IsInterval rows.now.table.now.rows.interval }
     requires times { HaveTimes (seen_rows rows.now.position rows.now.table.now) }
     requires stored { HaveTimes (stored_rows rows.now.table.now) }
-    ensures rows { IfOk result (λ shown. shown ≡ fold_rows fold.now (in_order (seen_rows rows.now.position rows.now.table.now))) }
-    ensures read { MatchResult result (λ _. steps.new ≡ raised_by (length (stored_rows rows.now.table.now)) steps.old) (λ _. RaisedUpTo (length (stored_rows rows.now.table.now)) steps.old steps.new) }
+    ensures rows { IfOk result (λ shown. shown
+        ≡ fold_rows fold.now (in_order (seen_rows rows.now.position rows.now.table.now))) }
+    ensures read { Ticks result (length (stored_rows rows.now.table.now)) steps.old steps.new }
 {
     folded_rows(rt, alloc, rows, table, fold, steps)
 }
@@ -77,15 +81,16 @@ fn united<R: Threads + Sync, L>(
     alloc: Global,
     rows: &TableAt<'_>,
     def: &ViewDef,
-    kept: &Seq<Group>,
+    kept: Iter<'_, Group>,
     mark: Option<i64>,
     starts: Span,
     steps: &mut Steps<L>,
-) -> Result<Seq<Seq<Datum>>, NoMemory>
+) -> Result<CellRows<Datum>, NoMemory>
     requires times { HaveTimes (seen_rows rows.now.position rows.now.table.now) }
     requires near { ChunksAreNear rows.now.table.now.rows.interval (stored_rows rows.now.table.now) }
-    ensures rows { IfOk result (λ shown. shown ≡ union_rows def.now kept.now mark starts (in_order (seen_rows rows.now.position rows.now.table.now))) }
-    ensures read { MatchResult result (λ _. steps.new ≡ raised_by (view_reads def.now mark starts rows.now.table.now) steps.old) (λ _. RaisedUpTo (view_reads def.now mark starts rows.now.table.now) steps.old steps.new) }
+    ensures rows { IfOk result (λ shown. shown
+        ≡ union_rows def.now kept.entry mark starts (in_order (seen_rows rows.now.position rows.now.table.now))) }
+    ensures read { Ticks result (view_reads def.now mark starts rows.now.table.now) steps.old steps.new }
 {
     let live = live_span(def.fold.width, starts, mark);
     union_rows(rt, alloc, rows, def, kept, live, steps)
@@ -103,9 +108,10 @@ fn rows_answer<L>(
     requires interval { IsInterval rows.now.table.now.rows.interval }
     requires times { HaveTimes (seen_rows rows.now.position rows.now.table.now) }
     requires stored { HaveTimes (stored_rows rows.now.table.now) }
-    ensures rows { IfOk result (λ found. found.rows ≡ map (all_columns at) (filter (λ row. passes_all row tests.now) (in_order (seen_rows rows.now.position rows.now.table.now)))) }
+    ensures rows { IfOk result (λ found. found.rows
+        ≡ passing at tests.now (seen_rows rows.now.position rows.now.table.now)) }
     ensures stale { IfOk result (λ found. found.stale ≡ []) }
-    ensures read { MatchResult result (λ _. steps.new ≡ raised_by (length (stored_rows rows.now.table.now)) steps.old) (λ _. RaisedUpTo (length (stored_rows rows.now.table.now)) steps.old steps.new) }
+    ensures read { Ticks result (length (stored_rows rows.now.table.now)) steps.old steps.new }
 {
     let shown = passing(alloc, rows, table, at, tests, steps)?;
     Ok(Answer {
@@ -126,9 +132,10 @@ fn buckets_answer<R: Threads + Sync, L>(
     requires interval { IsInterval rows.now.table.now.rows.interval }
     requires times { HaveTimes (seen_rows rows.now.position rows.now.table.now) }
     requires stored { HaveTimes (stored_rows rows.now.table.now) }
-    ensures rows { IfOk result (λ found. found.rows ≡ fold_rows fold.now (in_order (seen_rows rows.now.position rows.now.table.now))) }
+    ensures rows { IfOk result (λ found. found.rows
+        ≡ fold_rows fold.now (in_order (seen_rows rows.now.position rows.now.table.now))) }
     ensures stale { IfOk result (λ found. found.stale ≡ []) }
-    ensures read { MatchResult result (λ _. steps.new ≡ raised_by (length (stored_rows rows.now.table.now)) steps.old) (λ _. RaisedUpTo (length (stored_rows rows.now.table.now)) steps.old steps.new) }
+    ensures read { Ticks result (length (stored_rows rows.now.table.now)) steps.old steps.new }
 {
     let shown = folded(rt, alloc, rows, table, fold, steps)?;
     Ok(Answer {
@@ -152,15 +159,16 @@ fn view_answer<R: Threads + Sync, L>(
     requires within { AreWithin rows.now.table.now.log.entries view.now.log }
     requires times { HaveTimes (seen_rows rows.now.position rows.now.table.now) }
     requires near { ChunksAreNear rows.now.table.now.rows.interval (stored_rows rows.now.table.now) }
-    ensures shown { IfOk result (IsShown def.now view.now rows.now.table.now.log.entries starts (seen_rows rows.now.position rows.now.table.now)) }
-    ensures read { MatchResult result (λ _. steps.new ≡ raised_by (view_reads def.now view.now.mark starts rows.now.table.now) steps.old) (λ _. RaisedUpTo (view_reads def.now view.now.mark starts rows.now.table.now) steps.old steps.new) }
+    ensures shown { IfOk result (IsShown def.now view.now rows.now.table.now.log.entries starts
+        (seen_rows rows.now.position rows.now.table.now)) }
+    ensures read { Ticks result (view_reads def.now view.now.mark starts rows.now.table.now) steps.old steps.new }
 {
     let _so_far = steps.count();
     let mark = view.mark();
-    let kept = view.groups().slice(starts)?;
+    let kept = view.groups().within(starts);
     let entries = rows.table.log().entries();
     let stale = view.log().stale_with(entries, starts, mark)?;
-    let shown = united(rt, alloc, rows, def, &kept, mark, starts, steps)?;
+    let shown = united(rt, alloc, rows, def, kept, mark, starts, steps)?;
     Ok(Answer { rows: shown, stale })
 }
 
@@ -175,8 +183,10 @@ impl Parts {
     ) -> Result<Answer, NoMemory>
         requires stands { Stands self.now }
         requires asks { IsSome (hyper_of self.now.roster table) }
-        ensures shown { (h : History) → StandsFor h self.now → IfOk result (λ found. found ≡ answer (Rows table tests.now) h) }
-        ensures read { (h : History) → StandsFor h self.now → MatchResult result (λ _. steps.new ≡ raised_by (reads (Rows table tests.now) h) steps.old) (λ _. RaisedUpTo (reads (Rows table tests.now) h) steps.old steps.new) }
+        ensures shown { (h : History) → StandsFor h self.now
+            → IfOk result (λ found. found ≡ answer (Rows table tests.now) h) }
+        ensures read { (h : History) → StandsFor h self.now
+            → Ticks result (reads (Rows table tests.now) h) steps.old steps.new }
     {
         let at = self.hyper(table).at;
         let rows = self.table_seen(table);
@@ -194,8 +204,10 @@ impl Parts {
     ) -> Result<Answer, NoMemory>
         requires stands { Stands self.now }
         requires asks { IsSome (hyper_of self.now.roster table) }
-        ensures shown { (h : History) → StandsFor h self.now → IfOk result (λ found. found ≡ answer (Buckets table fold.now) h) }
-        ensures read { (h : History) → StandsFor h self.now → MatchResult result (λ _. steps.new ≡ raised_by (reads (Buckets table fold.now) h) steps.old) (λ _. RaisedUpTo (reads (Buckets table fold.now) h) steps.old steps.new) }
+        ensures shown { (h : History) → StandsFor h self.now
+            → IfOk result (λ found. found ≡ answer (Buckets table fold.now) h) }
+        ensures read { (h : History) → StandsFor h self.now
+            → Ticks result (reads (Buckets table fold.now) h) steps.old steps.new }
     {
         let rows = self.table_seen(table);
         buckets_answer(rt, alloc, &rows, table, fold, steps)
@@ -212,8 +224,10 @@ impl Parts {
     ) -> Result<Answer, NoMemory>
         requires stands { Stands self.now }
         requires asks { IsSome (view_of self.now.roster view) }
-        ensures shown { (h : History) → StandsFor h self.now → IfOk result (λ found. found ≡ answer (Aggregate view starts) h) }
-        ensures read { (h : History) → StandsFor h self.now → MatchResult result (λ _. steps.new ≡ raised_by (reads (Aggregate view starts) h) steps.old) (λ _. RaisedUpTo (reads (Aggregate view starts) h) steps.old steps.new) }
+        ensures shown { (h : History) → StandsFor h self.now
+            → IfOk result (λ found. found ≡ answer (Aggregate view starts) h) }
+        ensures read { (h : History) → StandsFor h self.now
+            → Ticks result (reads (Aggregate view starts) h) steps.old steps.new }
     {
         let seen = self.view_seen(view);
         view_answer(rt, alloc, &seen.rows, seen.def, seen.state, starts, steps)
@@ -230,7 +244,7 @@ impl Parts {
         requires stands { Stands self.now }
         requires asks { IsTrue (can_ask self.now.roster query.now) }
         ensures shown { (h : History) → StandsFor h self.now → IfOk result (λ found. found ≡ answer query.now h) }
-        ensures read { (h : History) → StandsFor h self.now → MatchResult result (λ _. steps.new ≡ raised_by (reads query.now h) steps.old) (λ _. RaisedUpTo (reads query.now h) steps.old steps.new) }
+        ensures read { (h : History) → StandsFor h self.now → Ticks result (reads query.now h) steps.old steps.new }
     {
         match query {
             Query::Rows { table, tests } => self.rows_shown(alloc, *table, tests, steps),
@@ -251,7 +265,7 @@ impl State {
         requires sync { IsSync R.row }
         requires asks { (h : History) → StandsFor h self.now → IsTrue (can_ask (roster h) query.now) }
         ensures shown { (h : History) → StandsFor h self.now → IfOk result (λ found. found ≡ answer query.now h) }
-        ensures read { (h : History) → StandsFor h self.now → MatchResult result (λ _. steps.new ≡ raised_by (reads query.now h) steps.old) (λ _. RaisedUpTo (reads query.now h) steps.old steps.new) }
+        ensures read { (h : History) → StandsFor h self.now → Ticks result (reads query.now h) steps.old steps.new }
     {
         self.parts.answer(rt, self.alloc, query, steps)
     }

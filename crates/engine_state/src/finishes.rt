@@ -2,14 +2,13 @@
 ghost use Rattle.std.specs.Prelude.{◌≡◌, ℤ, IfOk};
 ghost use Rattle.ts_bucket.specs.WholeSpans.{IsWholeSpan};
 ghost use Rattle.mat_log.specs.Logs.{last_at, pending_at};
-ghost use Rattle.mat_rows.specs.Replacing.{AreInOrder, AreSpans, SpansRise};
+ghost use Rattle.mat_rows.specs.Replacing.{AreSpans, SpansRise};
 ghost use Rattle.engine_state.specs.Groups.{AreReplaced};
 ghost use Rattle.engine_state.specs.Steps.{JobFinished, last_settled, pending_settled};
 
 use crate::views::ViewState;
 use mat_log::MatLog;
 use mat_rows::MatRows;
-use partial_agg::Group;
 use refresh_build::Job;
 use std::alloc::Global;
 use ts_bucket::Span;
@@ -30,10 +29,9 @@ fn settled(log: &MatLog, span: Span, snap: u64) -> Result<MatLog, NoMemory>
 }
 
 /// Materialised groups with new ones in place of those of some ranges of buckets.
-fn replaced(old: &MatRows, ranges: &Seq<Span>, groups: &Seq<Group>) -> Result<MatRows, NoMemory>
+fn replaced(old: &MatRows, ranges: &Seq<Span>, groups: &MatRows) -> Result<MatRows, NoMemory>
     requires sizes { AreSpans ranges.now }
     requires rising { SpansRise ranges.now }
-    requires order { AreInOrder groups.now }
     ensures { IfOk result (λ new. AreReplaced ranges.now groups.now old.now new) }
 {
     let new = old.replace(ranges, groups)?;
@@ -51,7 +49,6 @@ pub(crate) fn finished(
     requires whole { IsWholeSpan view.now.log.width job.now.span }
     requires sizes { AreSpans renewed.now }
     requires rising { SpansRise renewed.now }
-    requires order { AreInOrder job.now.groups }
     ensures finished { IfOk result (JobFinished job.now renewed.now view.now) }
 {
     let log = settled(view.log(), job.span, job.snap)?;

@@ -1,7 +1,7 @@
 //! Jobs for refreshes.
-ghost use Rattle.std.specs.Prelude.{◌≡◌, IfOk, IsSome, IsTrue, MatchResult, Some};
+ghost use Rattle.std.specs.Prelude.{◌≡◌, IfOk, IsTrue, Some};
 ghost use Rattle.std.specs.Thread.{IsSync};
-ghost use Rattle.ts_schema.specs.Counts.{raised_by, RaisedUpTo};
+ghost use Rattle.ts_schema.specs.Counts.{Ticks};
 ghost use Rattle.ts_model.specs.declared.events.Event.TheVariants.{Built};
 ghost use Rattle.ts_model.specs.Allowed.{allowed};
 ghost use Rattle.ts_model.specs.History.{History, position};
@@ -49,8 +49,9 @@ impl Parts {
     ) -> Result<Job, NoMemory>
         requires stands { Stands self.now }
         requires waits { IsTrue (is_waiting (pending_in self.now.refreshes cut)) }
-        ensures job { (h : History) → StandsFor h self.now → IfOk result (λ job. JobFits h job × (job.cut ≡ cut) × (job.snap ≡ position h)) }
-        ensures read { (h : History) → StandsFor h self.now → MatchResult result (λ _. steps.new ≡ raised_by (job_reads h cut) steps.old) (λ _. RaisedUpTo (job_reads h cut) steps.old steps.new) }
+        ensures job { (h : History) → StandsFor h self.now
+            → IfOk result (λ job. JobFits h job × (job.cut ≡ cut) × (job.snap ≡ position h)) }
+        ensures read { (h : History) → StandsFor h self.now → Ticks result (job_reads h cut) steps.old steps.new }
     {
         let refresh = self.refresh(cut, self.position);
         let seen = self.view_seen(refresh.view);
@@ -71,7 +72,9 @@ impl Parts {
         snap: u64,
     ) -> Result<Job, NoMemory>
         requires next { IsNextFinish self.now cut snap }
-        ensures job { (h : History) → StandsFor h self.now → IsTrue (allowed h (Built cut snap)) → IfOk result (IsJobOf h cut snap) }
+        ensures job { (h : History) → StandsFor h self.now
+            → IsTrue (allowed h (Built cut snap))
+            → IfOk result (IsJobOf h cut snap) }
     {
         let refresh = self.refresh(cut, snap);
         let seen = self.view_seen(refresh.view);
@@ -105,8 +108,9 @@ impl State {
     ) -> Result<Job, NoMemory>
         requires sync { IsSync R.row }
         requires waits { (h : History) → StandsFor h self.now → IsTrue (is_waiting (pending h cut)) }
-        ensures job { (h : History) → StandsFor h self.now → IfOk result (λ job. JobFits h job × (job.cut ≡ cut) × (job.snap ≡ position h)) }
-        ensures read { (h : History) → StandsFor h self.now → MatchResult result (λ _. steps.new ≡ raised_by (job_reads h cut) steps.old) (λ _. RaisedUpTo (job_reads h cut) steps.old steps.new) }
+        ensures job { (h : History) → StandsFor h self.now
+            → IfOk result (λ job. JobFits h job × (job.cut ≡ cut) × (job.snap ≡ position h)) }
+        ensures read { (h : History) → StandsFor h self.now → Ticks result (job_reads h cut) steps.old steps.new }
     {
         self.parts.start_job(rt, self.alloc, cut, steps)
     }
@@ -117,7 +121,9 @@ impl State {
     pub fn rebuild<R: Threads + Sync>(&self, rt: &R, cut: u64, snap: u64) -> Result<Job, NoMemory>
         requires sync { IsSync R.row }
         requires next { IsNextFinish self.now cut snap }
-        ensures job { (h : History) → StandsFor h self.now → IsTrue (allowed h (Built cut snap)) → IfOk result (IsJobOf h cut snap) }
+        ensures job { (h : History) → StandsFor h self.now
+            → IsTrue (allowed h (Built cut snap))
+            → IfOk result (IsJobOf h cut snap) }
     {
         self.parts.rebuild(rt, self.alloc, cut, snap)
     }

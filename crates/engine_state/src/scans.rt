@@ -85,7 +85,8 @@ impl Parts {
     pub(crate) fn view_seen(&self, number: u32) -> ViewSeen<'_>
         requires stands { Stands self.now }
         requires there { IsSome (view_of self.now.roster number) }
-        ensures view { (h : History) → StandsFor h self.now → IsViewOf h number result.rows.position result.def.now result.state.now result.rows.table.now }
+        ensures view { (h : History) → StandsFor h self.now
+            → IsViewOf h number result.rows.position result.def.now result.state.now result.rows.table.now }
     {
         let def = self.roster.views.get(number as usize);
         ViewSeen {

@@ -51,7 +51,8 @@ pub(crate) struct Moved {
 /// The log after the hull of a commit was noted, where it has one.
 fn noted(log: &InvalLog, hull: Option<Hull>, pos: u64) -> Result<InvalLog, NoMemory>
     ensures threshold { IfOk result (λ new. new.threshold ≡ log.now.threshold) }
-    ensures entries { IfOk result (λ new. noted_in new.entries ≡ logged hull pos log.now.threshold (noted_in log.now.entries)) }
+    ensures entries { IfOk result (λ new. noted_in new.entries
+        ≡ logged hull pos log.now.threshold (noted_in log.now.entries)) }
 {
     match hull {
         None => log.copy(),
@@ -62,7 +63,8 @@ fn noted(log: &InvalLog, hull: Option<Hull>, pos: u64) -> Result<InvalLog, NoMem
 /// The log after a hull was noted.
 fn with_entry(log: &InvalLog, hull: Hull, pos: u64) -> Result<InvalLog, NoMemory>
     ensures threshold { IfOk result (λ new. new.threshold ≡ log.now.threshold) }
-    ensures entries { IfOk result (λ new. noted_in new.entries ≡ logged (Some hull) pos log.now.threshold (noted_in log.now.entries)) }
+    ensures entries { IfOk result (λ new. noted_in new.entries
+        ≡ logged (Some hull) pos log.now.threshold (noted_in log.now.entries)) }
 {
     let mut new = log.copy()?;
     new.reserve()?;
@@ -154,7 +156,8 @@ impl TableState {
         requires { TableAsks ops.now pos table self.now }
         ensures goes { IfOk result (λ m. TableGoes ops.now pos table self.now m.table) }
         ensures inserted { IfOk result (λ m. m.inserted ≡ length (all_appended table ops.now)) }
-        ensures removed { IfOk result (λ m. m.removed ≡ length (all_taken table ops.now (rows_before pos self.now))) }
+        ensures removed { IfOk result (λ m. m.removed
+            ≡ length (all_taken table ops.now (rows_before pos self.now))) }
     {
         let Applied {
             table: rows,

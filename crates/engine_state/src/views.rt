@@ -59,7 +59,8 @@ impl ViewState {
     ) -> Result<ViewState, NoMemory>
         ensures table { IfOk result (λ v. v.table ≡ table) }
         ensures width { IfOk result (λ v. v.log.width ≡ width) }
-        ensures pending { IfOk result (λ v. (b : ℤ) → pending_at v.log b ≡ cond (in_span (whole_span width) b) (Some made) None) }
+        ensures pending { IfOk result (λ v. (b : ℤ)
+            → pending_at v.log b ≡ cond (in_span (whole_span width) b) (Some made) None) }
         ensures refreshed { IfOk result (λ v. (b : ℤ) → last_at v.log b ≡ None) }
         ensures groups { IfOk result (λ v. v.groups ≡ []) }
         ensures mark { IfOk result (λ v. v.mark ≡ None) }

@@ -2,7 +2,6 @@
 use Rattle.std.proofs.Common.{◌≡◌, Bool, true, false, cond, ◌&&◌, ◌||◌, map, List, [], ◌∷◌, ◌++◌, ℤ, pos, ◌+ℤ◌, ◌≤ℤ◌, ◌<ℤ◌, Option, Some, None, refl, sym, ap, ◌∙◌, subst, arith}
 use Rattle.std.specs.List.{AllByRecursion, filter, flat_map, list_all, list_any}
 use Rattle.std.specs.List.Sorted.{IsStrictlySortedBy}
-use Rattle.std.specs.Int.{int_max}
 use Rattle.std.specs.Ordering.{int_cmp, int_eq, is_eq, is_gt}
 use Rattle.std.specs.declared.cmp.Ordering.TheVariants.{Less, Equal, Greater}
 use Rattle.std.proofs.lemmas.Int.{ints, clamps}
@@ -21,7 +20,6 @@ use Rattle.ts_bucket.specs.Bucket.{IsWidth, is_bucket, is_time, bucket_of, first
 use Rattle.ts_bucket.proofs.BucketLaws.{bucket_of_meets}
 use Rattle.ts_bucket.specs.Ranges.{lies_in, is_asked}
 use Rattle.ts_bucket.specs.Spans.{in_span}
-use Rattle.ts_bucket.specs.declared.spans.Span.{Span}
 use Rattle.ts_bucket.specs.declared.widths.Width.{Width}
 use Rattle.ts_model.specs.declared.views.Fold.{Fold}
 use Rattle.ts_model.specs.Rows.{with_row, in_order}
@@ -35,7 +33,7 @@ use Rattle.partial_agg.specs.declared.groups.Group.{Group}
 use Rattle.partial_agg.specs.Groups.{group_cmp}
 use Rattle.partial_agg.proofs.GroupLaws.{group_cmp_total, group_cmp-place}
 use Rattle.group_fold.specs.Grouping.{row_group, IsOfTime}
-use Rattle.group_fold.specs.Merging.{AreInOrder, merged, taken, with_group}
+use Rattle.group_fold.specs.Merging.{AreInOrder, taken, with_group}
 use Rattle.group_fold.specs.Laws.{OrderPlaysNoPart, GroupsOfSomeBuckets, GroupsOfSpans, GroupsOfOneBucket, SpansKeepGroups, GroupsOfAsked, LastGroupEnds, end_of_last}
 use Rattle.group_fold.proofs.Insertions.{by_order, at_less, at_equal, at_greater, with_group-front}
 use Rattle.group_fold.proofs.Occurring.{all_above, all_weaker, all-map, any-once, is_eq-swap, sorted-once}

@@ -1,5 +1,5 @@
 -- What the groups of rows show is the aggregation from scratch.
-use Rattle.std.proofs.Common.{◌≡◌, Bool, true, false, List, [], ◌∷◌, ◌++◌, map, ℤ, Option, sym, refl, ap, ◌∙◌, subst}
+use Rattle.std.proofs.Common.{◌≡◌, Bool, true, false, List, [], ◌∷◌, ◌++◌, map, ℤ, sym, refl, ap, ◌∙◌, subst}
 use Rattle.std.specs.List.{AllByRecursion, list_any, flat_map, filter}
 use Rattle.std.specs.List.Sorted.{IsStrictlySortedBy}
 use Rattle.std.specs.Ordering.{int_cmp, int_eq, is_eq}
@@ -8,18 +8,14 @@ use Rattle.std.proofs.lemmas.Cmp.{int_cmp_total}
 use Rattle.std.proofs.lemmas.Map.Lookups.{exact_signed}
 use Rattle.std.proofs.lemmas.Bool.Decides.{Decides-int_eq}
 use Rattle.std.proofs.lemmas.List.Elements.{filter-append}
-use Rattle.ts_num.specs.Aggregates.{shown_or_null}
-use Rattle.ts_num.specs.declared.values.Datum.TheVariants.{Int}
 use Rattle.ts_schema.specs.declared.rows.Row.{Row}
 use Rattle.ts_schema.specs.Conditions.{passes_all}
 use Rattle.ts_bucket.specs.Bucket.{IsWidth, is_bucket, bucket_of}
-use Rattle.ts_model.specs.declared.views.Agg.{Agg}
 use Rattle.ts_model.specs.declared.views.Fold.{Fold}
-use Rattle.ts_model.specs.Scratch.{cell, bucket_rows, key_lists, with_keys, result_row, scratch_of, occurring_buckets}
-use Rattle.partial_agg.specs.Summaries.{summary}
+use Rattle.ts_model.specs.Scratch.{bucket_rows, key_lists, scratch_of, occurring_buckets}
 use Rattle.ts_model.proofs.GroupLaws.{bucket_cells}
 use Rattle.group_fold.specs.Grouping.{ShowScratch}
-use Rattle.ts_model.specs.Groups.{column, group_at, bucket_groups, groups_in, groups_of, cells_of, shown_each}
+use Rattle.ts_model.specs.Groups.{group_at, bucket_groups, groups_in, groups_of, cells_of}
 use Rattle.group_fold.proofs.Insertions.{by_order}
 use Rattle.group_fold.proofs.Occurring.{all-map, all-flat_map, none_from_all, not_eq-less, not_eq-greater, all_above, all_above_tied, all_untied, sorted-once, any-once}
 use Rattle.group_fold.proofs.Steps.{untied_number}

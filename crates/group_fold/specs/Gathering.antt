@@ -1,5 +1,5 @@
 -- Groups in no order, as rows are taken in.
-use Rattle.std.specs.Prelude.{◌≡◌, ◌+◌, ◌^◌, ◌<◌, ◌≤◌, ℕ, suc, max, length, slice_index_or, List, [], ◌∷◌}
+use Rattle.std.specs.Prelude.{◌≡◌, ◌+◌, ◌^◌, ◌<◌, ◌≤◌, ℕ, suc, max, length, slice_index_or, List, [], ◌∷◌, ◌++◌}
 use Rattle.std.specs.List.{AllByRecursion}
 use Rattle.std.specs.declared.cmp.Ordering.TheVariants.{Equal}
 use Rattle.ts_schema.specs.declared.rows.Row.{Row}
@@ -64,3 +64,7 @@ pub record Takes (fold : Fold) (row : Row) (old new : List Group) : Type 0 where
   pub groups_are : ordered new ≡ with_group (row_group fold row) (ordered old)
   pub alike : HaveParts (length fold.aggs) new
   pub few : counted new ≤ suc (counted old)
+
+-- these rows were taken in: what were the groups of some rows are now those of these rows too
+abbrev pub TakesAll : Fold → List Row → List Group → List Group → Type 0
+TakesAll fold rows old new = (before : List Row) → IsGathered fold before old → IsGathered fold (before ++ rows) new

@@ -8,9 +8,10 @@ use Rattle.ts_bucket.specs.Bucket.{WidthValue, is_time, is_bucket, bucket_of, mi
 use Rattle.ts_model.specs.declared.views.Agg.{Agg}
 use Rattle.ts_model.specs.declared.views.Fold.{Fold}
 use Rattle.ts_model.specs.Scratch.{keys_of, scratch_of, fold_rows}
-use Rattle.ts_model.specs.Groups.{cells_of}
+use Rattle.ts_model.specs.Groups.{cells_of, groups_of}
 use Rattle.partial_agg.specs.declared.groups.Group.{Group}
 use Rattle.partial_agg.specs.Summaries.{Summary, summary}
+use Rattle.std.specs.List.Sorted.{IsPermutation}
 
 -- ---- what groups show
 
@@ -18,6 +19,10 @@ use Rattle.partial_agg.specs.Summaries.{Summary, summary}
 pub record ShowScratch (fold : Fold) (rows : List Row) (groups : List Group) : Type 0 where
   pub of_bucket : (b : ℤ) → IsTrue (is_bucket fold.width b) → map (cells_of fold) (filter (λ g. int_eq g.start b) groups) ≡ scratch_of fold b rows
   pub of_all : map (cells_of fold) groups ≡ fold_rows fold rows
+
+-- these are the groups of the rows, in whatever order the rows come
+abbrev pub AreGroupsInAnyOrder : Fold → List Row → List Group → Type 0
+AreGroupsInAnyOrder fold rows groups = (others : List Row) → IsPermutation rows others → groups ≡ groups_of fold others
 
 -- ---- one row
 

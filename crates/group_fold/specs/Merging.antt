@@ -1,5 +1,5 @@
 -- Lists of groups put together.
-use Rattle.std.specs.Prelude.{◌≡◌, ◌+◌, ◌^◌, ◌<◌, cond, List, [], ◌∷◌, ◌++◌}
+use Rattle.std.specs.Prelude.{◌≡◌, ◌+◌, ◌^◌, ◌<◌, cond, List, [], ◌∷◌, ◌++◌, Option, MatchOption}
 use Rattle.std.specs.List.{AllByRecursion, AllZip}
 use Rattle.std.specs.List.Sorted.{IsStrictlySortedBy}
 use Rattle.std.specs.Ordering.{match_ordering}
@@ -68,3 +68,7 @@ next_of_lists (g ∷ gs) (h ∷ hs) = match_ordering (group_cmp g h) Mine Both T
 -- groups that have taken in one more row, where it passes every test
 abbrev pub taken : Fold → Row → List Group → List Group
 taken fold row groups = cond (passes_all row fold.tests) (with_group (row_group fold row) groups) groups
+
+-- the first item of a list was taken, or there is none
+abbrev pub TakesFirst : {X : Type 0} → Option X → List X → List X → Type 0
+TakesFirst taken old new = MatchOption taken (old ≡ []) (λ first. old ≡ first ∷ new)

@@ -1,9 +1,8 @@
 //! The groups of a list of rows.
-ghost use Rattle.std.specs.Prelude.{◌≡◌, IfOk, List};
-ghost use Rattle.std.specs.List.Sorted.{IsPermutation};
+ghost use Rattle.std.specs.Prelude.{◌≡◌, IfOk};
 ghost use Rattle.ts_schema.specs.declared.rows.Row.{Row};
 ghost use Rattle.ts_bucket.specs.Bucket.{IsWidth};
-ghost use Rattle.group_fold.specs.Grouping.{AreTimes, ShowScratch};
+ghost use Rattle.group_fold.specs.Grouping.{AreGroupsInAnyOrder, AreTimes, ShowScratch};
 ghost use Rattle.ts_model.specs.Groups.{groups_of};
 
 use crate::gathered::Gathered;
@@ -19,7 +18,7 @@ pub fn fold(alloc: Global, plan: &Fold, rows: &Seq<Row>) -> Result<Seq<Group>, N
     requires { AreTimes rows.now }
     ensures groups { IfOk result (λ groups. groups ≡ groups_of plan.now rows.now) }
     ensures scratch { IfOk result (λ groups. ShowScratch plan.now rows.now groups) }
-    ensures any_order { IfOk result (λ groups. (others : List Row) → IsPermutation rows.now others → groups ≡ groups_of plan.now others) }
+    ensures any_order { IfOk result (AreGroupsInAnyOrder plan.now rows.now) }
     ensures bounds { IsWidth plan.now.width }
 {
     let _step = plan.width.step;

@@ -1,9 +1,9 @@
 //! Groups as rows are taken in, in the order in which they came up.
-ghost use Rattle.std.specs.Prelude.{◌≡◌, ◌++◌, ◌∷◌, [], IfOk, IsTrue, OnOk, List, length};
+ghost use Rattle.std.specs.Prelude.{◌≡◌, ◌++◌, ◌∷◌, [], IfOk, IsTrue, OnOk, length};
 ghost use Rattle.ts_schema.specs.declared.rows.Row.{Row};
 ghost use Rattle.ts_bucket.specs.Bucket.{IsWidth, is_time};
 ghost use Rattle.group_fold.specs.Grouping.{AreTimes, row_at};
-ghost use Rattle.group_fold.specs.Gathering.{HasRoom, IsAt, IsGathered, Takes};
+ghost use Rattle.group_fold.specs.Gathering.{HasRoom, IsAt, Takes, TakesAll};
 
 use crate::members::{add_to, alone, is_of};
 use partial_agg::Group;
@@ -46,7 +46,7 @@ impl Gathered {
         requires times { AreTimes rows.now }
         requires width { IsWidth plan.now.width }
         requires room { HasRoom (length rows.now) plan.now self.old.groups.items }
-        ensures { OnOk result ((before : List Row) → IsGathered plan.now before self.old.groups.items → IsGathered plan.now (before ++ rows.now) self.new.groups.items) }
+        ensures { OnOk result (TakesAll plan.now rows.now self.old.groups.items self.new.groups.items) }
     {
         for row in rows {
             if passes(row, &plan.tests) {

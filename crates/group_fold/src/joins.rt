@@ -1,7 +1,8 @@
 //! Two lists of groups put together.
-ghost use Rattle.std.specs.Prelude.{◌≡◌, ◌+◌, ◌<◌, IfOk, MatchOption, OnSome, List, [], ◌∷◌, length};
+ghost use Rattle.std.specs.Prelude.{◌≡◌, ◌+◌, ◌<◌, IfOk, OnSome};
 ghost use Rattle.std.specs.VecDeque.{deque_len};
-ghost use Rattle.group_fold.specs.Merging.{AreGroupsOfBoth, CanJoin, PartsFit, joined_parts, next_of_lists, with_groups};
+ghost use Rattle.group_fold.specs.Merging.{AreGroupsOfBoth, CanJoin, PartsFit, TakesFirst};
+ghost use Rattle.group_fold.specs.Merging.{joined_parts, next_of_lists, with_groups};
 
 use partial_agg::{Group, Partial, group_order};
 use std::alloc::Global;
@@ -51,9 +52,12 @@ enum Next {
 /// Takes the next group from the list that has it, or from both.
 fn take_next(mine: &mut VecDeque<Group>, theirs: &mut VecDeque<Group>) -> Option<Group>
     requires { CanJoin mine.old.items theirs.old.items }
-    ensures next { MatchOption result (with_groups mine.old.items theirs.old.items ≡ []) (λ group. with_groups mine.old.items theirs.old.items ≡ group ∷ with_groups mine.new.items theirs.new.items) }
+    ensures next { TakesFirst result
+        (with_groups mine.old.items theirs.old.items)
+        (with_groups mine.new.items theirs.new.items) }
     ensures kept { CanJoin mine.new.items theirs.new.items }
-    ensures fewer { OnSome result (deque_len mine.new + deque_len theirs.new < deque_len mine.old + deque_len theirs.old) }
+    ensures fewer { OnSome result
+        (deque_len mine.new + deque_len theirs.new < deque_len mine.old + deque_len theirs.old) }
 {
     match next_of(mine, theirs) {
         Next::Neither => None,
@@ -82,9 +86,12 @@ fn next_of(mine: &VecDeque<Group>, theirs: &VecDeque<Group>) -> Next
 fn merge_firsts(mine: &mut VecDeque<Group>, theirs: &mut VecDeque<Group>) -> Option<Group>
     requires both { next_of_lists mine.old.items theirs.old.items ≡ Next.Both }
     requires fit { CanJoin mine.old.items theirs.old.items }
-    ensures next { MatchOption result (with_groups mine.old.items theirs.old.items ≡ []) (λ group. with_groups mine.old.items theirs.old.items ≡ group ∷ with_groups mine.new.items theirs.new.items) }
+    ensures next { TakesFirst result
+        (with_groups mine.old.items theirs.old.items)
+        (with_groups mine.new.items theirs.new.items) }
     ensures kept { CanJoin mine.new.items theirs.new.items }
-    ensures fewer { OnSome result (deque_len mine.new + deque_len theirs.new < deque_len mine.old + deque_len theirs.old) }
+    ensures fewer { OnSome result
+        (deque_len mine.new + deque_len theirs.new < deque_len mine.old + deque_len theirs.old) }
 {
     let mut group = mine.pop_front()?;
     let other = theirs.pop_front()?;

@@ -23,4 +23,4 @@ mod results;
 pub use folds::fold;
 pub use joins::join_parts;
 pub use pieces::fold_pieces;
-pub use results::{cells, put_values};
+pub use results::{put_cells, put_values};

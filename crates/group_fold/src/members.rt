@@ -1,5 +1,5 @@
 //! One row beside the groups: which is its own, and what it adds to it.
-ghost use Rattle.std.specs.Prelude.{◌≡◌, ◌-◌, ◌^◌, ◌≤◌, ◌<◌, true, IfOk, length};
+ghost use Rattle.std.specs.Prelude.{◌≡◌, ◌-◌, ◌^◌, ◌<◌, true, IfOk, length};
 ghost use Rattle.std.specs.List.{AllByRecursion};
 ghost use Rattle.ts_schema.specs.Rows.{values_cmp};
 ghost use Rattle.ts_model.specs.Scratch.{keys_of};
@@ -28,10 +28,11 @@ pub(crate) fn is_of(groups: &[Group], at: usize, plan: &Fold, row: &Row, start: 
 fn order_of(plan: &Fold, row: &Row, start: i64, group: &Group) -> Ordering
     ensures { result ≡ group_cmp group.now (row_at plan.now start row.now) }
 {
-    group
-        .start
-        .cmp(&start)
-        .then(keys_order(group.keys.items(), plan.keys.items(), row))
+    match group.start.cmp(&start) {
+        Ordering::Less => Ordering::Less,
+        Ordering::Equal => keys_order(group.keys.items(), plan.keys.items(), row),
+        Ordering::Greater => Ordering::Greater,
+    }
 }
 
 /// How keys compare with those of a row.

@@ -6,10 +6,10 @@ ghost use Rattle.group_fold.specs.Gathering.{CanOrder, ordered};
 ghost use Rattle.group_fold.specs.Merging.{AreInOrder};
 
 use crate::joins::join_lists;
-use partial_agg::{Group, group_order};
+use partial_agg::Group;
 use std::alloc::Global;
 use std::cmp::Ordering;
-use ts_schema::NoMemory;
+use ts_schema::{NoMemory, values_order};
 
 /// Groups in order by bucket and keys, where those of the same bucket and keys are merged.
 pub(crate) fn in_order(alloc: Global, groups: Vec<Group>) -> Result<Vec<Group>, NoMemory>
@@ -17,7 +17,7 @@ pub(crate) fn in_order(alloc: Global, groups: Vec<Group>) -> Result<Vec<Group>, 
     ensures { IfOk result (λ sorted. sorted.items ≡ ordered groups.items) }
 {
     let mut sorted = groups;
-    sorted.sort_by(|a: &Group, b: &Group| group_order(a, b))?;
+    sorted.sort_by(|a: &Group, b: &Group| order_of_groups(a, b))?;
     if rises(sorted.as_slice()) {
         return Ok(sorted);
     }
@@ -51,7 +51,18 @@ fn is_before_all(group: &Group, others: &[Group]) -> bool
 fn is_before(group: &Group, next: &Group) -> bool
     ensures { result ≡ true → group_cmp group.now next.now ≡ Less }
 {
-    group_order(group, next) == Ordering::Less
+    order_of_groups(group, next) == Ordering::Less
+}
+
+/// How two groups compare. Their keys are looked at only where the buckets are the same.
+fn order_of_groups(a: &Group, b: &Group) -> Ordering
+    ensures { result ≡ group_cmp a.now b.now }
+{
+    match a.start.cmp(&b.start) {
+        Ordering::Less => Ordering::Less,
+        Ordering::Equal => values_order(a.keys.items(), b.keys.items()),
+        Ordering::Greater => Ordering::Greater,
+    }
 }
 
 /// The same of groups of which some have the same bucket and keys.

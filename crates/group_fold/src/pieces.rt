@@ -1,9 +1,8 @@
 //! The groups of rows that come in pieces, folded in several threads.
-ghost use Rattle.std.specs.Prelude.{◌≡◌, ◌+◌, ◌-◌, ◌*◌, ◌^◌, ◌<◌, ◌≤◌, IfOk, List, length, min};
-ghost use Rattle.std.specs.List.Sorted.{IsPermutation};
+ghost use Rattle.std.specs.Prelude.{◌≡◌, ◌+◌, ◌-◌, ◌^◌, ◌<◌, IfOk, length, min};
 ghost use Rattle.ts_schema.specs.declared.rows.Row.{Row};
 ghost use Rattle.ts_bucket.specs.Bucket.{IsWidth};
-ghost use Rattle.group_fold.specs.Grouping.{PiecesAreTimes, ShowScratch, all_rows};
+ghost use Rattle.group_fold.specs.Grouping.{AreGroupsInAnyOrder, PiecesAreTimes, ShowScratch, all_rows};
 ghost use Rattle.ts_model.specs.Groups.{groups_of};
 ghost use denote.Param.Send.{IsSync};
 
@@ -20,6 +19,9 @@ use ts_schema::{NoMemory, Row, Seq};
 /// More rows than any memory holds. A count of rows stays below it.
 const MOST_ROWS: u64 = 4_611_686_018_427_387_904;
 
+/// Fewer rows than these are folded in one thread, for which the system isn't asked how many there are.
+const FEW_ROWS: u64 = 8_192;
+
 /// The groups of the rows of all pieces, as `fold` gives them for the pieces joined. Each piece is
 /// a task, tasks are shared among as many threads as there are processors, and their groups are
 /// put together in pairs. Where a thread can't be started, the caller does its work.
@@ -32,15 +34,24 @@ pub fn fold_pieces<R: Threads + Sync>(
     requires { PiecesAreTimes pieces.now }
     ensures groups { IfOk result (λ groups. groups ≡ groups_of plan.now (all_rows pieces.now)) }
     ensures scratch { IfOk result (λ groups. ShowScratch plan.now (all_rows pieces.now) groups) }
-    ensures any_order { IfOk result (λ groups. (others : List Row) → IsPermutation (all_rows pieces.now) others → groups ≡ groups_of plan.now others) }
+    ensures any_order { IfOk result (AreGroupsInAnyOrder plan.now (all_rows pieces.now)) }
     ensures bounds { IsWidth plan.now.width }
 {
     let _step = plan.width.step;
-    if count_rows(pieces.items()) >= MOST_ROWS {
+    let count = count_rows(pieces.items());
+    if count >= MOST_ROWS {
         return Err(NoMemory);
     }
-    let halvings = current_num_threads(rt).ilog2();
+    let halvings = halvings_of(rt, count);
     Ok(Seq::of(fold_in_threads(rt, alloc, plan, pieces.items(), halvings)?))
+}
+
+/// How often the pieces of so many rows are halved.
+fn halvings_of<R: Threads + Sync>(rt: &R, rows: u64) -> u32 {
+    if rows < FEW_ROWS {
+        return 0;
+    }
+    current_num_threads(rt).ilog2()
 }
 
 /// How many rows the pieces have; a count past 64 bits stands at their end.
@@ -73,11 +84,13 @@ fn fold_in_threads<R: Threads + Sync>(
     }
     let (front, back) = pieces.split_at(pieces.len() / 2);
     let left = move || -> Result<Vec<Group>, NoMemory>
-        requires { IsSync R.row × (0 < halvings) × PiecesAreTimes front.now × IsWidth plan.now.width × (length (all_rows front.now) < 2 ^ 62) }
+        requires { IsSync R.row × (0 < halvings) × PiecesAreTimes front.now
+            × IsWidth plan.now.width × (length (all_rows front.now) < 2 ^ 62) }
         ensures { IfOk result (λ groups. groups.items ≡ groups_of plan.entry.now (all_rows front.entry.now)) }
     { fold_in_threads(rt, alloc, plan, front, halvings - 1) };
     let right = move || -> Result<Vec<Group>, NoMemory>
-        requires { IsSync R.row × (0 < halvings) × PiecesAreTimes back.now × IsWidth plan.now.width × (length (all_rows back.now) < 2 ^ 62) }
+        requires { IsSync R.row × (0 < halvings) × PiecesAreTimes back.now
+            × IsWidth plan.now.width × (length (all_rows back.now) < 2 ^ 62) }
         ensures { IfOk result (λ groups. groups.items ≡ groups_of plan.entry.now (all_rows back.entry.now)) }
     { fold_in_threads(rt, alloc, plan, back, halvings - 1) };
     let (mine, theirs) = join(rt, left, right);

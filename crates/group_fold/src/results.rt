@@ -4,20 +4,18 @@ ghost use Rattle.ts_num.specs.Aggregates.{shown_or_null};
 ghost use Rattle.ts_model.specs.Groups.{cells_of, shown_each};
 
 use partial_agg::{Group, Partial};
-use std::alloc::Global;
 use ts_model::{Agg, Fold};
 use ts_num::Datum;
-use ts_schema::{NoMemory, Seq};
+use ts_schema::NoMemory;
 
-/// The result row of a group: the start of its bucket, its keys, and what each aggregate shows.
-pub fn cells(alloc: Global, plan: &Fold, group: &Group) -> Result<Seq<Datum>, NoMemory>
-    ensures cells { IfOk result (λ cells. cells ≡ cells_of plan.now group.now) }
+/// Appends the cells of a group's result row: the start of its bucket, its keys, and what each aggregate
+/// shows.
+pub fn put_cells(plan: &Fold, group: &Group, cells: &mut Vec<Datum>) -> Result<(), NoMemory>
+    ensures appended { IfOk result (λ _. cells.new.items ≡ cells.old.items ++ cells_of plan.now group.now) }
 {
-    let mut cells = Vec::new(alloc);
     cells.push(Datum::Int(i128::from(group.start)))?;
-    put_values(group.keys.items(), &mut cells)?;
-    put_parts(plan.aggs.items(), group.parts.items(), &mut cells)?;
-    Ok(Seq::of(cells))
+    put_values(group.keys.items(), cells)?;
+    put_parts(plan.aggs.items(), group.parts.items(), cells)
 }
 
 /// Appends values as they are shown: numbers, or NULL.

@@ -1,17 +1,14 @@
 -- Laws of groups in order: their buckets rise, so that those below a number come first.
-use Rattle.std.proofs.Common.{◌≡◌, ℕ, zero, suc, ◌+◌, ◌-◌, ◌<◌, ◌≤◌, Bool, true, false, cond, ◌&&◌, ℤ, ◌≤ℤ◌, ◌<ℤ◌, int_lt, int_le, List, [], ◌∷◌, ◌++◌, filter, length, take, drop, get_or, ◌⊎◌, inl, inr, refl, sym, ap, ◌∙◌, subst, arith}
+use Rattle.std.proofs.Common.{◌≡◌, ℕ, zero, suc, ◌+◌, ◌-◌, ◌<◌, ◌≤◌, Bool, true, false, cond, ◌&&◌, ℤ, ◌≤ℤ◌, int_lt, int_le, List, [], ◌∷◌, filter, length, take, drop, get_or, ◌⊎◌, inl, inr, refl, sym, ap, ◌∙◌, subst, arith}
 use Rattle.std.specs.List.{AllByRecursion}
 use Rattle.std.specs.List.Sorted.{IsStrictlySortedBy, IsPartitionPoint, IsPartitionedBy}
-use Rattle.std.specs.Ordering.{int_cmp, ordering_then}
-use Rattle.std.specs.Cmp.{int_ranks}
-use Rattle.std.specs.declared.cmp.Ordering.{Ordering}
+use Rattle.std.specs.Ordering.{ordering_then}
 use Rattle.std.specs.declared.cmp.Ordering.TheVariants.{Less, Equal, Greater}
 use Rattle.std.proofs.lemmas.Int.{ints, by_lt_z}
 use Rattle.std.proofs.lemmas.Bool.{cases_lt}
 use Rattle.block_list.proofs.RunLaws.{drop-drop}
 use Rattle.std.proofs.lemmas.List.{get_or_default, get_or-drop, length-drop}
 use Rattle.std.proofs.lemmas.List.Kept.{IsStrictlySortedBy-filter}
-use Rattle.std.proofs.Math.Seq.{take-suc}
 use Rattle.ts_bucket.specs.Spans.{SpanValue, in_span}
 use Rattle.ts_schema.specs.Rows.{values_cmp}
 use Rattle.partial_agg.specs.declared.groups.Group.{Group}
@@ -154,16 +151,6 @@ below_from s (g ∷ gs) = by (int_le s.lo g.start) (below_from s gs)
     by : (b : Bool) → below s.hi (from_on s.lo gs) ≡ within s gs → below s.hi (cond b (g ∷ from_on s.lo gs) (from_on s.lo gs)) ≡ cond (b && int_lt g.start s.hi) (g ∷ within s gs) (within s gs)
     by true rest = ap (λ xs. cond (int_lt g.start s.hi) (g ∷ xs) xs) rest
     by false rest = rest
-
--- one group more from a place on
-pub copies_more : (gs : List Group) (start i : ℕ) (d : Group) → start ≤ i → i < length gs → take (i - start) (drop start gs) ++ get_or gs i d ∷ [] ≡ take (i + 1 - start) (drop start gs)
-copies_more gs start i d le l =
-    let next : suc (i - start) ≡ i + 1 - start = omega arith in
-    let left : length (drop start gs) ≡ length gs - start = length-drop start gs in
-    let back : start + (i - start) ≡ i = omega arith in
-    sym (ap (λ n. take n (drop start gs)) (sym next)
-    ∙ take-suc (drop start gs) (i - start) d (omega arith)
-    ∙ ap (λ g. take (i - start) (drop start gs) ++ g ∷ []) (get_or-drop start gs (i - start) d ∙ ap (λ n. get_or gs n d) back))
 
 -- those below a number, and those from it on, are in order too
 pub order_below : (x : ℤ) (gs : List Group) → AreInOrder gs → AreInOrder (below x gs)

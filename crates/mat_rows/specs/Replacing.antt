@@ -1,10 +1,12 @@
 -- Groups with those of some spans replaced.
-use Rattle.std.specs.Prelude.{◌≡◌, ℕ, true, false, ℤ, ◌≤ℤ◌, int_lt, int_le, List, [], ◌∷◌, ◌++◌, filter}
+use Rattle.std.specs.Prelude.{◌≡◌, ℕ, true, false, ℤ, ◌≤ℤ◌, int_lt, int_le, List, [], ◌∷◌, ◌++◌, filter, Bool, cond}
 use Rattle.std.specs.List.Sorted.{IsStrictlySortedBy, IsPartitionPoint}
 use Rattle.std.specs.Ordering.{int_eq}
 use Rattle.ts_bucket.specs.Spans.{SpanValue, in_span}
 use Rattle.partial_agg.specs.declared.groups.Group.{Group}
 use Rattle.partial_agg.specs.Groups.{group_cmp}
+use Rattle.std.specs.List.{list_all}
+use Rattle.ts_bucket.specs.Ranges.{lies_in}
 
 -- the groups whose buckets start below x, from x on, and in a span
 abbrev pub below : ℤ → List Group → List Group
@@ -28,6 +30,14 @@ of_bucket b groups = filter (λ g. int_eq g.start b) groups
 abbrev pub replaced : List SpanValue → List Group → List Group → List Group
 replaced [] new old = old
 replaced (s ∷ ss) new old = below s.lo old ++ (within s new ++ replaced ss new (from_on s.hi old))
+
+-- each bucket has its new groups where it starts in one of the spans, and its old ones elsewhere
+abbrev pub BucketsAreOfBoth : List SpanValue → List Group → List Group → List Group → Type 0
+BucketsAreOfBoth spans new old groups = (b : ℤ) → of_bucket b groups ≡ cond (lies_in spans b) (of_bucket b new) (of_bucket b old)
+
+-- a test that all new groups pass and all old ones, all of these groups pass
+abbrev pub PassAsBoth : List Group → List Group → List Group → Type 0
+PassAsBoth new old groups = (test : Group → Bool) → list_all test new ≡ true → list_all test old ≡ true → list_all test groups ≡ true
 
 -- each span starts at or above the end of the one before it
 abbrev pub SpansRise : List SpanValue → Type 0

@@ -1,13 +1,11 @@
 //! Materialised groups.
 
-ghost use Rattle.std.specs.Prelude.{◌≡◌, ◌==◌, ◌-◌, ◌≤◌, Bool, true, ℤ, cond, [], length, take, drop, IfOk};
-ghost use Rattle.mat_rows.specs.Replacing.{AreInOrder, AreSpans, SpansRise, of_bucket, replaced, within};
-ghost use Rattle.std.specs.List.{list_all};
-ghost use Rattle.ts_bucket.specs.Ranges.{lies_in};
-ghost use Rattle.partial_agg.specs.declared.groups.Group.{Group};
+ghost use Rattle.std.specs.Prelude.{◌≡◌, ◌==◌, [], length, IfOk};
+ghost use Rattle.mat_rows.specs.Replacing.{AreInOrder, AreSpans, BucketsAreOfBoth, PassAsBoth, SpansRise};
+ghost use Rattle.mat_rows.specs.Replacing.{replaced, within};
 
-use crate::making::{keep, put};
-use crate::search::{groups_within, places};
+use crate::making::{in_blocks, keep, keep_within};
+use crate::search::places;
 use block_list::{BlockList, Builder, Iter};
 use partial_agg::Group;
 use std::alloc::Global;
@@ -43,6 +41,16 @@ impl MatRows {
         MatRows {
             groups: BlockList::new(alloc),
         }
+    }
+
+    /// Groups in order, which move into blocks.
+    pub fn of(alloc: Global, groups: Seq<Group>) -> Result<MatRows, NoMemory>
+        requires order { AreInOrder groups }
+        ensures groups { IfOk result (λ rows. rows ≡ groups) }
+    {
+        Ok(MatRows {
+            groups: in_blocks(alloc, groups.into_items())?,
+        })
     }
 
     /// How many groups there are.
@@ -83,63 +91,49 @@ impl MatRows {
     }
 
     /// The groups with new ones in place of those whose buckets start in the spans, which rise; of
-    /// the new ones, which are in order, those that start in no span play no part. It costs the
-    /// blocks in which the spans end, the new groups and the number of blocks.
-    pub fn replace(&self, spans: &Seq<Span>, groups: &Seq<Group>) -> Result<MatRows, NoMemory>
+    /// the new ones those that start in no span play no part. It costs the blocks in which the spans
+    /// end, of both, and the number of blocks.
+    pub fn replace(&self, spans: &Seq<Span>, groups: &MatRows) -> Result<MatRows, NoMemory>
         requires sizes { AreSpans spans.now }
         requires rising { SpansRise spans.now }
-        requires order { AreInOrder groups.now }
         ensures groups { IfOk result (λ rows. rows ≡ replaced spans.now groups.now self.now) }
-        ensures buckets { IfOk result (λ rows. (b : ℤ) → of_bucket b rows ≡ cond (lies_in spans.now b) (of_bucket b groups.now) (of_bucket b self.now)) }
-        ensures all { IfOk result (λ rows. (test : Group → Bool) → list_all test groups.now ≡ true → list_all test self.now ≡ true → list_all test rows ≡ true) }
+        ensures buckets { IfOk result (BucketsAreOfBoth spans.now groups.now self.now) }
+        ensures all { IfOk result (PassAsBoth groups.now self.now) }
     {
         Ok(MatRows {
-            groups: replaced_in(&self.groups, spans.items(), groups.items())?,
+            groups: replaced_in(&self.groups, spans.items(), &groups.groups)?,
         })
     }
 
-    /// The groups whose buckets start in a span, in order. It costs these groups.
-    pub fn slice(&self, span: Span) -> Result<Seq<Group>, NoMemory>
-        ensures groups { IfOk result (λ groups. groups ≡ within span self.now) }
+    /// The groups whose buckets start in a span, one after another.
+    pub fn within(&self, span: Span) -> Iter<'_, Group>
+        ensures groups { result ≡ within span self.now }
     {
         let (start, end) = places(&self.groups, span);
-        copies(&self.groups, start, end)
+        self.groups.range(start, end)
     }
 }
 
-/// The groups of a list, in which new ones are in place of those that start in the spans.
+/// The groups of a list, in which those of another are in place of those that start in the spans.
 fn replaced_in(
     old: &BlockList<Group>,
     spans: &[Span],
-    groups: &[Group],
+    groups: &BlockList<Group>,
 ) -> Result<BlockList<Group>, NoMemory>
     requires old { AreInOrder old.now.items }
     requires sizes { AreSpans spans.now }
     requires rising { SpansRise spans.now }
-    requires order { AreInOrder groups.now }
-    ensures { IfOk result (λ made. made.items ≡ replaced spans.now groups.now old.now.items) }
+    requires order { AreInOrder groups.now.items }
+    ensures { IfOk result (λ made. made.items ≡ replaced spans.now groups.now.items old.now.items) }
 {
     let mut made = Builder::new(old.allocator());
     let mut at = 0;
     for span in spans {
         let (start, end) = places(old, *span);
         keep(&mut made, old, at, start)?;
-        put(&mut made, groups_within(groups, *span))?;
+        keep_within(&mut made, groups, *span)?;
         at = end;
     }
     keep(&mut made, old, at, old.len())?;
     made.finish()
-}
-
-/// The groups of a list from a place on and below another, again.
-fn copies(groups: &BlockList<Group>, start: usize, end: usize) -> Result<Seq<Group>, NoMemory>
-    requires order { start ≤ end }
-    requires within { end ≤ length groups.now.items }
-    ensures { IfOk result (λ copies. copies ≡ take (end - start) (drop start groups.now.items)) }
-{
-    let mut copies = Vec::new(groups.allocator());
-    for i in start..end {
-        copies.push(groups.get(i).copy()?)?;
-    }
-    Ok(Seq::of(copies))
 }

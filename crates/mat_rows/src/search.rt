@@ -1,7 +1,7 @@
 //! Where the groups from a number on begin.
 
-ghost use Rattle.std.specs.Prelude.{◌≡◌, ◌≤◌, length};
-ghost use Rattle.mat_rows.specs.Replacing.{AreInOrder, PartsAt, within};
+ghost use Rattle.std.specs.Prelude.{◌≤◌, length};
+ghost use Rattle.mat_rows.specs.Replacing.{AreInOrder, PartsAt};
 
 use block_list::BlockList;
 use partial_agg::Group;
@@ -38,23 +38,4 @@ pub(crate) fn places(groups: &BlockList<Group>, span: Span) -> (usize, usize)
     let start = place_from(groups, span.lo);
     let end = place_from(groups, span.hi);
     (start, end)
-}
-
-/// How many groups of a slice in order start below a number.
-pub(crate) fn place_in(groups: &[Group], x: i64) -> usize
-    requires { AreInOrder groups.now }
-    ensures bound { result ≤ length groups.now }
-    ensures parts { PartsAt x groups.now result }
-{
-    groups.partition_point(|group| group.start < x)
-}
-
-/// The groups of a slice that start in a span.
-pub(crate) fn groups_within(groups: &[Group], span: Span) -> &[Group]
-    requires { AreInOrder groups.now }
-    ensures { result.now ≡ within span groups.now }
-{
-    let (_, later) = groups.split_at(place_in(groups, span.lo));
-    let (inside, _) = later.split_at(place_in(later, span.hi));
-    inside
 }

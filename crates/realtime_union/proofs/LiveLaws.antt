@@ -1,11 +1,11 @@
 -- Laws of live buckets.
-use Rattle.std.proofs.Common.{◌≡◌, Bool, true, false, not, ◌&&◌, ◌||◌, cond, map, List, [], ◌∷◌, ℤ, pos, ◌+ℤ◌, ◌≤ℤ◌, ◌<ℤ◌, Option, Some, None, refl, sym, ◌∙◌, ap, subst, arith}
+use Rattle.std.proofs.Common.{◌≡◌, Bool, true, false, not, ◌&&◌, ◌||◌, cond, map, List, [], ◌∷◌, ℤ, pos, ◌+ℤ◌, ◌≤ℤ◌, ◌<ℤ◌, Option, refl, sym, ◌∙◌, ap, subst, arith}
 use Rattle.std.specs.Prelude.{int_le, int_lt}
 use Rattle.std.specs.Int.{int_max}
 use Rattle.std.specs.List.{AllByRecursion, filter, list_all}
 use Rattle.std.proofs.lemmas.Int.{ints, clamps}
 use Rattle.ts_bucket.specs.Bucket.{IsWidth, WidthValue, is_bucket, is_time, bucket_of, first_of, min_time, max_time}
-use Rattle.ts_bucket.specs.Ranges.{is_asked, lies_in}
+use Rattle.ts_bucket.specs.Ranges.{lies_in}
 use Rattle.ts_bucket.specs.Spans.{SpanValue, in_span}
 use Rattle.ts_bucket.specs.WholeSpans.{greatest, is_below, whole_span}
 use Rattle.ts_bucket.specs.declared.spans.Span.{Span}

@@ -1,6 +1,6 @@
 -- What is looked at: the chunks near live buckets, and near all times.
-use Rattle.std.proofs.Common.{◌≡◌, ℕ, ◌+◌, Bool, true, false, not, ◌&&◌, ◌||◌, cond, map, filter, length, List, [], ◌∷◌, ℤ, pos, ◌+ℤ◌, ◌-ℤ◌, ◌≤ℤ◌, ◌<ℤ◌, int_le, int_lt, Option, refl, sym, ap, subst, ◌∙◌, arith}
-use Rattle.std.specs.List.{list_all, list_any, count_by}
+use Rattle.std.proofs.Common.{◌≡◌, ◌+◌, Bool, true, false, not, ◌&&◌, ◌||◌, cond, map, filter, List, [], ◌∷◌, ℤ, pos, ◌+ℤ◌, ◌-ℤ◌, ◌≤ℤ◌, ◌<ℤ◌, int_le, Option, refl, sym, ap, ◌∙◌, arith}
+use Rattle.std.specs.List.{list_all, list_any}
 use Rattle.std.specs.Int.{int_rem_euclid}
 use Rattle.std.specs.Ordering.{int_eq}
 use Rattle.std.proofs.lemmas.Bool.{true≢false, and_parts, and_from, or_left, or_right}
@@ -22,9 +22,8 @@ use Rattle.ts_model.specs.Reads.{chunk_within, rows_near, spans_meet}
 use Rattle.ts_model.proofs.CountLaws.{count_cons}
 use Rattle.ts_model.proofs.RangeLaws.{among, among-buckets_in}
 use Rattle.ts_model.proofs.ReadLaws.{Meet, meet_parts, meet_from, meets_some_bucket}
-use Rattle.span_fold.specs.Spans.{HaveTimes}
 use Rattle.realtime_union.specs.Live.{IsLiveSpan, all_times}
-use Rattle.realtime_union.specs.Laws.{AllTimesReadAll, ChunksAreNear, LiveReadsAreOfBuckets}
+use Rattle.realtime_union.specs.Laws.{AllTimesReadAll, LiveReadsAreOfBuckets}
 
 by_test : {G : Type 0} (t : Bool) → (t ≡ true → G) → (t ≡ false → G) → G
 by_test true pass fail = pass refl

@@ -1,5 +1,5 @@
 -- Rows put in order by a sort.
-use Rattle.std.proofs.Common.{◌≡◌, suc, ◌+◌, ◌<◌, Bool, false, not, List, [], ◌∷◌, length, get_or, refl, sym, ap, subst, ◌∙◌, arith}
+use Rattle.std.proofs.Common.{◌≡◌, suc, ◌+◌, false, not, List, [], ◌∷◌, get_or, refl, sym, ap, subst, ◌∙◌, arith}
 use Rattle.std.specs.Ordering.{is_gt, is_lt, ordering_reverse}
 use Rattle.std.specs.declared.cmp.Ordering.{Ordering}
 use Rattle.std.specs.declared.cmp.Ordering.TheVariants.{Less, Equal, Greater}
@@ -9,7 +9,7 @@ use Rattle.ts_schema.specs.declared.rows.Row.{Row}
 use Rattle.ts_schema.specs.Rows.{row_cmp}
 use Rattle.ts_schema.proofs.OrderLaws.{row_cmp_total}
 use Rattle.ts_model.specs.Laws.{InOrder}
-use Rattle.ts_model.specs.Rows.{with_row, with_rows, in_order}
+use Rattle.ts_model.specs.Rows.{with_row, in_order}
 use Rattle.ts_model.proofs.OrderLaws.{at_most_all}
 use Rattle.ts_model.proofs.RowLaws.{with_row-swap, in_order-is}
 use Rattle.group_fold.proofs.AnyOrder.{gathered, gathered-permuted}

@@ -1,12 +1,12 @@
 -- Laws of what is shown and of what is looked at, each in one sentence.
-use Rattle.std.specs.Prelude.{◌≡◌, true, not, ◌&&◌, cond, List, [], ◌∷◌, map, filter, flat_map, length, ℤ, ◌+ℤ◌, ◌-ℤ◌, ◌≤ℤ◌, Option}
+use Rattle.std.specs.Prelude.{◌≡◌, true, not, ◌&&◌, cond, List, [], ◌∷◌, map, filter, flat_map, length, ℤ, ◌+ℤ◌, ◌-ℤ◌, Option}
 use Rattle.std.specs.List.{list_all}
 use Rattle.std.specs.Ordering.{int_eq}
 use Rattle.ts_bucket.specs.Bucket.{IsWidth, min_time, max_time}
 use Rattle.ts_bucket.specs.Chunks.{IsInterval, max_interval}
 use Rattle.ts_bucket.specs.Ranges.{is_asked}
 use Rattle.ts_bucket.specs.Spans.{bucket_span}
-use Rattle.ts_bucket.specs.WholeSpans.{greatest, is_below}
+use Rattle.ts_bucket.specs.WholeSpans.{is_below}
 use Rattle.ts_bucket.specs.declared.spans.Span.{Span}
 use Rattle.ts_bucket.specs.declared.widths.Width.{Width}
 use Rattle.ts_schema.specs.declared.rows.Row.{Row}

@@ -1,14 +1,14 @@
 //! The rows of a hypertable that pass tests.
-ghost use Rattle.std.specs.Prelude.{◌≡◌, ◌++◌, ◌∷◌, [], filter, map, IfOk, MatchResult};
+ghost use Rattle.std.specs.Prelude.{◌≡◌, [], ◌∷◌, ◌++◌, filter, map, IfOk, OnOk};
 ghost use Rattle.ts_schema.specs.Conditions.{passes_all};
-ghost use Rattle.ts_schema.specs.Counts.{raised_by, RaisedUpTo};
+ghost use Rattle.ts_schema.specs.Counts.{Ticks};
 ghost use Rattle.ts_model.specs.Answers.{all_columns};
-ghost use Rattle.ts_model.specs.Reads.{rows_near};
 ghost use Rattle.ts_model.specs.Rows.{in_order};
 ghost use Rattle.span_fold.specs.Spans.{HaveTimes};
-ghost use Rattle.realtime_union.specs.Live.{all_times};
+ghost use Rattle.realtime_union.specs.Whole.{all_reads, passing};
 
 use crate::tables::whole_time;
+use cell_rows::CellRows;
 use group_fold::put_values;
 use std::alloc::Global;
 use ts_model::RowsAt;
@@ -25,10 +25,10 @@ pub fn passing_rows<W: RowsAt, L>(
     at: u32,
     tests: &Seq<Test>,
     steps: &mut Steps<L>,
-) -> Result<Seq<Seq<Datum>>, NoMemory>
+) -> Result<CellRows<Datum>, NoMemory>
     requires times { HaveTimes (W.visible rows.now table) }
-    ensures rows { IfOk result (λ shown. shown ≡ map (all_columns at) (filter (λ row. passes_all row tests.now) (in_order (W.visible rows.now table)))) }
-    ensures read { MatchResult result (λ _. steps.new ≡ raised_by (rows_near (W.interval rows.now table) (W.stored rows.now table) (all_times ∷ [])) steps.old) (λ _. RaisedUpTo (rows_near (W.interval rows.now table) (W.stored rows.now table) (all_times ∷ [])) steps.old steps.new) }
+    ensures rows { IfOk result (λ shown. shown ≡ passing at tests.now (W.visible rows.now table)) }
+    ensures read { Ticks result (all_reads (W.interval rows.now table) (W.stored rows.now table)) steps.old steps.new }
 {
     let _so_far = steps.count();
     let found = all_rows(rows, table, steps)?;
@@ -40,7 +40,7 @@ pub fn passing_rows<W: RowsAt, L>(
 fn all_rows<W: RowsAt, L>(rows: &W, table: u32, steps: &mut Steps<L>) -> Result<Seq<Row>, NoMemory>
     requires times { HaveTimes (W.visible rows.now table) }
     ensures rows { IfOk result (λ found. in_order found ≡ in_order (W.visible rows.now table)) }
-    ensures read { MatchResult result (λ _. steps.new ≡ raised_by (rows_near (W.interval rows.now table) (W.stored rows.now table) (all_times ∷ [])) steps.old) (λ _. RaisedUpTo (rows_near (W.interval rows.now table) (W.stored rows.now table) (all_times ∷ [])) steps.old steps.new) }
+    ensures read { Ticks result (all_reads (W.interval rows.now table) (W.stored rows.now table)) steps.old steps.new }
 {
     rows.scan(table, whole_time(), steps)
 }
@@ -56,25 +56,38 @@ fn passing_in_order(found: Seq<Row>, tests: &Seq<Test>) -> Result<Vec<Row>, NoMe
 }
 
 /// Rows with all their columns.
-fn columns_of_each(alloc: Global, at: u32, rows: &[Row]) -> Result<Seq<Seq<Datum>>, NoMemory>
+fn columns_of_each(alloc: Global, at: u32, rows: &[Row]) -> Result<CellRows<Datum>, NoMemory>
     ensures { IfOk result (λ shown. shown ≡ map (all_columns at) rows.now) }
 {
-    let mut shown = Seq::new(alloc);
+    let mut shown = CellRows::new(alloc);
+    let mut cells = Vec::new(alloc);
     for row in rows {
-        shown.push(columns_of(alloc, at, row)?)?;
+        show_row(at, row, &mut cells, &mut shown)?;
     }
     Ok(shown)
 }
 
-/// A row with all its columns in declared order, where the time column is at this place.
-fn columns_of(alloc: Global, at: u32, row: &Row) -> Result<Seq<Datum>, NoMemory>
-    ensures { IfOk result (λ cells. cells ≡ all_columns at row.now) }
+/// Appends a row with all its columns. It is made where there is room for cells, of which none stays.
+fn show_row(
+    at: u32,
+    row: &Row,
+    cells: &mut Vec<Datum>,
+    shown: &mut CellRows<Datum>,
+) -> Result<(), NoMemory>
+    ensures shown { OnOk result (shown.new ≡ shown.old ++ all_columns at row.now ∷ []) }
+{
+    cells.clear();
+    put_columns(at, row, cells)?;
+    shown.push(cells.as_slice())
+}
+
+/// Appends all columns of a row in declared order, where the time column is at this place.
+fn put_columns(at: u32, row: &Row, cells: &mut Vec<Datum>) -> Result<(), NoMemory>
+    ensures { IfOk result (λ _. cells.new.items ≡ cells.old.items ++ all_columns at row.now) }
 {
     let vals = row.vals.items();
     let (before, after) = vals.split_at(vals.len().min(at as usize));
-    let mut cells = Vec::new(alloc);
-    put_values(before, &mut cells)?;
-    put_values(&[Some(row.at)], &mut cells)?;
-    put_values(after, &mut cells)?;
-    Ok(Seq::of(cells))
+    put_values(before, cells)?;
+    put_values(&[Some(row.at)], cells)?;
+    put_values(after, cells)
 }

@@ -1,14 +1,15 @@
 //! What a grouping over a whole hypertable shows.
-ghost use Rattle.std.specs.Prelude.{◌≡◌, ◌∷◌, [], IfOk, MatchResult, map};
-ghost use Rattle.ts_schema.specs.Counts.{raised_by, RaisedUpTo};
+ghost use Rattle.std.specs.Prelude.{◌≡◌, IfOk, map};
+ghost use Rattle.ts_schema.specs.Counts.{Ticks};
 ghost use Rattle.ts_model.specs.Groups.{cells_of};
-ghost use Rattle.ts_model.specs.Reads.{rows_near};
 ghost use Rattle.ts_model.specs.Rows.{in_order};
 ghost use Rattle.ts_model.specs.Scratch.{fold_rows};
 ghost use Rattle.span_fold.specs.Spans.{HaveTimes};
 ghost use Rattle.realtime_union.specs.Live.{all_times};
+ghost use Rattle.realtime_union.specs.Whole.{all_reads};
 
 use crate::shown::show;
+use cell_rows::CellRows;
 use partial_agg::Group;
 use span_fold::fold_spans;
 use std::alloc::Global;
@@ -27,14 +28,14 @@ pub fn folded_rows<R: Threads + Sync, W: RowsAt, L>(
     table: u32,
     plan: &Fold,
     steps: &mut Steps<L>,
-) -> Result<Seq<Seq<Datum>>, NoMemory>
+) -> Result<CellRows<Datum>, NoMemory>
     requires times { HaveTimes (W.visible rows.now table) }
     ensures rows { IfOk result (λ shown. shown ≡ fold_rows plan.now (in_order (W.visible rows.now table))) }
-    ensures read { MatchResult result (λ _. steps.new ≡ raised_by (rows_near (W.interval rows.now table) (W.stored rows.now table) (all_times ∷ [])) steps.old) (λ _. RaisedUpTo (rows_near (W.interval rows.now table) (W.stored rows.now table) (all_times ∷ [])) steps.old steps.new) }
+    ensures read { Ticks result (all_reads (W.interval rows.now table) (W.stored rows.now table)) steps.old steps.new }
 {
     let _so_far = steps.count();
     let groups = all_groups(rt, alloc, rows, table, plan, steps)?;
-    let mut shown = Seq::new(alloc);
+    let mut shown = CellRows::new(alloc);
     show(alloc, plan, groups.items(), &mut shown)?;
     Ok(shown)
 }
@@ -49,8 +50,9 @@ fn all_groups<R: Threads + Sync, W: RowsAt, L>(
     steps: &mut Steps<L>,
 ) -> Result<Seq<Group>, NoMemory>
     requires times { HaveTimes (W.visible rows.now table) }
-    ensures shown { IfOk result (λ groups. map (cells_of plan.now) groups ≡ fold_rows plan.now (in_order (W.visible rows.now table))) }
-    ensures read { MatchResult result (λ _. steps.new ≡ raised_by (rows_near (W.interval rows.now table) (W.stored rows.now table) (all_times ∷ [])) steps.old) (λ _. RaisedUpTo (rows_near (W.interval rows.now table) (W.stored rows.now table) (all_times ∷ [])) steps.old steps.new) }
+    ensures shown { IfOk result (λ groups. map (cells_of plan.now) groups
+        ≡ fold_rows plan.now (in_order (W.visible rows.now table))) }
+    ensures read { Ticks result (all_reads (W.interval rows.now table) (W.stored rows.now table)) steps.old steps.new }
 {
     fold_spans(rt, alloc, rows, table, plan, &[whole_time()], steps)
 }

@@ -1,13 +1,15 @@
 //! Materialised and live groups together.
-ghost use Rattle.std.specs.Prelude.{◌≡◌, ℤ, Option, IfOk, MatchResult};
+ghost use Rattle.std.specs.Prelude.{◌≡◌, ℤ, Option, IfOk};
 ghost use Rattle.ts_bucket.specs.Spans.{SpanValue};
 ghost use Rattle.ts_bucket.specs.WholeSpans.{IsWholeSpan};
-ghost use Rattle.ts_schema.specs.Counts.{raised_by, RaisedUpTo};
+ghost use Rattle.ts_schema.specs.Counts.{Ticks};
 ghost use Rattle.ts_model.specs.Rows.{in_order};
 ghost use Rattle.span_fold.specs.Spans.{HaveTimes};
 ghost use Rattle.realtime_union.specs.Live.{IsLiveSpan, live_groups, live_reads, union_rows};
 
-use crate::shown::show;
+use crate::shown::{show, show_each};
+use block_list::Iter;
+use cell_rows::CellRows;
 use partial_agg::Group;
 use span_fold::fold_spans;
 use std::alloc::Global;
@@ -26,19 +28,23 @@ pub fn union_rows<R: Threads + Sync, W: RowsAt, L>(
     alloc: Global,
     rows: &W,
     def: &ViewDef,
-    kept: &Seq<Group>,
+    kept: Iter<'_, Group>,
     live: Span,
     steps: &mut Steps<L>,
-) -> Result<Seq<Seq<Datum>>, NoMemory>
+) -> Result<CellRows<Datum>, NoMemory>
     requires whole { IsWholeSpan def.now.fold.width live }
     requires times { HaveTimes (W.visible rows.now def.now.table) }
-    ensures rows { IfOk result (λ shown. (mark : Option ℤ) (starts : SpanValue) → IsLiveSpan def.now.fold.width mark starts live → shown ≡ union_rows def.now kept.now mark starts (in_order (W.visible rows.now def.now.table))) }
-    ensures read { MatchResult result (λ _. steps.new ≡ raised_by (live_reads def.now (W.interval rows.now def.now.table) (W.stored rows.now def.now.table) live) steps.old) (λ _. RaisedUpTo (live_reads def.now (W.interval rows.now def.now.table) (W.stored rows.now def.now.table) live) steps.old steps.new) }
+    ensures rows { IfOk result (λ shown. (mark : Option ℤ) (starts : SpanValue)
+        → IsLiveSpan def.now.fold.width mark starts live
+        → shown ≡ union_rows def.now kept.entry mark starts (in_order (W.visible rows.now def.now.table))) }
+    ensures read { Ticks result
+        (live_reads def.now (W.interval rows.now def.now.table) (W.stored rows.now def.now.table) live)
+        steps.old steps.new }
 {
     let _so_far = steps.count();
     let live = live_of(rt, alloc, rows, def, live, steps)?;
-    let mut shown = Seq::new(alloc);
-    show(alloc, &def.fold, kept.items(), &mut shown)?;
+    let mut shown = CellRows::new(alloc);
+    show_each(alloc, &def.fold, kept, &mut shown)?;
     show(alloc, &def.fold, live.items(), &mut shown)?;
     Ok(shown)
 }
@@ -54,8 +60,12 @@ fn live_of<R: Threads + Sync, W: RowsAt, L>(
 ) -> Result<Seq<Group>, NoMemory>
     requires whole { IsWholeSpan def.now.fold.width live }
     requires times { HaveTimes (W.visible rows.now def.now.table) }
-    ensures groups { IfOk result (λ groups. (mark : Option ℤ) (starts : SpanValue) → IsLiveSpan def.now.fold.width mark starts live → groups ≡ live_groups def.now mark starts (in_order (W.visible rows.now def.now.table))) }
-    ensures read { MatchResult result (λ _. steps.new ≡ raised_by (live_reads def.now (W.interval rows.now def.now.table) (W.stored rows.now def.now.table) live) steps.old) (λ _. RaisedUpTo (live_reads def.now (W.interval rows.now def.now.table) (W.stored rows.now def.now.table) live) steps.old steps.new) }
+    ensures groups { IfOk result (λ groups. (mark : Option ℤ) (starts : SpanValue)
+        → IsLiveSpan def.now.fold.width mark starts live
+        → groups ≡ live_groups def.now mark starts (in_order (W.visible rows.now def.now.table))) }
+    ensures read { Ticks result
+        (live_reads def.now (W.interval rows.now def.now.table) (W.stored rows.now def.now.table) live)
+        steps.old steps.new }
 {
     let _so_far = steps.count();
     if def.only {

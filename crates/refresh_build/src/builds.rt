@@ -1,10 +1,10 @@
 //! Jobs made from rows.
-ghost use Rattle.std.specs.Prelude.{◌≡◌, IfOk, List, MatchResult};
+ghost use Rattle.std.specs.Prelude.{◌≡◌, IfOk, List};
 ghost use Rattle.std.specs.List.{AllByRecursion};
 ghost use Rattle.ts_bucket.specs.Ranges.{AreRanges, IsWholeRange};
 ghost use Rattle.ts_bucket.specs.WholeSpans.{IsWholeSpan};
 ghost use Rattle.ts_bucket.specs.declared.spans.Span.{Span};
-ghost use Rattle.ts_schema.specs.Counts.{raised_by, RaisedUpTo};
+ghost use Rattle.ts_schema.specs.Counts.{Ticks};
 ghost use Rattle.mat_log.specs.Feeding.{AreWithin, is_dirty_with};
 ghost use Rattle.span_fold.specs.Spans.{AreApart, HaveTimes, near_each};
 ghost use Rattle.refresh_build.specs.Jobs.{IsFor, IsMadeOf};
@@ -14,6 +14,7 @@ use crate::tops::end_of;
 use block_list::BlockList;
 use inval_log::Entry;
 use mat_log::MatLog;
+use mat_rows::MatRows;
 use span_fold::fold_spans;
 use std::alloc::Global;
 use std::thread::Threads;
@@ -38,10 +39,14 @@ pub fn build<R: Threads + Sync, W: RowsAt, L>(
     requires width { log.now.width ≡ def.now.fold.width }
     requires within { AreWithin entries.now.items log.now }
     requires times { HaveTimes (W.visible rows.now def.now.table) }
-    ensures ranges { IfOk result (λ job. AreRanges def.now.fold.width refresh.span (is_dirty_with log.now entries.now.items) job.spans) }
+    ensures ranges { IfOk result (λ job.
+        AreRanges def.now.fold.width refresh.span (is_dirty_with log.now entries.now.items) job.spans) }
     ensures refresh { IfOk result (λ job. IsFor refresh job.spans job) }
     ensures made { IfOk result (IsMadeOf def.now.fold (W.visible rows.now def.now.table)) }
-    ensures read { (spans : List Span) → AreRanges def.now.fold.width refresh.span (is_dirty_with log.now entries.now.items) spans → MatchResult result (λ _. steps.new ≡ raised_by (near_each (W.interval rows.now def.now.table) (W.stored rows.now def.now.table) spans) steps.old) (λ _. RaisedUpTo (near_each (W.interval rows.now def.now.table) (W.stored rows.now def.now.table) spans) steps.old steps.new) }
+    ensures read { (spans : List Span)
+        → AreRanges def.now.fold.width refresh.span (is_dirty_with log.now entries.now.items) spans
+        → Ticks result (near_each (W.interval rows.now def.now.table) (W.stored rows.now def.now.table) spans)
+        steps.old steps.new }
 {
     let _so_far = steps.count();
     let spans = log.dirty_with(entries, refresh.span)?;
@@ -65,11 +70,15 @@ pub fn build_ranges<R: Threads + Sync, W: RowsAt, L>(
     requires times { HaveTimes (W.visible rows.now def.now.table) }
     ensures refresh { IfOk result (IsFor refresh spans) }
     ensures made { IfOk result (IsMadeOf def.now.fold (W.visible rows.now def.now.table)) }
-    ensures read { MatchResult result (λ _. steps.new ≡ raised_by (near_each (W.interval rows.now def.now.table) (W.stored rows.now def.now.table) spans) steps.old) (λ _. RaisedUpTo (near_each (W.interval rows.now def.now.table) (W.stored rows.now def.now.table) spans) steps.old steps.new) }
+    ensures read { Ticks result
+        (near_each (W.interval rows.now def.now.table) (W.stored rows.now def.now.table) spans)
+        steps.old steps.new }
 {
+    let _so_far = steps.count();
     let width = def.fold.width;
-    let groups = fold_spans(rt, alloc, rows, def.table, &def.fold, spans.items(), steps)?;
-    let top = end_of(width, groups.items());
+    let found = fold_spans(rt, alloc, rows, def.table, &def.fold, spans.items(), steps)?;
+    let top = end_of(width, found.items());
+    let groups = MatRows::of(alloc, found)?;
     Ok(Job {
         view: refresh.view,
         cut: refresh.cut,

@@ -1,5 +1,5 @@
 //! Jobs.
-use partial_agg::Group;
+use mat_rows::MatRows;
 use ts_bucket::Span;
 use ts_schema::Seq;
 
@@ -30,7 +30,7 @@ pub struct Job {
     /// The ranges of buckets that it makes anew.
     pub spans: Seq<Span>,
     /// The groups of these ranges, in order.
-    pub groups: Seq<Group>,
+    pub groups: MatRows,
     /// The greatest end of a bucket with a group.
     pub top: Option<i64>,
 }

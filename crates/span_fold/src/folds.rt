@@ -1,7 +1,7 @@
 //! Scans and folds.
-ghost use Rattle.std.specs.Prelude.{◌≡◌, IfOk, MatchResult};
+ghost use Rattle.std.specs.Prelude.{◌≡◌, IfOk};
 ghost use Rattle.ts_bucket.specs.Bucket.{IsWidth};
-ghost use Rattle.ts_schema.specs.Counts.{raised_by, RaisedUpTo};
+ghost use Rattle.ts_schema.specs.Counts.{Ticks};
 ghost use Rattle.ts_model.specs.Groups.{groups_of};
 ghost use Rattle.span_fold.specs.Spans.{AreApart, HaveTimes, near_each, rows_in};
 
@@ -28,9 +28,12 @@ pub fn fold_spans<R: Threads + Sync, W: RowsAt, L>(
 ) -> Result<Seq<Group>, NoMemory>
     requires apart { AreApart spans.now }
     requires times { HaveTimes (W.visible rows.now table) }
-    ensures groups { IfOk result (λ groups. groups ≡ groups_of plan.now (rows_in spans.now (W.visible rows.now table))) }
+    ensures groups { IfOk result (λ groups. groups
+        ≡ groups_of plan.now (rows_in spans.now (W.visible rows.now table))) }
     ensures bounds { IsWidth plan.now.width }
-    ensures read { MatchResult result (λ _. steps.new ≡ raised_by (near_each (W.interval rows.now table) (W.stored rows.now table) spans.now) steps.old) (λ _. RaisedUpTo (near_each (W.interval rows.now table) (W.stored rows.now table) spans.now) steps.old steps.new) }
+    ensures read { Ticks result
+        (near_each (W.interval rows.now table) (W.stored rows.now table) spans.now)
+        steps.old steps.new }
 {
     let _so_far = steps.count();
     let _step = plan.width.step;

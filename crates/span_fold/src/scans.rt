@@ -1,6 +1,6 @@
 //! The rows of spans, in pieces.
-ghost use Rattle.std.specs.Prelude.{◌≡◌, ◌++◌, IfOk, OnOk, MatchResult};
-ghost use Rattle.ts_schema.specs.Counts.{raised_by, RaisedUpTo};
+ghost use Rattle.std.specs.Prelude.{◌≡◌, ◌++◌, IfOk, OnOk};
+ghost use Rattle.ts_schema.specs.Counts.{Ticks};
 ghost use Rattle.ts_model.specs.Rows.{in_order};
 ghost use Rattle.group_fold.specs.Grouping.{all_rows};
 ghost use Rattle.span_fold.specs.Spans.{AreApart, near_each, rows_in};
@@ -22,8 +22,11 @@ pub(crate) fn scan_spans<W: RowsAt, L>(
     steps: &mut Steps<L>,
 ) -> Result<Seq<Seq<Row>>, NoMemory>
     requires apart { AreApart spans.now }
-    ensures rows { IfOk result (λ pieces. in_order (all_rows pieces) ≡ in_order (rows_in spans.now (W.visible rows.now table))) }
-    ensures read { MatchResult result (λ _. steps.new ≡ raised_by (near_each (W.interval rows.now table) (W.stored rows.now table) spans.now) steps.old) (λ _. RaisedUpTo (near_each (W.interval rows.now table) (W.stored rows.now table) spans.now) steps.old steps.new) }
+    ensures rows { IfOk result (λ pieces. in_order (all_rows pieces)
+        ≡ in_order (rows_in spans.now (W.visible rows.now table))) }
+    ensures read { Ticks result
+        (near_each (W.interval rows.now table) (W.stored rows.now table) spans.now)
+        steps.old steps.new }
 {
     let _so_far = steps.count();
     let mut pieces = Seq::new(alloc);

@@ -9,7 +9,7 @@ use Rattle.ts_model.specs.declared.outcomes.Outcome.{Outcome}
 use Rattle.ts_model.specs.declared.outcomes.Outcome.TheVariants.{Done, DiskFault, NoMemory, Refused}
 use Rattle.ts_model.specs.declared.outcomes.Refusal.{Refusal}
 use Rattle.ts_model.specs.Allowed.{allowed}
-use Rattle.ts_model.specs.Calls.{Act, Answered, Looked, making, makes, refusal, refuses, says, stopped}
+use Rattle.ts_model.specs.Calls.{Act, Answered, Looked, making, makes, refusal, refuses, returns, stopped}
 use Rattle.ts_model.specs.History.{History, ◌▸◌, position, prefix, same}
 use Rattle.ts_model.specs.States.{State, Found, Keeps, Makes, Fails, stands_still}
 use Rattle.ts_model.proofs.HistoryLaws.{prefix_further}
@@ -123,8 +123,8 @@ module _ {D : Type 0} (bytes : D → Option (List ℕ)) (may_leave : D → List 
   does_without_memory act old new kept is = does_of act old new NoMemory kept (kept_by_any (act (seen old)) (state old) (state new) (keeps_state old new is))
 
   -- a call said something, or was refused, and nothing changed
-  pub does_say : {A : Type 0} (act : History → Act A) (old new : StoreValue D) (a b : A) → Kept old → act (seen old) ≡ says a → b ≡ a → Same faults old new → Does faults moment act old (Done b) new
-  does_say act old new a b kept is told same_state = does_by act (says a) old new (Done b) kept is (told, keeps_state old new same_state)
+  pub does_say : {A : Type 0} (act : History → Act A) (old new : StoreValue D) (a b : A) → Kept old → act (seen old) ≡ returns a → b ≡ a → Same faults old new → Does faults moment act old (Done b) new
+  does_say act old new a b kept is told same_state = does_by act (returns a) old new (Done b) kept is (told, keeps_state old new same_state)
 
   pub does_refuse : {A : Type 0} (act : History → Act A) (old new : StoreValue D) (r q : Refusal) → Kept old → act (seen old) ≡ refuses r → q ≡ r → Same faults old new → Does faults moment act old (Refused q) new
   does_refuse act old new r q kept is told same_state = does_by act (refuses r) old new (Refused q) kept is (told, keeps_state old new same_state)

@@ -56,7 +56,8 @@ impl<D: Disk> Store<D> {
         journal: Journal<D>,
         begun: Begun<D>,
     ) -> Store<D>
-        requires kept { IsKept D.bytes D.may_leave D.moment D.left_since D.faults (store_at_start engine journal begun) }
+        requires kept { IsKept D.bytes D.may_leave D.moment D.left_since D.faults
+            (store_at_start engine journal begun) }
         ensures made { result ≡ store_at_start engine journal begun }
     {
         let opened = engine.length();

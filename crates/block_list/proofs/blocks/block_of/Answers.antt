@@ -1,5 +1,5 @@
 -- The block at the place found.
-use Rattle.std.proofs.Common.{◌≡◌, ◌+◌, ◌<◌, ◌≤◌, ◌∙◌, suc, length, take, get_or, sym, subst, ap, arith}
+use Rattle.std.proofs.Common.{◌≡◌, ◌+◌, ◌<◌, ◌≤◌, ◌∙◌, suc, length, take, sym, subst, ap, arith}
 use Rattle.std.proofs.lemmas.List.{length-append}
 use Rattle.block_list.specs.Blocks.{BlockValue, IsRun, items_of, block_len}
 use Rattle.block_list.proofs.BlockLaws.{starts_at, few_at, run_at, taken_more}

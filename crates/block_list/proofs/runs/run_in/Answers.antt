@@ -1,5 +1,5 @@
 -- After the blocks the place is counted from their end.
-use Rattle.std.proofs.Common.{◌+◌, ◌++◌, length, arith}
+use Rattle.std.proofs.Common.{◌++◌, arith}
 use Rattle.block_list.proofs.RunLaws.{run_second}
 use Rattle.block_list.proofs.runs.run_in.Goals as goal
 

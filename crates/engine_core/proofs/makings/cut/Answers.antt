@@ -8,8 +8,8 @@ use Rattle.ts_model.proofs.MadeLaws.{calls_make_allowed}
 use Rattle.engine_core.specs.Acts.{making_event}
 use Rattle.engine_core.specs.Histories.{history_of}
 use Rattle.engine_core.specs.Stores.{Does}
-use Rattle.engine_core.proofs.ActLaws.{cut_by_window, cut_sound, told_cut}
-use Rattle.engine_core.proofs.StoreLaws.{does_as, does_refuse, does_say}
+use Rattle.engine_core.proofs.ActLaws.{cut_by_window, cut_sound, answered_cut}
+use Rattle.engine_core.proofs.StoreLaws.{does_as, does_refuse, does_return}
 use Rattle.engine_core.proofs.makings.cut.Goals as goal
 
 pub make-outcome-requires-clause-sound : goal.make-outcome-requires-clause-sound
@@ -22,7 +22,7 @@ make-outcome-requires-clause-sound c =
 pub returns-in-Nothing : goal.returns-in-Nothing
 returns-in-Nothing c =
     let h = history_of c.args.engine.now.events in
-    does_say (cutting c.args.view c.args.lo c.args.hi) c.args.engine.now.events (NothingDone (position h)) (NothingDone c.length.result)
+    does_return (cutting c.args.view c.args.lo c.args.hi) c.args.engine.now.events (NothingDone (position h)) (NothingDone c.length.result)
     (cut_by_window c.args.view c.args.lo c.args.hi h c.window.result Nothing c.requires.view c.window.ensures.window c.in-Nothing.is)
     (ap NothingDone c.length.ensures.position)
 
@@ -40,4 +40,4 @@ returns-in-Whole c =
     let act_is = cut_by_window c.args.view c.args.lo c.args.hi h c.window.result (Whole c.in-Whole.span) c.requires.view c.window.ensures.window c.in-Whole.is in
     subst (λ o. Does (cutting c.args.view c.args.lo c.args.hi) c.args.engine.now.events o c.make-outcome.new.engine.events) (sym c.cut_over.ensures)
     (does_as (λ r. CutMade r.pos c.in-Whole.span) (making_event (Cut c.args.view c.in-Whole.span)) (cutting c.args.view c.args.lo c.args.hi) old c.make-outcome.result c.make-outcome.new.engine.events
-    (act_is ∙ told_cut c.args.view c.in-Whole.span h) c.make-outcome.ensures)
+    (act_is ∙ answered_cut c.args.view c.in-Whole.span h) c.make-outcome.ensures)

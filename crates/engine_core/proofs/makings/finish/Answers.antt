@@ -5,7 +5,7 @@ use Rattle.refresh_build.proofs.FittingLaws.{job_sound}
 use Rattle.engine_core.specs.Acts.{making_event}
 use Rattle.engine_core.specs.Histories.{history_of}
 use Rattle.engine_core.specs.Stores.{Does}
-use Rattle.engine_core.proofs.ActLaws.{told_finish}
+use Rattle.engine_core.proofs.ActLaws.{answered_finish}
 use Rattle.engine_core.proofs.StoreLaws.{does_as}
 use Rattle.engine_core.proofs.makings.finish.Goals as goal
 
@@ -13,7 +13,7 @@ pub returns : goal.returns
 returns c =
     let old = c.args.engine.now.events in
     subst (λ o. Does (finishing c.args.job.cut c.args.job.snap) c.args.engine.now.events o c.make.new.engine.events) (sym c.numbered.ensures)
-    (does_as (λ r. r.pos) (making_event (Built c.args.job.cut c.args.job.snap)) (finishing c.args.job.cut c.args.job.snap) old c.make.result c.make.new.engine.events (told_finish c.args.job.cut c.args.job.snap (history_of old)) c.make.ensures)
+    (does_as (λ r. r.pos) (making_event (Built c.args.job.cut c.args.job.snap)) (finishing c.args.job.cut c.args.job.snap) old c.make.result c.make.new.engine.events (answered_finish c.args.job.cut c.args.job.snap (history_of old)) c.make.ensures)
 
 pub make-requires-clause-sound : goal.make-requires-clause-sound
 make-requires-clause-sound c = job_sound c.args.job (history_of c.args.engine.now.events) c.requires

@@ -4,7 +4,7 @@ use Rattle.ts_model.specs.Calls.{making_hyper}
 use Rattle.engine_core.specs.Acts.{making_event}
 use Rattle.engine_core.specs.Histories.{history_of}
 use Rattle.engine_core.specs.Stores.{Does}
-use Rattle.engine_core.proofs.ActLaws.{told_hyper}
+use Rattle.engine_core.proofs.ActLaws.{answered_hyper}
 use Rattle.engine_core.proofs.StoreLaws.{does_as}
 use Rattle.engine_core.proofs.makings.make_hyper.Goals as goal
 
@@ -12,4 +12,4 @@ pub returns : goal.returns
 returns c =
     let old = c.args.engine.now.events in
     subst (λ o. Does (making_hyper c.args.table c.args.hyper) c.args.engine.now.events o c.make.new.engine.events) (sym c.numbered.ensures)
-    (does_as (λ r. r.pos) (making_event (Hyper c.args.table c.args.hyper)) (making_hyper c.args.table c.args.hyper) old c.make.result c.make.new.engine.events (told_hyper c.args.table c.args.hyper (history_of old)) c.make.ensures)
+    (does_as (λ r. r.pos) (making_event (Hyper c.args.table c.args.hyper)) (making_hyper c.args.table c.args.hyper) old c.make.result c.make.new.engine.events (answered_hyper c.args.table c.args.hyper (history_of old)) c.make.ensures)

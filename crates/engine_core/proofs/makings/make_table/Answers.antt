@@ -4,7 +4,7 @@ use Rattle.ts_model.specs.Calls.{making_table}
 use Rattle.engine_core.specs.Acts.{making_event}
 use Rattle.engine_core.specs.Histories.{history_of}
 use Rattle.engine_core.specs.Stores.{Does}
-use Rattle.engine_core.proofs.ActLaws.{told_table}
+use Rattle.engine_core.proofs.ActLaws.{answered_table}
 use Rattle.engine_core.proofs.StoreLaws.{does_as}
 use Rattle.engine_core.proofs.makings.make_table.Goals as goal
 
@@ -12,4 +12,4 @@ pub returns : goal.returns
 returns c =
     let old = c.args.engine.now.events in
     subst (λ o. Does (making_table c.args.def) c.args.engine.now.events o c.make.new.engine.events) (sym c.numbered.ensures)
-    (does_as (λ r. r.pos) (making_event (Table c.args.def)) (making_table c.args.def) old c.make.result c.make.new.engine.events (told_table c.args.def (history_of old)) c.make.ensures)
+    (does_as (λ r. r.pos) (making_event (Table c.args.def)) (making_table c.args.def) old c.make.result c.make.new.engine.events (answered_table c.args.def (history_of old)) c.make.ensures)

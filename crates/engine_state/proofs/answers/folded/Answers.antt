@@ -1,6 +1,5 @@
 use Rattle.std.proofs.Common.{◌≡◌, ◌∷◌, [], length, subst}
-use Rattle.std.specs.Prelude.{MatchResult}
-use Rattle.ts_schema.specs.Counts.{raised_by, RaisedUpTo}
+use Rattle.ts_schema.specs.Counts.{Ticks}
 use Rattle.ts_model.specs.Reads.{rows_near}
 use Rattle.realtime_union.specs.Live.{all_times}
 use Rattle.realtime_union.proofs.NearLaws.{all_times_read_all}
@@ -11,4 +10,4 @@ pub returns-clause-read : goal.returns-clause-read
 returns-clause-read g c =
     let table = c.args.rows.now.table.now in
     let same : rows_near table.rows.interval (stored_rows table) (all_times ∷ []) ≡ length (stored_rows table) = all_times_read_all table.rows.interval (stored_rows table) c.requires.interval c.requires.stored in
-    subst (λ n. MatchResult c.folded_rows.result (λ _. c.folded_rows.new.steps ≡ raised_by n c.args.steps.now) (λ _. RaisedUpTo n c.args.steps.now c.folded_rows.new.steps)) same c.folded_rows.ensures.read
+    subst (λ n. Ticks c.folded_rows.result n c.args.steps.now c.folded_rows.new.steps) same c.folded_rows.ensures.read

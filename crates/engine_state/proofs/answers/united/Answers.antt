@@ -1,8 +1,7 @@
 use Rattle.std.proofs.Common.{◌≡◌, cond, ap, subst, ℤ, Option}
-use Rattle.std.specs.Prelude.{MatchResult}
 use Rattle.std.proofs.lemmas.Result.{IfOk-weaker}
 use Rattle.ts_bucket.specs.Spans.{SpanValue}
-use Rattle.ts_schema.specs.Counts.{raised_by, RaisedUpTo}
+use Rattle.ts_schema.specs.Counts.{Ticks}
 use Rattle.ts_model.specs.Rows.{in_order}
 use Rattle.realtime_union.specs.Live.{IsLiveSpan, live_reads, union_rows}
 use Rattle.realtime_union.proofs.NearLaws.{live_reads_are_of_buckets}
@@ -15,8 +14,8 @@ returns-clause-rows g c =
     let def = c.args.def.now in
     let rows = in_order (seen_rows c.args.rows.now.position c.args.rows.now.table.now) in
     IfOk-weaker c.union_rows.result
-    (λ shown. (mark : Option ℤ) (starts : SpanValue) → IsLiveSpan def.fold.width mark starts c.live_span-live.result → shown ≡ union_rows def c.args.kept.now mark starts rows)
-    (λ shown. shown ≡ union_rows def c.args.kept.now c.args.mark c.args.starts rows)
+    (λ shown. (mark : Option ℤ) (starts : SpanValue) → IsLiveSpan def.fold.width mark starts c.live_span-live.result → shown ≡ union_rows def c.args.kept mark starts rows)
+    (λ shown. shown ≡ union_rows def c.args.kept c.args.mark c.args.starts rows)
     (λ shown is. is c.args.mark c.args.starts c.live_span-live.ensures.live) c.union_rows.ensures.rows
 
 pub returns-clause-read : goal.returns-clause-read
@@ -25,4 +24,4 @@ returns-clause-read g c =
     let table = c.args.rows.now.table.now in
     let same : live_reads def table.rows.interval (stored_rows table) c.live_span-live.result ≡ view_reads def c.args.mark c.args.starts table =
     ap (cond def.only 0) (live_reads_are_of_buckets def.fold.width c.args.mark c.args.starts c.live_span-live.result table.rows.interval (stored_rows table) c.live_span-live.ensures.bounds c.live_span-live.ensures.live c.requires.near) in
-    subst (λ n. MatchResult c.union_rows.result (λ _. c.union_rows.new.steps ≡ raised_by n c.args.steps.now) (λ _. RaisedUpTo n c.args.steps.now c.union_rows.new.steps)) same c.union_rows.ensures.read
+    subst (λ n. Ticks c.union_rows.result n c.args.steps.now c.union_rows.new.steps) same c.union_rows.ensures.read

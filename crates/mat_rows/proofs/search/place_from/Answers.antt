@@ -1,5 +1,5 @@
 -- The half of the places that can't hold the first group from the number on goes.
-use Rattle.std.proofs.Common.{◌≡◌, ◌∙◌, ◌+◌, ◌-◌, ◌/◌, ◌<◌, ◌≤◌, true, false, int_lt, get_or, refl, sym, ap, subst, FitsSigned, arith, rules}
+use Rattle.std.proofs.Common.{◌≡◌, ◌∙◌, ◌+◌, ◌-◌, ◌/◌, true, false, int_lt, refl, sym, ap, subst, FitsSigned, arith, rules}
 use Rattle.std.specs.Int.{w64}
 use Rattle.std.proofs.lemmas.Int.{to_z-of_z}
 use Rattle.partial_agg.specs.declared.groups.Group.{Group}

@@ -1,9 +1,8 @@
 use Rattle.std.proofs.Common.{◌≡◌, ◌∙◌, ◌∷◌, [], filter, ap, subst}
-use Rattle.std.specs.Prelude.{MatchResult}
 use Rattle.std.proofs.lemmas.Result.{IfOk-weaker}
 use Rattle.ts_bucket.specs.Spans.{in_span}
 use Rattle.ts_bucket.specs.declared.spans.Span.{Span}
-use Rattle.ts_schema.specs.Counts.{raised_by, RaisedUpTo}
+use Rattle.ts_schema.specs.Counts.{Ticks}
 use Rattle.ts_model.specs.Reads.{rows_near}
 use Rattle.ts_model.specs.Rows.{in_order}
 use Rattle.realtime_union.specs.Live.{all_times}
@@ -22,4 +21,4 @@ returns-clause-read g c =
     let interval = g.W.RowsAt.interval c.args.rows.now c.args.table in
     let stored = g.W.RowsAt.stored c.args.rows.now c.args.table in
     let same : rows_near interval stored (c.whole_time.result ∷ []) ≡ rows_near interval stored (all_times ∷ []) = ap (λ (s : Span). rows_near interval stored (s ∷ [])) c.whole_time.ensures in
-    subst (λ n. MatchResult c.scan.result (λ _. c.scan.new.steps ≡ raised_by n c.args.steps.now) (λ _. RaisedUpTo n c.args.steps.now c.scan.new.steps)) same c.scan.ensures.read
+    subst (λ n. Ticks c.scan.result n c.args.steps.now c.scan.new.steps) same c.scan.ensures.read

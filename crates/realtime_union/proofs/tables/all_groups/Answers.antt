@@ -1,8 +1,7 @@
-use Rattle.std.proofs.Common.{◌≡◌, ◌∙◌, ◌+◌, ◌∷◌, [], map, ap, subst, arith}
-use Rattle.std.specs.Prelude.{MatchResult}
+use Rattle.std.proofs.Common.{◌≡◌, ◌∙◌, ◌∷◌, [], map, ap, subst, arith}
 use Rattle.std.proofs.lemmas.Result.{IfOk-weaker}
 use Rattle.ts_bucket.specs.declared.spans.Span.{Span}
-use Rattle.ts_schema.specs.Counts.{raised_by, RaisedUpTo}
+use Rattle.ts_schema.specs.Counts.{Ticks}
 use Rattle.ts_model.specs.Groups.{cells_of, groups_of}
 use Rattle.ts_model.specs.Reads.{rows_near}
 use Rattle.ts_model.specs.Rows.{in_order}
@@ -24,4 +23,4 @@ returns-clause-read g c =
     let stored = g.W.RowsAt.stored c.args.rows.now c.args.table in
     let one : near_each interval stored (all_times ∷ []) ≡ rows_near interval stored (all_times ∷ []) = omega arith in
     let same : near_each interval stored (c.whole_time.result ∷ []) ≡ rows_near interval stored (all_times ∷ []) = ap (λ (s : Span). near_each interval stored (s ∷ [])) c.whole_time.ensures ∙ one in
-    subst (λ n. MatchResult c.fold_spans.result (λ _. c.fold_spans.new.steps ≡ raised_by n c.args.steps.now) (λ _. RaisedUpTo n c.args.steps.now c.fold_spans.new.steps)) same c.fold_spans.ensures.read
+    subst (λ n. Ticks c.fold_spans.result n c.args.steps.now c.fold_spans.new.steps) same c.fold_spans.ensures.read

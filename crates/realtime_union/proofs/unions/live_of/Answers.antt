@@ -1,8 +1,7 @@
-use Rattle.std.proofs.Common.{◌≡◌, ◌∙◌, ◌+◌, ◌∷◌, [], ℤ, Option, ap, sym, subst, arith}
-use Rattle.std.specs.Prelude.{MatchResult}
+use Rattle.std.proofs.Common.{◌≡◌, ◌∙◌, ◌∷◌, [], ℤ, Option, subst, arith}
 use Rattle.std.proofs.lemmas.Result.{IfOk-weaker}
 use Rattle.ts_bucket.specs.Spans.{SpanValue}
-use Rattle.ts_schema.specs.Counts.{raised_by, RaisedUpTo}
+use Rattle.ts_schema.specs.Counts.{Ticks}
 use Rattle.ts_model.specs.Groups.{groups_of}
 use Rattle.ts_model.specs.Rows.{in_order}
 use Rattle.ts_model.specs.Reads.{rows_near}
@@ -24,4 +23,4 @@ returns-clause-read g c =
     let stored = g.W.RowsAt.stored c.args.rows.now c.args.def.now.table in
     let same : near_each interval stored (c.args.live ∷ []) ≡ rows_near interval stored (c.args.live ∷ []) = omega arith in
     rw c.if-def.false
-    (subst (λ n. MatchResult c.fold_spans.result (λ _. c.fold_spans.new.steps ≡ raised_by n c.args.steps.now) (λ _. RaisedUpTo n c.args.steps.now c.fold_spans.new.steps)) same c.fold_spans.ensures.read)
+    (subst (λ n. Ticks c.fold_spans.result n c.args.steps.now c.fold_spans.new.steps) same c.fold_spans.ensures.read)

@@ -1,8 +1,7 @@
 -- The block's items from the place on.
-use Rattle.std.proofs.Common.{◌≡◌, ◌+◌, ◌-◌, ◌<◌, ◌≤◌, ◌∙◌, length, take, drop, sym, subst, ap, arith}
-use Rattle.std.specs.Arc.{arc_value}
-use Rattle.block_list.specs.Blocks.{IsRun, items_of}
-use Rattle.block_list.proofs.RunLaws.{run_drop, run_from_block}
+use Rattle.std.proofs.Common.{◌∙◌}
+use Rattle.block_list.specs.Blocks.{items_of}
+use Rattle.block_list.proofs.RunLaws.{run_from_block}
 use Rattle.block_list.proofs.blocks.Blocks.run_at.Goals as goal
 
 pub returns : goal.returns

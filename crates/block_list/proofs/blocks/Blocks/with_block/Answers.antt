@@ -1,6 +1,5 @@
 -- One block more is there.
-use Rattle.std.proofs.Common.{◌≡◌, ◌<◌, ◌≤◌, ◌∙◌, ◌++◌, length, drop, sym, subst, ap, arith}
-use Rattle.std.specs.Arc.{arc_value}
+use Rattle.std.proofs.Common.{◌<◌, ◌≤◌, ◌∙◌, length, sym, subst, arith}
 use Rattle.block_list.specs.Blocks.{BlockValue, block_len}
 use Rattle.block_list.proofs.BlockLaws.{few_at}
 use Rattle.block_list.proofs.blocks.Blocks.with_block.Goals as goal

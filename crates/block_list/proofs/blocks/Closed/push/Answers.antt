@@ -1,8 +1,8 @@
 -- The new block stands after all others.
-use Rattle.std.proofs.Common.{◌≡◌, ◌+◌, ◌-◌, ◌^◌, ◌≤◌, ◌∙◌, [], ◌∷◌, ◌++◌, length, ap, sym, subst, arith}
+use Rattle.std.proofs.Common.{◌≡◌, ◌+◌, ◌∙◌, [], ◌∷◌, ◌++◌, length, ap, sym, subst, arith}
 use Rattle.std.specs.Arc.{arc_value}
 use Rattle.std.proofs.lemmas.List.{length-append}
-use Rattle.block_list.specs.Blocks.{AreBlocks, items_of, most_items, block_len}
+use Rattle.block_list.specs.Blocks.{AreBlocks, items_of}
 use Rattle.block_list.proofs.BlockLaws.{blocks_last, items_last}
 use Rattle.block_list.proofs.blocks.Closed.push.Given as given
 use Rattle.block_list.proofs.blocks.Closed.push.Goals as goal

@@ -1,5 +1,5 @@
 -- One run more is appended.
-use Rattle.std.proofs.Common.{◌≡◌, ◌-◌, ◌≤◌, ◌<◌, ◌∙◌, ◌++◌, take, drop, ap, sym, arith}
+use Rattle.std.proofs.Common.{◌-◌, ◌<◌, ◌∙◌, ◌++◌, take, drop, ap, arith}
 use Rattle.std.proofs.lemmas.List.{append_assoc}
 use Rattle.block_list.proofs.RunLaws.{taken_run}
 use Rattle.block_list.proofs.builders.Builder.append.Goals as goal

@@ -1,6 +1,5 @@
 use Rattle.std.proofs.Common.{◌≡◌, subst}
-use Rattle.std.specs.Prelude.{MatchResult}
-use Rattle.ts_schema.specs.Counts.{raised_by, RaisedUpTo}
+use Rattle.ts_schema.specs.Counts.{Ticks}
 use Rattle.ts_model.specs.declared.queries.Query.TheVariants.{Buckets}
 use Rattle.ts_model.specs.Answers.{answer}
 use Rattle.ts_model.specs.Rows.{in_order}
@@ -28,5 +27,5 @@ returns-clause-shown g c = λ h st.
 
 pub returns-clause-read : goal.returns-clause-read
 returns-clause-read g c = λ h st.
-    subst (λ n. MatchResult c.buckets_answer.result (λ _. c.buckets_answer.new.steps ≡ raised_by n c.args.steps.now) (λ _. RaisedUpTo n c.args.steps.now c.buckets_answer.new.steps))
+    subst (λ n. Ticks c.buckets_answer.result n c.args.steps.now c.buckets_answer.new.steps)
     (c.table_seen-rows.ensures.table h st).count_is c.buckets_answer.ensures.read

@@ -1,7 +1,7 @@
 use Rattle.std.proofs.Common.{◌≡◌, Some, refl, subst}
-use Rattle.std.specs.Prelude.{MatchResult, filter, map}
+use Rattle.std.specs.Prelude.{filter, map}
 use Rattle.ts_schema.specs.Conditions.{passes_all}
-use Rattle.ts_schema.specs.Counts.{raised_by, RaisedUpTo}
+use Rattle.ts_schema.specs.Counts.{Ticks}
 use Rattle.ts_model.specs.declared.queries.Query.TheVariants.{Rows}
 use Rattle.ts_model.specs.Answers.{all_columns, answer}
 use Rattle.ts_model.specs.Roster.{hyper_of, roster}
@@ -31,5 +31,5 @@ returns-clause-shown g c = λ h st.
 
 pub returns-clause-read : goal.returns-clause-read
 returns-clause-read g c = λ h st.
-    subst (λ n. MatchResult c.rows_answer.result (λ _. c.rows_answer.new.steps ≡ raised_by n c.args.steps.now) (λ _. RaisedUpTo n c.args.steps.now c.rows_answer.new.steps))
+    subst (λ n. Ticks c.rows_answer.result n c.args.steps.now c.rows_answer.new.steps)
     (c.table_seen-rows.ensures.table h st).count_is c.rows_answer.ensures.read

@@ -1,9 +1,9 @@
 -- The refresh is one of the history, and so are the aggregate and its table that its job is made of.
 use Rattle.std.proofs.Common.{◌≡◌, ◌∙◌, ap, sym, subst}
-use Rattle.std.specs.Prelude.{IsSome, MatchResult}
+use Rattle.std.specs.Prelude.{IsSome}
 use Rattle.ts_bucket.specs.Ranges.{AreRanges}
 use Rattle.ts_bucket.specs.WholeSpans.{IsWholeSpan}
-use Rattle.ts_schema.specs.Counts.{raised_by, RaisedUpTo}
+use Rattle.ts_schema.specs.Counts.{Ticks}
 use Rattle.inval_log.specs.Logs.{LogValue as TableLog}
 use Rattle.mat_log.specs.Feeding.{AreWithin, is_dirty_with}
 use Rattle.mat_log.specs.Logs.{LogValue}
@@ -87,5 +87,5 @@ returns-clause-read g c h st =
     let own =
     subst (λ (l : LogValue). AreRanges def.fold.width refresh.span (is_dirty_with l c.entries-entries.result.now.items) dirty) (sym c.log-log.ensures.log)
     (subst (λ es. AreRanges def.fold.width refresh.span (is_dirty_with found.state.now.log es) dirty) (sym entries) ranges) in
-    subst (λ n. MatchResult c.build.result (λ _. c.build.new.steps ≡ raised_by n c.args.steps.now) (λ _. RaisedUpTo n c.args.steps.now c.build.new.steps))
+    subst (λ n. Ticks c.build.result n c.args.steps.now c.build.new.steps)
     (job_read h c.args.cut found.rows.position refresh def found.state.now found.rows.table.now waits seen) (c.build.ensures.read dirty own)

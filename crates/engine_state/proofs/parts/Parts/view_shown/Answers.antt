@@ -1,7 +1,6 @@
 use Rattle.std.proofs.Common.{◌≡◌, subst}
 use Rattle.std.proofs.lemmas.Result.{IfOk-weaker}
-use Rattle.std.specs.Prelude.{MatchResult}
-use Rattle.ts_schema.specs.Counts.{raised_by, RaisedUpTo}
+use Rattle.ts_schema.specs.Counts.{Ticks}
 use Rattle.ts_model.specs.declared.queries.Query.TheVariants.{Aggregate}
 use Rattle.ts_model.specs.Answers.{answer}
 use Rattle.engine_state.specs.Scans.{seen_rows}
@@ -36,6 +35,6 @@ pub returns-clause-read : goal.returns-clause-read
 returns-clause-read g c = λ h st.
     let seen = c.view_seen-seen.result in
     let is = c.view_seen-seen.ensures.view h st in
-    subst (λ n. MatchResult c.view_answer.result (λ _. c.view_answer.new.steps ≡ raised_by n c.args.steps.now) (λ _. RaisedUpTo n c.args.steps.now c.view_answer.new.steps))
+    subst (λ n. Ticks c.view_answer.result n c.args.steps.now c.view_answer.new.steps)
     (view_read h c.args.view seen.def.now seen.rows.table.now seen.state.now st.allowed is.there is.stands c.args.starts seen.rows.position is.table_is)
     c.view_answer.ensures.read

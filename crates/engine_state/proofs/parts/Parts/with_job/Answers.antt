@@ -10,7 +10,7 @@ use Rattle.refresh_list.specs.Refreshes.{finished_at}
 use Rattle.engine_state.specs.Stands.{StateValue}
 use Rattle.engine_state.specs.Views.{ViewValue}
 use Rattle.engine_state.proofs.CutFacts.{got, view_place, view_there}
-use Rattle.engine_state.proofs.JobFacts.{job_has, job_order, job_renews, job_whole, parts_whole, ranges_rise, ranges_sizes}
+use Rattle.engine_state.proofs.JobFacts.{job_has, job_renews, job_whole, parts_whole, ranges_rise, ranges_sizes}
 use Rattle.engine_state.proofs.RefreshSteps.{state_of_finish}
 use Rattle.engine_state.proofs.parts.Parts.with_job.Goals as goal
 
@@ -61,12 +61,6 @@ finished-requires-clause-sizes c = ranges_sizes c.log.result.now.width c.in_ok-r
 
 pub finished-requires-clause-rising : goal.finished-requires-clause-rising
 finished-requires-clause-rising c = ranges_rise c.in_ok-renewed.renewed c.in_ok-renewed.ensures.ranges.rising
-
-pub finished-requires-clause-order : goal.finished-requires-clause-order
-finished-requires-clause-order c =
-    let n = c.requires.next in
-    let has = job_has n.history c.args.job.now n.job_is.2 in
-    job_order n.history c.args.job.now has.def n.stands.allowed has.there has.fits
 
 pub set-requires : goal.set-requires
 set-requires c =

@@ -1,8 +1,7 @@
 use Rattle.std.proofs.Common.{◌≡◌, ◌∙◌, ◌∷◌, [], filter, ap, subst}
-use Rattle.std.specs.Prelude.{MatchResult}
 use Rattle.std.proofs.lemmas.Result.{IfOk-weaker}
 use Rattle.ts_bucket.specs.Spans.{in_span}
-use Rattle.ts_schema.specs.Counts.{raised_by, RaisedUpTo}
+use Rattle.ts_schema.specs.Counts.{Ticks}
 use Rattle.ts_model.specs.Reads.{rows_near}
 use Rattle.ts_model.specs.Rows.{in_order}
 use Rattle.seg_rows.specs.Versions.{rows_of}
@@ -18,5 +17,5 @@ returns-clause-rows g c =
 
 pub returns-clause-read : goal.returns-clause-read
 returns-clause-read g c =
-    subst (λ (t : ChunksValue). MatchResult c.scan.result (λ _. c.scan.new.steps ≡ raised_by (rows_near t.interval (rows_of t.versions) (c.args.span ∷ [])) c.args.steps.now) (λ _. RaisedUpTo (rows_near t.interval (rows_of t.versions) (c.args.span ∷ [])) c.args.steps.now c.scan.new.steps))
+    subst (λ (t : ChunksValue). Ticks c.scan.result (rows_near t.interval (rows_of t.versions) (c.args.span ∷ [])) c.args.steps.now c.scan.new.steps)
     c.rows.ensures.rows c.scan.ensures.read

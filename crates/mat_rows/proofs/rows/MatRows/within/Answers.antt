@@ -1,0 +1,12 @@
+-- The groups between the places of the two ends are those within the span.
+use Rattle.std.proofs.Common.{◌∙◌, ap}
+use Rattle.mat_rows.specs.Replacing.{within}
+use Rattle.mat_rows.proofs.PlaceLaws.{between_parts}
+use Rattle.mat_rows.proofs.rows.MatRows.within.Goals as goal
+
+pub returns : goal.returns
+returns c =
+    let p = c.places-start.ensures in
+    record {
+      groups = c.range.ensures.items ∙ between_parts c.args.span c.self.inside.groups.items c.places-start.result.0 c.places-start.result.1 p.order p.start p.end p.start_parts p.end_parts ∙ ap (within c.args.span) c.self.view_is;
+    }
