@@ -24,6 +24,7 @@ all_rows = Rows 0 []
 abbrev pub every_start : Span
 every_start = record { lo = negsuc (2 ^ 63 - 1); hi = pos (2 ^ 63 - 1) }
 
+-- all that the first aggregate shows
 abbrev pub all_buckets : Query
 all_buckets = Aggregate 0 every_start
 

@@ -90,7 +90,8 @@ fn run_source<R: Threads + Sync, S: Source, K: Sink, D: Disk>(
     requires untold { S.ended source.old ≡ false }
     requires within { IsSomeAnd (S.left source.old) (λ input. length input ≤ INPUT_LIMIT) }
     requires goes_on { store.old.failed ≡ None }
-    ensures { IfSome (S.left source.old) (λ input. IfOk result (λ ran. RanLines (seen store.old) (executed input) ran (seen store.new))) }
+    ensures { IfSome (S.left source.old) (λ input.
+        IfOk result (λ ran. RanLines (seen store.old) (executed input) ran (seen store.new))) }
 {
     let mut steps = Steps::new(Reads);
     let end = script_run::run::<Session<Shot>, R, Store<D>, S, K, Reads>(

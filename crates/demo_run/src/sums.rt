@@ -7,6 +7,7 @@ ghost use Rattle.ts_model.specs.Roster.{roster, view_of};
 ghost use Rattle.ts_model.specs.Rows.{rows};
 ghost use Rattle.demo_run.specs.Sums.{all_buckets, all_rows, first_start, last_of, number_of, summary_of, total_of};
 
+use cell_rows::CellRows;
 use result_text::Summary;
 use std::alloc::Global;
 use std::thread::Threads;
@@ -38,7 +39,7 @@ pub(crate) fn summary_of<R: Threads + Sync, T: Shown>(
         events: shot.position(),
         rows,
         groups: answer.rows.len() as u64,
-        total: total_of(answer.rows.items())?,
+        total: total_of(&answer.rows)?,
         stale: answer.stale,
         min: first_start(shot),
         reads,
@@ -55,7 +56,8 @@ fn count_rows<R: Threads + Sync, T: Shown>(rt: &R, alloc: Global, shot: &T) -> R
 
 /// How many rows the first table shows.
 fn shown_rows<R: Threads + Sync, T: Shown>(rt: &R, alloc: Global, shot: &T) -> Result<u64, NoMemory>
-    ensures { (h : History) → T.stands shot.now h → IfOk result (λ count. count ≡ length (answer all_rows h).rows) }
+    ensures { (h : History) → T.stands shot.now h
+        → IfOk result (λ count. count ≡ length (answer all_rows h).rows) }
 {
     match shot.roster().tables.items().get(0) {
         Some(info) if info.hyper.is_some() => {
@@ -88,7 +90,7 @@ fn last_answer<R: Threads + Sync, T: Shown>(
             shot.answer(rt, &query, &mut Steps::new(Summing))
         }
         None => Ok(Answer {
-            rows: Seq::new(alloc),
+            rows: CellRows::new(alloc),
             stale: Seq::new(alloc),
         }),
     }
@@ -105,11 +107,11 @@ fn first_start<T: Shown>(shot: &T) -> i64
 }
 
 /// The sum of the last column of rows. For one that takes more than 128 bits there is no room.
-fn total_of(rows: &[Seq<Datum>]) -> Result<i128, NoMemory>
+fn total_of(rows: &CellRows<Datum>) -> Result<i128, NoMemory>
     ensures { IfOk result (λ total. total ≡ total_of rows.now) }
 {
     let mut total = 0i128;
-    for row in rows {
+    for row in rows.iter() {
         match total.checked_add(last_number(row)) {
             Some(sum) => total = sum,
             None => return Err(NoMemory),
@@ -119,10 +121,10 @@ fn total_of(rows: &[Seq<Datum>]) -> Result<i128, NoMemory>
 }
 
 /// The last value of a row as a number.
-fn last_number(row: &Seq<Datum>) -> i128
+fn last_number(row: &[Datum]) -> i128
     ensures { result ≡ number_of (last_of row.now) }
 {
-    match row.items().last() {
+    match row.last() {
         Some(Datum::Int(n)) => *n,
         _ => 0,
     }

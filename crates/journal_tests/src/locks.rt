@@ -64,7 +64,8 @@ impl Log {
     fn add(&mut self, entry: u32)
         ensures base { self.new.start ≡ self.old.start }
         ensures shut { self.new.shut ≡ self.old.shut }
-        ensures entries { self.new.entries.items ≡ self.old.entries.items ⊎ self.new.entries.items ≡ self.old.entries.items ++ entry ∷ [] }
+        ensures entries { self.new.entries.items ≡ self.old.entries.items
+            ⊎ self.new.entries.items ≡ self.old.entries.items ++ entry ∷ [] }
         ensures stays { IsTrue (is_some self.old.shut) → self.new.entries.items ≡ self.old.entries.items }
     {
         if self.shut.is_none() {

@@ -1,4 +1,5 @@
 //! Each form of a reply, of a refusal and of a summary once, as the format describes it.
+use cell_rows::CellRows;
 use result_text::{Said, Summary, put_line_fault, put_refusal, put_reply, put_summary};
 use std::alloc::Global;
 use std::test::Fail;
@@ -79,12 +80,12 @@ fn a_range_begins_with_min_only_at_the_first_bucket(rt: HostRuntime) -> Result<(
 
 /// One row of each kind of cell, and one stale range.
 fn answer(alloc: Global) -> Result<Answer, Fail> {
-    let mut row = Seq::new(alloc);
-    row.push(Datum::Int(-120))?;
-    row.push(Datum::Null)?;
-    row.push(Datum::Ratio(Frac { num: -5, den: 3 }))?;
-    let mut rows = Seq::new(alloc);
-    rows.push(row)?;
+    let mut rows = CellRows::new(alloc);
+    rows.push(&[
+        Datum::Int(-120),
+        Datum::Null,
+        Datum::Ratio(Frac { num: -5, den: 3 }),
+    ])?;
     let mut stale = Seq::new(alloc);
     stale.push(Span { lo: -10, hi: 100 })?;
     Ok(Answer { rows, stale })

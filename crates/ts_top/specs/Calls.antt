@@ -7,7 +7,7 @@ use Rattle.demo_run.specs.Demos.{demo_summary, is_refused_demo, reads_of_demo}
 use Rattle.ts_top.specs.declared.commands.Command.{Command}
 use Rattle.ts_top.specs.declared.commands.Command.TheVariants.{Run, Par, Demo, Print}
 use Rattle.ts_top.specs.declared.endings.Status.{Status}
-use Rattle.ts_top.specs.declared.endings.Status.TheVariants.{Done, Refused, BadWords, ReadFault, WriteFault, DiskFault, Damaged, NoMemory, InputLong}
+use Rattle.ts_top.specs.declared.endings.Status.TheVariants.{Done, Refused, BadWords, WriteFault, DiskFault, NoMemory}
 use Rattle.ts_top.specs.Endings.{is_write_fault}
 use Rattle.ts_top.specs.Logs.{text_of}
 use Rattle.ts_top.specs.Outcomes.{Outside, PrintedTo, RanTo, Untouched}
@@ -22,13 +22,9 @@ pub record DemoShown (demo : ℕ) (Wrote : List ℕ → Type 0) (o : Outside) : 
 abbrev pub DemoTo : ℕ → Status → Type 0 → Outside → Type 0
 DemoTo demo Done unprinted o = (is_refused_demo demo ≡ false) × DemoShown demo (Appends o.written_before o.written) o
 DemoTo demo Refused unprinted o = (is_refused_demo demo ≡ true) × DemoShown demo (Appends o.written_before o.written) o
-DemoTo demo BadWords unprinted o = ⊥
-DemoTo demo ReadFault unprinted o = ⊥
 DemoTo demo WriteFault unprinted o = DemoShown demo (AppendsPart o.written_before o.written) o
-DemoTo demo DiskFault unprinted o = ⊥
-DemoTo demo (Damaged at) unprinted o = ⊥
 DemoTo demo NoMemory unprinted o = unprinted
-DemoTo demo InputLong unprinted o = ⊥
+DemoTo demo other unprinted o = ⊥
 
 -- what a call with this command has done. One that prints, and the demonstration, read no input and leave the disk as it was
 abbrev pub Outcome : Command → Status → Type 0 → (List ℕ → Type 0) → Type 0 → Type 0 → Type 0 → Outside → Type 0
@@ -44,36 +40,21 @@ OutcomeOf (Some command) status durable left unread unprinted kept o = Outcome c
 
 -- P of a call that runs the lines of its input
 abbrev pub IfRuns : Option Command → Type 0 → Type 0
-IfRuns None P = ⊤
 IfRuns (Some Run) P = P
 IfRuns (Some Par) P = P
-IfRuns (Some (Demo demo)) P = ⊤
-IfRuns (Some (Print text)) P = ⊤
+IfRuns other P = ⊤
 
 -- P of a call that runs the demonstration
 abbrev pub IfDemo : Option Command → Type 0 → Type 0
-IfDemo None P = ⊤
-IfDemo (Some Run) P = ⊤
-IfDemo (Some Par) P = ⊤
 IfDemo (Some (Demo demo)) P = P
-IfDemo (Some (Print text)) P = ⊤
+IfDemo other P = ⊤
 
--- where the disk failed in a parallel run, its replies are printed all the same: the sink may fail after that
+-- the count of the sink's faults rises where the call tells of one, and else stays; but where the disk failed in a parallel run, its replies are printed all the same, and the sink may fail after that
 abbrev pub CountedAfterDisk : Status → ℕ → ℕ → Type 0
-CountedAfterDisk Done before now = Counted before now false
-CountedAfterDisk Refused before now = Counted before now false
-CountedAfterDisk BadWords before now = Counted before now false
-CountedAfterDisk ReadFault before now = Counted before now false
-CountedAfterDisk WriteFault before now = Counted before now true
 CountedAfterDisk DiskFault before now = (failed : Bool) × Counted before now failed
-CountedAfterDisk (Damaged at) before now = Counted before now false
-CountedAfterDisk NoMemory before now = Counted before now false
-CountedAfterDisk InputLong before now = Counted before now false
+CountedAfterDisk status before now = Counted before now (is_write_fault status)
 
 -- the count of the sink's faults rises where the call tells of one, and else stays
 abbrev pub SinkCounted : Option Command → Status → ℕ → ℕ → Type 0
-SinkCounted None status before now = Counted before now (is_write_fault status)
-SinkCounted (Some Run) status before now = Counted before now (is_write_fault status)
 SinkCounted (Some Par) status before now = CountedAfterDisk status before now
-SinkCounted (Some (Demo demo)) status before now = Counted before now (is_write_fault status)
-SinkCounted (Some (Print text)) status before now = Counted before now (is_write_fault status)
+SinkCounted other status before now = Counted before now (is_write_fault status)

@@ -34,35 +34,17 @@ status_of ends.InputLong = InputLong
 
 -- ---- the object whose count of faults rose
 
+-- that of the source
 abbrev pub is_read_fault : Status → Bool
-is_read_fault Done = false
-is_read_fault Refused = false
-is_read_fault BadWords = false
 is_read_fault ReadFault = true
-is_read_fault WriteFault = false
-is_read_fault DiskFault = false
-is_read_fault (Damaged at) = false
-is_read_fault NoMemory = false
-is_read_fault InputLong = false
+is_read_fault other = false
 
+-- that of the sink
 abbrev pub is_write_fault : Status → Bool
-is_write_fault Done = false
-is_write_fault Refused = false
-is_write_fault BadWords = false
-is_write_fault ReadFault = false
 is_write_fault WriteFault = true
-is_write_fault DiskFault = false
-is_write_fault (Damaged at) = false
-is_write_fault NoMemory = false
-is_write_fault InputLong = false
+is_write_fault other = false
 
+-- that of the disk
 abbrev pub is_disk_fault : Status → Bool
-is_disk_fault Done = false
-is_disk_fault Refused = false
-is_disk_fault BadWords = false
-is_disk_fault ReadFault = false
-is_disk_fault WriteFault = false
 is_disk_fault DiskFault = true
-is_disk_fault (Damaged at) = false
-is_disk_fault NoMemory = false
-is_disk_fault InputLong = false
+is_disk_fault other = false

@@ -5,6 +5,7 @@ use Rattle.ts_io.specs.Whole.{AppendsPart}
 use Rattle.ts_io.specs.declared.limits.TheConstants.{INPUT_LIMIT}
 use Rattle.ts_model.specs.History.{History, Begins}
 use Rattle.ts_schema.specs.Counts.{raised_by}
+use Rattle.ts_store.specs.Images.{HasHeader}
 use Rattle.ts_store.specs.Stands.{Stands, IsDamagedAt}
 use Rattle.script_run.specs.Runs.{ReadWhole, executed}
 use Rattle.ts_top.specs.Scripts.{replies_of, reply_after, history_after, rows_read, is_faulted}
@@ -114,17 +115,17 @@ RanTo (Damaged at) durable left untouched o = untouched × IsDamaged at o
 RanTo NoMemory durable left untouched o = untouched ⊎ OverScript o (λ h input. RanWithin durable left h (executed input) o)
 RanTo InputLong durable left untouched o = OverScript o (λ h input. (INPUT_LIMIT < length input) × RanWhole durable left h (executed input) o)
 
--- P where the source was read: the header is on the disk before that
+-- P where the source was read
 abbrev pub IfReading : Status → Type 0 → Type 0
-IfReading Done P = P
-IfReading Refused P = P
 IfReading BadWords P = ⊤
-IfReading ReadFault P = P
-IfReading WriteFault P = P
 IfReading DiskFault P = ⊤
 IfReading (Damaged at) P = ⊤
 IfReading NoMemory P = ⊤
-IfReading InputLong P = P
+IfReading other P = P
+
+-- the header is on the disk before the source is read, where all of the file was on the disk at first
+abbrev pub HeaderAfter : Status → Type 0 → Option (List ℕ) → Type 0
+HeaderAfter status durable file = IfReading status (durable → IsSomeAnd file HasHeader)
 
 -- the text of a history was printed, or a part of it
 abbrev pub Printed : (History → List ℕ) → Outside → Type 0
@@ -136,11 +137,8 @@ PrintedPart text o = Over o (λ h. AppendsPart o.written_before o.written (text 
 -- what a call that prints this text of its journal, and ended so, has printed
 abbrev pub PrintedTo : (History → List ℕ) → Status → Type 0 → Outside → Type 0
 PrintedTo text Done unprinted o = Printed text o
-PrintedTo text Refused unprinted o = ⊥
-PrintedTo text BadWords unprinted o = ⊥
-PrintedTo text ReadFault unprinted o = ⊥
 PrintedTo text WriteFault unprinted o = PrintedPart text o
 PrintedTo text DiskFault unprinted o = unprinted
 PrintedTo text (Damaged at) unprinted o = unprinted × IsDamaged at o
 PrintedTo text NoMemory unprinted o = unprinted ⊎ PrintedPart text o
-PrintedTo text InputLong unprinted o = ⊥
+PrintedTo text other unprinted o = ⊥

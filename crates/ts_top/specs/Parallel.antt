@@ -49,14 +49,11 @@ Any fault = ⊤
 abbrev pub InputTo : Status → Type 0 → (List ℕ → Type 0) → History → List ℕ → Option (List ℕ) → Option (List ℕ) → Option (List ℕ) → Type 0
 InputTo Done durable left h input before written file = ByWorkers durable left h input false (λ fault. fault ≡ false) (Appends before written) file
 InputTo Refused durable left h input before written file = ByWorkers durable left h input false (λ fault. fault ≡ true) (Appends before written) file
-InputTo BadWords durable left h input before written file = ⊥
-InputTo ReadFault durable left h input before written file = ⊥
 InputTo WriteFault durable left h input before written file = ByWorkers durable left h input false Any (AppendsPart before written) file
 InputTo DiskFault durable left h input before written file =
     ByWorkers durable left h input true Any (AppendsPart before written) file ⊎ GaveUp durable left h (written ≡ before) file
-InputTo (Damaged at) durable left h input before written file = ⊥
 InputTo NoMemory durable left h input before written file = GaveUp durable left h (written ≡ before) file
-InputTo InputLong durable left h input before written file = ⊥
+InputTo other durable left h input before written file = ⊥
 
 -- the whole input was read, and its run did this
 abbrev pub InputRan : Status → Type 0 → (List ℕ → Type 0) → Outside → Type 0

@@ -22,7 +22,8 @@ pub(crate) fn print_demo<R: Threads + Sync, K: Sink, D: Disk>(
     disk: D,
     number: u32,
 ) -> Ended<D>
-    ensures outcome { (input rest file_before file : Option (List ℕ)) → DemoTo number result.status (sink.new ≡ sink.old)
+    ensures outcome { (input rest file_before file : Option (List ℕ))
+        → DemoTo number result.status (sink.new ≡ sink.old)
         (record {
           input = input;
           rest = rest;

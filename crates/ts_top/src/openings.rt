@@ -25,13 +25,15 @@ fn armed<D: Disk>(mut store: Store<D>) -> Result<Store<D>, Ended<D>>
     ensures armed { IfOk result (λ ready. ready.armed ≡ true) }
     ensures whole { IfOk result (λ ready. opening ready ≡ seen ready) }
     ensures counted { IfOk result (λ ready. D.faults ready.journal.disk ≡ D.faults store.journal.disk) }
-    ensures ended { IfErr result (λ end. (before : Option (List ℕ)) → IfSome before (λ file. Stands file (seen store))
+    ensures ended { IfErr result (λ end. (before : Option (List ℕ))
+        → IfSome before (λ file. Stands file (seen store))
         → (IsDurable D.bytes D.may_leave store.begun → Rests D.bytes D.may_leave store)
         → Keeps D.bytes D.may_leave D.moment D.left_since store.begun store.journal.disk
         → NotOpened end.status (IsDurable D.bytes D.may_leave store.begun) (D.left_since end.disk (D.moment store.begun))
         ⊥ before (D.bytes end.disk)) }
     ensures unread { IfErr result (λ end. end.reads ≡ 0) }
-    ensures disk { IfErr result (λ end. Counted (D.faults store.journal.disk) (D.faults end.disk) (is_disk_fault end.status)) }
+    ensures disk { IfErr result (λ end.
+        Counted (D.faults store.journal.disk) (D.faults end.disk) (is_disk_fault end.status)) }
 {
     match store.arm() {
         Append::Done => Ok(store),
@@ -62,7 +64,8 @@ pub(crate) fn open<R: Threads + Sync, D: Disk>(
     ensures armed { IfOk result (λ store. store.armed ≡ true) }
     ensures whole { IfOk result (λ store. opening store ≡ seen store) }
     ensures counted { IfOk result (λ store. D.faults store.journal.disk ≡ D.faults disk) }
-    ensures ended { IfErr result (λ end. NotOpened end.status (IsDurable D.bytes D.may_leave disk) (D.left_since end.disk (D.moment disk))
+    ensures ended { IfErr result (λ end. NotOpened end.status
+        (IsDurable D.bytes D.may_leave disk) (D.left_since end.disk (D.moment disk))
         (Keeps D.bytes D.may_leave D.moment D.left_since disk end.disk) (D.bytes disk) (D.bytes end.disk)) }
     ensures unread { IfErr result (λ end. end.reads ≡ 0) }
     ensures disk { IfErr result (λ end. Counted (D.faults disk) (D.faults end.disk) (is_disk_fault end.status)) }

@@ -8,7 +8,7 @@ ghost use Rattle.ts_store.specs.Stands.{Stands};
 ghost use Rattle.ts_store.specs.Stores.{opening, seen};
 ghost use Rattle.ts_top.specs.Calls.{CountedAfterDisk};
 ghost use Rattle.ts_top.specs.Endings.{is_disk_fault, is_read_fault};
-ghost use Rattle.ts_top.specs.Outcomes.{Holds, IfReading, Untouched};
+ghost use Rattle.ts_top.specs.Outcomes.{Holds, Untouched, HeaderAfter};
 ghost use Rattle.ts_top.specs.Parallel.{InputTo, ParTo, PrintsReplies, status_given_up};
 
 use crate::endings::{Ended, Status, status_answered};
@@ -50,7 +50,8 @@ fn print_replies<K: Sink>(
     stop: ParStop,
     stopped: Option<u64>,
 ) -> Status
-    ensures prints { PrintsReplies stop fault (is_some stopped) text.now result (K.written sink.old) (K.written sink.new) }
+    ensures prints { PrintsReplies stop fault (is_some stopped) text.now result
+        (K.written sink.old) (K.written sink.new) }
     ensures counted { CountedAfterDisk result (K.faults sink.old) (K.faults sink.new) }
 {
     match stop {
@@ -95,9 +96,10 @@ where
     requires armed { store.armed ≡ true }
     requires whole { opening store ≡ seen store }
     requires within { length input.now ≤ INPUT_LIMIT }
-    ensures ran { InputTo result.status (IsDurable D.bytes D.may_leave store.begun) (D.left_since result.disk (D.moment store.begun))
+    ensures ran { InputTo result.status
+        (IsDurable D.bytes D.may_leave store.begun) (D.left_since result.disk (D.moment store.begun))
         (seen store) input.now (K.written sink.old) (K.written sink.new) (D.bytes result.disk) }
-    ensures header { IfReading result.status (IsDurable D.bytes D.may_leave store.begun → IsSomeAnd (D.bytes result.disk) HasHeader) }
+    ensures header { HeaderAfter result.status (IsDurable D.bytes D.may_leave store.begun) (D.bytes result.disk) }
     ensures writes { CountedAfterDisk result.status (K.faults sink.old) (K.faults sink.new) }
     ensures disk { Counted (D.faults store.journal.disk) (D.faults result.disk) (is_disk_fault result.status) }
 {
@@ -137,7 +139,8 @@ where
     requires armed { store.armed ≡ true }
     requires whole { opening store ≡ seen store }
     ensures outcome { (before : Option (List ℕ)) → IfSome before (λ file. Stands file (seen store))
-        → ParTo result.status (IsDurable D.bytes D.may_leave store.begun) (D.left_since result.disk (D.moment store.begun))
+        → ParTo result.status
+        (IsDurable D.bytes D.may_leave store.begun) (D.left_since result.disk (D.moment store.begun))
         ⊥ (record {
           input = S.left source.old;
           rest = S.left source.new;
@@ -147,7 +150,7 @@ where
           file = D.bytes result.disk;
           reads = result.reads;
         }) }
-    ensures header { IfReading result.status (IsDurable D.bytes D.may_leave store.begun → IsSomeAnd (D.bytes result.disk) HasHeader) }
+    ensures header { HeaderAfter result.status (IsDurable D.bytes D.may_leave store.begun) (D.bytes result.disk) }
     ensures reads { Counted (S.faults source.old) (S.faults source.new) (is_read_fault result.status) }
     ensures writes { CountedAfterDisk result.status (K.faults sink.old) (K.faults sink.new) }
     ensures disk { Counted (D.faults store.journal.disk) (D.faults result.disk) (is_disk_fault result.status) }
@@ -178,8 +181,10 @@ where
     D: Disk + Send,
     G: Gate + Sync,
     requires untold { S.ended source.old ≡ false }
-    ensures outcome { ParTo result.status (IsDurable D.bytes D.may_leave disk) (D.left_since result.disk (D.moment disk))
-        (Untouched (source.new ≡ source.old) (sink.new ≡ sink.old) (Keeps D.bytes D.may_leave D.moment D.left_since disk result.disk))
+    ensures outcome { ParTo result.status
+        (IsDurable D.bytes D.may_leave disk) (D.left_since result.disk (D.moment disk))
+        (Untouched (source.new ≡ source.old) (sink.new ≡ sink.old)
+        (Keeps D.bytes D.may_leave D.moment D.left_since disk result.disk))
         (record {
           input = S.left source.old;
           rest = S.left source.new;
@@ -189,7 +194,7 @@ where
           file = D.bytes result.disk;
           reads = result.reads;
         }) }
-    ensures header { IfReading result.status (IsDurable D.bytes D.may_leave disk → IsSomeAnd (D.bytes result.disk) HasHeader) }
+    ensures header { HeaderAfter result.status (IsDurable D.bytes D.may_leave disk) (D.bytes result.disk) }
     ensures reads { Counted (S.faults source.old) (S.faults source.new) (is_read_fault result.status) }
     ensures writes { CountedAfterDisk result.status (K.faults sink.old) (K.faults sink.new) }
     ensures disk { Counted (D.faults disk) (D.faults result.disk) (is_disk_fault result.status) }

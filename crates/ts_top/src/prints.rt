@@ -62,8 +62,10 @@ fn print_event<K: Sink>(
     event: &Event,
     names: &Roster,
 ) -> Result<(), Stop>
-    ensures done { OnOk result (Appends (K.written sink.old) (K.written sink.new) (log_text number names.now event.now)) }
-    ensures part { OnErr result (AppendsPart (K.written sink.old) (K.written sink.new) (log_text number names.now event.now)) }
+    ensures done { OnOk result (Appends (K.written sink.old) (K.written sink.new)
+        (log_text number names.now event.now)) }
+    ensures part { OnErr result (AppendsPart (K.written sink.old) (K.written sink.new)
+        (log_text number names.now event.now)) }
     ensures counted { Counted (K.faults sink.old) (K.faults sink.new) (failed_writing result) }
 {
     let mut line = Vec::new(alloc);
@@ -74,8 +76,10 @@ fn print_event<K: Sink>(
 
 /// Prints the log of an engine's history.
 fn print_log<K: Sink>(alloc: Global, sink: &mut K, engine: &Engine) -> Result<(), Stop>
-    ensures done { OnOk result (Appends (K.written sink.old) (K.written sink.new) (log_of (history_of engine.now.events))) }
-    ensures part { OnErr result (AppendsPart (K.written sink.old) (K.written sink.new) (log_of (history_of engine.now.events))) }
+    ensures done { OnOk result (Appends (K.written sink.old) (K.written sink.new)
+        (log_of (history_of engine.now.events))) }
+    ensures part { OnErr result (AppendsPart (K.written sink.old) (K.written sink.new)
+        (log_of (history_of engine.now.events))) }
     ensures counted { Counted (K.faults sink.old) (K.faults sink.new) (failed_writing result) }
 {
     let shot = engine.shot()?;
@@ -90,7 +94,8 @@ fn print_log<K: Sink>(alloc: Global, sink: &mut K, engine: &Engine) -> Result<()
 
 /// Appends the line of a refresh that waits.
 fn put_waiting(refresh: &Waiting, names: &Roster, out: &mut Vec<u8>) -> Result<(), NoMemory>
-    ensures appended { IfOk result (λ _. out.new.items ≡ out.old.items ++ waiting_text refresh.now (view_of names.now refresh.now.view)) }
+    ensures appended { IfOk result (λ _. out.new.items
+        ≡ out.old.items ++ waiting_text refresh.now (view_of names.now refresh.now.view)) }
 {
     match names.views.items().get(refresh.view as usize) {
         None => Ok(()),
@@ -127,8 +132,10 @@ fn check_text(alloc: Global, engine: &Engine) -> Result<Vec<u8>, NoMemory>
 
 /// Prints the position of an engine's history, and the refreshes that wait.
 fn print_check<K: Sink>(alloc: Global, sink: &mut K, engine: &Engine) -> Result<(), Stop>
-    ensures done { OnOk result (Appends (K.written sink.old) (K.written sink.new) (check_of (history_of engine.now.events))) }
-    ensures part { OnErr result (AppendsPart (K.written sink.old) (K.written sink.new) (check_of (history_of engine.now.events))) }
+    ensures done { OnOk result (Appends (K.written sink.old) (K.written sink.new)
+        (check_of (history_of engine.now.events))) }
+    ensures part { OnErr result (AppendsPart (K.written sink.old) (K.written sink.new)
+        (check_of (history_of engine.now.events))) }
     ensures counted { Counted (K.faults sink.old) (K.faults sink.new) (failed_writing result) }
 {
     let text = check_text(alloc, engine)?;
@@ -138,8 +145,10 @@ fn print_check<K: Sink>(alloc: Global, sink: &mut K, engine: &Engine) -> Result<
 
 /// Prints a text of an engine's history.
 fn print_text<K: Sink>(alloc: Global, sink: &mut K, engine: &Engine, text: Text) -> Result<(), Stop>
-    ensures done { OnOk result (Appends (K.written sink.old) (K.written sink.new) (text_of text (history_of engine.now.events))) }
-    ensures part { OnErr result (AppendsPart (K.written sink.old) (K.written sink.new) (text_of text (history_of engine.now.events))) }
+    ensures done { OnOk result (Appends (K.written sink.old) (K.written sink.new)
+        (text_of text (history_of engine.now.events))) }
+    ensures part { OnErr result (AppendsPart (K.written sink.old) (K.written sink.new)
+        (text_of text (history_of engine.now.events))) }
     ensures counted { Counted (K.faults sink.old) (K.faults sink.new) (failed_writing result) }
 {
     match text {

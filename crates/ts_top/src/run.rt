@@ -1,12 +1,12 @@
 //! The top call.
-ghost use Rattle.std.specs.Prelude.{◌≡◌, ◌↔◌, false, None, map, string_bytes, IsSomeAnd};
+ghost use Rattle.std.specs.Prelude.{◌≡◌, ◌↔◌, false, None, map, string_bytes};
 ghost use Rattle.ts_disk.specs.Disk.{Keeps};
 ghost use Rattle.ts_io.specs.Faults.{Counted};
-ghost use Rattle.ts_store.specs.Images.{HasHeader, IsDurable};
+ghost use Rattle.ts_store.specs.Images.{IsDurable};
 ghost use Rattle.ts_top.specs.Commands.{command_of};
 ghost use Rattle.ts_top.specs.Calls.{IfDemo, IfRuns, OutcomeOf, SinkCounted};
 ghost use Rattle.ts_top.specs.Endings.{is_disk_fault, is_read_fault};
-ghost use Rattle.ts_top.specs.Outcomes.{IfReading};
+ghost use Rattle.ts_top.specs.Outcomes.{HeaderAfter};
 
 use crate::commands::{Command, command_of};
 use crate::demos::print_demo;
@@ -44,8 +44,9 @@ where
     G: Gate + Sync,
     requires untold { S.ended source.old ≡ false }
     ensures words { (result.status ≡ Status.BadWords) ↔ (command_of (map string_bytes words.now) ≡ None) }
-    ensures outcome { OutcomeOf (command_of (map string_bytes words.now)) result.status (IsDurable D.bytes D.may_leave disk)
-        (D.left_since result.disk (D.moment disk)) (source.new ≡ source.old) (sink.new ≡ sink.old)
+    ensures outcome { OutcomeOf (command_of (map string_bytes words.now)) result.status
+        (IsDurable D.bytes D.may_leave disk) (D.left_since result.disk (D.moment disk))
+        (source.new ≡ source.old) (sink.new ≡ sink.old)
         (Keeps D.bytes D.may_leave D.moment D.left_since disk result.disk)
         (record {
           input = S.left source.old;
@@ -56,11 +57,12 @@ where
           file = D.bytes result.disk;
           reads = result.reads;
         }) }
-    ensures header { IfRuns (command_of (map string_bytes words.now)) (IfReading result.status
-        (IsDurable D.bytes D.may_leave disk → IsSomeAnd (D.bytes result.disk) HasHeader)) }
+    ensures header { IfRuns (command_of (map string_bytes words.now))
+        (HeaderAfter result.status (IsDurable D.bytes D.may_leave disk) (D.bytes result.disk)) }
     ensures untouched { IfDemo (command_of (map string_bytes words.now)) (result.disk ≡ disk) }
     ensures reads { Counted (S.faults source.old) (S.faults source.new) (is_read_fault result.status) }
-    ensures writes { SinkCounted (command_of (map string_bytes words.now)) result.status (K.faults sink.old) (K.faults sink.new) }
+    ensures writes { SinkCounted (command_of (map string_bytes words.now)) result.status
+        (K.faults sink.old) (K.faults sink.new) }
     ensures disk { Counted (D.faults disk) (D.faults result.disk) (is_disk_fault result.status) }
 {
     match command_of(words) {

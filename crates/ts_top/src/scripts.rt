@@ -1,12 +1,12 @@
 //! Scripts over the history of a journal.
-ghost use Rattle.std.specs.Prelude.{◌≡◌, ℕ, List, None, Option, false, true, IfSome, IsSomeAnd};
+ghost use Rattle.std.specs.Prelude.{◌≡◌, ℕ, List, None, Option, false, true, IfSome};
 ghost use Rattle.ts_disk.specs.Disk.{Keeps};
 ghost use Rattle.ts_io.specs.Faults.{Counted};
-ghost use Rattle.ts_store.specs.Images.{HasHeader, IsDurable};
+ghost use Rattle.ts_store.specs.Images.{IsDurable};
 ghost use Rattle.ts_store.specs.Stands.{Stands};
 ghost use Rattle.ts_store.specs.Stores.{opening, seen};
 ghost use Rattle.ts_top.specs.Endings.{is_disk_fault, is_read_fault, is_write_fault};
-ghost use Rattle.ts_top.specs.Outcomes.{IfReading, RanTo, Untouched};
+ghost use Rattle.ts_top.specs.Outcomes.{RanTo, Untouched, HeaderAfter};
 
 use crate::endings::{Ended, status_of};
 use crate::openings::open;
@@ -36,7 +36,8 @@ fn run_lines<R: Threads + Sync, S: Source, K: Sink, D: Disk>(
     requires armed { store.armed ≡ true }
     requires whole { opening store ≡ seen store }
     ensures outcome { (before : Option (List ℕ)) → IfSome before (λ file. Stands file (seen store))
-        → RanTo result.status (IsDurable D.bytes D.may_leave store.begun) (D.left_since result.disk (D.moment store.begun))
+        → RanTo result.status
+        (IsDurable D.bytes D.may_leave store.begun) (D.left_since result.disk (D.moment store.begun))
         ⊥ (record {
           input = S.left source.old;
           rest = S.left source.new;
@@ -46,7 +47,7 @@ fn run_lines<R: Threads + Sync, S: Source, K: Sink, D: Disk>(
           file = D.bytes result.disk;
           reads = result.reads;
         }) }
-    ensures header { IfReading result.status (IsDurable D.bytes D.may_leave store.begun → IsSomeAnd (D.bytes result.disk) HasHeader) }
+    ensures header { HeaderAfter result.status (IsDurable D.bytes D.may_leave store.begun) (D.bytes result.disk) }
     ensures reads { Counted (S.faults source.old) (S.faults source.new) (is_read_fault result.status) }
     ensures writes { Counted (K.faults sink.old) (K.faults sink.new) (is_write_fault result.status) }
     ensures disk { Counted (D.faults store.journal.disk) (D.faults result.disk) (is_disk_fault result.status) }
@@ -71,8 +72,10 @@ pub(crate) fn run<R: Threads + Sync, S: Source, K: Sink, D: Disk>(
     disk: D,
 ) -> Ended<D>
     requires untold { S.ended source.old ≡ false }
-    ensures outcome { RanTo result.status (IsDurable D.bytes D.may_leave disk) (D.left_since result.disk (D.moment disk))
-        (Untouched (source.new ≡ source.old) (sink.new ≡ sink.old) (Keeps D.bytes D.may_leave D.moment D.left_since disk result.disk))
+    ensures outcome { RanTo result.status
+        (IsDurable D.bytes D.may_leave disk) (D.left_since result.disk (D.moment disk))
+        (Untouched (source.new ≡ source.old) (sink.new ≡ sink.old)
+        (Keeps D.bytes D.may_leave D.moment D.left_since disk result.disk))
         (record {
           input = S.left source.old;
           rest = S.left source.new;
@@ -82,7 +85,7 @@ pub(crate) fn run<R: Threads + Sync, S: Source, K: Sink, D: Disk>(
           file = D.bytes result.disk;
           reads = result.reads;
         }) }
-    ensures header { IfReading result.status (IsDurable D.bytes D.may_leave disk → IsSomeAnd (D.bytes result.disk) HasHeader) }
+    ensures header { HeaderAfter result.status (IsDurable D.bytes D.may_leave disk) (D.bytes result.disk) }
     ensures reads { Counted (S.faults source.old) (S.faults source.new) (is_read_fault result.status) }
     ensures writes { Counted (K.faults sink.old) (K.faults sink.new) (is_write_fault result.status) }
     ensures disk { Counted (D.faults disk) (D.faults result.disk) (is_disk_fault result.status) }

@@ -1,6 +1,6 @@
 -- A disk without a byte stands for the empty history, and is damaged nowhere.
 use Rattle.std.proofs.Common.{◌≡◌, ◌∙◌, ap, [], Some}
-use Rattle.ts_disk.specs.MemDisk.{told}
+use Rattle.ts_disk.specs.MemDisk.{known}
 use Rattle.ts_model.specs.History.{start}
 use Rattle.ts_store.specs.Stores.{seen}
 use Rattle.ts_store.proofs.StandsLaws.{journals_stand_once, journals_stand_or_are_damaged}
@@ -9,11 +9,11 @@ use Rattle.demo_run.proofs.runs.empty_store.Goals as goal
 
 pub returns-in-Ready-clause-empty : goal.returns-in-Ready-clause-empty
 returns-in-Ready-clause-empty g c =
-    let bytes : told c.new-2.result ≡ Some [] = ap told c.new-2.ensures.made ∙ ap Some c.new.ensures.items in
+    let bytes : known c.new-2.result ≡ Some [] = ap known c.new-2.ensures.made ∙ ap Some c.new.ensures.items in
     let empty : seen c.in-Ready.store ≡ start = journals_stand_once [] (seen c.in-Ready.store) start (c.in-Ready.ensures.starts [] bytes) empty_stands in
     if_ok c.with_header.result _ _ (λ armed same. same ∙ empty) c.with_header.ensures.same
 
 pub unreachable-requires : goal.unreachable-requires
 unreachable-requires g c =
-    let bytes : told c.new-2.result ≡ Some [] = ap told c.new-2.ensures.made ∙ ap Some c.new.ensures.items in
+    let bytes : known c.new-2.result ≡ Some [] = ap known c.new-2.ensures.made ∙ ap Some c.new.ensures.items in
     journals_stand_or_are_damaged [] start c.in-Damaged.at empty_stands (c.in-Damaged.ensures.starts [] bytes)
