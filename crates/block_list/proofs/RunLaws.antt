@@ -1,6 +1,6 @@
 -- Laws of runs: items of a list from a place on.
 use Rattle.std.proofs.Common.{◌≡◌, ℕ, zero, suc, ◌+◌, ◌-◌, ◌<◌, ◌≤◌, List, [], ◌∷◌, ◌++◌, length, take, drop, refl, sym, ap, ◌∙◌, subst, arith}
-use Rattle.std.proofs.lemmas.List.{drop-take, drop-append-le, take-append-le, length-drop, take_rest, length-append}
+use Rattle.std.proofs.lemmas.List.{drop-take, length-drop, length-take, take_rest, length-append}
 use Rattle.std.proofs.Math.Seq.{drop-append-add, take-add, drop-nil}
 use Rattle.block_list.specs.Blocks.{IsRun}
 
@@ -26,18 +26,7 @@ module _ {X : Type 0} where
         items = ap (λ n. take n (drop i xs)) len ∙ take_rest xs i;
       }
 
-  -- a run of the front of a list, and one of its back
-  pub run_left : (xs ys : List X) (at end end' : ℕ) (run : List X) → end ≤ length xs → end ≤ end' → IsRun xs at end run → IsRun (xs ++ ys) at end' run
-  run_left xs ys at end end' run le more r =
-      let some : 0 < length run = r.some in
-      let within : at + length run ≤ end = r.within in
-      let left : length (drop at xs) ≡ length xs - at = length-drop at xs in
-      record {
-        some = r.some;
-        within = omega arith;
-        items = ap (take (length run)) (drop-append-le at xs ys (omega arith)) ∙ take-append-le (length run) (drop at xs) ys (omega arith) ∙ r.items;
-      }
-
+  -- a run of the back of a list
   pub run_right : (xs ys : List X) (at end : ℕ) (run : List X) → IsRun ys at end run → IsRun (xs ++ ys) (length xs + at) (length xs + end) run
   run_right xs ys at end run r =
       let within : at + length run ≤ end = r.within in
@@ -47,46 +36,28 @@ module _ {X : Type 0} where
         items = ap (take (length run)) (drop-append-add xs ys at) ∙ r.items;
       }
 
-  -- from a later place on
-  pub run_drop : (all : List X) (at end k : ℕ) (run : List X) → k < length run → IsRun all at end run → IsRun all (at + k) end (drop k run)
-  run_drop all at end k run l r =
-      let within : at + length run ≤ end = r.within in
-      let len : length (drop k run) ≡ length run - k = length-drop k run in
-      let parts : k + (length run - k) ≡ length run = omega arith in
-      record {
-        some = omega arith;
-        within = omega arith;
-        items =
-            ap (λ n. take n (drop (at + k) all)) len
-            ∙ ap (take (length run - k)) (sym (drop-drop at k all))
-            ∙ sym (drop-take k (length run - k) (drop at all))
-            ∙ ap (λ n. drop k (take n (drop at all))) parts
-            ∙ ap (drop k) r.items;
-      }
-
-  -- fewer items
-  pub run_take : (all : List X) (at end n : ℕ) (run run' : List X) → IsRun all at end run → run' ≡ take n run → 0 < length run' → at + length run' ≤ end → length run' ≡ n → n ≤ length run → IsRun all at end run'
-  run_take all at end n run run' r is some within len le = record {
-    some = some;
-    within = within;
-    items =
-        ap (λ m. take m (drop at all)) len
-        ∙ sym (take-take n (length run) (drop at all) le)
-        ∙ ap (take n) r.items
-        ∙ sym is;
-  }
-
-  -- the items of a block from a place on, as a slice
-  pub run_from_block : (all all' : List X) (i start s : ℕ) (items b : List X) → all' ≡ all → s ≡ start → items ≡ b → start ≤ i → i < start + length b → IsRun all' start (length all') b → IsRun all i (length all) (take (length items - (i - s)) (drop (i - s) items))
-  run_from_block all all' i start s items b e f g from below r =
-      let k = i - start in
+  -- a run of a part is a run of the list
+  pub run_in_part : (all part run : List X) (start i end end' : ℕ) → IsRun all start (length all) part → start ≤ i → IsRun part (i - start) end run → i + length run ≤ end' → IsRun all i end' run
+  run_in_part all part run start i end end' p from r within =
       let back : start + (i - start) ≡ i = omega arith in
-      let left : length b - (i - start) ≤ length b = omega arith in
-      let dropped : IsRun all' (start + (i - start)) (length all') (drop (i - start) b) = run_drop all' start (length all') (i - start) b (omega arith) r in
-      let shown : take (length items - (i - s)) (drop (i - s) items) ≡ drop (i - start) b = ap (λ n. take (length items - (i - n)) (drop (i - n) items)) f ∙ ap (λ xs. take (length xs - (i - start)) (drop (i - start) xs)) g ∙ take_rest b (i - start) in
-      subst (λ xs. IsRun all i (length all) xs) (sym shown)
-      (subst (λ n. IsRun all n (length all) (drop (i - start) b)) back
-      (subst (λ xs. IsRun xs (start + (i - start)) (length xs) (drop (i - start) b)) e dropped))
+      let len : length (drop (i - start) part) ≡ length part - (i - start) = length-drop (i - start) part in
+      let some : 0 < length run = r.some in
+      let le : length run ≤ length (drop (i - start) part) = run_le run (drop (i - start) part) r.items in
+      record {
+        some = r.some;
+        within = within;
+        items =
+            ap (λ n. take (length run) (drop n all)) (sym back)
+            ∙ ap (take (length run)) (sym (drop-drop start (i - start) all))
+            ∙ sym (take-take (length run) (length part - (i - start)) (drop (i - start) (drop start all)) (omega arith))
+            ∙ ap (take (length run)) (sym (drop-take (i - start) (length part - (i - start)) (drop start all)))
+            ∙ ap (λ n. take (length run) (drop (i - start) (take n (drop start all)))) (let e : i - start + (length part - (i - start)) ≡ length part = omega arith in e)
+            ∙ ap (λ xs. take (length run) (drop (i - start) xs)) p.items
+            ∙ r.items;
+      }
+    where
+      run_le : (xs ys : List X) → take (length xs) ys ≡ xs → length xs ≤ length ys
+      run_le xs ys e = let len : length (take (length xs) ys) ≡ length xs = ap length e in let min : length (take (length xs) ys) ≤ length ys = simp length-take (omega arith) in omega arith
 
   -- a run of the second of two lists, by its place in both
   pub run_second : (xs ys : List X) (i len : ℕ) (run : List X) → len ≡ length xs → len ≤ i → IsRun ys (i - len) (length ys) run → IsRun (xs ++ ys) i (length (xs ++ ys)) run

@@ -1,4 +1,4 @@
--- Blocks of a list, and where each of them begins.
+-- Parts of a list, one after another, and where each of them begins: blocks of items, and shelves of blocks.
 use Rattle.std.specs.Prelude.{◌≡◌, ℕ, ◌+◌, ◌^◌, ◌<◌, ◌≤◌, List, [], ◌∷◌, ◌++◌, length, take, drop, Option, Some, None, refl}
 use Rattle.std.specs.Arc.{arc_value}
 use Rattle.std.specs.declared.sync.Arc.{Arc}
@@ -8,32 +8,32 @@ use Rattle.std.specs.Coded.{Coded, code_by, coded×, coded_ℕ, coded_list}
 abbrev pub block_len : ℕ
 block_len = 256
 
--- the greatest number of items that stand in blocks
+-- the greatest number of items that stand in parts
 abbrev pub most_items : ℕ
 most_items = 2 ^ 62
 
--- a block: how many items stand before it, and its own
-pub record BlockValue (X : Type 0) : Type 0 where
+-- a part: how many items stand before it, and its own
+pub record PartValue (X : Type 0) : Type 0 where
   pub start : ℕ
   pub items : List X
 
-abbrev pub block_value_code : {X : Type 0} → Coded X → Coded (BlockValue X)
-block_value_code {X} x = code_by (ℕ × List X) (coded× coded_ℕ (coded_list x)) (λ b. (b.start, b.items)) (λ p. record { start = p.0; items = p.1 }) (λ _. refl)
+abbrev pub part_value_code : {X : Type 0} → Coded X → Coded (PartValue X)
+part_value_code {X} x = code_by (ℕ × List X) (coded× coded_ℕ (coded_list x)) (λ p. (p.start, p.items)) (λ p. record { start = p.0; items = p.1 }) (λ _. refl)
 
 module _ {X : Type 0} where
-  -- the items of the blocks, one block after another
-  abbrev pub items_of : List (BlockValue X) → List X
+  -- the items of the parts, one part after another
+  abbrev pub items_of : List (PartValue X) → List X
   items_of [] = []
-  items_of (b ∷ bs) = b.items ++ items_of bs
+  items_of (p ∷ ps) = p.items ++ items_of ps
 
-  -- no block has more items than a block may have, and each says how many stand before it, where n stand before the first
-  abbrev pub AreBlocks : ℕ → List (BlockValue X) → Type 0
-  AreBlocks n [] = Unit {0}
-  AreBlocks n (b ∷ bs) = (b.start ≡ n) × (length b.items ≤ block_len) × AreBlocks (n + length b.items) bs
+  -- each part says how many items stand before it, where n stand before the first
+  abbrev pub AreParts : ℕ → List (PartValue X) → Type 0
+  AreParts n [] = Unit {0}
+  AreParts n (p ∷ ps) = (p.start ≡ n) × AreParts (n + length p.items) ps
 
-  -- blocks, and how many items they have: not more than can be counted
-  abbrev pub AreCounted : ℕ → List (BlockValue X) → Type 0
-  AreCounted n bs = AreBlocks 0 bs × (n ≡ length (items_of bs)) × (n ≤ most_items)
+  -- parts, and how many items they have: not more than can be counted
+  abbrev pub AreCounted : ℕ → List (PartValue X) → Type 0
+  AreCounted n ps = AreParts 0 ps × (n ≡ length (items_of ps)) × (n ≤ most_items)
 
   -- what is shared, where something is
   abbrev pub shared_if : {Z : Type 0} → Option (Arc (List X) Z) → List X

@@ -3,13 +3,15 @@ ghost use Rattle.std.specs.Prelude.{◌≡◌, ◌+◌, ◌-◌, ◌<◌, ◌≤
 ghost use Rattle.std.specs.Arc.{arc_value};
 ghost use Rattle.block_list.specs.Blocks.{IsRun, block_len};
 
-use crate::blocks::{BLOCK_LEN, Closed};
-use crate::lists::{BlockList, with_newest};
+use crate::blocks::{BLOCK_LEN, Block};
+use crate::lists::BlockList;
+use crate::parts::Items;
+use crate::shelves::{Blocks, Closed, SHELF_LEN, Shelf};
 use std::alloc::Global;
 use std::marker::Model;
 use std::mem;
 use std::sync::Arc;
-use ts_schema::{NoMemory, Seq};
+use ts_schema::NoMemory;
 
 /// A list in the making, of runs of other lists, whose blocks it shares, and of new items. Contracts
 /// see it as the list of the items so far. After a call that wants memory nothing is known of it.
@@ -67,22 +69,38 @@ impl<T: Clone + Drop> Builder<T> {
         Ok(())
     }
 
-    /// Appends the items of a block, which is shared unless it is small.
-    fn push_block(&mut self, block: &Arc<Seq<T>>) -> Result<(), NoMemory>
-        requires few { length (arc_value block.now) ≤ block_len }
+    /// Appends the items of a block, which is shared where it isn't put together with its neighbour.
+    /// The block after it has so many items.
+    fn push_block(&mut self, block: &Arc<Block<T>>, after: usize) -> Result<(), NoMemory>
         requires faithful { (x y : T) → T.is_clone x y → x ≡ y }
         ensures pushed { IfOk result (λ _. self.new ≡ self.old ++ arc_value block.now) }
     {
-        if is_merged(self.newest.len(), block.len()) {
+        if is_merged(self.newest.len(), block.len(), after, BLOCK_LEN) {
             return self.push_all(block.items());
         }
         close_block(self.alloc, &mut self.closed, &mut self.newest)?;
         self.closed.push(Arc::try_clone(block)?)
     }
 
-    /// Appends the items of a list from a place on, below another place, as many as stand together.
-    /// Gives the place up to which they are appended.
-    fn append_run(&mut self, list: &BlockList<T>, at: usize, to: usize) -> Result<usize, NoMemory>
+    /// Appends the items of a shelf, which is shared.
+    fn push_shelf(&mut self, shelf: &Arc<Shelf<T>>) -> Result<(), NoMemory>
+        ensures pushed { IfOk result (λ _. self.new ≡ self.old ++ arc_value shelf.now) }
+    {
+        close_block(self.alloc, &mut self.closed, &mut self.newest)?;
+        self.closed.push_shelf(Arc::try_clone(shelf)?)
+    }
+
+    /// Whether a shelf's blocks are appended one by one, and it isn't shared. The shelf after it has so
+    /// many blocks.
+    fn opens(&self, shelf: &Shelf<T>, after: usize) -> bool {
+        let newest = usize::from(!self.newest.is_empty());
+        let before = self.closed.open_blocks().saturating_add(newest);
+        is_merged(before, shelf.count(), after, SHELF_LEN)
+    }
+
+    /// Appends the items of a list from a place on, below another place, as many as stand together
+    /// in a block. Gives the place up to which they are appended.
+    fn append_block(&mut self, list: &BlockList<T>, at: usize, to: usize) -> Result<usize, NoMemory>
         requires order { at < to }
         requires within { to ≤ length list.now.items }
         requires faithful { (x y : T) → T.is_clone x y → x ≡ y }
@@ -90,10 +108,12 @@ impl<T: Clone + Drop> Builder<T> {
         ensures within { IfOk result (λ end. end ≤ to) }
         ensures pushed { IfOk result (λ end. self.new ≡ self.old ++ take (end - at) (drop at list.now.items)) }
     {
-        match list.whole_at(at, to) {
+        match list.block_at(at, to) {
             Some(block) => {
-                self.push_block(block)?;
-                Ok(at + block.len())
+                let end = at + block.len();
+                let after = list.block_at(end, to).map_or(0, |block| block.len());
+                self.push_block(block, after)?;
+                Ok(end)
             }
             None => {
                 let run = list.run_below(at, to);
@@ -103,8 +123,32 @@ impl<T: Clone + Drop> Builder<T> {
         }
     }
 
-    /// Appends the items of a list from place `from` on and below place `to`. Whole blocks are
-    /// shared.
+    /// Appends the items of a list from a place on, below another place: those of a shelf, or as many
+    /// as stand together in a block. Gives the place up to which they are appended.
+    fn append_run(&mut self, list: &BlockList<T>, at: usize, to: usize) -> Result<usize, NoMemory>
+        requires order { at < to }
+        requires within { to ≤ length list.now.items }
+        requires faithful { (x y : T) → T.is_clone x y → x ≡ y }
+        ensures more { IfOk result (λ end. at < end) }
+        ensures within { IfOk result (λ end. end ≤ to) }
+        ensures pushed { IfOk result (λ end. self.new ≡ self.old ++ take (end - at) (drop at list.now.items)) }
+    {
+        let Some(shelf) = list.shelf_at(at, to) else {
+            return self.append_block(list, at, to);
+        };
+        let end = at + shelf.len();
+        let after = list.shelf_at(end, to).map_or(0, |shelf| shelf.count());
+        if self.opens(shelf, after) {
+            return self.append_block(list, at, to);
+        }
+        self.push_shelf(shelf)?;
+        Ok(end)
+    }
+
+    /// Appends the items of a list from place `from` on and below place `to`. Shelves and blocks that
+    /// are whole there are shared, but small ones are put together with their neighbours. It costs the
+    /// items of the blocks at both places, the blocks of the shelves at both places and beside them, and
+    /// the number of shelves.
     pub fn append(&mut self, list: &BlockList<T>, from: usize, to: usize) -> Result<(), NoMemory>
         requires order { from ≤ to }
         requires within { to ≤ length list.now.items }
@@ -122,8 +166,23 @@ impl<T: Clone + Drop> Builder<T> {
     pub fn finish(self) -> Result<BlockList<T>, NoMemory>
         ensures items { IfOk result (λ list. list.items ≡ self) }
     {
-        let blocks = self.closed.shared()?;
-        with_newest(self.alloc, blocks, self.newest)
+        let alloc = self.alloc;
+        let (blocks, newest) = self.into_blocks()?;
+        Ok(BlockList::of_blocks(alloc, blocks, newest))
+    }
+
+    /// Blocks of the items, and one more after them.
+    pub(crate) fn into_blocks(self) -> Result<(Blocks<T>, Arc<Block<T>>), NoMemory>
+        ensures items { IfOk result (λ (blocks, newest). blocks ++ arc_value newest ≡ self) }
+        ensures few { IfOk result (λ (blocks, newest). length (arc_value newest) ≤ block_len) }
+    {
+        let Builder {
+            alloc,
+            closed,
+            newest,
+        } = self;
+        let blocks = closed.shared()?;
+        Ok((blocks, Arc::new(alloc, Block::of(newest))?))
     }
 }
 
@@ -142,11 +201,21 @@ fn close_block<T: Drop>(
         return Ok(());
     }
     let items = mem::replace(newest, Vec::new(alloc));
-    closed.push(Arc::new(alloc, Seq::of(items))?)
+    closed.push(Arc::new(alloc, Block::of(items))?)
 }
 
-/// Whether a block of so many items goes to so many newest ones, rather than to stand for itself: where
-/// both fit into a block, and either is small.
-fn is_merged(newest: usize, len: usize) -> bool {
-    newest.saturating_add(len) <= BLOCK_LEN && (0 < newest || len < BLOCK_LEN / 2)
+/// Whether a block of so many items, or a shelf of so many blocks, is put together with those that
+/// stand open before it, where one holds at most so many; else it is shared. Where none stand open, a
+/// small one is opened, unless the one after it wouldn't fit: so to append a list again opens nothing.
+///
+/// Blocks, and likewise shelves, are half full on average, the last one apart: one that isn't stands
+/// beside another with which it doesn't fit into one. Blocks on different shelves aren't put together,
+/// so two blocks of each shelf are left out of that. However often items are replaced, there are at
+/// least 32 blocks a shelf and 120 items a block on average.
+fn is_merged(before: usize, len: usize, after: usize, most: usize) -> bool {
+    if 0 < before {
+        before.saturating_add(len) <= most
+    } else {
+        len < most / 2 && len.saturating_add(after) <= most
+    }
 }

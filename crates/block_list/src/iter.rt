@@ -21,7 +21,8 @@ impl<'a, T> Model for Iter<'a, T> {
 
     ghost view = { λ i. i.run.now ++ take (i.end - i.at) (drop i.at i.list.now.items) };
 
-    ghost invariant = { λ i. (i.at ≤ i.end) × (i.end ≤ length i.list.now.items) };
+    ghost invariant = { λ i.
+        (length i.run.now ≤ i.at) × (i.at ≤ i.end) × (i.end ≤ length i.list.now.items) };
 }
 
 impl<'a, T> Iter<'a, T> {
@@ -37,6 +38,13 @@ impl<'a, T> Iter<'a, T> {
             end: to,
             run: &[],
         }
+    }
+
+    /// How many items are left.
+    pub fn len(&self) -> usize
+        ensures len { result ≡ length self.now }
+    {
+        self.run.len() + (self.end - self.at)
     }
 }
 

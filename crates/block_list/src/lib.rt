@@ -1,8 +1,12 @@
-//! Lists in blocks that are shared: a copy is a count, and a change copies the blocks that it
-//! changes, and the list of blocks.
+//! Lists in blocks that are shared: a copy is a count. Blocks stand on shelves that are shared too, so
+//! a change copies the blocks that it changes, the lists of blocks of the shelves where it is, and the
+//! list of shelves.
 //!
-//! - `blocks`: blocks, and where each of them begins.
+//! - `blocks`: blocks of items.
+//! - `parts`: parts of a list, as blocks of a shelf or shelves, and where each of them begins.
+//! - `shelves`: blocks on shelves, growing and shared.
 //! - `lists`: lists, and one more item without memory.
+//! - `runs`: items of a list from a place on.
 //! - `builders`: lists made of runs of others and of new items.
 //! - `iter`: the items of a list, one after another.
 #![tactic(auto)]
@@ -12,7 +16,9 @@ mod builders;
 mod clones;
 mod iter;
 mod lists;
+mod parts;
 mod runs;
+mod shelves;
 
 pub use blocks::BLOCK_LEN;
 pub use builders::Builder;

@@ -4,26 +4,27 @@ ghost use Rattle.std.specs.Arc.{arc_value};
 ghost use Rattle.block_list.specs.Blocks.{IsRun, IsRunFrom, block_len, shared_if};
 ghost use Rattle.block_list.specs.Lists.{room_of, spliced};
 
-use crate::blocks::{BLOCK_LEN, Blocks};
+use crate::blocks::{BLOCK_LEN, Block};
 use crate::builders::Builder;
 use crate::clones::joined;
 use crate::iter::Iter;
-use crate::runs::{copy_if, items_if, run_in, whole_in, with_block_if};
+use crate::runs::{block_in, copy_if, items_if, run_in};
+use crate::shelves::{Blocks, Shelf};
 use std::alloc::Global;
 use std::marker::Model;
 use std::sync::Arc;
-use ts_schema::{NoMemory, Seq};
+use ts_schema::NoMemory;
 
-/// A list of items in blocks of at most 256. Contracts see it as the list of its items, and for how
-/// many more there is room.
+/// A list of items in blocks of at most 256, which stand on shelves of at most 64. Contracts see it as
+/// the list of its items, and for how many more there is room.
 ///
-/// Its blocks are shared with its copies. What was pushed since it was last `shared` is its own
+/// Its shelves are shared with its copies. What was pushed since it was last `shared` is its own
 /// alone, and a copy copies that.
 #[derive(Drop, Debug)]
 pub struct BlockList<T> {
     alloc: Global,
     blocks: Blocks<T>,
-    newest: Option<Arc<Seq<T>>>,
+    newest: Option<Arc<Block<T>>>,
     own: Vec<T>,
 }
 
@@ -133,7 +134,8 @@ impl<T: Clone + Drop> BlockList<T> {
     }
 
     /// The same list, all of whose items are shared from here on, so that a copy of it is a count.
-    /// It costs a block, and the number of blocks once in a block of new items.
+    /// It costs a block, and once in a block of new items the blocks of the last shelf and the number
+    /// of shelves too.
     pub fn shared(&self) -> Result<BlockList<T>, NoMemory>
         requires faithful { (x y : T) → T.is_clone x y → x ≡ y }
         ensures items { IfOk result (λ shared. shared.items ≡ self.now.items) }
@@ -145,15 +147,23 @@ impl<T: Clone + Drop> BlockList<T> {
         let newest = items_if(&self.newest);
         if newest.len() + self.own.len() <= BLOCK_LEN {
             let items = joined(alloc, newest, &self.own)?;
-            with_newest(alloc, self.blocks.copy()?, items)
-        } else {
-            let items = joined(alloc, &self.own, &[])?;
-            with_newest(
-                alloc,
-                with_block_if(&self.blocks, alloc, &self.newest)?,
-                items,
-            )
+            let block = Arc::new(alloc, Block::of(items))?;
+            return Ok(BlockList::of_blocks(alloc, self.blocks.copy()?, block));
         }
+        let (blocks, newest) = self.in_blocks()?;
+        Ok(BlockList::of_blocks(alloc, blocks, newest))
+    }
+
+    /// Blocks of the items, and one more after them. It costs the list's own items, the blocks of the
+    /// last shelf, and the number of shelves.
+    fn in_blocks(&self) -> Result<(Blocks<T>, Arc<Block<T>>), NoMemory>
+        requires faithful { (x y : T) → T.is_clone x y → x ≡ y }
+        ensures items { IfOk result (λ (blocks, newest). blocks ++ arc_value newest ≡ self.now.items) }
+        ensures few { IfOk result (λ (blocks, newest). length (arc_value newest) ≤ block_len) }
+    {
+        let mut made = Builder::new(self.alloc);
+        made.append(self, 0, self.len())?;
+        made.into_blocks()
     }
 
     /// Makes room for one more item.
@@ -166,9 +176,7 @@ impl<T: Clone + Drop> BlockList<T> {
             self.own.reserve(1)?;
             return Ok(());
         }
-        let items = joined(self.alloc, &self.own, &[])?;
-        let blocks = with_block_if(&self.blocks, self.alloc, &self.newest)?;
-        let newest = Arc::new(self.alloc, Seq::of(items))?;
+        let (blocks, newest) = self.in_blocks()?;
         let mut own = Vec::new(self.alloc);
         own.reserve(1)?;
         self.blocks = blocks;
@@ -198,7 +206,8 @@ impl<T: Clone + Drop> BlockList<T> {
     }
 
     /// The list with these items in place of those from place `from` on and below place `to`. It
-    /// costs the blocks in which both places are, the new items, and the number of blocks.
+    /// costs the items of the blocks at both places, the new items, the blocks of the shelves at both
+    /// places and beside them, and the number of shelves.
     pub fn replaced(&self, from: usize, to: usize, items: &[T]) -> Result<BlockList<T>, NoMemory>
         requires order { from ≤ to }
         requires within { to ≤ length self.now.items }
@@ -214,43 +223,37 @@ impl<T: Clone + Drop> BlockList<T> {
 }
 
 impl<T> BlockList<T> {
-    /// The block that is shared, begins at place `at` and ends at or before `end`, if one does.
-    pub(crate) fn whole_at(&self, at: usize, end: usize) -> Option<&Arc<Seq<T>>>
-        requires within { at < length self.now.items }
-        requires order { at ≤ end }
-        ensures run { IfSome result (λ block. IsRun self.now.items at end (arc_value block.now)) }
-        ensures few { IfSome result (λ block. length (arc_value block.now) ≤ block_len) }
+    /// The shelf that begins at place `at` and ends at or before `end`, if one does.
+    pub(crate) fn shelf_at(&self, at: usize, end: usize) -> Option<&Arc<Shelf<T>>>
+        requires { at ≤ end }
+        ensures { IfSome result (λ shelf. IsRun self.now.items at end (arc_value shelf.now)) }
     {
-        whole_in(&self.blocks, &self.newest, &self.own, at, end)
+        let len = self.blocks.len();
+        if at < len {
+            self.blocks.shelf_at(at, end.min(len))
+        } else {
+            None
+        }
     }
 
-    /// The list of these blocks and one more. It takes one allocation.
-    pub(crate) fn of_blocks(
-        alloc: Global,
-        blocks: Blocks<T>,
-        newest: Option<Arc<Seq<T>>>,
-    ) -> BlockList<T>
-        requires { length (shared_if newest) ≤ block_len }
-        ensures { result.items ≡ blocks ++ shared_if newest }
+    /// The block that is shared, begins at place `at` and ends at or before `end`, if one does.
+    pub(crate) fn block_at(&self, at: usize, end: usize) -> Option<&Arc<Block<T>>>
+        requires { at ≤ end }
+        ensures { IfSome result (λ block. IsRun self.now.items at end (arc_value block.now)) }
+    {
+        block_in(&self.blocks, &self.newest, &self.own, at, end)
+    }
+
+    /// The list of these blocks and one more. It takes no memory.
+    pub(crate) fn of_blocks(alloc: Global, blocks: Blocks<T>, newest: Arc<Block<T>>) -> BlockList<T>
+        requires { length (arc_value newest) ≤ block_len }
+        ensures { result.items ≡ blocks ++ arc_value newest }
     {
         BlockList {
             alloc,
             blocks,
-            newest,
+            newest: Some(newest),
             own: Vec::new(alloc),
         }
     }
-}
-
-/// The list of blocks and of the items of one more.
-pub(crate) fn with_newest<T: Drop>(
-    alloc: Global,
-    blocks: Blocks<T>,
-    items: Vec<T>,
-) -> Result<BlockList<T>, NoMemory>
-    requires { vec_len items ≤ block_len }
-    ensures { IfOk result (λ list. list.items ≡ blocks ++ items.items) }
-{
-    let newest = Some(Arc::new(alloc, Seq::of(items))?);
-    Ok(BlockList::of_blocks(alloc, blocks, newest))
 }

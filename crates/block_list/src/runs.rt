@@ -1,15 +1,16 @@
 //! Runs: items of a list from a place on.
 ghost use Rattle.std.specs.Prelude.{◌≡◌, ◌<◌, ◌≤◌, ◌++◌, length, IfOk, IfSome};
 ghost use Rattle.std.specs.Arc.{arc_value};
-ghost use Rattle.block_list.specs.Blocks.{IsRun, IsRunFrom, block_len, shared_if};
+ghost use Rattle.block_list.specs.Blocks.{IsRun, IsRunFrom, shared_if};
 
-use crate::blocks::Blocks;
-use std::alloc::Global;
+use crate::blocks::Block;
+use crate::parts::Items;
+use crate::shelves::Blocks;
 use std::sync::Arc;
-use ts_schema::{NoMemory, Seq};
+use ts_schema::NoMemory;
 
 /// The items of a block, where there is one.
-pub(crate) fn items_if<T>(block: &Option<Arc<Seq<T>>>) -> &[T]
+pub(crate) fn items_if<T>(block: &Option<Arc<Block<T>>>) -> &[T]
     ensures { result.now ≡ shared_if block.now }
 {
     match block {
@@ -50,7 +51,7 @@ pub(crate) fn run_in<'a, T>(
 }
 
 /// A block again, where there is one.
-pub(crate) fn copy_if<T>(block: &Option<Arc<Seq<T>>>) -> Result<Option<Arc<Seq<T>>>, NoMemory>
+pub(crate) fn copy_if<T>(block: &Option<Arc<Block<T>>>) -> Result<Option<Arc<Block<T>>>, NoMemory>
     ensures { IfOk result (λ copy. shared_if copy ≡ shared_if block.now) }
 {
     match block {
@@ -59,26 +60,9 @@ pub(crate) fn copy_if<T>(block: &Option<Arc<Seq<T>>>) -> Result<Option<Arc<Seq<T
     }
 }
 
-/// The same blocks with one more, where there is one.
-pub(crate) fn with_block_if<T: Drop>(
-    blocks: &Blocks<T>,
-    alloc: Global,
-    block: &Option<Arc<Seq<T>>>,
-) -> Result<Blocks<T>, NoMemory>
-    requires { length (shared_if block.now) ≤ block_len }
-    ensures { IfOk result (λ more. more ≡ blocks.now ++ shared_if block.now) }
-{
-    match block {
-        Some(block) => blocks.with_block(alloc, Arc::try_clone(block)?),
-        None => blocks.copy(),
-    }
-}
-
 /// The block that begins the items after a place, where there is one and it ends at or before `end`.
-fn whole_first<T>(block: &Option<Arc<Seq<T>>>, end: usize) -> Option<&Arc<Seq<T>>>
-    requires { length (shared_if block.now) ≤ block_len }
-    ensures run { IfSome result (λ whole. IsRun (shared_if block.now) 0 end (arc_value whole.now)) }
-    ensures few { IfSome result (λ whole. length (arc_value whole.now) ≤ block_len) }
+fn block_first<T>(block: &Option<Arc<Block<T>>>, end: usize) -> Option<&Arc<Block<T>>>
+    ensures { IfSome result (λ whole. IsRun (shared_if block.now) 0 end (arc_value whole.now)) }
 {
     match block {
         Some(block) if 0 < block.len() && block.len() <= end => Some(block),
@@ -88,24 +72,22 @@ fn whole_first<T>(block: &Option<Arc<Seq<T>>>, end: usize) -> Option<&Arc<Seq<T>
 
 /// The block that begins at place `at` of blocks, one more and a list after them, and ends at or
 /// before `end`, if one does.
-pub(crate) fn whole_in<'a, T>(
+pub(crate) fn block_in<'a, T>(
     blocks: &'a Blocks<T>,
-    block: &'a Option<Arc<Seq<T>>>,
+    block: &'a Option<Arc<Block<T>>>,
     own: &[T],
     at: usize,
     end: usize,
-) -> Option<&'a Arc<Seq<T>>>
-    requires order { at ≤ end }
-    requires few { length (shared_if block.now) ≤ block_len }
-    ensures run { IfSome result (λ whole.
+) -> Option<&'a Arc<Block<T>>>
+    requires { at ≤ end }
+    ensures { IfSome result (λ whole.
         IsRun (blocks.now ++ (shared_if block.now ++ own.now)) at end (arc_value whole.now)) }
-    ensures few { IfSome result (λ whole. length (arc_value whole.now) ≤ block_len) }
 {
     let len = blocks.len();
     if at < len {
-        blocks.whole_at(at, end.min(len))
+        blocks.block_at(at, end.min(len))
     } else if at == len {
-        whole_first(block, end - len)
+        block_first(block, end - len)
     } else {
         None
     }

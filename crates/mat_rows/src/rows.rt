@@ -91,8 +91,8 @@ impl MatRows {
     }
 
     /// The groups with new ones in place of those whose buckets start in the spans, which rise; of
-    /// the new ones those that start in no span play no part. It costs the blocks in which the spans
-    /// end, of both, and the number of blocks.
+    /// the new ones those that start in no span play no part. It costs, of both, the groups of the
+    /// blocks in which the spans end, the blocks of the shelves there, and the number of shelves.
     pub fn replace(&self, spans: &Seq<Span>, groups: &MatRows) -> Result<MatRows, NoMemory>
         requires sizes { AreSpans spans.now }
         requires rising { SpansRise spans.now }

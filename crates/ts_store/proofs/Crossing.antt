@@ -27,6 +27,8 @@ use Rattle.row_versions.specs.contracts.tables.Table as Table
 use Rattle.inval_log.specs.contracts.logs.InvalLog as InvalLog
 use Rattle.mat_log.specs.contracts.logs.MatLog as MatLog
 use Rattle.mat_rows.specs.contracts.rows.MatRows as MatRows
+use Rattle.partial_agg.specs.contracts.groups.Group as Group
+use Rattle.block_list.proofs.lists.BlockList.TheSendSync as OfBlockList
 use Rattle.engine_state.specs.contracts.tables.TableState as TableState
 use Rattle.engine_state.specs.contracts.views.ViewState as ViewState
 use Rattle.engine_state.specs.contracts.states.State as State
@@ -40,10 +42,10 @@ table_sync : IsSync Table.the_row
 table_sync = search (OfOption.the_send, OfOption.the_sync, OfSegment.the_send, OfSegment.the_sync, OfArc.the_send, OfArc.the_sync, OfGlobal.the_field_sync, OfGlobal.the_send, OfHull.the_send, OfHull.the_sync, Crossing.crosses, PileKnot.crosses, TreeKnot.crosses, sendable) depth 60 fits 20000
 
 inval_log_send : IsSend InvalLog.the_row
-inval_log_send = search (Crossing.crosses, sendable) depth 60 fits 20000
+inval_log_send = search (OfBlockList.the_send, Crossing.crosses, sendable) depth 60 fits 20000
 
 inval_log_sync : IsSync InvalLog.the_row
-inval_log_sync = search (Crossing.crosses, sendable) depth 60 fits 20000
+inval_log_sync = search (OfBlockList.the_sync, Crossing.crosses, sendable) depth 60 fits 20000
 
 mat_log_send : IsSend MatLog.the_row
 mat_log_send = search (Crossing.crosses, sendable) depth 60 fits 20000
@@ -51,11 +53,17 @@ mat_log_send = search (Crossing.crosses, sendable) depth 60 fits 20000
 mat_log_sync : IsSync MatLog.the_row
 mat_log_sync = search (Crossing.crosses, sendable) depth 60 fits 20000
 
+group_send : IsSend Group.the_row
+group_send = search (Crossing.crosses, sendable) depth 60 fits 20000
+
+group_sync : IsSync Group.the_row
+group_sync = search (Crossing.crosses, sendable) depth 60 fits 20000
+
 mat_rows_send : IsSend MatRows.the_row
-mat_rows_send = search (Crossing.crosses, sendable) depth 60 fits 20000
+mat_rows_send = search (OfBlockList.the_send, group_send, group_sync, Crossing.crosses, sendable) depth 60 fits 20000
 
 mat_rows_sync : IsSync MatRows.the_row
-mat_rows_sync = search (Crossing.crosses, sendable) depth 60 fits 20000
+mat_rows_sync = search (OfBlockList.the_sync, group_send, group_sync, Crossing.crosses, sendable) depth 60 fits 20000
 
 table_state_send : IsSend TableState.the_row
 table_state_send = search (table_send, table_sync, inval_log_send, inval_log_sync, Crossing.crosses, sendable) depth 60 fits 20000
@@ -76,10 +84,10 @@ roster_sync : IsSync Roster.the_row
 roster_sync = search (Crossing.crosses, sendable) depth 60 fits 20000
 
 refreshes_send : IsSend Refreshes.the_row
-refreshes_send = search (Crossing.crosses, sendable) depth 60 fits 20000
+refreshes_send = search (OfBlockList.the_send, Crossing.crosses, sendable) depth 60 fits 20000
 
 refreshes_sync : IsSync Refreshes.the_row
-refreshes_sync = search (Crossing.crosses, sendable) depth 60 fits 20000
+refreshes_sync = search (OfBlockList.the_sync, Crossing.crosses, sendable) depth 60 fits 20000
 
 state_send : IsSend State.the_row
 state_send = search (roster_send, roster_sync, refreshes_send, table_state_send, view_state_send, OfOption.the_field_send, OfOption.the_send, OfArc.the_send, OfGlobal.the_field_send, OfSeq.the_send, Crossing.crosses, sendable) depth 60 fits 20000

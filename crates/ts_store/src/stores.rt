@@ -45,7 +45,8 @@ impl<D: Disk> Model for Store<D> {
 
     ghost view = { λ s. store_of s.recorder s.begun s.opened s.armed };
 
-    ghost invariant = { λ s. IsKeptIn D.bytes D.may_leave D.moment D.left_since D.faults s.recorder s.begun s.opened s.armed };
+    ghost invariant = { λ s.
+        IsKeptIn D.bytes D.may_leave D.moment D.left_since D.faults s.recorder s.begun s.opened s.armed };
 }
 
 impl<D: Disk> Store<D> {
