@@ -46,15 +46,24 @@ pub fn put_items<T: Field>(items: &[T], out: &mut Vec<u8>) -> Result<(), NoMemor
     Ok(())
 }
 
-/// Appends a count of one byte and the items.
-#[tactic(auto, using(crate::proofs::GrowthLaws::grows_by, crate::proofs::GrowthLaws::grows_not, crate::proofs::GrowthLaws::grows_on))]
+/// Appends a count of one byte and the items of a list.
 pub fn put_few<T: Field>(items: &Seq<T>, out: &mut Vec<u8>) -> Result<(), NoMemory>
     requires fit { Few T.fits items.now }
     ensures put { OnOk result (out.new.items ≡ out.old.items ++ few T.spelling items.now) }
     ensures grows { Grows out.old.items out.new.items }
 {
+    put_few_items(items.items(), out)
+}
+
+/// Appends a count of one byte and the items.
+#[tactic(auto, using(crate::proofs::GrowthLaws::grows_by, crate::proofs::GrowthLaws::grows_not, crate::proofs::GrowthLaws::grows_on))]
+pub fn put_few_items<T: Field>(items: &[T], out: &mut Vec<u8>) -> Result<(), NoMemory>
+    requires fit { Few T.fits items.now }
+    ensures put { OnOk result (out.new.items ≡ out.old.items ++ few T.spelling items.now) }
+    ensures grows { Grows out.old.items out.new.items }
+{
     out.push(items.len() as u8)?;
-    put_items(items.items(), out)
+    put_items(items, out)
 }
 
 /// Appends a count of four bytes and the items.

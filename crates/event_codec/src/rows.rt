@@ -5,11 +5,11 @@ ghost use Rattle.event_codec.specs.Spelling.{row, value};
 ghost use Rattle.event_codec.specs.Reading.{row_at, value_at};
 
 use crate::errors::ReadError;
-use crate::fields::{Field, put_few};
+use crate::fields::{Field, put_few_items};
 use crate::numbers::put_signed;
 use crate::reader::Reader;
 use ts_bucket::{MAX_TIME, MIN_TIME};
-use ts_schema::{NoMemory, Row};
+use ts_schema::{NoMemory, Row, SharedSlice};
 
 impl Field for Option<i64> {
     ghost spelling = { value };
@@ -52,13 +52,13 @@ impl Field for Row {
     #[tactic(auto, using(std::proofs::lemmas::List::append_assoc, crate::proofs::GrowthLaws::grows_by, crate::proofs::GrowthLaws::grows_not, crate::proofs::GrowthLaws::grows_on))]
     fn put(&self, out: &mut Vec<u8>) -> Result<(), NoMemory> {
         put_signed(out, self.at)?;
-        put_few(&self.vals, out)
+        put_few_items(self.vals.items(), out)
     }
 
     #[tactic(auto, unfolding(crate::specs::Reading::row_at))]
     fn read(reader: &mut Reader<'_>) -> Result<Row, ReadError> {
         let at = reader.between(MIN_TIME, MAX_TIME)?;
-        let vals = reader.few()?;
+        let vals = SharedSlice::of(reader.alloc(), reader.few()?)?;
         Ok(Row { at, vals })
     }
 }

@@ -5,7 +5,7 @@ use std::test::Fail;
 use ts_bucket::{MIN_TIME, Span, width};
 use ts_model::{Agg, Event, Fold, Hyper, Op, TableDef, ViewDef};
 use ts_num::Fun;
-use ts_schema::{Cmp, Column, Name, Row, Seq, Test};
+use ts_schema::{Cmp, Column, Name, Row, Seq, SharedSlice, Test};
 
 /// Decodes the bytes to this event, and encodes it again to these bytes.
 fn both_ways(rt: &impl Abort, alloc: Global, bytes: &[u8], expected: &Event) -> Result<(), Fail> {
@@ -108,7 +108,10 @@ fn an_insert(rt: HostRuntime) -> Result<(), Fail> {
     vals.push(None)?;
     vals.push(Some(-2))?;
     let mut rows = Seq::new(rt.alloc());
-    rows.push(Row { at: MIN_TIME, vals })?;
+    rows.push(Row {
+        at: MIN_TIME,
+        vals: SharedSlice::of(rt.alloc(), vals)?,
+    })?;
     let mut ops = Seq::new(rt.alloc());
     ops.push(Op::Insert { table: 7, rows })?;
     let bytes = [

@@ -1,10 +1,11 @@
 -- Going over a list by a place and what is left.
-use Rattle.std.proofs.Common.{◌≡◌, ◌∙◌, ap, sym, ℕ, ◌+◌, ◌<◌, List, ◌∷◌, length, take, drop, get_or, nat_le, Bool, ◌&&◌}
+use Rattle.std.proofs.Common.{◌≡◌, ◌∙◌, refl, ap, sym, arith, ℕ, ℤ, ◌+◌, ◌<◌, List, [], ◌∷◌, length, take, drop, get_or, nat_le, Bool, ◌&&◌, Option, None, ◌⊎◌, inl, inr}
 use Rattle.std.proofs.lemmas.List.{drop_more, take_more}
 use Rattle.ts_schema.specs.declared.columns.Column.{Column}
 use Rattle.stmt_check.specs.Refusals.{◌⊳◌, marked, missing, refused}
 use Rattle.stmt_check.specs.Tables.{columns_refusal, is_among, is_column}
-use Rattle.stmt_check.specs.Rows.{list_refusal}
+use Rattle.stmt_check.specs.Rows.{list_refusal, values_refusal}
+use Rattle.stmt_check.specs.declared.inserts.Rule.{Rule}
 use Rattle.ts_catalog.specs.Columns.{column_from}
 use Rattle.ts_model.specs.declared.tables.TableInfo.{TableInfo}
 use Rattle.stmt_reader.specs.declared.statements.NamedAgg.{NamedAgg}
@@ -37,3 +38,13 @@ aggregates_step pos distinct n info b ks xs i d h =
     let a : NamedAgg = get_or xs i d in
     before_and_after (aggregates_refusal pos distinct n info b ks) xs i d h
     ∙ ap (λ before. aggregate_refusal pos n info (columns_before (length ks) (length (take i xs))) (distinct && is_taken b ks (take i xs) (aggregate_name a)) a ⊳ aggregates_refusal pos distinct n info b ks before (drop (i + 1) xs)) (sym (take_more xs i d h))
+
+-- nothing is refused where no rule is left, or no value
+pub no_value_left : (pos : ℕ) (rules : List Rule) (values : List (Option ℤ)) → (length rules ≡ 0) ⊎ (length values ≡ 0) → values_refusal pos rules values ≡ None
+no_value_left pos [] values none = refl
+no_value_left pos (rule ∷ rules) [] none = refl
+no_value_left pos (rule ∷ rules) (value ∷ values) none =
+    elim none [
+      | inl first ↦ absurd (omega (arith, first))
+      | inr second ↦ absurd (omega (arith, second))
+    ]

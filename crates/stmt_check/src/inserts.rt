@@ -1,5 +1,5 @@
 //! Rows to be inserted.
-ghost use Rattle.std.specs.Prelude.{◌≡◌, ◌<◌, ◌^◌, ◌==◌, ◌||◌, [], length, map, slice_index_or, None, IfOk};
+ghost use Rattle.std.specs.Prelude.{◌≡◌, ◌<◌, ◌^◌, ◌==◌, ◌||◌, [], ◌∷◌, ◌++◌, length, map, slice_index_or, None, IfOk};
 ghost use Rattle.ts_catalog.specs.Columns.{place_from};
 ghost use Rattle.stmt_check.specs.Results.{Checks, Passes};
 ghost use Rattle.stmt_check.specs.Rows.{blank_column, leaves_out, list_refusal, list_refusal_of, other_places, picked, place_in, row_of, row_refusal, rows_of, rows_refusal, rule_of, rules_from, shape_of, time_place, value_refusal, value_rules, values_refusal, ChecksRows};
@@ -8,10 +8,11 @@ ghost use Rattle.stmt_check.specs.Tables.{is_among};
 use crate::actions::Stop;
 use crate::codes::{MAX_ROWS, NAME_TAKEN, NO_COLUMN, NULL_VALUE, TOO_MANY, VALUE_COUNT};
 use crate::refusals::{present, refuse_if, refuse_marked};
+use cell_rows::CellRows;
 use std::alloc::Global;
 use ts_bucket::{MAX_TIME, MIN_TIME};
 use ts_catalog::column_place;
-use ts_schema::{Column, Name, NoMemory, Row, Seq};
+use ts_schema::{Column, Name, NoMemory, Row, Seq, SharedSlice};
 
 /// What a value has to meet.
 #[derive(Clone, Copy, Debug, PartialEq, Eq)]
@@ -44,14 +45,14 @@ pub(crate) fn check_rows(
     at: u32,
     columns: &[Column],
     names: &Option<Seq<Name>>,
-    rows: &Seq<Seq<Option<i64>>>,
+    rows: &CellRows<Option<i64>>,
 ) -> Result<Seq<Row>, Stop>
     requires { length columns.now < 2 ^ 32 }
     ensures { ChecksRows pos at columns.now names.now rows.now result }
 {
     check_list(pos, columns, names)?;
     let shape = shape_for(alloc, at, columns, names, rows.len() as u64)?;
-    check_each(alloc, pos, &shape, rows.items())
+    check_each(alloc, pos, &shape, rows)
 }
 
 /// That the column list names no column twice, and each is there.
@@ -243,21 +244,19 @@ fn places_of_others(
     Ok(places)
 }
 
-/// The rows, each checked in its turn.
+/// The rows, each checked in its turn, and then made.
 fn check_each(
     alloc: Global,
     pos: u64,
     shape: &Shape,
-    rows: &[Seq<Option<i64>>],
+    rows: &CellRows<Option<i64>>,
 ) -> Result<Seq<Row>, Stop>
     ensures { Checks (rows_refusal pos shape.now 0 rows.now) (rows_of shape.now rows.now) result }
 {
-    let mut made = Seq::new(alloc);
     for (place, values) in rows.iter().enumerate() {
-        check_row(pos, shape, place, values.items())?;
-        made.push(make_row(alloc, shape, values.items())?)?;
+        check_row(pos, shape, place, values)?;
     }
-    Ok(made)
+    Ok(make_rows(alloc, shape, rows)?)
 }
 
 /// That a row has as many values as it must, and each meets its rule.
@@ -274,16 +273,10 @@ fn check_row(pos: u64, shape: &Shape, place: usize, values: &[Option<i64>]) -> R
 fn check_values(pos: u64, rules: &[Rule], values: &[Option<i64>]) -> Result<(), Stop>
     ensures { Passes (values_refusal pos rules.now values.now) result }
 {
-    match rules {
-        [] => Ok(()),
-        [rule, rules @ ..] => match values {
-            [] => Ok(()),
-            [value, values @ ..] => {
-                check_value(pos, *rule, *value)?;
-                check_values(pos, rules, values)
-            }
-        },
+    for (rule, value) in rules.iter().zip(values) {
+        check_value(pos, *rule, *value)?;
     }
+    Ok(())
 }
 
 /// That a time lies in the range of times, and NULL stands only where it may.
@@ -300,18 +293,58 @@ fn check_value(pos: u64, rule: Rule, value: Option<i64>) -> Result<(), Stop>
     }
 }
 
-/// The row that these values give.
-fn make_row(alloc: Global, shape: &Shape, values: &[Option<i64>]) -> Result<Row, NoMemory>
-    ensures { IfOk result (λ row. row ≡ row_of shape.now.time shape.now.others values.now) }
+/// The rows that these values give. The values of all of them share one block.
+fn make_rows(
+    alloc: Global,
+    shape: &Shape,
+    rows: &CellRows<Option<i64>>,
+) -> Result<Seq<Row>, NoMemory>
+    ensures { IfOk result (λ made. made ≡ rows_of shape.now rows.now) }
 {
-    let mut vals = Seq::new(alloc);
-    for place in shape.others.items() {
-        vals.push(value_at(values, *place))?;
+    let others = other_values(alloc, shape, rows)?;
+    let mut made = Vec::with_capacity(alloc, rows.len())?;
+    for (values, vals) in rows.iter().zip(others.into_items()) {
+        made.push(Row {
+            at: value_at(values, shape.time).unwrap_or(0),
+            vals,
+        })?;
     }
-    Ok(Row {
-        at: value_at(values, shape.time).unwrap_or(0),
-        vals,
-    })
+    Ok(Seq::of(made))
+}
+
+/// For each row the values of all columns but the time, in declared order.
+fn other_values(
+    alloc: Global,
+    shape: &Shape,
+    rows: &CellRows<Option<i64>>,
+) -> Result<Seq<SharedSlice<Option<i64>>>, NoMemory>
+    ensures { IfOk result (λ others. others ≡ map (λ values. map (picked values) shape.now.others) rows.now) }
+{
+    let count = rows.len();
+    let mut others = CellRows::new(alloc);
+    others.reserve(count, count.saturating_mul(shape.others.len()))?;
+    let mut cells = Vec::new(alloc);
+    for values in rows.iter() {
+        pick_others(shape, values, &mut cells, &mut others)?;
+    }
+    others.into_shared(alloc)
+}
+
+/// Appends a row of the values of all columns but the time, in declared order. It is made where there is room
+/// for cells, of which none stays.
+fn pick_others(
+    shape: &Shape,
+    values: &[Option<i64>],
+    cells: &mut Vec<Option<i64>>,
+    others: &mut CellRows<Option<i64>>,
+) -> Result<(), NoMemory>
+    ensures { IfOk result (λ _. others.new ≡ others.old ++ map (picked values.now) shape.now.others ∷ []) }
+{
+    cells.clear();
+    for place in shape.others.items() {
+        cells.push(value_at(values, *place))?;
+    }
+    others.push(cells.as_slice())
 }
 
 /// The value at a place, or NULL where a column is left out.

@@ -11,6 +11,7 @@ use crate::relations::{
     Queried, aggregate, hypertable, new_name, plain_table, queryable, table_info, view_def,
 };
 use crate::tables::{check_columns, check_hyper};
+use cell_rows::CellRows;
 use std::alloc::Global;
 use stmt_reader::{NamedFold, NamedTest, Stmt};
 use ts_model::{Hyper, Op, Query, Roster, TableDef, ViewDef};
@@ -133,7 +134,7 @@ fn insert(
     roster: &Roster,
     name: &Name,
     cols: &Option<Seq<Name>>,
-    rows: &Seq<Seq<Option<i64>>>,
+    rows: &CellRows<Option<i64>>,
 ) -> Result<Action, Stop>
     requires { IsNumbered roster.now }
     ensures { Resolves pos roster.now (stmts.Insert name.now cols.now rows.now) result }

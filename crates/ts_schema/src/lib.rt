@@ -8,6 +8,7 @@ mod memory;
 mod names;
 mod rows;
 mod sequences;
+mod shared;
 mod steps;
 
 pub use columns::Column;
@@ -16,4 +17,5 @@ pub use memory::NoMemory;
 pub use names::Name;
 pub use rows::{Row, field, row_order, value_order, values_order};
 pub use sequences::Seq;
+pub use shared::SharedSlice;
 pub use steps::Steps;

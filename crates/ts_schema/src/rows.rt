@@ -3,7 +3,7 @@ ghost use Rattle.std.specs.Prelude.{◌≡◌};
 ghost use Rattle.std.specs.Cmp.Lexicographic.{slice_cmp};
 ghost use Rattle.ts_schema.specs.Rows.{field_of, row_cmp, value_cmp};
 
-use crate::sequences::Seq;
+use crate::shared::SharedSlice;
 use std::cmp::Ordering;
 
 /// A row of a hypertable.
@@ -11,8 +11,8 @@ use std::cmp::Ordering;
 pub struct Row {
     /// Its time.
     pub at: i64,
-    /// The values of its other columns in declared order; NULL is `None`.
-    pub vals: Seq<Option<i64>>,
+    /// The values of its other columns in declared order; NULL is `None`. Copies of the row share them.
+    pub vals: SharedSlice<Option<i64>>,
 }
 
 /// The value of column `col`: column 0 is the time, the others count from 1. A row that has no such

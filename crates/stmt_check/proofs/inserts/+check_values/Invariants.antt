@@ -1,5 +1,0 @@
-use Rattle.std.proofs.Common.{length}
-use Rattle.stmt_check.proofs.inserts.«+check_values».Given as goal
-
-abbrev pub decreases-check_values : goal.decreases-check_values
-decreases-check_values l = length l.rules.now
