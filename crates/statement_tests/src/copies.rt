@@ -3,7 +3,7 @@ use std::test::Fail;
 use ts_bucket::Span;
 use ts_model::*;
 use ts_num::Fun;
-use ts_schema::{Cmp, Column, Name, Row, Seq, Test};
+use ts_schema::{Cmp, Column, Name, Row, Seq, SharedSlice, Test};
 
 fn name(alloc: Global, text: &str) -> Result<Name, Fail> {
     Ok(Name::read(alloc, text.as_bytes())?.ok_or("a name")?)
@@ -79,7 +79,10 @@ fn rows(alloc: Global) -> Result<Seq<Row>, Fail> {
     vals.push(Some(7))?;
     vals.push(None)?;
     let mut rows = Seq::new(alloc);
-    rows.push(Row { at: -5, vals })?;
+    rows.push(Row {
+        at: -5,
+        vals: SharedSlice::of(alloc, vals)?,
+    })?;
     Ok(rows)
 }
 

@@ -6,7 +6,7 @@ use std::test::Fail;
 use ts_bucket::{Span, width};
 use ts_model::{Agg, Event, Fold, Hyper, Op, Roster, TableDef, TableInfo, ViewDef};
 use ts_num::Fun;
-use ts_schema::{Column, Row, Seq};
+use ts_schema::{Column, Row, Seq, SharedSlice};
 
 /// The start of the first bucket of the aggregate `c`: buckets of 100 that start at 7, the first of
 /// which holds the least time, -2^62.
@@ -71,7 +71,7 @@ fn roster(alloc: Global) -> Result<Roster, Fail> {
 fn commit(alloc: Global) -> Result<Event, Fail> {
     let mut rows = Seq::new(alloc);
     for at in [5, 6] {
-        let vals = Seq::new(alloc);
+        let vals = SharedSlice::of(alloc, Seq::new(alloc))?;
         rows.push(Row { at, vals })?;
     }
     let mut ops = Seq::new(alloc);

@@ -2,12 +2,15 @@
 use std::alloc::Global;
 use std::cmp::Ordering;
 use std::test::Fail;
-use ts_schema::{Cmp, Column, Name, Row, Seq, Steps, Test, field, passes, row_order};
+use ts_schema::{Cmp, Column, Name, Row, Seq, SharedSlice, Steps, Test, field, passes, row_order};
 
 fn row(alloc: Global, at: i64, value: Option<i64>) -> Result<Row, Fail> {
     let mut vals = Seq::new(alloc);
     vals.push(value)?;
-    Ok(Row { at, vals })
+    Ok(Row {
+        at,
+        vals: SharedSlice::of(alloc, vals)?,
+    })
 }
 
 #[test]

@@ -1,3 +1,5 @@
+pub mod AsciiTexts
+pub mod Comments
 pub mod Flow
 pub mod FormRules
 pub mod Holds

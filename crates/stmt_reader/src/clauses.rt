@@ -3,7 +3,8 @@ ghost use Rattle.std.specs.Prelude.{◌≡◌, ◌≤◌, Ok, Some, None};
 ghost use Rattle.stmt_reader.specs.Cursor.{ahead};
 ghost use Rattle.stmt_reader.specs.Reading as spec;
 ghost use Rattle.stmt_reader.specs.Reading.{Gives};
-ghost use Rattle.stmt_reader.specs.Forward.{forward-name, forward-value, forward-row, forward-column, forward-test};
+ghost use Rattle.stmt_reader.specs.declared.phrases.Separator.TheVariants as separators;
+ghost use Rattle.stmt_reader.specs.Forward.{forward-name, forward-value, forward-column, forward-test};
 
 use crate::faults::ReadError;
 use crate::keywords::Keyword;
@@ -11,6 +12,7 @@ use crate::phrases::{Phrase, Separator};
 use crate::reader::Reader;
 use crate::statements::NamedTest;
 use crate::tokens::Mark;
+use cell_rows::CellRows;
 use ts_schema::{Cmp, Column, Name, Seq};
 
 /// A name.
@@ -33,17 +35,6 @@ impl Phrase for Option<i64> {
     }
 
     ghost forward = { forward-value.goes };
-}
-
-/// The values of a row in parentheses.
-impl Phrase for Seq<Option<i64>> {
-    ghost phrase = { spec.row };
-
-    fn read(reader: &mut Reader<'_>) -> Result<Seq<Option<i64>>, ReadError> {
-        reader.row()
-    }
-
-    ghost forward = { forward-row.goes };
 }
 
 /// A column with its type.
@@ -79,14 +70,44 @@ impl Reader<'_> {
         Ok(Some(self.number()?))
     }
 
+    /// The values of a row in parentheses, in the memory of a list of which no value stays.
     #[tactic(auto, unfolding(crate::specs::Reading::row, crate::specs::Reading::bind))]
-    fn row(&mut self) -> Result<Seq<Option<i64>>, ReadError>
+    fn row(&mut self, room: Seq<Option<i64>>) -> Result<Seq<Option<i64>>, ReadError>
         ensures { Gives result (spec.row (ahead self.old)) (ahead self.new) }
     {
         self.mark(Mark::Open)?;
-        let values = self.listed(Separator::Comma)?;
+        let values = self.listed_in(Separator::Comma, room)?;
         self.mark(Mark::Close)?;
         Ok(values)
+    }
+
+    /// One row or more.
+    #[tactic(auto, unfolding(crate::specs::Reading::listed, crate::specs::Reading::bind))]
+    pub(crate) fn rows_of_values(&mut self) -> Result<CellRows<Option<i64>>, ReadError>
+        ensures { Gives result (spec.listed separators.Comma spec.row (ahead self.old)) (ahead self.new) }
+    {
+        let mut rows = CellRows::new(self.alloc());
+        let room = Seq::new(self.alloc());
+        let values = self.row(room)?;
+        rows.push(values.items())?;
+        self.more_rows(rows, values)
+    }
+
+    /// Reads one more row each time a comma comes next. The memory of `room` takes the values of each in turn.
+    fn more_rows(
+        &mut self,
+        front: CellRows<Option<i64>>,
+        room: Seq<Option<i64>>,
+    ) -> Result<CellRows<Option<i64>>, ReadError>
+        ensures { Gives result (spec.more (spec.parts separators.Comma) spec.row front (ahead self.old)) (ahead self.new) }
+    {
+        let mut rows = front;
+        let mut values = room;
+        while self.takes_separator(Separator::Comma) {
+            values = self.row(values)?;
+            rows.push(values.items())?;
+        }
+        Ok(rows)
     }
 
     /// `[NOT NULL]`

@@ -216,7 +216,7 @@ impl Reader<'_> {
         let table = self.name()?;
         let cols = self.column_list()?;
         self.keyword(Keyword::Values)?;
-        let rows = self.listed(Separator::Comma)?;
+        let rows = self.rows_of_values()?;
         Ok(Stmt::Insert { table, cols, rows })
     }
 

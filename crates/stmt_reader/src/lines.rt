@@ -3,9 +3,11 @@ ghost use Rattle.std.specs.Prelude.{◌≡◌, ◌≤◌, length};
 ghost use Rattle.std.specs.List.{list_all};
 ghost use Rattle.std.specs.Char.{is_ascii as is_ascii_byte};
 ghost use Rattle.stmt_reader.specs.Limits.{longest_line};
+ghost use Rattle.stmt_reader.specs.Tokens.{begins_with};
 ghost use Rattle.stmt_reader.specs.Lines.{line_kind, of_text, comment_at, begins_session, continues_session, session_len, has_session};
 
 use crate::tokens::blank_len;
+use memchr::memchr;
 
 /// What a line is.
 #[derive(Clone, Copy, Debug, PartialEq, Eq)]
@@ -42,13 +44,21 @@ fn comment_start(line: &[u8]) -> usize
     ensures within { result ≤ length line.now }
 {
     let mut at = 0;
-    while let [first, rest @ ..] = &line[at..] {
-        if *first == b'-' && rest.first() == Some(&b'-') {
-            return at;
+    while let Some(skipped) = memchr(b'-', &line[at..]) {
+        let dash = at + skipped;
+        if begins_with_dash(&line[dash + 1..]) {
+            return dash;
         }
-        at += 1;
+        at = dash + 1;
     }
-    at
+    line.len()
+}
+
+/// Whether the first byte is `-`.
+fn begins_with_dash(text: &[u8]) -> bool
+    ensures { result ≡ begins_with 45 text.now }
+{
+    text.first() == Some(&b'-')
 }
 
 /// What a line is whose text before the comment is this one, with so many blanks in front.
@@ -79,7 +89,7 @@ fn kind_of(text: &[u8], blanks: usize) -> LineKind
 fn is_ascii(text: &[u8]) -> bool
     ensures { result ≡ list_all is_ascii_byte text.now }
 {
-    text.iter().all(|b| b.is_ascii())
+    text.is_ascii()
 }
 
 /// Whether a session name of 1 to 16 bytes and a colon stand in front.

@@ -34,7 +34,7 @@ pub trait Phrase {
 
 impl Reader<'_> {
     /// Goes past what parts two items, where it comes next.
-    fn takes_separator(&mut self, separator: Separator) -> bool
+    pub(crate) fn takes_separator(&mut self, separator: Separator) -> bool
         ensures taken { result ≡ heads (parts separator) (ahead self.old) }
         ensures left { ahead self.new ≡ (if result then tail (ahead self.old) else ahead self.old) }
     {
@@ -60,11 +60,25 @@ impl Reader<'_> {
     }
 
     /// Reads one or more items.
-    #[tactic(auto, unfolding(crate::specs::Reading::listed, crate::specs::Reading::bind))]
     pub fn listed<T: Phrase + Drop>(&mut self, separator: Separator) -> Result<Seq<T>, ReadError>
         ensures { Gives result (listed separator T.phrase (ahead self.old)) (ahead self.new) }
     {
-        let mut items = Seq::new(self.alloc());
+        let room = Seq::new(self.alloc());
+        self.listed_in(separator, room)
+    }
+
+    /// Reads one or more items into the memory of a list, of whose items none stays.
+    #[tactic(auto, unfolding(crate::specs::Reading::listed, crate::specs::Reading::bind))]
+    pub(crate) fn listed_in<T: Phrase + Drop>(
+        &mut self,
+        separator: Separator,
+        room: Seq<T>,
+    ) -> Result<Seq<T>, ReadError>
+        ensures { Gives result (listed separator T.phrase (ahead self.old)) (ahead self.new) }
+    {
+        let mut items = room.into_items();
+        items.clear();
+        let mut items = Seq::of(items);
         items.push(T::read(self)?)?;
         self.more(separator, items)
     }

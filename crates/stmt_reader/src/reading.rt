@@ -14,7 +14,7 @@ use std::alloc::Global;
 
 /// The statement of a text, or why the text is none, at the least place of the line. Places count
 /// from 1.
-#[derive(Debug, Drop, PartialEq, Eq)]
+#[derive(Debug, Drop)]
 pub enum ReadStmt {
     /// The statement.
     Stmt(Stmt),

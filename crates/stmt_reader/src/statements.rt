@@ -1,9 +1,10 @@
 //! What is written in a statement. Words and quoted names are in lower case, and NULL is `None`.
+use cell_rows::CellRows;
 use ts_num::Fun;
 use ts_schema::{Cmp, Column, Name, Seq};
 
 /// A statement.
-#[derive(Debug, Drop, PartialEq, Eq)]
+#[derive(Debug, Drop)]
 pub enum Stmt {
     /// `CREATE TABLE`
     Table {
@@ -35,7 +36,7 @@ pub enum Stmt {
         table: Name,
         /// The column list, where one is written.
         cols: Option<Seq<Name>>,
-        rows: Seq<Seq<Option<i64>>>,
+        rows: CellRows<Option<i64>>,
     },
     /// `DELETE`
     Delete {

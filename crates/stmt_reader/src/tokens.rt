@@ -3,7 +3,7 @@ ghost use Rattle.std.specs.Prelude.{◌≡◌, ◌≤◌, ◌<◌, ◌+◌, ◌-
 ghost use Rattle.std.specs.List.{prefix_len};
 ghost use Rattle.std.specs.Char.{is_ascii_digit};
 ghost use Rattle.std.specs.Ordering.{int_eq};
-ghost use Rattle.std.specs.Str.{IsUtf8, bytes_eq};
+ghost use Rattle.std.specs.Str.{bytes_eq};
 ghost use Rattle.std.specs.Str.Parse.{IsNumeral, without_leading_sign, signed_digits_value};
 ghost use Rattle.stmt_reader.specs.Limits.{longest_line};
 ghost use Rattle.stmt_reader.specs.Bytes.{is_space, begins_word, continues_word, lower};
@@ -13,7 +13,7 @@ ghost use Rattle.stmt_reader.specs.Scan.{view, view_lexeme, view_ahead, seen_lex
 
 use crate::keywords::Keyword;
 use crate::names::WORD_BYTES;
-use std::str::from_utf8;
+use fast_float::parse_i64;
 use ts_num::Fun;
 use ts_schema::Cmp;
 
@@ -392,14 +392,10 @@ fn number_at(text: &[u8]) -> Option<Lexeme<'_>>
 
 /// The value of a numeral, where it is an i64.
 fn number_of(text: &[u8]) -> Option<i64>
-    requires ascii { IsUtf8 text.now }
-    requires numeral { IsNumeral 10 (without_leading_sign text.now) }
+    requires { IsNumeral 10 (without_leading_sign text.now) }
     ensures { result ≡ i64_of (signed_digits_value 10 text.now) }
 {
-    match from_utf8(text) {
-        Ok(numeral) => i64::from_str_radix(numeral, 10).ok(),
-        Err(_) => unreachable!(),
-    }
+    parse_i64(text).ok()
 }
 
 /// After the first quote: a word of 1 to 63 bytes and a second quote.

@@ -1,14 +1,15 @@
 -- The first line end of a text.
-use Rattle.std.proofs.Common.{◌≡◌, ℕ, suc, ◌+◌, ◌-◌, ◌<◌, ◌≤◌, Bool, true, false, cond, not, ◌==◌, List, [], ◌∷◌, ◌++◌, length, take, drop, get_or, None, Some, MatchOption, refl, sym, ◌∙◌, ap, subst, arith, take_all, take-add, take-append-drop, length-drop, length-take, ltb}
-use Rattle.std.proofs.lemmas.Bool.{ltb-true, ltb-false, eqb-true}
+use Rattle.std.proofs.Common.{◌≡◌, ℕ, suc, ◌+◌, ◌-◌, ◌<◌, ◌≤◌, Bool, true, false, cond, not, ◌==◌, List, [], ◌∷◌, ◌++◌, length, take, drop, get_or, None, Some, MatchOption, refl, sym, ◌∙◌, ap, subst, arith, le_refl, take_all, take-add, take-append-drop, length-drop, length-take, ltb}
+use Rattle.std.proofs.lemmas.Bool.{ltb-true, ltb-false, eqb-true, false_from_ne_true}
 use Rattle.std.proofs.lemmas.List.{drop_more, get_or-drop, get_or-take, take-take, take_rest}
-use Rattle.std.proofs.lemmas.List.Sums.{passes_at_first}
+use Rattle.std.proofs.lemmas.List.Sums.{passes_at_first, position_or_len_is}
 use Rattle.std.specs.Prelude.{Option}
 use Rattle.std.specs.List.{position, position_or_len}
+use Rattle.memchr.specs.Find.{IsFirstByte}
 use Rattle.ts_io.specs.Lines.{ended_lines, onto_ended, IsFirstEnd}
 use Rattle.ts_io.proofs.LineLaws.{ended_lines-append_none}
 
-abbrev is_end : ℕ → Bool
+abbrev pub is_end : ℕ → Bool
 is_end byte = byte == 10
 
 none_before_step : (v : Bool) (x : ℕ) (xs : List ℕ) (n : ℕ) → (x == 10) ≡ v → ended_lines (take n xs) ≡ [] → ended_lines (take (cond (not v) (1 + n) 0) (x ∷ xs)) ≡ []
@@ -37,6 +38,19 @@ first_end_cases false xs h =
 -- a search for the byte LF finds the first line end
 first_end_of : (xs : List ℕ) → MatchOption (position is_end xs) (ended_lines xs ≡ []) (IsFirstEnd xs)
 first_end_of xs = first_end_cases (ltb (position_or_len is_end xs) (length xs)) xs refl
+
+-- a place behind which none is, among those of a list
+placed : (test : ℕ → Bool) (xs : List ℕ) (n : ℕ) (within : Bool) → position_or_len test xs ≡ n → ltb n (length xs) ≡ within → cond within (Some n) None ≡ position test xs
+placed test xs n within at e = ap (λ b. cond b (Some n) None) (sym e) ∙ ap (λ k. cond (ltb k (length xs)) (Some k) None) (sym at)
+
+-- the first byte that passes a test is the one that a list has first
+pub position_of_first : (test : ℕ → Bool) (xs : List ℕ) (r : Option ℕ) → IsFirstByte test xs r → r ≡ position test xs
+position_of_first test xs None none =
+    let n = length xs in
+    placed test xs n false (position_or_len_is test xs n 0 (le_refl n) (λ k below. false_from_ne_true (test (get_or xs k 0)) (none k (omega arith) below)) (λ below. absurd (omega arith))) (grind arith)
+position_of_first test xs (Some n) first =
+    let fails : (k : ℕ) → k < n → test (get_or xs k 0) ≡ false = λ k below. false_from_ne_true (test (get_or xs k 0)) (first.0.before k (omega arith) below) in
+    placed test xs n true (position_or_len_is test xs n 0 (omega (arith, first.0.high)) fails (λ _. first.1)) (grind (arith, first.0.high))
 
 -- where a search found it, and where it found none
 pub found_end : (xs : List ℕ) (n : ℕ) → Some n ≡ position is_end xs → IsFirstEnd xs n

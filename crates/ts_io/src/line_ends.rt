@@ -2,6 +2,8 @@
 ghost use Rattle.std.specs.Prelude.{◌≡◌, ◌≤◌, ◌==◌, [], length, take, position, MatchOption};
 ghost use Rattle.ts_io.specs.Lines.{ended_lines, IsFirstEnd};
 
+use memchr::memchr;
+
 /// The byte that ends a line.
 const LINE_END: u8 = b'\n';
 
@@ -9,7 +11,7 @@ const LINE_END: u8 = b'\n';
 fn first_end(text: &[u8]) -> Option<usize>
     ensures { result ≡ position (λ byte. byte == LINE_END) text.now }
 {
-    text.iter().position(|byte| *byte == LINE_END)
+    memchr(LINE_END, text)
 }
 
 /// The place of the first line end, where none stands among the first `searched` bytes.

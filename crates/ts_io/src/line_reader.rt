@@ -73,7 +73,8 @@ impl Model for Lines {
 
     ghost invariant = { λ s. (s.start ≤ vec_len s.bytes) × (s.line_from ≤ s.line_to) × (s.line_to ≤ vec_len s.bytes)
         × (vec_len s.piece ≡ PIECE) × (vec_len s.bytes ≤ s.start + s.allowed + 1) × (s.allowed ≤ INPUT_LIMIT)
-        × (vec_len s.bytes ≤ HELD_LIMIT) × (HELD_LIMIT ≤ vec_capacity s.bytes) × (s.at_end ≡ true → vec_len s.bytes ≤ s.start) };
+        × (vec_len s.bytes ≤ HELD_LIMIT) × (HELD_LIMIT ≤ vec_capacity s.bytes)
+        × (s.at_end ≡ true → vec_len s.bytes ≤ s.start) };
 }
 
 impl Lines {
@@ -201,7 +202,8 @@ impl Lines {
         requires end { IsFirstEnd (take self.old.allowed self.old.held) n }
         requires small { n < INPUT_LIMIT }
         ensures line { (start left : Option (List ℕ)) → Consumes start (prepend_known self.old.held left) []
-            → ReadsLine result self.old.allowed start self.new.allowed (prepend_known self.new.held left) self.new.line }
+            → ReadsLine result self.old.allowed start self.new.allowed
+            (prepend_known self.new.held left) self.new.line }
         ensures spends { Spends result self.old.allowed self.new.allowed self.new.line }
         ensures alike { SpendsHeld self.old self.new }
         ensures is_open { self.new.is_open ≡ goes_on result }
@@ -225,7 +227,8 @@ impl Lines {
         requires short { length self.old.held ≤ LINE_LIMIT }
         ensures line { (start left : Option (List ℕ)) → IsAtEnd left
             → Consumes start (prepend_known self.old.held left) []
-            → ReadsLine result self.old.allowed start self.new.allowed (prepend_known self.new.held left) self.new.line }
+            → ReadsLine result self.old.allowed start self.new.allowed
+            (prepend_known self.new.held left) self.new.line }
         ensures spends { Spends result self.old.allowed self.new.allowed self.new.line }
         ensures alike { SpendsHeld self.old self.new }
         ensures is_open { self.new.is_open ≡ goes_on result }

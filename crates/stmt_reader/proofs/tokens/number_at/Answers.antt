@@ -1,11 +1,8 @@
 use Rattle.std.proofs.Common.{◌∙◌, ap}
 use Rattle.std.specs.Char.{is_ascii_digit}
 use Rattle.std.specs.List.{prefix_len}
-use Rattle.stmt_reader.proofs.Numerals.{number_is_utf8, number_is_numeral}
+use Rattle.stmt_reader.proofs.Numerals.{number_is_numeral}
 use Rattle.stmt_reader.proofs.tokens.number_at.Goals as goal
 
-pub number_of-requires-clause-ascii : goal.number_of-requires-clause-ascii
-number_of-requires-clause-ascii c = number_is_utf8 c.args.text.now c.sign_len-sign.result c.digits_len-digits.result c.sign_len-sign.ensures.len (c.digits_len-digits.ensures.len ∙ ap (prefix_len is_ascii_digit) c.split_at.ensures.back) c.if-digits-eq0.false
-
-pub number_of-requires-clause-numeral : goal.number_of-requires-clause-numeral
-number_of-requires-clause-numeral c = number_is_numeral c.args.text.now c.sign_len-sign.result c.digits_len-digits.result c.sign_len-sign.ensures.len (c.digits_len-digits.ensures.len ∙ ap (prefix_len is_ascii_digit) c.split_at.ensures.back) c.if-digits-eq0.false
+pub number_of-requires : goal.number_of-requires
+number_of-requires c = number_is_numeral c.args.text.now c.sign_len-sign.result c.digits_len-digits.result c.sign_len-sign.ensures.len (c.digits_len-digits.ensures.len ∙ ap (prefix_len is_ascii_digit) c.split_at.ensures.back) c.if-digits-eq0.false
