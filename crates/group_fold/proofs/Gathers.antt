@@ -1,6 +1,6 @@
 -- Groups in no order: what one more row makes of them, and that they can be put in order.
 use Rattle.std.proofs.Common.{◌≡◌, ℕ, zero, suc, ◌+◌, ◌-◌, ◌^◌, ◌<◌, ◌≤◌, true, false, List, [], ◌∷◌, ◌++◌, length, get_or, set, take, drop, Option, ℤ, sym, refl, ap, ◌∙◌, subst, arith}
-use Rattle.std.specs.List.{AllByRecursion}
+use Rattle.std.specs.List.{AllByRecursion, insert}
 use Rattle.std.specs.List.Sorted.{IsPermutation, IsStrictlySortedBy}
 use Rattle.std.proofs.lemmas.List.Sorted.{All-permutation}
 use Rattle.std.proofs.lemmas.List.Elements.{All-from_recursion, recursion_from_All}
@@ -28,9 +28,10 @@ use Rattle.group_fold.proofs.AnyOrder.{gathered, gathered-permuted}
 
 -- ---- one more group, or one that took in another
 
-ordered-push : (gs : List Group) (g : Group) → ordered (gs ++ g ∷ []) ≡ with_group g (ordered gs)
-ordered-push [] g = refl
-ordered-push (x ∷ gs) g = ap (with_group x) (ordered-push gs g) ∙ with_group-commutes x g (ordered gs)
+ordered-insert : (gs : List Group) (at : ℕ) (g : Group) → at ≤ length gs → ordered (insert gs at g) ≡ with_group g (ordered gs)
+ordered-insert gs zero g h = refl
+ordered-insert [] (suc at) g h = absurd (omega arith)
+ordered-insert (x ∷ gs) (suc at) g h = ap (with_group x) (ordered-insert gs at g (omega arith)) ∙ with_group-commutes x g (ordered gs)
 
 ordered-set : (gs : List Group) (at : ℕ) (g d : Group) → at < length gs → group_cmp (get_or gs at d) g ≡ Equal → ordered (set gs at (merged g (get_or gs at d))) ≡ with_group g (ordered gs)
 ordered-set [] at g d h e = absurd (omega arith)
@@ -62,6 +63,11 @@ most-row_parts (agg ∷ aggs) row = omega (arith, most-row_parts aggs row)
 counted-append : (gs hs : List Group) → counted (gs ++ hs) ≡ counted gs + counted hs
 counted-append [] hs = omega arith
 counted-append (g ∷ gs) hs = omega (arith, counted-append gs hs)
+
+counted-insert : (gs : List Group) (at : ℕ) (g : Group) → at ≤ length gs → counted (insert gs at g) ≡ most_counted g.parts + counted gs
+counted-insert gs zero g h = omega arith
+counted-insert [] (suc at) g h = absurd (omega arith)
+counted-insert (x ∷ gs) (suc at) g h = omega (arith, counted-insert gs at g (omega arith))
 
 counted-set : (gs : List Group) (at : ℕ) (new d : Group) (n : ℕ) → at < length gs → most_counted new.parts ≤ most_counted (get_or gs at d).parts + n → counted (set gs at new) ≤ counted gs + n
 counted-set [] at new d n h le = absurd (omega arith)
@@ -107,6 +113,11 @@ parts-append : (n : ℕ) (gs hs : List Group) → HaveParts n gs → HaveParts n
 parts-append n [] hs p q = q
 parts-append n (g ∷ gs) hs p q = (p.0, parts-append n gs hs p.1 q)
 
+parts-insert : (n : ℕ) (gs : List Group) (at : ℕ) (g : Group) → HaveParts n gs → length g.parts ≡ n → HaveParts n (insert gs at g)
+parts-insert n gs zero g p q = (q, p)
+parts-insert n [] (suc at) g p q = (q, p)
+parts-insert n (x ∷ gs) (suc at) g p q = (p.0, parts-insert n gs at g p.1 q)
+
 parts-set : (n : ℕ) (gs : List Group) (at : ℕ) (new : Group) → HaveParts n gs → length new.parts ≡ n → HaveParts n (set gs at new)
 parts-set n [] at new p q = p
 parts-set n (g ∷ gs) zero new p q = (q, p.1)
@@ -141,14 +152,14 @@ parts-drop n (suc k) (g ∷ gs) p = parts-drop n k gs p.1
 
 -- ---- one row taken in
 
--- the group of a row at the end
-pub takes_alone : (fold : Fold) (row : Row) (old new : List Group) (g : Group) → new ≡ old ++ g ∷ [] → g ≡ row_group fold row → HasRoom 1 fold old → Takes fold row old new
-takes_alone fold row old new g is alone room =
-    let whole : new ≡ old ++ row_group fold row ∷ [] = is ∙ ap (λ x. old ++ x ∷ []) alone in
-    let few : counted new ≡ counted old + counted (row_group fold row ∷ []) = ap counted whole ∙ counted-append old (row_group fold row ∷ []) in
+-- the group of a row, put in anywhere
+pub takes_alone : (fold : Fold) (row : Row) (old new : List Group) (at : ℕ) (g : Group) → at ≤ length old → new ≡ insert old at g → g ≡ row_group fold row → HasRoom 1 fold old → Takes fold row old new
+takes_alone fold row old new at g within is alone room =
+    let whole : new ≡ insert old at (row_group fold row) = is ∙ ap (insert old at) alone in
+    let few : counted new ≡ most_counted (row_parts fold.aggs row) + counted old = ap counted whole ∙ counted-insert old at (row_group fold row) within in
     record {
-      groups_are = ap ordered whole ∙ ordered-push old (row_group fold row);
-      alike = subst (HaveParts (length fold.aggs)) (sym whole) (parts-append (length fold.aggs) old (row_group fold row ∷ []) room.alike (length-row_parts fold.aggs row, tt));
+      groups_are = ap ordered whole ∙ ordered-insert old at (row_group fold row) within;
+      alike = subst (HaveParts (length fold.aggs)) (sym whole) (parts-insert (length fold.aggs) old at (row_group fold row) room.alike (length-row_parts fold.aggs row));
       few = omega (arith, few, most-row_parts fold.aggs row);
     }
 

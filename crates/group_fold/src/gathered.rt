@@ -1,11 +1,13 @@
-//! Groups as rows are taken in, in the order in which they came up.
-ghost use Rattle.std.specs.Prelude.{◌≡◌, ◌++◌, ◌∷◌, [], IfOk, IsTrue, OnOk, length};
+//! Groups as rows are taken in.
+ghost use Rattle.std.specs.Prelude.{◌≡◌, ◌≤◌, [], IfErr, IfOk, IsTrue, OnOk, length};
+ghost use Rattle.std.specs.List.{insert};
 ghost use Rattle.ts_schema.specs.declared.rows.Row.{Row};
 ghost use Rattle.ts_bucket.specs.Bucket.{IsWidth, is_time};
 ghost use Rattle.group_fold.specs.Grouping.{AreTimes, row_at};
 ghost use Rattle.group_fold.specs.Gathering.{HasRoom, IsAt, Takes, TakesAll};
 
 use crate::members::{add_to, alone, is_of};
+use crate::near_places::place_of;
 use partial_agg::Group;
 use std::alloc::Global;
 use std::collections::HashMap;
@@ -13,15 +15,27 @@ use ts_bucket::bucket;
 use ts_model::Fold;
 use ts_schema::{NoMemory, Row, field, passes};
 
-/// Groups in no order. Nothing rests on `places` and `last` but speed: what they name is looked at
-/// before it is used, and of two groups that have the same print one may come up twice.
+/// To move so many groups costs as much as to search for one.
+const MOVES_A_SEARCH: usize = 8;
+
+/// So many groups more than there are may be searched for four times before rows count as out of order.
+const FREE_STRAYS: usize = 16;
+
+/// Groups, in order while rows come nearly in order. Nothing rests on what stands here beside the
+/// groups but speed: what a place names is looked at before it is used, and a group may come up twice.
 #[derive(Drop)]
 pub(crate) struct Gathered {
     pub(crate) groups: Vec<Group>,
-    /// Where a group may stand, by the print of its bucket and keys.
-    places: HashMap<u64, usize>,
     /// Where the group of the last row stands.
     last: usize,
+    /// How often a group was searched for away from that place, and a part of how many were moved for a
+    /// new one.
+    strayed: usize,
+    /// Whether rows came too far out of order. From then on new groups stand at the end, and `places` has
+    /// all of them.
+    is_mixed: bool,
+    /// Where a group may stand, by the print of its bucket and keys.
+    places: HashMap<u64, usize>,
 }
 
 impl Gathered {
@@ -31,8 +45,10 @@ impl Gathered {
     {
         Gathered {
             groups: Vec::new(alloc),
-            places: HashMap::new(alloc),
             last: 0,
+            strayed: 0,
+            is_mixed: false,
+            places: HashMap::new(alloc),
         }
     }
 
@@ -63,44 +79,110 @@ impl Gathered {
         ensures { OnOk result (Takes plan.now row.now self.old.groups.items self.new.groups.items) }
     {
         let start = bucket(plan.width, row.at);
+        self.note_if_astray()?;
         match self.find(plan, row, start) {
             Ok(at) => {
+                self.strayed = astray(self.strayed, self.last, at);
                 self.last = at;
                 add_to(plan, row, &mut self.groups[at]);
                 Ok(())
             }
-            Err(print) => self.put(print, alone(alloc, plan, row, start)?),
+            Err(at) => self.put(at, alone(alloc, plan, row, start)?),
         }
     }
 
-    /// Where the group of a row stands, or the print by which it wasn't found.
-    fn find(&self, plan: &Fold, row: &Row, start: i64) -> Result<usize, u64>
-        ensures { IfOk result (IsAt (row_at plan.now start row.now) self.now.groups.items) }
+    /// Where the group of a row stands, or else where it may be put.
+    fn find(&self, plan: &Fold, row: &Row, start: i64) -> Result<usize, usize>
+        ensures found { IfOk result (IsAt (row_at plan.now start row.now) self.now.groups.items) }
+        ensures free { IfErr result (λ at. at ≤ length self.now.groups.items) }
+    {
+        if self.is_mixed {
+            self.find_by_print(plan, row, start)
+        } else {
+            place_of(self.groups.as_slice(), self.last, plan, row, start)
+        }
+    }
+
+    fn find_by_print(&self, plan: &Fold, row: &Row, start: i64) -> Result<usize, usize>
+        ensures found { IfOk result (IsAt (row_at plan.now start row.now) self.now.groups.items) }
+        ensures free { IfErr result (λ at. at ≤ length self.now.groups.items) }
     {
         let groups = self.groups.as_slice();
         if is_of(groups, self.last, plan, row, start) {
             return Ok(self.last);
         }
-        let print = print_of(plan, row, start);
-        match self.places.get(&print) {
+        match self.places.get(&print_of(plan, row, start)) {
             Some(at) => if is_of(groups, *at, plan, row, start) {
                 Ok(*at)
             } else {
-                Err(print)
+                Err(groups.len())
             },
-            None => Err(print),
+            None => Err(groups.len()),
         }
     }
 
-    /// Puts a group at the end.
-    fn put(&mut self, print: u64, group: Group) -> Result<(), NoMemory>
-        ensures { OnOk result (self.new.groups.items ≡ self.old.groups.items ++ group ∷ []) }
+    /// Puts a group in.
+    fn put(&mut self, at: usize, group: Group) -> Result<(), NoMemory>
+        requires { at ≤ length self.old.groups.items }
+        ensures { OnOk result (self.new.groups.items ≡ insert self.old.groups.items at group) }
     {
-        self.last = self.groups.len();
-        self.places.insert(print, self.last)?;
-        self.groups.push(group)?;
+        if self.is_mixed {
+            self.places.insert(print_of_group(&group), at)?;
+        }
+        let moved = (self.groups.len() - at) / MOVES_A_SEARCH;
+        self.strayed = astray(self.strayed, self.last, at).saturating_add(moved);
+        self.last = at;
+        put_at(&mut self.groups, at, group)
+    }
+
+    /// Notes where the groups stand, once rows have strayed too often for the number of groups.
+    fn note_if_astray(&mut self) -> Result<(), NoMemory>
+        ensures { OnOk result (self.new.groups.items ≡ self.old.groups.items) }
+    {
+        let most = self
+            .groups
+            .len()
+            .saturating_add(FREE_STRAYS)
+            .saturating_mul(4);
+        if self.is_mixed || self.strayed <= most {
+            return Ok(());
+        }
+        self.note_places()
+    }
+
+    /// Notes where the groups stand.
+    fn note_places(&mut self) -> Result<(), NoMemory>
+        ensures { OnOk result (self.new.groups.items ≡ self.old.groups.items) }
+    {
+        self.is_mixed = true;
+        self.places.reserve(self.groups.len())?;
+        for at in 0..self.groups.len() {
+            self.places.insert(print_of_group(&self.groups[at]), at)?;
+        }
         Ok(())
     }
+}
+
+/// How often rows have strayed, where a row's group is found at a place, after one that is the last.
+fn astray(before: usize, last: usize, at: usize) -> usize {
+    if at == last || at.wrapping_sub(last) == 1 {
+        before
+    } else {
+        before.saturating_add(1)
+    }
+}
+
+/// Puts a group in at a place.
+fn put_at(groups: &mut Vec<Group>, at: usize, group: Group) -> Result<(), NoMemory>
+    requires { at ≤ length groups.old.items }
+    ensures { OnOk result (groups.new.items ≡ insert groups.old.items at group) }
+{
+    if at < groups.len() {
+        groups.insert(at, group)?;
+        return Ok(());
+    }
+    groups.push(group)?;
+    Ok(())
 }
 
 /// A number that rows of the same bucket and keys share, and others seldom do.
@@ -108,6 +190,15 @@ fn print_of(plan: &Fold, row: &Row, start: i64) -> u64 {
     let mut print = mixed(0, Some(start));
     for col in plan.keys.items() {
         print = mixed(print, field(row, *col));
+    }
+    print
+}
+
+/// The number that the rows of a group share.
+fn print_of_group(group: &Group) -> u64 {
+    let mut print = mixed(0, Some(group.start));
+    for key in group.keys.items() {
+        print = mixed(print, *key);
     }
     print
 }

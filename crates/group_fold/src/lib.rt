@@ -3,6 +3,7 @@
 //!
 //! - `folds`: the groups of a list of rows.
 //! - `gathered`: groups as rows are taken in, in the order in which they came up.
+//! - `near_places`: where the group of a row stands, while rows come nearly in order.
 //! - `members`: one row beside the groups: which is its own, and what it adds to it.
 //! - `orders`: groups put in order.
 //! - `joins`: two lists of groups put together.
@@ -16,6 +17,7 @@ mod gathered;
 mod joins;
 pub mod laws;
 mod members;
+mod near_places;
 mod orders;
 mod pieces;
 mod results;

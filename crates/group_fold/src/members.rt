@@ -1,6 +1,7 @@
 //! One row beside the groups: which is its own, and what it adds to it.
 ghost use Rattle.std.specs.Prelude.{◌≡◌, ◌-◌, ◌^◌, ◌<◌, true, IfOk, length};
 ghost use Rattle.std.specs.List.{AllByRecursion};
+ghost use Rattle.std.specs.declared.cmp.Ordering.TheVariants.{Less, Equal};
 ghost use Rattle.ts_schema.specs.Rows.{values_cmp};
 ghost use Rattle.ts_model.specs.Scratch.{keys_of};
 ghost use Rattle.partial_agg.specs.Groups.{group_cmp};
@@ -18,14 +19,22 @@ use ts_schema::{NoMemory, Row, Seq, field, value_order};
 pub(crate) fn is_of(groups: &[Group], at: usize, plan: &Fold, row: &Row, start: i64) -> bool
     ensures { result ≡ true → IsAt (row_at plan.now start row.now) groups.now at }
 {
+    order_at(groups, at, plan, row, start) == Ordering::Equal
+}
+
+/// How the group at a place compares with that of a row. Behind the last group nothing comes before it.
+pub(crate) fn order_at(groups: &[Group], at: usize, plan: &Fold, row: &Row, start: i64) -> Ordering
+    ensures same { result ≡ Equal → IsAt (row_at plan.now start row.now) groups.now at }
+    ensures before { result ≡ Less → at < length groups.now }
+{
     match groups.get(at) {
-        None => false,
-        Some(group) => order_of(plan, row, start, group) == Ordering::Equal,
+        None => Ordering::Greater,
+        Some(group) => order_of(plan, row, start, group),
     }
 }
 
 /// How a group compares with that of a row.
-fn order_of(plan: &Fold, row: &Row, start: i64, group: &Group) -> Ordering
+pub(crate) fn order_of(plan: &Fold, row: &Row, start: i64, group: &Group) -> Ordering
     ensures { result ≡ group_cmp group.now (row_at plan.now start row.now) }
 {
     match group.start.cmp(&start) {
@@ -47,9 +56,11 @@ fn keys_order(keys: &[Option<i64>], cols: &[u32], row: &Row) -> Ordering
         },
         [key, more_keys @ ..] => match cols {
             [] => Ordering::Greater,
-            [col, more_cols @ ..] => value_order(*key, field(row, *col)).then(keys_order(
-                more_keys, more_cols, row,
-            )),
+            [col, more_cols @ ..] => match value_order(*key, field(row, *col)) {
+                Ordering::Less => Ordering::Less,
+                Ordering::Equal => keys_order(more_keys, more_cols, row),
+                Ordering::Greater => Ordering::Greater,
+            },
         },
     }
 }

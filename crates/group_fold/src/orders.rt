@@ -16,6 +16,9 @@ pub(crate) fn in_order(alloc: Global, groups: Vec<Group>) -> Result<Vec<Group>, 
     requires { CanOrder groups.items }
     ensures { IfOk result (λ sorted. sorted.items ≡ ordered groups.items) }
 {
+    if rises(groups.as_slice()) {
+        return Ok(groups);
+    }
     let mut sorted = groups;
     sorted.sort_by(|a: &Group, b: &Group| order_of_groups(a, b))?;
     if rises(sorted.as_slice()) {

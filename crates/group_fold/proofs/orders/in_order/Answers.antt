@@ -10,8 +10,11 @@ pub merged-requires : goal.merged-requires
 merged-requires c = permuted_ordered c.args.groups.items c.sort_by.new.self.items c.sort_by.ensures.permutation c.requires
 
 pub returns-then-rises : goal.returns-then-rises
-returns-then-rises c =
-    let sorted : AreInOrder c.sort_by.new.self.items = subst AreInOrder c.as_slice.ensures.value (c.rises.ensures c.if-rises.true) in
+returns-then-rises c = sym (ordered_already c.args.groups.items (subst AreInOrder c.as_slice.ensures.value (c.rises.ensures c.if-rises.true)))
+
+pub returns-then-rises-2 : goal.returns-then-rises-2
+returns-then-rises-2 c =
+    let sorted : AreInOrder c.sort_by.new.self.items = subst AreInOrder c.as_slice-2.ensures.value (c.rises-2.ensures c.if-rises-2.true) in
     sym (ordered_already c.sort_by.new.self.items sorted) ∙ sym (ordered-permuted c.args.groups.items c.sort_by.new.self.items c.sort_by.ensures.permutation)
 
 pub returns : goal.returns
