@@ -61,10 +61,19 @@ fn columns_of_each(alloc: Global, at: u32, rows: &[Row]) -> Result<CellRows<Datu
 {
     let mut shown = CellRows::new(alloc);
     let mut cells = Vec::new(alloc);
+    shown.reserve(rows.len(), rows.len().saturating_mul(width_of(rows)))?;
     for row in rows {
         show_row(at, row, &mut cells, &mut shown)?;
     }
     Ok(shown)
+}
+
+/// How many columns these rows have, which is the same for all rows of a table: 0 where there is no row.
+fn width_of(rows: &[Row]) -> usize {
+    match rows.first() {
+        Some(row) => row.vals.items().len().saturating_add(1),
+        None => 0,
+    }
 }
 
 /// Appends a row with all its columns. It is made where there is room for cells, of which none stays.

@@ -11,6 +11,18 @@ use ts_model::Fold;
 use ts_num::Datum;
 use ts_schema::NoMemory;
 
+/// Makes room for the result rows of so many groups.
+pub(crate) fn make_room(
+    plan: &Fold,
+    groups: usize,
+    shown: &mut CellRows<Datum>,
+) -> Result<(), NoMemory>
+    ensures same { shown.new ≡ shown.old }
+{
+    let others = plan.keys.len().saturating_add(plan.aggs.len());
+    shown.reserve(groups, groups.saturating_mul(others.saturating_add(1)))
+}
+
 /// Appends the result rows of these groups.
 pub(crate) fn show(
     alloc: Global,

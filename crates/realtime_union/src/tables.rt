@@ -8,7 +8,7 @@ ghost use Rattle.span_fold.specs.Spans.{HaveTimes};
 ghost use Rattle.realtime_union.specs.Live.{all_times};
 ghost use Rattle.realtime_union.specs.Whole.{all_reads};
 
-use crate::shown::show;
+use crate::shown::{make_room, show};
 use cell_rows::CellRows;
 use partial_agg::Group;
 use span_fold::fold_spans;
@@ -36,6 +36,7 @@ pub fn folded_rows<R: Threads + Sync, W: RowsAt, L>(
     let _so_far = steps.count();
     let groups = all_groups(rt, alloc, rows, table, plan, steps)?;
     let mut shown = CellRows::new(alloc);
+    make_room(plan, groups.len(), &mut shown)?;
     show(alloc, plan, groups.items(), &mut shown)?;
     Ok(shown)
 }

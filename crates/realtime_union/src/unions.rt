@@ -7,7 +7,7 @@ ghost use Rattle.ts_model.specs.Rows.{in_order};
 ghost use Rattle.span_fold.specs.Spans.{HaveTimes};
 ghost use Rattle.realtime_union.specs.Live.{IsLiveSpan, live_groups, live_reads, union_rows};
 
-use crate::shown::{show, show_each};
+use crate::shown::{make_room, show, show_each};
 use block_list::Iter;
 use cell_rows::CellRows;
 use partial_agg::Group;
@@ -44,6 +44,8 @@ pub fn union_rows<R: Threads + Sync, W: RowsAt, L>(
     let _so_far = steps.count();
     let live = live_of(rt, alloc, rows, def, live, steps)?;
     let mut shown = CellRows::new(alloc);
+    let count = kept.len().saturating_add(live.len());
+    make_room(&def.fold, count, &mut shown)?;
     show_each(alloc, &def.fold, kept, &mut shown)?;
     show(alloc, &def.fold, live.items(), &mut shown)?;
     Ok(shown)
