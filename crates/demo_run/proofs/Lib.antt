@@ -1,2 +1,3 @@
+pub mod DemoLaws
 mod RunLaws
 mod SumLaws

@@ -1,5 +1,5 @@
 -- What a run over an empty store comes to.
-use Rattle.std.proofs.Common.{◌≡◌, refl, sym, ap, subst, ◌∙◌, inl, ℕ, ◌≤◌, Bool, List, [], Option, None, Some, length, arith}
+use Rattle.std.proofs.Common.{◌≡◌, refl, ap, subst, ◌∙◌, inl, ℕ, ◌≤◌, true, List, [], Option, None, Some, length, arith}
 use Rattle.std.specs.Prelude.{IfOk, IfSome, IsSomeAnd, Result, Ok, Err}
 use Rattle.ts_schema.specs.Counts.{raised_by}
 use Rattle.ts_io.specs.declared.limits.TheConstants.{INPUT_LIMIT}
@@ -9,7 +9,7 @@ use Rattle.ts_store.specs.Stands.{Stands}
 use Rattle.script_run.specs.Runs.{Left, Ran, executed, reads_of}
 use Rattle.script_run.specs.declared.ends.RunEnd.{RunEnd}
 use Rattle.script_run.specs.declared.ends.RunEnd.TheVariants.{Done, Refused, ReadFault, WriteFault, DiskFault, NoMemory, InputLong}
-use Rattle.demo_run.specs.Runs.{RanLines, RanToEnd}
+use Rattle.demo_run.specs.Runs.{RanLines, is_whole}
 
 -- a file with no byte stands for the empty history
 pub empty_stands : Stands [] start
@@ -30,25 +30,23 @@ not_long end h None rest left within ran is = absurd within
 not_long end h (Some text) rest left within ran is = long_input end h text rest left within ran is
 
 -- a script that was run to its end led from the first history to the last
-led : (end : RunEnd) (refused : Bool) (h : History) (input : List ℕ) (rest : Option (List ℕ)) (left : Left) → left.read_before ≡ 0 → RanToEnd end refused → Ran end session_semantics h input rest left
-    → RanLines h (executed input) (record { refused = refused; reads = left.read }) left.store.history
-led Done refused h input rest left zeroth whole ran = record {
+led : (end : RunEnd) (h : History) (input : List ℕ) (rest : Option (List ℕ)) (left : Left) → left.read_before ≡ 0 → is_whole end ≡ true → Ran end session_semantics h input rest left
+    → RanLines h (executed input) left.read left.store.history
+led Done h input rest left zeroth whole ran = record {
   history = ran.1.history;
   reads = ran.1.counted ∙ ap (λ n. raised_by (reads_of session_semantics h (executed input)) n) zeroth;
-  refused = whole ∙ sym ran.2;
 }
-led Refused refused h input rest left zeroth whole ran = record {
+led Refused h input rest left zeroth whole ran = record {
   history = ran.1.history;
   reads = ran.1.counted ∙ ap (λ n. raised_by (reads_of session_semantics h (executed input)) n) zeroth;
-  refused = whole ∙ sym ran.2;
 }
-led ReadFault refused h input rest left zeroth whole ran = absurd whole
-led WriteFault refused h input rest left zeroth whole ran = absurd whole
-led DiskFault refused h input rest left zeroth whole ran = absurd whole
-led NoMemory refused h input rest left zeroth whole ran = absurd whole
-led InputLong refused h input rest left zeroth whole ran = absurd whole
+led ReadFault h input rest left zeroth whole ran = absurd (cc whole)
+led WriteFault h input rest left zeroth whole ran = absurd (cc whole)
+led DiskFault h input rest left zeroth whole ran = absurd (cc whole)
+led NoMemory h input rest left zeroth whole ran = absurd (cc whole)
+led InputLong h input rest left zeroth whole ran = absurd (cc whole)
 
-pub ran_lines : (end : RunEnd) (refused : Bool) (h : History) (input rest : Option (List ℕ)) (left : Left) → left.read_before ≡ 0 → RanToEnd end refused → IfSome input (λ text. Ran end session_semantics h text rest left)
-    → IfSome input (λ text. RanLines h (executed text) (record { refused = refused; reads = left.read }) left.store.history)
-ran_lines end refused h None rest left zeroth whole ran = tt
-ran_lines end refused h (Some text) rest left zeroth whole ran = led end refused h text rest left zeroth whole ran
+pub ran_lines : (end : RunEnd) (h : History) (input rest : Option (List ℕ)) (left : Left) → left.read_before ≡ 0 → is_whole end ≡ true → IfSome input (λ text. Ran end session_semantics h text rest left)
+    → IfSome input (λ text. RanLines h (executed text) left.read left.store.history)
+ran_lines end h None rest left zeroth whole ran = tt
+ran_lines end h (Some text) rest left zeroth whole ran = led end h text rest left zeroth whole ran

@@ -1,12 +1,12 @@
 //! The script over an empty store.
-ghost use Rattle.std.specs.Prelude.{◌≡◌, ◌≢◌, ◌≤◌, None, false, length, IfOk, IfSome, IsSomeAnd};
+ghost use Rattle.std.specs.Prelude.{◌≡◌, ◌≢◌, ◌≤◌, None, true, false, length, IfOk, IfSome, IsSomeAnd};
 ghost use Rattle.ts_io.specs.declared.limits.TheConstants.{INPUT_LIMIT};
 ghost use Rattle.ts_model.specs.History.{start};
 ghost use Rattle.ts_store.specs.Stores.{seen};
 ghost use Rattle.script_run.specs.Runs.{executed};
 ghost use Rattle.script_run.specs.declared.ends.RunEnd.TheVariants as ends;
 ghost use Rattle.demo_script.specs.Demo.{demo_lines};
-ghost use Rattle.demo_run.specs.Runs.{RanLines, RanToEnd};
+ghost use Rattle.demo_run.specs.Runs.{RanLines, is_whole};
 
 use demo_script::demo_script;
 use engine_core::Shot;
@@ -23,15 +23,6 @@ use txn_journal::Append;
 /// What is counted: the stored rows that answers and refreshes look at.
 #[derive(Drop)]
 struct Reads;
-
-/// What a script did that was run to its end.
-#[derive(Drop, Debug)]
-pub(crate) struct Ran {
-    /// Whether a reply is a FAULT.
-    pub refused: bool,
-    /// How many stored rows were looked at.
-    pub reads: u64,
-}
 
 /// A store on a disk in memory that starts empty. Its journal has a header.
 pub(crate) fn empty_store<R: Threads + Sync>(
@@ -62,16 +53,17 @@ fn with_header<D: Disk + Drop>(mut store: Store<D>) -> Result<Store<D>, NoMemory
     }
 }
 
-/// Runs the script of a demonstration over a store that is empty. Its replies go to a sink in memory.
+/// Runs the script of a demonstration over a store that is empty, and tells how many stored rows it looked at.
+/// Its replies go to a sink in memory.
 pub(crate) fn run_script<R: Threads + Sync, D: Disk>(
     rt: &R,
     alloc: Global,
     number: u32,
     store: &mut Store<D>,
-) -> Result<Ran, NoMemory>
+) -> Result<u64, NoMemory>
     requires empty { seen store.old ≡ start }
     requires goes_on { store.old.failed ≡ None }
-    ensures { IfOk result (λ ran. RanLines start (demo_lines number) ran (seen store.new)) }
+    ensures { IfOk result (λ read. RanLines start (demo_lines number) read (seen store.new)) }
 {
     let script = demo_script(alloc, number)?;
     let mut source = MemSource::new(script, usize::MAX, Vec::new(alloc));
@@ -79,39 +71,35 @@ pub(crate) fn run_script<R: Threads + Sync, D: Disk>(
     run_source(rt, alloc, &mut source, &mut sink, store)
 }
 
-/// Runs the script of a source over a store that goes on.
+/// Runs the script of a source over a store that goes on, and tells how many stored rows it looked at.
 fn run_source<R: Threads + Sync, S: Source, K: Sink, D: Disk>(
     rt: &R,
     alloc: Global,
     source: &mut S,
     sink: &mut K,
     store: &mut Store<D>,
-) -> Result<Ran, NoMemory>
+) -> Result<u64, NoMemory>
     requires untold { S.ended source.old ≡ false }
     requires within { IsSomeAnd (S.left source.old) (λ input. length input ≤ INPUT_LIMIT) }
     requires goes_on { store.old.failed ≡ None }
     ensures { IfSome (S.left source.old) (λ input.
-        IfOk result (λ ran. RanLines (seen store.old) (executed input) ran (seen store.new))) }
+        IfOk result (λ read. RanLines (seen store.old) (executed input) read (seen store.new))) }
 {
     let mut steps = Steps::new(Reads);
     let end = script_run::run::<Session<Shot>, R, Store<D>, S, K, Reads>(
         rt, alloc, store, source, sink, &mut steps,
     );
-    Ok(Ran {
-        refused: is_refused(end)?,
-        reads: steps.count(),
-    })
+    to_end(end)?;
+    Ok(steps.count())
 }
 
-/// Whether a reply to a script is a FAULT that was run to its end. What is in memory fails for want of it
-/// alone.
-fn is_refused(end: RunEnd) -> Result<bool, NoMemory>
+/// Whether a script was run to its end. What is in memory fails for want of it alone.
+fn to_end(end: RunEnd) -> Result<(), NoMemory>
     requires { end ≢ ends.InputLong }
-    ensures { IfOk result (RanToEnd end) }
+    ensures { IfOk result (λ _. is_whole end ≡ true) }
 {
     match end {
-        RunEnd::Done => Ok(false),
-        RunEnd::Refused => Ok(true),
+        RunEnd::Done | RunEnd::Refused => Ok(()),
         RunEnd::ReadFault | RunEnd::WriteFault | RunEnd::DiskFault | RunEnd::NoMemory => {
             Err(NoMemory)
         }

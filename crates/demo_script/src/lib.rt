@@ -15,6 +15,7 @@ mod rows;
 mod scripts;
 mod texts;
 
+pub use lines::Line;
 pub use scripts::{demo_line, demo_script};
 
 #[cfg(test)]

@@ -5,7 +5,7 @@ ghost use Rattle.demo_script.specs.Lines.{text_of, IsInRound};
 
 /// A line of the script.
 #[derive(Clone, Copy, Debug, PartialEq, Eq)]
-pub(crate) enum Line {
+pub enum Line {
     /// The table is made.
     Table,
     /// It becomes a hypertable.

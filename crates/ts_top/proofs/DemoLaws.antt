@@ -9,7 +9,7 @@ use Rattle.ts_top.specs.Outcomes.{Outside}
 module _ (demo : ℕ) (unprinted : Type 0) (o : Outside) where
   pub no_read_fault : (status : Status) → DemoTo demo status unprinted o → is_read_fault status ≡ false
   no_read_fault Done shown = refl
-  no_read_fault Refused shown = refl
+  no_read_fault Refused shown = absurd shown
   no_read_fault BadWords shown = refl
   no_read_fault ReadFault shown = absurd shown
   no_read_fault WriteFault shown = refl
@@ -20,7 +20,7 @@ module _ (demo : ℕ) (unprinted : Type 0) (o : Outside) where
 
   pub no_disk_fault : (status : Status) → DemoTo demo status unprinted o → is_disk_fault status ≡ false
   no_disk_fault Done shown = refl
-  no_disk_fault Refused shown = refl
+  no_disk_fault Refused shown = absurd shown
   no_disk_fault BadWords shown = refl
   no_disk_fault ReadFault shown = refl
   no_disk_fault WriteFault shown = refl
@@ -31,7 +31,7 @@ module _ (demo : ℕ) (unprinted : Type 0) (o : Outside) where
 
   good_words : (status : Status) → DemoTo demo status unprinted o → status ≡ BadWords → ⊥
   good_words Done shown bad = cc bad
-  good_words Refused shown bad = cc bad
+  good_words Refused shown bad = absurd shown
   good_words BadWords shown bad = shown
   good_words ReadFault shown bad = cc bad
   good_words WriteFault shown bad = cc bad

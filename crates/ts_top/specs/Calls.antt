@@ -1,5 +1,5 @@
 -- What the top call has done, by what it was asked for.
-use Rattle.std.specs.Prelude.{◌≡◌, ℕ, Bool, true, false, List, Option, None, Some, ⊤}
+use Rattle.std.specs.Prelude.{◌≡◌, ℕ, Bool, false, List, Option, None, Some, ⊤}
 use Rattle.std.specs.Io.KnownBytes.{Appends}
 use Rattle.ts_io.specs.Faults.{Counted}
 use Rattle.ts_io.specs.Whole.{AppendsPart}
@@ -7,21 +7,22 @@ use Rattle.demo_run.specs.Demos.{demo_summary, is_refused_demo, reads_of_demo}
 use Rattle.ts_top.specs.declared.commands.Command.{Command}
 use Rattle.ts_top.specs.declared.commands.Command.TheVariants.{Run, Par, Demo, Print}
 use Rattle.ts_top.specs.declared.endings.Status.{Status}
-use Rattle.ts_top.specs.declared.endings.Status.TheVariants.{Done, Refused, BadWords, WriteFault, DiskFault, NoMemory}
+use Rattle.ts_top.specs.declared.endings.Status.TheVariants.{Done, BadWords, WriteFault, DiskFault, NoMemory}
 use Rattle.ts_top.specs.Endings.{is_write_fault}
 use Rattle.ts_top.specs.Logs.{text_of}
 use Rattle.ts_top.specs.Outcomes.{Outside, PrintedTo, RanTo, Untouched}
 use Rattle.ts_top.specs.Parallel.{ParTo}
 
--- the demonstration with a number has printed its summary, or a part of it, and looked at so many stored rows
+-- the demonstration with a number has printed its summary, or a part of it; no reply to its script is a FAULT, and it has looked at as many stored rows as all others
 pub record DemoShown (demo : ℕ) (Wrote : List ℕ → Type 0) (o : Outside) : Type 0 where
   pub wrote : Wrote (demo_summary demo)
+  pub answered : is_refused_demo demo ≡ false
   pub counted : o.reads ≡ reads_of_demo demo
+  pub alike : o.reads ≡ 39600
 
 -- what the demonstration with a number has done that ended so
 abbrev pub DemoTo : ℕ → Status → Type 0 → Outside → Type 0
-DemoTo demo Done unprinted o = (is_refused_demo demo ≡ false) × DemoShown demo (Appends o.written_before o.written) o
-DemoTo demo Refused unprinted o = (is_refused_demo demo ≡ true) × DemoShown demo (Appends o.written_before o.written) o
+DemoTo demo Done unprinted o = DemoShown demo (Appends o.written_before o.written) o
 DemoTo demo WriteFault unprinted o = DemoShown demo (AppendsPart o.written_before o.written) o
 DemoTo demo NoMemory unprinted o = unprinted
 DemoTo demo other unprinted o = ⊥

@@ -2,7 +2,6 @@
 use Rattle.std.specs.Prelude.{Bool, true, false, Result, Ok, Err}
 use Rattle.ts_top.specs.declared.endings.Status.{Status}
 use Rattle.ts_top.specs.declared.endings.Status.TheVariants as status
-use Rattle.ts_top.specs.Endings.{status_answered}
 use Rattle.ts_top.specs.declared.prints.Stop.{Stop}
 use Rattle.ts_top.specs.declared.prints.Stop.TheVariants.{WriteFault, NoMemory}
 
@@ -21,7 +20,7 @@ status_of_print (Ok done) = status.Done
 status_of_print (Err WriteFault) = status.WriteFault
 status_of_print (Err NoMemory) = status.NoMemory
 
--- how the call ends whose summary was written or not, with a FAULT among the replies or without one
-abbrev pub status_of_shown : {T E : Type 0} → Result T E → Bool → Status
-status_of_shown (Ok done) refused = status_answered refused
-status_of_shown (Err failed) refused = status.WriteFault
+-- how the call ends whose summary was written or not
+abbrev pub status_of_shown : {T E : Type 0} → Result T E → Status
+status_of_shown (Ok done) = status.Done
+status_of_shown (Err failed) = status.WriteFault

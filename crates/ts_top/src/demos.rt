@@ -5,7 +5,7 @@ ghost use Rattle.ts_top.specs.Calls.{DemoTo};
 ghost use Rattle.ts_top.specs.Endings.{is_write_fault};
 ghost use Rattle.ts_top.specs.Stops.{status_of_shown};
 
-use crate::endings::{Ended, Status, status_answered};
+use crate::endings::{Ended, Status};
 use demo_run::demo;
 use std::alloc::Global;
 use std::thread::Threads;
@@ -15,6 +15,7 @@ use ts_schema::NoMemory;
 
 /// Runs the script of the demonstration with this number over a memory disk of its own, and prints the
 /// summary. The disk handed in isn't touched.
+#[tactic(auto, using(demo_run::proofs::DemoLaws::never_refused))]
 pub(crate) fn print_demo<R: Threads + Sync, K: Sink, D: Disk>(
     rt: &R,
     alloc: Global,
@@ -40,7 +41,7 @@ pub(crate) fn print_demo<R: Threads + Sync, K: Sink, D: Disk>(
         Ok(shown) => {
             let written = write_whole(sink, shown.text.items());
             Ended {
-                status: status_of_shown(written, shown.refused),
+                status: status_of_shown(written),
                 disk,
                 reads: shown.reads,
             }
@@ -53,12 +54,12 @@ pub(crate) fn print_demo<R: Threads + Sync, K: Sink, D: Disk>(
     }
 }
 
-/// How the call ends whose summary was written or not, with a FAULT among the replies or without one.
-fn status_of_shown(written: Result<(), WriteFault>, refused: bool) -> Status
-    ensures { result ≡ status_of_shown written refused }
+/// How the call ends whose summary was written or not.
+fn status_of_shown(written: Result<(), WriteFault>) -> Status
+    ensures { result ≡ status_of_shown written }
 {
     match written {
-        Ok(()) => status_answered(refused),
+        Ok(()) => Status::Done,
         Err(WriteFault) => Status::WriteFault,
     }
 }

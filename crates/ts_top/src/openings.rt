@@ -29,7 +29,8 @@ fn armed<D: Disk>(mut store: Store<D>) -> Result<Store<D>, Ended<D>>
         → IfSome before (λ file. Stands file (seen store))
         → (IsDurable D.bytes D.may_leave store.begun → Rests D.bytes D.may_leave store)
         → Keeps D.bytes D.may_leave D.moment D.left_since store.begun store.journal.disk
-        → NotOpened end.status (IsDurable D.bytes D.may_leave store.begun) (D.left_since end.disk (D.moment store.begun))
+        → NotOpened end.status
+        (IsDurable D.bytes D.may_leave store.begun) (D.left_since end.disk (D.moment store.begun))
         ⊥ before (D.bytes end.disk)) }
     ensures unread { IfErr result (λ end. end.reads ≡ 0) }
     ensures disk { IfErr result (λ end.

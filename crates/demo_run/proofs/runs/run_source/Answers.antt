@@ -6,8 +6,8 @@ use Rattle.demo_run.specs.Runs.{RanLines}
 use Rattle.demo_run.proofs.RunLaws.{not_long, ran_lines}
 use Rattle.demo_run.proofs.runs.run_source.Goals as goal
 
-pub is_refused-requires : goal.is_refused-requires
-is_refused-requires g c =
+pub to_end-requires : goal.to_end-requires
+to_end-requires g c =
     let S = g.S.Source in
     let K = g.K.Sink in
     let D = g.D.Disk in
@@ -23,7 +23,6 @@ returns g c =
     let run = c.run-end in
     let old = seen c.args.store.now in
     let new = seen run.new.backend in
-    let refused = c.in_ok-is_refused.field-0 in
     let left : Left = record { store = state_of D.faults D.moment run.new.backend; written_before = K.written c.args.sink.now; written = K.written run.new.sink; read_before = c.new-steps.result; read = run.new.steps } in
-    subst (λ n. IfSome (S.left c.args.source.now) (λ text. RanLines old (executed text) (record { refused = refused; reads = n }) new)) (sym c.count.ensures.count)
-    (ran_lines run.result refused old (S.left c.args.source.now) (S.left run.new.source) left c.new-steps.ensures.zero c.in_ok-is_refused.ensures run.ensures.ran)
+    subst (λ n. IfSome (S.left c.args.source.now) (λ text. RanLines old (executed text) n new)) (sym c.count.ensures.count)
+    (ran_lines run.result old (S.left c.args.source.now) (S.left run.new.source) left c.new-steps.ensures.zero c.in_ok-to_end.ensures run.ensures.ran)

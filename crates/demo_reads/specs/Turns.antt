@@ -1,0 +1,27 @@
+-- What an action of a session outside a block comes to.
+use Rattle.std.specs.Prelude.{◌≡◌, ℕ, zero, suc, false}
+use Rattle.ts_model.specs.History.{History}
+use Rattle.stmt_check.specs.declared.actions.Action.{Action}
+use Rattle.ts_sessions.specs.Places.{none, Places, Turn}
+use Rattle.ts_sessions.specs.Procedures.{Procedure}
+use Rattle.ts_sessions.specs.Script.{has_fault}
+use Rattle.ts_sessions.specs.Step.{acts}
+use Rattle.ts_sessions.specs.Walks.{history_after, ending}
+
+-- over a history that nobody else changes, a procedure leaves this one, looks at so many stored rows and says no FAULT,
+-- and its session is outside a block
+pub record Passes (procedure : Procedure (Turn Places)) (h new : History) (read : ℕ) : Type 0 where
+  pub after : history_after procedure h ≡ new
+  pub reads : (ending procedure h).reads ≡ read
+  pub fault : has_fault (ending procedure h).said ≡ false
+  pub outside : (ending procedure h).places.block ≡ none
+
+-- so does an action of a session outside a block, whatever else the session carries, and from a text of whatever length
+abbrev pub Does : History → Action → History → ℕ → Type 0
+Does h action new read = (p : Places) (bytes : ℕ) → p.block ≡ none → Passes (acts p bytes h action) h new read
+
+-- a refresh looks at the rows in the chunk of the round before: ten that came late, and 490 that came in time where
+-- there is such a round
+abbrev pub refresh_reads : ℕ → ℕ
+refresh_reads zero = 10
+refresh_reads (suc round) = 500
