@@ -22,7 +22,7 @@ feed: INSERT INTO load VALUES (6, 20)
 feed: INSERT INTO load VALUES (26, 53)
 END
 
-# The first run has ended before the second begins: two at once in one folder aren't kept apart.
+# The first run has ended before the second begins: one at a time may write in a folder.
 refreshes="$(refreshes_of tens)"
 echo "$refreshes"
 echo "$refreshes" | tsctl run

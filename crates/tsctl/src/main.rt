@@ -6,7 +6,6 @@ use std::alloc::Global;
 use std::env;
 use std::fs::{File, Files};
 use std::io::{self, ErrorKind};
-use std::os::unix::fs::FileExt;
 use std::process::ExitCode;
 use std::rt::Env;
 use std::sync::Wait;
@@ -51,12 +50,16 @@ fn words<R: Env + AllocGlobal>(rt: &R) -> io::Result<Vec<String>> {
     Ok(env::args(rt)?.skip(1).collect(rt.alloc())?)
 }
 
-/// The file of the journal. One is made where there is none for a command that writes, and only read for
-/// others.
-fn open<R: Files>(rt: &R, writes: bool) -> io::Result<R::File> {
+/// The file of the journal. For a command that writes, one is made where there is none, and no other run may
+/// hold it. Others only read it.
+fn open<R: Files<File = File>>(rt: &R, writes: bool) -> io::Result<File> {
     let mut options = File::options();
     options.read(true).write(writes).create(writes);
-    options.open(rt, JOURNAL)
+    let file = options.open(rt, JOURNAL)?;
+    if writes {
+        file.try_lock()?;
+    }
+    Ok(file)
 }
 
 /// Does what the words ask for over this disk.
@@ -71,11 +74,11 @@ where
 }
 
 /// Does what the words ask for over the journal's file. One that isn't there is an empty disk for a command
-/// that only reads, and one that can't be opened a disk whose every call fails and is counted.
+/// that only reads, and one that can't be opened, or that another run holds, a disk whose every call fails and
+/// is counted.
 fn run<R>(rt: &R, words: &[String]) -> Status
 where
-    R: Input + Print + Threads + Wait + Sync + Files + AllocGlobal,
-    R::File: FileExt + Send,
+    R: Input + Print + Threads + Wait + Sync + Files<File = File> + AllocGlobal,
 {
     // Where standard input, output or error is closed, the next file that is opened gets its number, and
     // replies would go into the journal. These three take such numbers first: a write to one of them fails.
@@ -101,8 +104,7 @@ where
 /// Does what the words of the command line ask for. Words that are no text ask for nothing.
 fn run_command_line<R>(rt: &R) -> Status
 where
-    R: Env + Input + Print + Threads + Wait + Sync + Files + AllocGlobal,
-    R::File: FileExt + Send,
+    R: Env + Input + Print + Threads + Wait + Sync + Files<File = File> + AllocGlobal,
 {
     match words(rt) {
         Ok(words) => run(rt, &words),
