@@ -35,7 +35,11 @@ impl Model for Chunks {
 
     ghost Value = { ChunksValue };
 
-    ghost view = { λ c. record { interval = c.interval; versions = versions_of c.tree.0; levels = c.tree.1.chunks + c.tree.1.segments } };
+    ghost view = { λ c. record {
+      interval = c.interval;
+      versions = versions_of c.tree.0;
+      levels = c.tree.1.chunks + c.tree.1.segments;
+    } };
 
     ghost invariant = { λ c. IsKept c.interval c.tree.0 c.count };
 }

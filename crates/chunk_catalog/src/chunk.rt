@@ -138,9 +138,12 @@ impl Chunk {
     ) -> Result<KilledChunk, NoMemory>
         requires countable { length self.now.versions < 2 ^ 64 }
         ensures levels { IfOk result (λ k. k.chunk.levels ≡ self.now.levels) }
-        ensures after { IfOk result (λ k. placed_in k.chunk ≡ map (after_kill_in reach pos tests.now) (placed_in self.now)) }
-        ensures removed { IfOk result (λ k. k.removed ≡ length (taken_at pos tests.now (reached reach (placed_in self.now)))) }
-        ensures hull { IfOk result (λ k. k.hull ≡ hull_of (taken_at pos tests.now (reached reach (placed_in self.now)))) }
+        ensures after { IfOk result (λ k.
+            placed_in k.chunk ≡ map (after_kill_in reach pos tests.now) (placed_in self.now)) }
+        ensures removed { IfOk result (λ k.
+            k.removed ≡ length (taken_at pos tests.now (reached reach (placed_in self.now)))) }
+        ensures hull { IfOk result (λ k.
+            k.hull ≡ hull_of (taken_at pos tests.now (reached reach (placed_in self.now)))) }
     {
         if reach.holds(self.start) {
             return self.kill(alloc, tests, pos);

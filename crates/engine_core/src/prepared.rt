@@ -24,7 +24,12 @@ impl Model for Prepared {
 
     ghost Value = { PreparedValue };
 
-    ghost view = { λ p. record { event = p.event; state = arc_value p.state; inserted = p.inserted; removed = p.removed } };
+    ghost view = { λ p. record {
+      event = p.event;
+      state = arc_value p.state;
+      inserted = p.inserted;
+      removed = p.removed;
+    } };
 }
 
 impl Prepared {

@@ -35,7 +35,13 @@ impl Model for Parts {
 
     ghost Value = { StateValue };
 
-    ghost view = { λ s. record { position = s.position; roster = arc_value s.roster; tables = s.tables; views = s.views; refreshes = s.refreshes } };
+    ghost view = { λ s. record {
+      position = s.position;
+      roster = arc_value s.roster;
+      tables = s.tables;
+      views = s.views;
+      refreshes = s.refreshes;
+    } };
 }
 
 impl Parts {

@@ -35,7 +35,12 @@ impl Model for ViewState {
 
     ghost Value = { ViewValue };
 
-    ghost view = { λ v. record { table = v.parts.value.table; log = v.parts.value.log; groups = v.parts.value.groups; mark = v.parts.value.mark } };
+    ghost view = { λ v. record {
+      table = v.parts.value.table;
+      log = v.parts.value.log;
+      groups = v.parts.value.groups;
+      mark = v.parts.value.mark;
+    } };
 }
 
 impl Clone for ViewState {

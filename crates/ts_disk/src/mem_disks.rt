@@ -41,7 +41,9 @@ impl Model for MemDisk {
 
     ghost view = { λ d. record { first = d.first.items; acts = d.acts.items; faults = d.faults } };
 
-    ghost invariant = { λ d. ((if d.is_changed then d.bytes.items else d.first.items) ≡ (state_after (at_rest d.first.items) d.acts.items).now)
+    ghost invariant = { λ d.
+        ((if d.is_changed then d.bytes.items else d.first.items)
+        ≡ (state_after (at_rest d.first.items) d.acts.items).now)
         × all_within (at_rest d.first.items) d.acts.items };
 }
 

@@ -32,7 +32,8 @@ struct Replayed {
 fn replay(alloc: Global, first: &[u8], acts: &[Act]) -> Result<Replayed, NoMemory>
     ensures within { IfOk result (λ r. r.since ≤ length acts.now) }
     ensures synced { IfOk result (λ r. r.synced.items ≡ (state_after (at_rest first.now) acts.now).synced) }
-    ensures writes { IfOk result (λ r. pieces_of (drop r.since acts.now) ≡ (state_after (at_rest first.now) acts.now).writes) }
+    ensures writes { IfOk result (λ r.
+        pieces_of (drop r.since acts.now) ≡ (state_after (at_rest first.now) acts.now).writes) }
 {
     let mut synced = Vec::from_slice(alloc, first)?;
     let mut now = Vec::from_slice(alloc, first)?;

@@ -22,5 +22,7 @@ pub trait RowsAt {
     fn scan<L>(&self, table: u32, span: Span, steps: &mut Steps<L>) -> Result<Seq<Row>, NoMemory>
         ensures rows { IfOk result (λ found. in_order found
             ≡ in_order (filter (λ row. in_span span row.at) (visible self.now table))) }
-        ensures read { Ticks result (rows_near (interval self.now table) (stored self.now table) (span ∷ [])) steps.old steps.new };
+        ensures read { Ticks result
+            (rows_near (interval self.now table) (stored self.now table) (span ∷ []))
+            steps.old steps.new };
 }

@@ -70,5 +70,6 @@ pub trait Shown {
 
     ghost fits_on: { (job : Self.Job) (g h : History) → Begins g h → fits job g → fits job h };
 
-    ghost fits_soundly: { (job : Self.Job) (h : History) → fits job h → IsTrue (sound h (Built (cut_of job) (snap_of job))) };
+    ghost fits_soundly: { (job : Self.Job) (h : History)
+        → fits job h → IsTrue (sound h (Built (cut_of job) (snap_of job))) };
 }

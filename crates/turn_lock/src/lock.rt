@@ -30,7 +30,11 @@ impl<V: Grown> Model for TurnLock<V> {
 
     ghost Value = { Guarded V };
 
-    ghost view = { λ l. record { lock = l.table.shared.table_id; opened = l.table.shared.key.value.value; shares = l.table.shared.key.shares } };
+    ghost view = { λ l. record {
+      lock = l.table.shared.table_id;
+      opened = l.table.shared.key.value.value;
+      shares = l.table.shared.key.shares;
+    } };
 
     ghost invariant = { λ l. (l.table.shared.table_id.words ≡ 3) × (l.table.shared.table_id.slots ≡ 1) };
 }

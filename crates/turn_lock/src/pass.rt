@@ -28,7 +28,9 @@ impl<V: Grown> Model for Pass<V> {
 
     ghost view = { λ p. record { lock = p.seat.table_id; knows = p.seat.me.0; taken = p.seat.me.1 } };
 
-    ghost invariant = { λ p. (p.shares ≡ p.seat.me.0.shares) × (0 < p.shares) × (p.position ≡ end_of (start_of V.first p.seat.me.0.base) p.seat.me.0.seen) };
+    ghost invariant = { λ p.
+        (p.shares ≡ p.seat.me.0.shares) × (0 < p.shares)
+        × (p.position ≡ end_of (start_of V.first p.seat.me.0.base) p.seat.me.0.seen) };
 }
 
 impl<V: Grown> Pass<V> {

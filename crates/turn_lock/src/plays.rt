@@ -13,7 +13,8 @@ impl<V: Grown> TableRule<Option<V>, Knows<V::Base, V::Entry>, Opening<V>> for Tu
 
     ghost holds = { Kept V.base V.first V.events V.closed };
 
-    ghost first = { λ key. fresh key.shares (V.base key.value.value) (V.events key.value.value) (V.closed key.value.value) };
+    ghost first = { λ key.
+        fresh key.shares (V.base key.value.value) (V.events key.value.value) (V.closed key.value.value) };
 }
 
 /// Takes the next ticket.

@@ -19,7 +19,8 @@ impl Model for Frame {
 
     ghost view = { λ f. payload_of f.bytes.items };
 
-    ghost invariant = { λ f. (f.bytes.items ≡ body (payload_of f.bytes.items) ++ 0 ∷ []) × Fits (payload_of f.bytes.items) };
+    ghost invariant = { λ f.
+        (f.bytes.items ≡ body (payload_of f.bytes.items) ++ 0 ∷ []) × Fits (payload_of f.bytes.items) };
 }
 
 impl Frame {
