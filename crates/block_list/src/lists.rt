@@ -37,7 +37,10 @@ impl<T> Model for BlockList<T> {
 
     ghost coded = { list_value_code T.code };
 
-    ghost view = { λ l. record { items = l.blocks ++ (shared_if l.newest ++ l.own.items); room = room_of (vec_len l.own) (vec_capacity l.own) } };
+    ghost view = { λ l. record {
+      items = l.blocks ++ (shared_if l.newest ++ l.own.items);
+      room = room_of (vec_len l.own) (vec_capacity l.own);
+    } };
 
     ghost invariant = { λ l. (length (shared_if l.newest) ≤ block_len) × (vec_len l.own ≤ block_len) };
 }

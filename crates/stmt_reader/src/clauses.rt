@@ -99,7 +99,8 @@ impl Reader<'_> {
         front: CellRows<Option<i64>>,
         room: Seq<Option<i64>>,
     ) -> Result<CellRows<Option<i64>>, ReadError>
-        ensures { Gives result (spec.more (spec.parts separators.Comma) spec.row front (ahead self.old)) (ahead self.new) }
+        ensures { Gives result
+            (spec.more (spec.parts separators.Comma) spec.row front (ahead self.old)) (ahead self.new) }
     {
         let mut rows = front;
         let mut values = room;
