@@ -4,17 +4,19 @@ use Rattle.std.specs.List.{filter, list_all}
 use Rattle.std.specs.Prelude.{int_le, int_lt}
 use Rattle.std.proofs.lemmas.Int.{ints}
 use Rattle.std.proofs.lemmas.List.Sums.{length-filter}
+use Rattle.std.proofs.Math.Bool.{and-false}
+use Rattle.std.proofs.lemmas.Bool.{false_from_ne_true}
 use Rattle.ts_bucket.specs.Spans.{SpanValue, in_span}
 use Rattle.ts_schema.specs.declared.conditions.Test.{Test}
 use Rattle.ts_schema.specs.Conditions.{passes_all}
 use Rattle.seg_rows.specs.Versions.{Version, visible_at, shown_at, rows_of, rows_at, is_taken, taken_at, after_kill}
-use Rattle.seg_rows.proofs.VersionLaws.{and_first, and_second}
 use Rattle.chunk_catalog.specs.declared.reach.Reach.{Reach}
 use Rattle.chunk_catalog.specs.Reach.{in_reach}
 use Rattle.chunk_catalog.specs.Chunks.{chunk_meets, is_near, held_near, is_dropped, dropped_at, after_drop}
 use Rattle.ts_bucket.specs.Chunks.{IsInterval, chunk_start}
 use Rattle.chunk_catalog.specs.Places.{Placed, place, versions_of, reached, after_kill_in, is_placed, ArePlaced}
-use Rattle.chunk_catalog.proofs.ReachLaws.{lies, start_low, false_unless, not_both}
+use Rattle.chunk_catalog.proofs.ReachLaws.{lies, start_low, not_both}
+use Rattle.ts_schema.proofs.Cases.{and_first, and_second}
 
 reached-cons : (r : Reach) (x : Placed) (ps : List Placed) → reached r (x ∷ ps) ≡ cond (in_reach r x.start) (x.version ∷ reached r ps) (reached r ps)
 reached-cons r x ps = elim (in_reach r x.start) as (λ b. versions_of (cond b (x ∷ filter (λ y. in_reach r y.start) ps) (filter (λ y. in_reach r y.start) ps)) ≡ cond b (x.version ∷ reached r ps) (reached r ps)) [
@@ -34,10 +36,6 @@ filter_reached interval q r (x ∷ ps) out placed =
     ap (filter q) (reached-cons r x ps)
     ∙ filter_step (in_reach r x.start) q x.version (reached r ps) (versions_of ps) (out x (and_first (is_placed interval x) (list_all (is_placed interval) ps) placed))
     (filter_reached interval q r ps out (and_second (is_placed interval x) (list_all (is_placed interval) ps) placed))
-
-never : (a : Bool) → (a && false) ≡ false
-never true = refl
-never false = refl
 
 killed_step : (b t : Bool) (x : Placed) (died : Version) (ps : List Placed) (vs : List Version) → (b ≡ false → t ≡ false) → versions_of ps ≡ vs
     → versions_of (cond b (place x.start (cond t died x.version)) x ∷ ps) ≡ cond t died x.version ∷ vs
@@ -69,7 +67,7 @@ module _ (interval : ℤ) (r : Reach) (wide : IsInterval interval) where
         let apart : chunk_meets interval span x.start ≡ false = sym (met x.start (start_low interval x wide here)) ∙ out in
         let after : x.start ≤ℤ x.version.row.at = here.at_or_after in
         let before = here.before_end in
-        false_unless (shown_at p span x.version) (λ shown.
+        false_from_ne_true (shown_at p span x.version) (λ shown.
         let inside : in_span span x.version.row.at ≡ true = and_second (visible_at p x.version) (in_span span x.version.row.at) shown in
         meets_at interval span x.start x.version.row.at after before inside apart)
 
@@ -87,7 +85,7 @@ module _ (interval : ℤ) (r : Reach) (wide : IsInterval interval) where
 
   module _ (tests : List Test) (missed : (x : Placed) → is_placed interval x ≡ true → in_reach r x.start ≡ false → passes_all x.version.row tests ≡ false) where
     not_taken : (p : ℕ) (x : Placed) → is_placed interval x ≡ true → in_reach r x.start ≡ false → is_taken p tests x.version ≡ false
-    not_taken p x placed out = rw (missed x placed out) (never (visible_at p x.version))
+    not_taken p x placed out = rw (missed x placed out) (and-false (visible_at p x.version))
 
     pub taken_reached : (p : ℕ) (ps : List Placed) → ArePlaced interval ps → taken_at p tests (reached r ps) ≡ taken_at p tests (versions_of ps)
     taken_reached p ps placed = ap rows_of (filter_reached interval (is_taken p tests) r ps (not_taken p) placed)

@@ -4,15 +4,15 @@ use Rattle.std.specs.List.{list_all, count_by}
 use Rattle.std.specs.Ordering.{int_eq}
 use Rattle.std.proofs.lemmas.Bool.Decides.{Decides-int_eq}
 use Rattle.std.proofs.lemmas.List.{map-append, drop_more, drop_all}
-use Rattle.std.proofs.lemmas.List.Sums.{sum_by-append, sum_by-cons}
+use Rattle.std.proofs.lemmas.List.Sums.{sum_by-cons}
 use Rattle.ts_schema.specs.declared.rows.Row.{Row}
 use Rattle.ts_bucket.specs.Bucket.{is_time}
 use Rattle.seg_rows.specs.Versions.{AsOften, newborn}
-use Rattle.seg_rows.proofs.VersionLaws.{and_first, and_second}
 use Rattle.chunk_catalog.specs.Chunks.{HaveTimes}
 use Rattle.ts_bucket.specs.Chunks.{chunk_start}
 use Rattle.chunk_catalog.specs.Places.{Placed, in_chunk, versions_of, is_placed, ArePlaced}
 use Rattle.chunk_catalog.specs.Parts.{AreIn, placed_row, placed_rows}
+use Rattle.ts_schema.proofs.Cases.{and_first, and_second, count-append}
 
 -- a test passes all where it counts none that fails
 pub all_from_count : {X : Type 0} (p : X → Bool) (xs : List X) → count_by (λ x. not (p x)) xs ≡ 0 → list_all p xs ≡ true
@@ -37,9 +37,6 @@ count_all (x ∷ xs) = sum_by-cons (λ y. 1) x xs ∙ omega (arith, count_all xs
 pub count_map : {X Y : Type 0} (f : X → Y) (p : Y → Bool) (xs : List X) → count_by p (map f xs) ≡ count_by (λ x. p (f x)) xs
 count_map f p [] = refl
 count_map f p (x ∷ xs) = sum_by-cons (λ y. cond (p y) 1 0) (f x) (map f xs) ∙ (ap (λ n. cond (p (f x)) 1 0 + n) (count_map f p xs) ∙ sym (sum_by-cons (λ y. cond (p (f y)) 1 0) x xs))
-
-pub count_append : {X : Type 0} (p : X → Bool) (xs ys : List X) → count_by p (xs ++ ys) ≡ count_by p xs + count_by p ys
-count_append p xs ys = sum_by-append (λ x. cond (p x) 1 0) xs ys
 
 pub placed_rows-append : (interval : ℤ) (p : ℕ) (xs ys : List Row) → placed_rows interval p (xs ++ ys) ≡ placed_rows interval p xs ++ placed_rows interval p ys
 placed_rows-append interval p xs ys = map-append (placed_row interval p) xs ys
@@ -90,7 +87,7 @@ pub part_step : (interval start : ℤ) (p : ℕ) (before after : List Placed) (o
 part_step interval start p before after old new part split here put test =
     let moved : count_by test (placed_rows interval p part) ≡ count_by test (in_chunk start (map (newborn p) part)) = ap (count_by test) (placed_part interval start p part here) in
     let both : count_by test (placed_rows interval p old) ≡ count_by test (placed_rows interval p new) + count_by test (placed_rows interval p part) =
-    ap (λ rows. count_by test (placed_rows interval p rows)) split ∙ (ap (count_by test) (placed_rows-append interval p new part) ∙ count_append test (placed_rows interval p new) (placed_rows interval p part)) in
+    ap (λ rows. count_by test (placed_rows interval p rows)) split ∙ (ap (count_by test) (placed_rows-append interval p new part) ∙ count-append test (placed_rows interval p new) (placed_rows interval p part)) in
     omega (arith, put test, moved, both)
 
 -- a tree with more versions, counted by what each test passes
@@ -109,4 +106,4 @@ pub versions_more : (interval : ℤ) (p : ℕ) (before after : List Placed) (row
 versions_more interval p before after rows more = λ test.
     count_map (λ x. x.version) test after
     ∙ (more (λ x. test x.version)
-    ∙ omega (arith, sym (count_map (λ (x : Placed). x.version) test before), sym (count_map (λ (x : Placed). x.version) test (placed_rows interval p rows)), ap (count_by test) (placed_rows-versions interval p rows), count_append test (versions_of before) (map (newborn p) rows)))
+    ∙ omega (arith, sym (count_map (λ (x : Placed). x.version) test before), sym (count_map (λ (x : Placed). x.version) test (placed_rows interval p rows)), ap (count_by test) (placed_rows-versions interval p rows), count-append test (versions_of before) (map (newborn p) rows)))

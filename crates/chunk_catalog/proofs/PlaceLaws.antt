@@ -1,21 +1,23 @@
 -- Laws of versions with the starts of their chunks.
-use Rattle.std.proofs.Common.{◌≡◌, ℕ, ◌≤◌, ◌+◌, not, Bool, true, false, cond, Option, Some, None, List, [], ◌∷◌, ◌++◌, length, map, ℤ, ◌+ℤ◌, ◌≤ℤ◌, ◌<ℤ◌, refl, sym, ◌∙◌, ap, subst, arith}
+use Rattle.std.proofs.Common.{◌≡◌, ℕ, ◌≤◌, ◌+◌, not, true, false, cond, Option, Some, None, List, [], ◌∷◌, ◌++◌, length, map, ℤ, ◌+ℤ◌, ◌≤ℤ◌, ◌<ℤ◌, refl, sym, ◌∙◌, ap, subst, arith}
 use Rattle.std.specs.List.{filter, list_all}
 use Rattle.std.specs.Int.{int_min, int_max}
 use Rattle.std.proofs.lemmas.Int.{ints}
 use Rattle.std.proofs.lemmas.List.{map-append, length-append}
 use Rattle.std.proofs.lemmas.List.Folds.{list_all-append}
+use Rattle.std.proofs.lemmas.Bool.{not-true}
 use Rattle.ts_bucket.specs.Spans.{HullValue, in_hull}
 use Rattle.ts_schema.specs.declared.conditions.Test.{Test}
 use Rattle.seg_rows.specs.Hulls.{joined_hull, hull_at}
 use Rattle.seg_rows.specs.Versions.{Version, visible_at, rows_of, after_kill, taken_at, later_time, latest_of, latest_at}
 use Rattle.seg_rows.proofs.HullLaws.{later_time-assoc, later_time-comm, later_time-none}
-use Rattle.seg_rows.proofs.VersionLaws.{picked-append, taken_at-append, after_kill-nothing, and_first, and_second}
+use Rattle.seg_rows.proofs.VersionLaws.{picked-append, taken_at-append, after_kill-nothing}
 use Rattle.chunk_catalog.specs.declared.reach.Reach.{Reach}
 use Rattle.chunk_catalog.specs.Reach.{in_reach}
 use Rattle.ts_bucket.specs.Chunks.{IsInterval}
 use Rattle.chunk_catalog.specs.Places.{Placed, place, in_chunk, versions_of, reached, after_kill_in, StartsIn, AreOut, is_placed, ArePlaced}
 use Rattle.chunk_catalog.proofs.ReachLaws.{lies}
+use Rattle.ts_schema.proofs.Cases.{and_first, and_second}
 
 -- a chunk in reach gives all its versions, and another one none
 pub reached_in : (r : Reach) (s : ℤ) (vs : List Version) → in_reach r s ≡ true → reached r (in_chunk s vs) ≡ vs
@@ -60,21 +62,17 @@ reached_few r (x ∷ ps) =
       | false ↦ omega (arith, reached_few r ps)
     ]
 
-pub not_true : (b : Bool) → not b ≡ true → b ≡ false
-not_true true h = sym h
-not_true false h = refl
-
 -- where no start is in reach, nothing is seen and nothing dies
 pub out_reached : (r : Reach) (ps : List Placed) → AreOut r ps → reached r ps ≡ []
 out_reached r [] h = refl
 out_reached r (x ∷ ps) h =
-    let here : in_reach r x.start ≡ false = not_true (in_reach r x.start) (and_first (not (in_reach r x.start)) (list_all (λ y. not (in_reach r y.start)) ps) h) in
+    let here : in_reach r x.start ≡ false = not-true (in_reach r x.start) (and_first (not (in_reach r x.start)) (list_all (λ y. not (in_reach r y.start)) ps) h) in
     rw here (out_reached r ps (and_second (not (in_reach r x.start)) (list_all (λ y. not (in_reach r y.start)) ps) h))
 
 pub out_killed : (r : Reach) (p : ℕ) (tests : List Test) (ps : List Placed) → AreOut r ps → map (after_kill_in r p tests) ps ≡ ps
 out_killed r p tests [] h = refl
 out_killed r p tests (x ∷ ps) h =
-    let here : in_reach r x.start ≡ false = not_true (in_reach r x.start) (and_first (not (in_reach r x.start)) (list_all (λ y. not (in_reach r y.start)) ps) h) in
+    let here : in_reach r x.start ≡ false = not-true (in_reach r x.start) (and_first (not (in_reach r x.start)) (list_all (λ y. not (in_reach r y.start)) ps) h) in
     rw here (ap (λ qs. x ∷ qs) (out_killed r p tests ps (and_second (not (in_reach r x.start)) (list_all (λ y. not (in_reach r y.start)) ps) h)))
 
 -- a delete that takes nothing changes nothing

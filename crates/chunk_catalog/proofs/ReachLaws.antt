@@ -1,16 +1,17 @@
 -- Laws of ranges of starts.
-use Rattle.std.proofs.Common.{◌≡◌, ◌&&◌, Bool, true, false, ◌-◌, ◌^◌, ℤ, pos, negsuc, ◌+ℤ◌, ◌-ℤ◌, ◌≤ℤ◌, ◌<ℤ◌, refl, ◌∙◌, arith}
+use Rattle.std.proofs.Common.{◌≡◌, ◌&&◌, Bool, true, false, ◌-◌, ◌^◌, ℤ, pos, negsuc, ◌+ℤ◌, ◌-ℤ◌, ◌≤ℤ◌, ◌<ℤ◌, ◌∙◌, arith}
 use Rattle.std.specs.Prelude.{int_le, int_lt, FitsSigned}
 use Rattle.std.specs.Int.{w64, int_rem_euclid, int_max, int_min}
 use Rattle.std.proofs.lemmas.Int.{ints}
 use Rattle.std.proofs.lemmas.Bool.Decides.{Decides-int_eq}
+use Rattle.std.proofs.lemmas.Bool.{and_from}
 use Rattle.ts_bucket.specs.Bucket.{is_time, min_time, max_time}
 use Rattle.ts_bucket.proofs.Remainders.{remainder_bounds}
-use Rattle.seg_rows.proofs.VersionLaws.{and_first, and_second}
 use Rattle.chunk_catalog.specs.declared.reach.Reach.{Reach}
 use Rattle.chunk_catalog.specs.Reach.{in_reach}
 use Rattle.ts_bucket.specs.Chunks.{IsInterval, chunk_start}
 use Rattle.chunk_catalog.specs.Places.{Placed, is_placed}
+use Rattle.ts_schema.proofs.Cases.{and_first, and_second}
 
 -- the starts from the first on that meets the span, and before its end
 pub met_is : (interval first last lo hi s : ℤ) → lo <ℤ hi → int_le first s ≡ int_le (lo -ℤ (interval -ℤ pos 1)) s → last ≡ hi -ℤ pos 1
@@ -45,9 +46,6 @@ pub both_hold : (a b : Reach) (first last t : ℤ) → first ≡ int_max a.first
     → (int_le first t && int_le t last) ≡ true
 both_hold a b first last t f l p q = rw (f, l) (grind (arith, ints))
 
-both_true : (a b : Bool) → a ≡ true → b ≡ true → (a && b) ≡ true
-both_true a b p q = rw (p, q) refl
-
 -- the start of a chunk that holds a time of a range
 pub start_reached : (interval first low last s t : ℤ) → s ≤ℤ t → t <ℤ (s +ℤ interval) → int_le first s ≡ int_le (low -ℤ (interval -ℤ pos 1)) s
     → (int_le low t && int_le t last) ≡ true → (int_le first s && int_le s last) ≡ true
@@ -56,11 +54,7 @@ start_reached interval first low last s t after before f h =
     let below : int_le t last ≡ true = and_second (int_le low t) (int_le t last) h in
     let first_is : int_le first s ≡ true = f ∙ grind (arith, ints) in
     let last_is : int_le s last ≡ true = grind (arith, ints) in
-    both_true (int_le first s) (int_le s last) first_is last_is
-
-pub false_unless : (b : Bool) → (b ≡ true → ⊥) → b ≡ false
-false_unless true h = absurd (h refl)
-false_unless false h = refl
+    and_from (int_le first s) (int_le s last) first_is last_is
 
 pub not_both : (b : Bool) → b ≡ true → b ≡ false → ⊥
 not_both b p q = cc

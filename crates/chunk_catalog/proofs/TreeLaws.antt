@@ -10,12 +10,12 @@ use Rattle.seg_rows.proofs.HullLaws.{hull_of-append}
 use Rattle.seg_rows.proofs.VersionLaws.{taken_at-append, taken_at-length}
 use Rattle.chunk_catalog.specs.declared.reach.Reach.{Reach}
 use Rattle.chunk_catalog.specs.Places.{Placed, in_chunk, place, reached, after_kill_in}
-use Rattle.chunk_catalog.proofs.PartLaws.{count_append}
 use Rattle.chunk_catalog.proofs.PlaceLaws.{reached-append, reached_few}
+use Rattle.ts_schema.proofs.Cases.{count-append}
 
 -- how often a test passes in three lists
 count_three : (test : Placed → Bool) (l c r : List Placed) → count_by test (l ++ c ++ r) ≡ count_by test l + count_by test c + count_by test r
-count_three test l c r = omega (arith, count_append test (l ++ c) r, count_append test l c)
+count_three test l c r = omega (arith, count-append test (l ++ c) r, count-append test l c)
 
 -- what one of three lists has more, all three together have more
 pub more_first : (more l new c r whole : List Placed) → whole ≡ l ++ c ++ r → HasMore more l new → HasMore more whole (new ++ c ++ r)
@@ -27,7 +27,7 @@ more_last more l c r new whole is added test = omega (arith, ap (count_by test) 
 -- a chunk with more versions
 pub more_here : (s : ℤ) (l r : List Placed) (vs more : List Version) → HasMore (in_chunk s more) (l ++ in_chunk s vs ++ r) (l ++ in_chunk s (vs ++ more) ++ r)
 more_here s l r vs more test =
-    omega (arith, count_three test l (in_chunk s vs) r, count_three test l (in_chunk s (vs ++ more)) r, ap (count_by test) (map-append (place s) vs more), count_append test (in_chunk s vs) (in_chunk s more))
+    omega (arith, count_three test l (in_chunk s vs) r, count_three test l (in_chunk s (vs ++ more)) r, ap (count_by test) (map-append (place s) vs more), count-append test (in_chunk s vs) (in_chunk s more))
 
 -- ---- a delete in three lists of versions of a tree
 

@@ -160,7 +160,7 @@ impl Pile {
     }
 
     /// A delete at a position.
-    #[tactic(auto, using(seg_rows::proofs::VersionLaws::parts, seg_rows::proofs::VersionLaws::kill_nothing, seg_rows::proofs::VersionLaws::and_first, seg_rows::proofs::VersionLaws::and_second, seg_rows::proofs::VersionLaws::taken_few))]
+    #[tactic(auto, using(seg_rows::proofs::VersionLaws::parts, seg_rows::proofs::VersionLaws::kill_nothing, ts_schema::proofs::Cases::and_first, ts_schema::proofs::Cases::and_second, seg_rows::proofs::VersionLaws::taken_few))]
     pub fn kill(&self, alloc: Global, tests: &Seq<Test>, pos: u64) -> Result<KilledPile, NoMemory>
         requires countable { length self.now.0 < 2 ^ 64 }
         ensures after { IfOk result (λ k. k.pile.0 ≡ map (after_kill pos tests.now) self.now.0) }

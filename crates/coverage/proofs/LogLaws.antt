@@ -4,6 +4,7 @@ use Rattle.std.specs.Prelude.{is_some}
 use Rattle.std.proofs.lemmas.Bool.{true≢false, and_parts, and_from}
 use Rattle.std.proofs.lemmas.Bool.Decides.{nat_tests}
 use Rattle.std.proofs.lemmas.Int.{ints}
+use Rattle.std.proofs.Math.Bool.{or-false, or_assoc}
 use Rattle.ts_bucket.specs.Positions.{later, is_above, is_before, above, above_last}
 use Rattle.ts_bucket.specs.Spans.{meets}
 use Rattle.ts_bucket.specs.declared.spans.Hull.{Hull}
@@ -128,7 +129,7 @@ some_one : (w : Width) (b : ℤ) (last p : Option ℕ) (entry : Noted) → is_so
 some_one w b last p entry =
     elim (meets w b entry.hull) as (λ m. is_some (cond (m && is_before entry.at last) (Some entry.at) p) ≡ (is_some p || is_some (above_last last (cond m (Some entry.at) None)))) [
       | true ↦ choice (is_before entry.at last) p ∙ ap (λ t. is_some p || t) (sym (fed_above last entry.at))
-      | false ↦ sym (ap (λ q. is_some p || is_some q) (above_last-nothing last) ∙ or_nothing (is_some p))
+      | false ↦ sym (ap (λ q. is_some p || is_some q) (above_last-nothing last) ∙ or-false (is_some p))
     ]
   where
     choice : (t : Bool) (p : Option ℕ) → is_some (cond t (Some entry.at) p) ≡ (is_some p || t)
@@ -137,28 +138,16 @@ some_one w b last p entry =
     choice false None = refl
     choice false (Some q) = refl
 
-    or_nothing : (t : Bool) → (t || false) ≡ t
-    or_nothing true = refl
-    or_nothing false = refl
-
 -- something is pending after a log was fed exactly where something was pending, or the log touches the bucket above the last refresh
 pub some-fed : (w : Width) (b : ℤ) (last p : Option ℕ) (log : List Noted) → is_some (fed w b last log p) ≡ (is_some p || is_some (above_last last (log_touch w b log)))
-some-fed w b last p [] = sym (ap (λ q. is_some p || is_some q) (above_last-nothing last) ∙ or_nothing (is_some p))
-  where
-    or_nothing : (t : Bool) → (t || false) ≡ t
-    or_nothing true = refl
-    or_nothing false = refl
+some-fed w b last p [] = sym (ap (λ q. is_some p || is_some q) (above_last-nothing last) ∙ or-false (is_some p))
 some-fed w b last p (entry ∷ log) =
     let here : Option ℕ = cond (meets w b entry.hull) (Some entry.at) None in
     let rest : Option ℕ = log_touch w b log in
     some-fed w b last (fed_one w b last entry p) log
     ∙ ap (λ t. t || is_some (above_last last rest)) (some_one w b last p entry)
-    ∙ or_or (is_some p) (is_some (above_last last here)) (is_some (above_last last rest))
+    ∙ or_assoc (is_some p) (is_some (above_last last here)) (is_some (above_last last rest))
     ∙ ap (λ t. is_some p || t) (sym (ap is_some (above_last-later last here rest) ∙ is_some-later (above_last last here) (above_last last rest)))
-  where
-    or_or : (x y z : Bool) → ((x || y) || z) ≡ (x || (y || z))
-    or_or true y z = refl
-    or_or false y z = refl
 
 -- and above the last refresh
 fresh_one : (w : Width) (b : ℤ) (last p : Option ℕ) (entry : Noted) → above_last last p ≡ p → above_last last (fed_one w b last entry p) ≡ fed_one w b last entry p

@@ -60,7 +60,7 @@ never_here n h v span ok none = by_view (v == n) refl
         absurd (true≢false (sym (cut_view h v span ok) ∙ ap (span_fits span) absent))
     by_view false e = refl
 
-never_cut : (n : ℕ) (h : History) (k : ℕ) → all_allowed h ≡ true → view_of (roster h) n ≡ None → span_of_cut n h k ≡ None
+pub never_cut : (n : ℕ) (h : History) (k : ℕ) → all_allowed h ≡ true → view_of (roster h) n ≡ None → span_of_cut n h k ≡ None
 never_cut n start k ok none = refl
 never_cut n (h ▸ Cut v span) k ok none =
     let parts = and_parts (all_allowed h) (allowed h (Cut v span)) ok in

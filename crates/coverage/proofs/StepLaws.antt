@@ -1,8 +1,8 @@
 -- Each kind of event keeps coverage.
-use Rattle.std.proofs.Common.{◌≡◌, ◌≢◌, ℕ, zero, suc, ◌≤◌, Bool, true, false, ◌&&◌, ◌||◌, not, cond, nat_le, ◌==◌, List, [], ◌∷◌, ◌++◌, length, ℤ, ◌+ℤ◌, ◌≤ℤ◌, Option, Some, None, refl, sym, ap, ◌∙◌, subst, arith}
+use Rattle.std.proofs.Common.{◌≡◌, ◌≢◌, ℕ, zero, suc, ◌≤◌, Bool, true, false, ◌&&◌, ◌||◌, cond, nat_le, ◌==◌, List, [], ◌∷◌, ◌++◌, length, ℤ, ◌+ℤ◌, ◌≤ℤ◌, Option, Some, None, refl, sym, ap, ◌∙◌, subst, arith}
 use Rattle.std.specs.Prelude.{is_some, slice_get}
 use Rattle.std.specs.Int.{int_max}
-use Rattle.std.proofs.lemmas.Bool.{true≢false, or_parts, or_left, and_parts, leb-true}
+use Rattle.std.proofs.lemmas.Bool.{true≢false, or_parts, or_left, and_parts, leb-true, not-true}
 use Rattle.std.proofs.lemmas.Bool.Decides.{nat_tests}
 use Rattle.std.proofs.lemmas.Int.{ints}
 use Rattle.ts_bucket.specs.Bucket.{is_bucket}
@@ -170,7 +170,7 @@ past_settled : (covers : Bool) (m snap : ℕ) (p : Option ℕ) → is_above m p 
 past_settled true m snap p e = is_above-above m snap p e
 past_settled false m snap p e = e
 
-low_before : (s : ℕ) (last x : Option ℕ) → is_above s (later last x) ≡ false → is_above s last ≡ false
+pub low_before : (s : ℕ) (last x : Option ℕ) → is_above s (later last x) ≡ false → is_above s last ≡ false
 low_before s last x low = (or_parts _ _ (sym (is_above-later s last x) ∙ low)).0
 
 settled_exact : (n : ℕ) (def : ViewDef) (h : History) (cut snap : ℕ) (notes : Notes) (b : ℤ) (s : ℕ) → IsCovered n def h notes → is_bucket def.fold.width b ≡ true → was_cut n h b s ≡ true → is_above s (last n (h ▸ Built cut snap) b) ≡ false → above s (pending_position def.fold.width (settled (span_of_cut n h cut) snap notes) b) ≡ above s (last_touch n def h b)
@@ -237,15 +237,11 @@ changed_place (x ∷ xs) zero (suc i) f there = there
 changed_place (x ∷ xs) (suc j) zero f there = refl
 changed_place (x ∷ xs) (suc j) (suc i) f there = changed_place xs j i f there
 
-not_true : (t : Bool) → not t ≡ true → t ≡ false
-not_true true e = absurd (true≢false (sym e))
-not_true false e = refl
-
 pub quiet_keeps : QuietKeeps
-quiet_keeps n def h (View made) notes e covered = quiet n def h (View made) notes (λ b. refl) (λ b s. refl) (λ b. refl) (λ there. grown_place (roster h).views made n (apart (length (roster h).views) n (not_true (length (roster h).views == n) e)) there) covered
+quiet_keeps n def h (View made) notes e covered = quiet n def h (View made) notes (λ b. refl) (λ b s. refl) (λ b. refl) (λ there. grown_place (roster h).views made n (apart (length (roster h).views) n (not-true (length (roster h).views == n) e)) there) covered
 quiet_keeps n def h (Mode v only) notes e covered = quiet n def h (Mode v only) notes (λ b. refl) (λ b s. refl) (λ b. refl) (λ there. changed_place (roster h).views v n (set_only only) there) covered
 quiet_keeps n def h (Commit ops) notes e covered = absurd (true≢false (sym e))
-quiet_keeps n def h (Cut v span) notes e covered = quiet n def h (Cut v span) notes (λ b. refl) (λ b s. no_cut (was_cut n h b s) (v == n) (in_span span b) (nat_le (suc (position h)) s) (not_true (v == n) e)) (λ b. refl) (λ there. there) covered
+quiet_keeps n def h (Cut v span) notes e covered = quiet n def h (Cut v span) notes (λ b. refl) (λ b s. no_cut (was_cut n h b s) (v == n) (in_span span b) (nat_le (suc (position h)) s) (not-true (v == n) e)) (λ b. refl) (λ there. there) covered
 quiet_keeps n def h (Built cut snap) notes e covered = absurd (true≢false (sym e))
 quiet_keeps n def h x notes e covered = quiet n def h x notes (λ b. refl) (λ b s. refl) (λ b. refl) (λ there. there) covered
 

@@ -13,7 +13,7 @@ use Rattle.ts_bucket.specs.declared.widths.Width.{Width}
 use Rattle.ts_bucket.proofs.BucketLaws.{bucket_of_meets, buckets_apart, is_bucket-bucket_of, bucket_of-last, is_bucket-next, is_bucket-before}
 use Rattle.ts_bucket.proofs.SpanLaws.{in_span-from_ends}
 use Rattle.ts_bucket.specs.Spans.{in_span}
-use Rattle.ts_bucket.specs.WholeSpans.{greatest}
+use Rattle.ts_bucket.specs.WholeSpans.{greatest, least}
 use Rattle.ts_model.specs.declared.events.Event.TheVariants.{View, Commit, Cut, Built}
 use Rattle.ts_model.specs.declared.views.Fold.{Fold}
 use Rattle.ts_model.specs.declared.views.ViewDef.{ViewDef}
@@ -25,12 +25,14 @@ use Rattle.ts_model.specs.Limits.{is_word}
 use Rattle.ts_model.proofs.SoundLaws.{view_width}
 use Rattle.ts_model.proofs.CutLaws.{cuts_fit, span_was_cut}
 use Rattle.ts_model.specs.Sound.{span_fits}
-use Rattle.coverage.specs.Notes.{Notes, lowest, no_notes, begun, cut_to, notes_after, notes_of}
+use Rattle.coverage.specs.Notes.{Notes, no_notes, begun, cut_to, notes_after, notes_of}
 use Rattle.coverage.specs.Coverage.{IsCovered}
 use Rattle.coverage.specs.Laws.{EndsWhole, IsOf, EventsKeep, HistoriesCovered, HistoriesTell, number_of, ThresholdsAre, ThresholdsReach, AllBucketsAre}
 use Rattle.coverage.proofs.ModelLaws.{cut_view, is_of_before, is_of_itself}
 use Rattle.coverage.proofs.StepLaws.{commits_keep, cuts_keep, finishes_keep, quiet_keeps, beginnings_cover}
 use Rattle.coverage.proofs.TellLaws.{covered_tells}
+use Rattle.ts_schema.proofs.Cases.{int_lt-true}
+use Rattle.ts_num.proofs.EndLaws.{int_max_assoc}
 
 -- ---- each allowed event
 
@@ -57,10 +59,7 @@ span_bounds def span fits =
     let first = and_parts _ (int_le (first_of def.fold.width) span.lo) low.0 in
     let some = and_parts _ (int_lt span.lo span.hi) first.0 in
     let ends = and_parts (is_bucket def.fold.width span.lo) (is_bucket def.fold.width span.hi) some.0 in
-    record { starts = ends.0; ends = ends.1; some = less span.lo span.hi some.1 }
-  where
-    less : (x y : ℤ) → int_lt x y ≡ true → x <ℤ y
-    less x y e = grind (arith, ints)
+    record { starts = ends.0; ends = ends.1; some = int_lt-true span.lo span.hi some.1 }
 
 span_ends : (def : ViewDef) (span : Span) → span_fits span (Some def) ≡ true → is_bucket def.fold.width span.hi ≡ true
 span_ends def span fits = (span_bounds def span fits).ends
@@ -125,13 +124,10 @@ histories_tell n def h ok there = covered_tells n def h (notes_of n def h) ok (a
 
 -- ---- thresholds
 
-max_max : (a b c : ℤ) → int_max (int_max a b) c ≡ int_max a (int_max b c)
-max_max a b c = grind (arith, ints)
-
 number_raised : (o : Option ℤ) (over : Bool) (hi : ℤ) → cond over (int_max (number_of o) hi) (number_of o) ≡ number_of (greater o (cond over (Some hi) None))
 number_raised None true hi = refl
 number_raised None false hi = refl
-number_raised (Some x) true hi = max_max lowest x hi
+number_raised (Some x) true hi = int_max_assoc least x hi
 number_raised (Some x) false hi = refl
 
 pub thresholds_are : ThresholdsAre

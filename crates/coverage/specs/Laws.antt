@@ -5,7 +5,7 @@ use Rattle.ts_bucket.specs.Bucket.{IsWidth, is_bucket, first_of, min_time, max_t
 use Rattle.ts_bucket.specs.Positions.{above, above_last}
 use Rattle.ts_bucket.specs.Spans.{in_span}
 use Rattle.ts_bucket.specs.Touches.{log_touch}
-use Rattle.ts_bucket.specs.WholeSpans.{greatest, is_below, whole_span}
+use Rattle.ts_bucket.specs.WholeSpans.{greatest, is_below, whole_span, least}
 use Rattle.ts_bucket.specs.declared.spans.Hull.{Hull}
 use Rattle.ts_bucket.specs.declared.spans.Span.{Span}
 use Rattle.ts_bucket.specs.declared.widths.Width.{Width}
@@ -19,7 +19,7 @@ use Rattle.ts_model.specs.Rows.{rows}
 use Rattle.ts_model.specs.Effect.{hull_of_ops}
 use Rattle.ts_model.specs.Refreshes.{span_of_cut, last, last_touch, watermark, invalid, stale, threshold}
 use Rattle.ts_model.specs.Allowed.{all_allowed}
-use Rattle.coverage.specs.Notes.{Notes, lowest, begun, noted, fed_at, all_fed, cut_to, settled, notes_after, notes_of, AreSame}
+use Rattle.coverage.specs.Notes.{Notes, begun, noted, fed_at, all_fed, cut_to, settled, notes_after, notes_of, AreSame}
 use Rattle.coverage.specs.Coverage.{is_upto, pending_position, IsCovered}
 
 -- ---- one step for each kind of event
@@ -139,10 +139,10 @@ HistoriesCovered = (n : ℕ) (def : ViewDef) (h : History) → all_allowed h ≡
 abbrev pub HistoriesTell : Type 0
 HistoriesTell = (n : ℕ) (def : ViewDef) (h : History) → all_allowed h ≡ true → view_of (roster h) n ≡ Some def → Tells n def h (notes_of n def h)
 
--- a threshold as a number: where there is none, the lowest
+-- a threshold as a number: where there is none, the least
 abbrev pub number_of : Option ℤ → ℤ
-number_of None = lowest
-number_of (Some hi) = int_max lowest hi
+number_of None = least
+number_of (Some hi) = int_max least hi
 
 -- the noted threshold is that of the table
 abbrev pub ThresholdsAre : Type 0

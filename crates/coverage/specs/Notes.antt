@@ -1,11 +1,11 @@
 -- Notes of what is out of date: the log of a table, and what is pending and was refreshed of one aggregate over it, and what each event does to them.
-use Rattle.std.specs.Prelude.{◌≡◌, ℕ, suc, true, cond, ◌&&◌, ◌==◌, ◌-◌, ◌^◌, List, [], ◌∷◌, ◌++◌, length, ℤ, negsuc, int_lt, Option, Some, None}
+use Rattle.std.specs.Prelude.{◌≡◌, ℕ, suc, true, cond, ◌&&◌, ◌==◌, ◌-◌, List, [], ◌∷◌, ◌++◌, length, ℤ, int_lt, Option, Some, None}
 use Rattle.std.specs.Int.{int_max}
 use Rattle.ts_bucket.specs.Bucket.{is_bucket}
 use Rattle.ts_bucket.specs.Positions.{later, above, is_before}
 use Rattle.ts_bucket.specs.Spans.{in_span, meets}
 use Rattle.ts_bucket.specs.Touches.{Noted}
-use Rattle.ts_bucket.specs.WholeSpans.{whole_span}
+use Rattle.ts_bucket.specs.WholeSpans.{whole_span, least}
 use Rattle.ts_bucket.specs.declared.spans.Hull.{Hull}
 use Rattle.ts_bucket.specs.declared.spans.Span.{Span}
 use Rattle.ts_bucket.specs.declared.widths.Width.{Width}
@@ -25,13 +25,9 @@ pub record Notes : Type 0 where
   pub pending : ℤ → Option ℕ
   pub refreshed : ℤ → Option ℕ
 
--- the least number of 64 bits
-abbrev pub lowest : ℤ
-lowest = negsuc (2 ^ 63 - 1)
-
 -- before there is anything to note, the threshold is below every time
 abbrev pub no_notes : Notes
-no_notes = record { threshold = lowest; log = []; pending = λ b. None; refreshed = λ b. None }
+no_notes = record { threshold = least; log = []; pending = λ b. None; refreshed = λ b. None }
 
 -- ---- what events do
 

@@ -1,20 +1,19 @@
 -- Passes that are handed out, used and collected.
-use Rattle.std.proofs.Common.{◌≡◌, ℕ, zero, suc, ◌+◌, ◌-◌, ◌<◌, Bool, true, false, get_or, List, [], ◌∷◌, ◌++◌, length, All, flat_map, sum_by, Option, Some, None, sym, refl, ap, ◌∙◌, subst, arith, append_assoc}
+use Rattle.std.proofs.Common.{◌≡◌, ℕ, zero, suc, ◌+◌, ◌-◌, ◌<◌, Bool, true, false, get_or, List, [], ◌∷◌, ◌++◌, length, All, flat_map, sum_by, Option, Some, None, sym, refl, ap, ◌∙◌, subst, arith}
 use Rattle.std.proofs.lemmas.List.{length-map}
 use Rattle.std.proofs.lemmas.List.Elements.{All-cons, All-head, All-tail}
 use Rattle.std.proofs.lemmas.List.Sums.{sum_by-cons}
-use mathlib.Core.List.{IsPrefix}
-use Rattle.ts_model.specs.declared.events.Event.{Event}
 use Rattle.ts_model.specs.History.{◌▸▸◌, Begins}
 use Rattle.ts_model.specs.States.{State}
 use Rattle.std.specs.Prelude.{is_some}
-use Rattle.turn_lock.specs.Pass.{Carried, shares_of, seen_of, closed_of, made_of, with_shares, StaysIn}
+use Rattle.turn_lock.specs.Pass.{shares_of, seen_of, closed_of, made_of, with_shares}
 use Rattle.turn_lock.proofs.Lists.{prefix_then}
 use Rattle.shared_store.specs.Stores.{Shared, Ticket, IsPassOf, history_of}
 use Rattle.shared_store.specs.Desks.{desk_state, fresh_desk}
 use Rattle.crew_run.specs.Slots.{Slot, IsFresh, OfPass, Knows, shares_there, made_there, workers_of, shares_in, made_in, HasPass, BeginsAt, IsKnownTo, Served, AllServed}
 use Rattle.crew_run.specs.Outcomes.{begun_at, Outcome, AllOutcomes, Ran}
 use Rattle.crew_run.proofs.OutcomeLaws.{begins_seen}
+use Rattle.turn_lock.proofs.Gathering.{stays_then}
 
 -- a pass that begins where another stands, begins where that stands however many shares it has
 pub fresh_alike : {B : Type 0} (store : Shared B) (a b : Ticket B) (n : ℕ) → b ≡ with_shares n a → (pass : Ticket B) → IsFresh store b pass → IsFresh store a pass
@@ -35,10 +34,6 @@ of_pass_on f (Some pass) p = f pass p
 some_there : {B : Type 0} (P : Ticket B → Type 0) (o : Option (Ticket B)) → OfPass P o → is_some o ≡ true
 some_there P None p = absurd p
 some_there P (Some pass) p = refl
-
--- what stays closed in a part stays closed in the whole
-pub stays_then : {V E C : Type 0} (whole mid part : Carried V E C) → StaysIn mid part → StaysIn whole mid → StaysIn whole part
-stays_then whole mid part old new e is = let d = old e is in let k = new e d.0 in (k.0, k.1 ∙ d.1)
 
 module _ {W B : Type 0} where
   pub there_is_pass : (store : Shared B) (slot : Slot W B) → HasPass store slot → is_some slot.1 ≡ true

@@ -1,11 +1,11 @@
 -- How many items of a list pass a test, where the list is made from the numbers of a range.
-use Rattle.std.proofs.Common.{◌≡◌, ℕ, zero, suc, ◌+◌, ◌<◌, ◌≤◌, Bool, true, false, ◌||◌, cond, eqb, List, ◌∷◌, ◌++◌, map, refl, ap, ◌∙◌, arith}
+use Rattle.std.proofs.Common.{◌≡◌, ℕ, zero, suc, ◌+◌, ◌<◌, ◌≤◌, Bool, true, false, ◌||◌, cond, eqb, ◌∷◌, ◌++◌, map, refl, ap, ◌∙◌, arith}
 use Rattle.std.specs.List.{count_by, list_any, range_with_len}
 use Rattle.std.proofs.lemmas.Bool.{eqb-true, eqb-false, or_left, or_right}
 use Rattle.std.proofs.lemmas.List.{map-append}
-use Rattle.std.proofs.lemmas.List.Sums.{sum_by-append}
 use Rattle.std.proofs.Math.Nat.{zero-add, add-zero}
 use Rattle.ts_model.proofs.CountLaws.{count_cons}
+use Rattle.ts_schema.proofs.Cases.{count-append}
 
 -- a range in two parts
 pub range-append : (first m n : ℕ) → range_with_len first (m + n) ≡ range_with_len first m ++ range_with_len (first + m) n
@@ -14,10 +14,6 @@ range-append first (suc m) n =
     let more : suc m + n ≡ suc (m + n) = omega arith in
     let next : (first + 1) + m ≡ first + suc m = omega arith in
     rw more (ap (λ xs. first ∷ xs) (range-append (first + 1) m n ∙ ap (λ k. range_with_len (first + 1) m ++ range_with_len k n) next))
-
--- a count over two lists
-pub count-append : {X : Type 0} (test : X → Bool) (xs ys : List X) → count_by test (xs ++ ys) ≡ count_by test xs + count_by test ys
-count-append test xs ys = sum_by-append (λ x. cond (test x) 1 0) xs ys
 
 -- where the test says the same of all items, all pass or none
 pub count-range : {X : Type 0} (test : X → Bool) (f : ℕ → X) (b : Bool) (first n : ℕ) → ((k : ℕ) → first ≤ k → k < first + n → test (f k) ≡ b) → count_by test (map f (range_with_len first n)) ≡ cond b n 0

@@ -1,6 +1,6 @@
 -- The cut of a round's refresh: it waits with its span, and no bucket of the span was refreshed before.
 use Rattle.std.proofs.Common.{◌≡◌, ℕ, zero, suc, ◌*◌, ◌==◌, ◌&&◌, true, false, cond, [], ◌∷◌, ℤ, ◌≤ℤ◌, int_lt, Some, None, refl, ap, ◌∙◌, arith}
-use Rattle.std.proofs.lemmas.Bool.{and_from, and_right, cond-true, cond-false, eq-eqb}
+use Rattle.std.proofs.lemmas.Bool.{and_from, and_right, cond-true, cond-false}
 use Rattle.std.proofs.lemmas.Int.{ints}
 use Rattle.ts_bucket.specs.Bucket.{is_bucket, first_of}
 use Rattle.ts_bucket.specs.Positions.{later}
@@ -16,6 +16,7 @@ use Rattle.demo_acts.specs.Acts.{demo_view, demo_width}
 use Rattle.demo_reads.specs.Histories.{after_cut, after_parts, history_after_rounds, span_before}
 use Rattle.demo_reads.proofs.ChunkLaws.{start_of, start_before, is_bucket-multiple, demo_width_fits}
 use Rattle.demo_reads.proofs.SpanLaws.{inscribed-whole, one_range}
+use Rattle.ts_schema.proofs.Cases.{same_number}
 
 -- ---- the span
 
@@ -34,9 +35,6 @@ pub window_is : (round : ℕ) → inscribed demo_width (Some (start_before round
 window_is round = inscribed-whole demo_width (start_before round) (start_of round) demo_width_fits (is_bucket-before round) (is_bucket-start round) (from_first round) (omega (arith, ints))
 
 -- ---- the cut
-
-same_number : (n : ℕ) → (n == n) ≡ true
-same_number n = eq-eqb n n refl
 
 -- its span is that of its event
 pub span_of_cut_is : (round : ℕ) (h : History) → span_of_cut 0 (after_cut round h) (position (after_cut round h)) ≡ Some (span_before round)

@@ -9,7 +9,7 @@ use Rattle.ts_model.specs.Reads.{inserted}
 use Rattle.ts_model.specs.Roster.{roster}
 use Rattle.demo_acts.specs.Acts.{demo_roster}
 use Rattle.demo_reads.specs.Histories.{after_refresh, after_parts, after_view, history_after_rounds}
-use Rattle.demo_reads.proofs.CountLaws.{count-append}
+use Rattle.ts_schema.proofs.Cases.{count-append}
 
 -- one more round
 pub rounds_next : (demo round : ℕ) → history_after_rounds demo (suc round) ≡ after_refresh round (after_parts demo round (history_after_rounds demo round))

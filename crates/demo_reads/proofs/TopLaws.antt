@@ -17,6 +17,7 @@ use Rattle.ts_model.specs.Refreshes.{top_in}
 use Rattle.ts_model.specs.Rows.{with_row, with_rows}
 use Rattle.ts_model.specs.declared.views.Fold.{Fold}
 use Rattle.ts_model.proofs.RefreshLaws.{is_below-greater}
+use Rattle.ts_schema.proofs.Cases.{or_swapped}
 
 -- ---- some row
 
@@ -34,14 +35,9 @@ any-with_row : (test : Row → Bool) (row : Row) (xs : List Row) → list_any te
 any-with_row test row [] = refl
 any-with_row test row (x ∷ xs) =
     elim (is_gt (row_cmp row x)) as (λ t. list_any test (cond t (x ∷ with_row row xs) (row ∷ x ∷ xs)) ≡ (test row || (test x || list_any test xs))) [
-      | true ↦ ap (λ t. test x || t) (any-with_row test row xs) ∙ swapped (test x) (test row) (list_any test xs)
+      | true ↦ ap (λ t. test x || t) (any-with_row test row xs) ∙ or_swapped (test x) (test row) (list_any test xs)
       | false ↦ refl
     ]
-  where
-    swapped : (a b c : Bool) → (a || (b || c)) ≡ (b || (a || c))
-    swapped true true c = refl
-    swapped true false c = refl
-    swapped false b c = refl
 
 pub any-with_rows : (test : Row → Bool) (new rows : List Row) → list_any test new ≡ true → list_any test (with_rows new rows) ≡ true
 any-with_rows test [] rows e = absurd (true≢false (sym e))

@@ -1,6 +1,6 @@
 -- What a run over an empty store comes to.
 use Rattle.std.proofs.Common.{◌≡◌, refl, ap, subst, ◌∙◌, inl, ℕ, ◌≤◌, true, List, [], Option, None, Some, length, arith}
-use Rattle.std.specs.Prelude.{IfOk, IfSome, IsSomeAnd, Result, Ok, Err}
+use Rattle.std.specs.Prelude.{IfSome, IsSomeAnd}
 use Rattle.ts_schema.specs.Counts.{raised_by}
 use Rattle.ts_io.specs.declared.limits.TheConstants.{INPUT_LIMIT}
 use Rattle.ts_model.specs.History.{History, start}
@@ -14,10 +14,6 @@ use Rattle.demo_run.specs.Runs.{RanLines, is_whole}
 -- a file with no byte stands for the empty history
 pub empty_stands : Stands [] start
 empty_stands = record { holds = inl (omega arith, refl); sound = record { allowed = refl; formed = tt } }
-
-pub if_ok : {T E : Type 0} (r : Result T E) (P Q : T → Type 0) → ((x : T) → P x → Q x) → IfOk r P → IfOk r Q
-if_ok (Ok x) P Q gives p = gives x p
-if_ok (Err e) P Q gives p = tt
 
 -- an input within the limit doesn't end beyond it
 long_input : (end : RunEnd) (h : History) (input : List ℕ) (rest : Option (List ℕ)) (left : Left) → length input ≤ INPUT_LIMIT → Ran end session_semantics h input rest left → end ≡ InputLong → ⊥

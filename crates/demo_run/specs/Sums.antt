@@ -1,9 +1,10 @@
 -- What a history comes to: its events, the rows of its first table, and the answer of its first aggregate.
-use Rattle.std.specs.Prelude.{ℕ, ◌-◌, ◌^◌, ℤ, pos, negsuc, List, [], map, length, Option, None, Some, slice_get}
+use Rattle.std.specs.Prelude.{ℕ, ◌-◌, ℤ, pos, List, [], map, length, Option, None, Some, slice_get}
 use Rattle.ts_num.specs.Aggregates.{sum_of}
 use Rattle.ts_num.specs.declared.values.Datum.{Datum}
 use Rattle.ts_num.specs.declared.values.Datum.TheVariants.{Null, Int, Ratio}
 use Rattle.ts_bucket.specs.Bucket.{first_of}
+use Rattle.ts_bucket.specs.WholeSpans.{least, greatest}
 use Rattle.ts_bucket.specs.declared.spans.Span.{Span}
 use Rattle.ts_model.specs.Answers.{answer}
 use Rattle.ts_model.specs.History.{History, position}
@@ -22,7 +23,7 @@ all_rows = Rows 0 []
 
 -- every bucket of the first aggregate
 abbrev pub every_start : Span
-every_start = record { lo = negsuc (2 ^ 63 - 1); hi = pos (2 ^ 63 - 1) }
+every_start = record { lo = least; hi = greatest }
 
 -- all that the first aggregate shows
 abbrev pub all_buckets : Query

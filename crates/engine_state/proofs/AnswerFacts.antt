@@ -26,11 +26,10 @@ use Rattle.ts_model.specs.Sound.{hyper_fits}
 use Rattle.ts_model.proofs.ClipLaws.{chunks_are_within}
 use Rattle.ts_model.proofs.FitLaws.{rows_are_times}
 use Rattle.ts_model.proofs.HistoryLaws.{prefix_end}
-use Rattle.ts_model.proofs.RowLaws.{length-with_rows}
+use Rattle.ts_model.proofs.RowLaws.{length-with_rows, all-in_order}
 use Rattle.ts_model.proofs.SoundLaws.{rosters_are_sound}
 use Rattle.row_versions.specs.Histories.{Holds}
 use Rattle.row_versions.proofs.HistoryLaws.{held_tables_tell}
-use Rattle.span_fold.proofs.ScanLaws.{all-in_order}
 use Rattle.realtime_union.specs.Laws.{ChunksAreNear}
 use Rattle.engine_state.specs.Scans.{seen_rows, stored_rows}
 use Rattle.engine_state.specs.Shown.{IsTableOf}

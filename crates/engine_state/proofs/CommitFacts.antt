@@ -1,24 +1,23 @@
 -- What a state that stands for a history tells of a commit that is allowed next.
-use Rattle.std.proofs.Common.{◌≡◌, ℕ, suc, ◌+◌, ◌^◌, ◌≤◌, true, false, ◌&&◌, nat_lt, List, [], ◌∷◌, length, length-append, Option, Some, None, sym, refl, ap, ◌∙◌, subst, arith}
+use Rattle.std.proofs.Common.{◌≡◌, ℕ, suc, ◌+◌, ◌^◌, ◌≤◌, true, false, ◌&&◌, nat_lt, List, [], ◌∷◌, length, Option, Some, None, sym, refl, ap, ◌∙◌, subst, arith}
 use Rattle.std.specs.List.{list_all, slice_get}
-use Rattle.std.proofs.lemmas.Bool.{true≢false, and_parts, and_from, ltb-true}
+use Rattle.std.proofs.lemmas.Bool.{true≢false, and_parts, and_from}
 use Rattle.ts_schema.specs.declared.rows.Row.{Row}
-use Rattle.ts_model.specs.declared.events.Event.TheVariants.{Table, Hyper, Commit}
+use Rattle.ts_model.specs.declared.events.Event.TheVariants.{Commit}
 use Rattle.ts_model.specs.declared.events.Op.{Op}
 use Rattle.ts_model.specs.declared.tables.Hyper.{Hyper as HyperInfo}
 use Rattle.ts_model.specs.declared.tables.TableInfo.{TableInfo}
-use Rattle.ts_model.specs.History.{History, start, ◌▸◌, position}
-use Rattle.ts_model.specs.Roster.{roster, table_of, of_hyper, of_table, made_hyper}
+use Rattle.ts_model.specs.History.{History, ◌▸◌, position}
+use Rattle.ts_model.specs.Roster.{roster, table_of, of_hyper, of_table}
 use Rattle.ts_model.specs.Rows.{rows}
 use Rattle.ts_model.specs.Effect.{all_appended, all_taken, sum_below}
 use Rattle.ts_model.specs.Calls.{committed}
-use Rattle.ts_model.specs.Limits.{most_relations}
 use Rattle.ts_model.specs.Sound.{op_fits, row_fits, sound}
 use Rattle.ts_model.specs.Allowed.{all_allowed, allowed}
 use Rattle.ts_model.specs.Laws.{fits_table}
 use Rattle.ts_model.proofs.FitLaws.{appended_fit, moved_hold, rows_fit_tables}
 use Rattle.ts_model.proofs.HistoryLaws.{prefix_end}
-use Rattle.ts_model.proofs.RosterLaws.{length-change_at}
+use Rattle.ts_model.proofs.SoundLaws.{rosters_are_sound}
 use Rattle.engine_state.specs.Lists.{Each, EachFrom}
 use Rattle.engine_state.specs.Tables.{TableValue, TableIs}
 use Rattle.engine_state.specs.Stands.{StateValue, StandsFor, TableAt}
@@ -28,20 +27,9 @@ use Rattle.engine_state.proofs.TableSteps.{table_asks, rows_are}
 
 -- ---- how many tables there are
 
--- there are no more tables than there may be
-few_tables : (h : History) → all_allowed h ≡ true → length (roster h).tables ≤ most_relations
-few_tables start ok = omega arith
-few_tables (h ▸ Table def) ok =
-    let next = (and_parts (all_allowed h) (allowed h (Table def)) ok).1 in
-    let timely = (and_parts (sound h (Table def)) _ next).1 in
-    let room = ltb-true (length (roster h).tables) most_relations (and_parts _ (nat_lt (length (roster h).tables) most_relations) timely).1 in
-    omega (arith, room, length-append (roster h).tables (record { def = def; hyper = None } ∷ []))
-few_tables (h ▸ Hyper t hyper) ok = omega (arith, few_tables h (and_parts (all_allowed h) _ ok).0, length-change_at (roster h).tables t (made_hyper hyper))
-few_tables (h ▸ x) ok = few_tables h (and_parts (all_allowed h) _ ok).0
-
 pub tables_are_few : (h : History) (s : StateValue) → StandsFor h s → length s.tables ≤ 2 ^ 32
 tables_are_few h s st =
-    let few : length (roster h).tables ≤ 64 = few_tables h st.allowed in
+    let few : length (roster h).tables ≤ 64 = (rosters_are_sound h st.allowed).few_tables in
     let same : length (roster h).tables ≡ length s.tables = each_length (TableAt h) 0 (roster h).tables s.tables st.tables in
     omega arith
 

@@ -4,6 +4,7 @@ use Rattle.std.specs.Prelude.{IsSome}
 use Rattle.std.specs.List.{AllByRecursion, slice_get}
 use Rattle.std.proofs.lemmas.Bool.{true≢false, and_parts}
 use Rattle.std.proofs.lemmas.Int.{ints}
+use Rattle.std.proofs.lemmas.Option.{slice_get_within}
 use Rattle.ts_bucket.specs.Bucket.{IsWidth}
 use Rattle.ts_bucket.specs.Chunks.{IsInterval, max_interval}
 use Rattle.ts_bucket.specs.declared.spans.Span.{Span}
@@ -33,11 +34,6 @@ got [] i x l is = absurd (omega arith)
 got (y ∷ ys) zero x l is = ap Some (sym is)
 got (y ∷ ys) (suc i) x l is = got ys i x (omega arith) is
 
-pub place_below : {X : Type 0} (xs : List X) (i : ℕ) (x : X) → slice_get xs i ≡ Some x → i < length xs
-place_below [] i x e = absurd (cc)
-place_below (y ∷ ys) zero x e = omega arith
-place_below (y ∷ ys) (suc i) x e = let rest = place_below ys i x e in omega (arith, rest)
-
 -- ---- a new hypertable
 
 hyper_parts : (hyper : HyperInfo) (o : Option TableInfo) → hyper_fits hyper o ≡ true → (info : TableInfo) × (o ≡ Some info) × IsInterval hyper.interval
@@ -59,7 +55,7 @@ pub hyper_place : (h : History) (t : ℕ) (hyper : HyperInfo) (s : StateValue) �
 hyper_place h t hyper s st fits =
     let parts = hyper_parts hyper (table_of (roster h) t) (hyper_sound h t hyper fits) in
     let found = each_at (TableAt h) t (roster h).tables s.tables parts.0 st.tables parts.1 in
-    place_below s.tables t found.0 found.1
+    slice_get_within s.tables t found.0 found.1
 
 -- ---- an aggregate that is there
 
@@ -85,7 +81,7 @@ view_there h n s def view st there is =
 pub view_place : (h : History) (n : ℕ) (s : StateValue) (def : ViewDef) → StandsFor h s → view_of (roster h) n ≡ Some def → n < length s.views
 view_place h n s def st there =
     let found = each_at (ViewAt h s.tables) n (roster h).views s.views def st.views there in
-    place_below s.views n found.0 found.1
+    slice_get_within s.views n found.0 found.1
 
 pub some_table : (h : History) (n : ℕ) (s : StateValue) (def : ViewDef) (view : ViewValue) → ViewThere h n s def view → IsSome (table_at s.tables view.table)
 some_table h n s def view v = subst (λ o. IsSome o) (sym (ap (table_at s.tables) v.named ∙ v.at)) refl

@@ -1,10 +1,11 @@
 -- What each event does to the materialised groups of an aggregate.
-use Rattle.std.proofs.Common.{◌≡◌, ℕ, ◌≤◌, max, Bool, true, false, not, ◌&&◌, ◌||◌, cond, List, [], ◌∷◌, map, filter, ℤ, ◌+ℤ◌, ◌<ℤ◌, int_lt, int_le, pos, Option, Some, None, sym, refl, ap, ◌∙◌, subst, arith}
+use Rattle.std.proofs.Common.{◌≡◌, ℕ, ◌≤◌, max, Bool, true, false, not, ◌&&◌, ◌||◌, cond, List, [], ◌∷◌, map, filter, ℤ, ◌+ℤ◌, ◌<ℤ◌, int_lt, pos, Option, Some, None, sym, refl, ap, ◌∙◌, subst, arith}
 use Rattle.std.specs.List.{list_all, list_any, flat_map}
 use Rattle.std.specs.List.Sorted.{IsStrictlySortedBy}
 use Rattle.std.proofs.lemmas.Int.{ints}
 use Rattle.std.proofs.lemmas.Bool.{true≢false, and_parts, and_from, ltb-false}
 use Rattle.std.proofs.lemmas.List.Folds.{list_all-append}
+use Rattle.std.proofs.Math.Bool.{or-true}
 use Rattle.ts_num.specs.Aggregates.{greater}
 use Rattle.ts_bucket.specs.Bucket.{IsWidth, is_bucket, bucket_of, holds}
 use Rattle.ts_bucket.specs.Positions.{later, is_above, is_before}
@@ -29,7 +30,7 @@ use Rattle.ts_model.specs.Allowed.{all_allowed}
 use Rattle.ts_model.specs.Scratch.{bucket_rows, occurring_buckets}
 use Rattle.ts_model.specs.Groups.{groups_at, groups_in, groups_of, bucket_groups, group_at}
 use Rattle.ts_model.specs.Refreshes.{last, span_of_cut, is_covered, last_touch_at}
-use Rattle.ts_model.specs.Jobs.{Fits, job_rows, rows_of_spans, is_part_of}
+use Rattle.ts_model.specs.Jobs.{Fits, job_rows, rows_of_spans}
 use Rattle.ts_model.specs.Windows.{last_end}
 use Rattle.ts_model.proofs.HistoryLaws.{prefix_further, prefix_prefix}
 use Rattle.ts_model.proofs.RefreshLaws.{last_bounded, is_below-greater}
@@ -39,8 +40,10 @@ use Rattle.ts_model.proofs.UntouchedLaws.{untouched_groups}
 use Rattle.ts_model.proofs.OrderLaws.{results_come_in_order}
 use Rattle.group_fold.proofs.Scratches.{groups_of_bucket}
 use Rattle.coverage.proofs.ModelLaws.{never_refreshed}
-use Rattle.mat_rows.specs.Replacing.{AreInOrder, of_bucket}
+use Rattle.mat_rows.specs.Replacing.{of_bucket}
+use Rattle.partial_agg.specs.Groups.{AreInOrder}
 use Rattle.engine_state.specs.Groups.{groups_left, is_materialised, GroupsStand, AreReplaced, AreRenewed}
+use Rattle.ts_model.proofs.FinishLaws.{covers_part}
 
 -- ---- one event further
 
@@ -197,12 +200,8 @@ all_materialised def m xs width below =
 below_left : (b : ℤ) (x y : Option ℤ) → is_below b x ≡ true → is_below b (greater x y) ≡ true
 below_left b x y e = is_below-greater b x y ∙ ap (λ t. t || is_below b y) e
 
-or_true : (t : Bool) → (t || true) ≡ true
-or_true true = refl
-or_true false = refl
-
 below_right : (b : ℤ) (x y : Option ℤ) → is_below b y ≡ true → is_below b (greater x y) ≡ true
-below_right b x y e = is_below-greater b x y ∙ ap (λ t. is_below b x || t) e ∙ or_true (is_below b x)
+below_right b x y e = is_below-greater b x y ∙ ap (λ t. is_below b x || t) e ∙ or-true (is_below b x)
 
 all_weaker : {X : Type 0} (p q : X → Bool) (xs : List X) → ((x : X) → p x ≡ true → q x ≡ true) → list_all p xs ≡ true → list_all q xs ≡ true
 all_weaker p q [] f e = refl
@@ -219,21 +218,6 @@ below_end w (row ∷ xs) width =
     ends_above b step positive = grind (arith, ints)
 
 -- ---- a finish
-
-part_covers : (w : Width) (whole : Span) (parts : List Span) (b : ℤ) → list_all (is_part_of w whole) parts ≡ true → lies_in parts b ≡ true → in_span whole b ≡ true
-part_covers w whole [] b e inside = absurd (true≢false (sym inside))
-part_covers w whole (part ∷ parts) b e inside =
-    let first = and_parts (is_part_of w whole part) (list_all (is_part_of w whole) parts) e in
-    let high = and_parts _ (int_le part.hi whole.hi) first.0 in
-    let some = and_parts _ (int_lt part.lo part.hi) high.0 in
-    let low = and_parts _ (int_le whole.lo part.lo) some.0 in
-    elim (in_span part b) as (λ t. in_span part b ≡ t → (t || lies_in parts b) ≡ true → in_span whole b ≡ true) [
-      | true ↦ λ here _. within part.lo part.hi whole.lo whole.hi b low.1 high.1 here
-      | false ↦ λ _ rest. part_covers w whole parts b first.1 rest
-    ] refl inside
-  where
-    within : (lo hi low high b : ℤ) → int_le low lo ≡ true → int_le hi high ≡ true → (int_le lo b && int_lt b hi) ≡ true → (int_le low b && int_lt b high) ≡ true
-    within lo hi low high b e f g = grind (arith, ints)
 
 later_above : (snap : ℕ) (o : Option ℕ) → is_above snap o ≡ true → later o (Some snap) ≡ o
 later_above snap None e = absurd (true≢false (sym e))
@@ -301,7 +285,7 @@ module _ (n : ℕ) (def : ViewDef) (h : History) (cut snap : ℕ) (span : Span) 
           by_case : (lies inside above : Bool) → lies_in spans b ≡ lies → in_span span b ≡ inside → is_above snap (last n h b) ≡ above → lies_in renewed b ≡ (lies && not above) → cond (lies && not above) (of_bucket b put) (of_bucket b old) ≡ cond (inside && not above) (groups_at n def h snap b) (groups_left n def h b (last n h b))
           by_case true true true l i u t = old_at b bucket
           by_case true true false l i u t = renews.groups_are b t ∙ ap (of_bucket b) f.groups_are ∙ job_groups n def h snap spans b width bucket l
-          by_case true false above l i u t = absurd (true≢false (sym (part_covers def.fold.width span spans b f.whole l) ∙ i))
+          by_case true false above l i u t = absurd (true≢false (sym (covers_part def.fold.width span spans b f.whole l) ∙ i))
           by_case false true true l i u t = old_at b bucket
           by_case false true false l i u t = old_at b bucket ∙ kept_same b bucket i l u
           by_case false false above l i u t = old_at b bucket

@@ -1,8 +1,9 @@
 -- What a state that stands for a history tells of a finish that is allowed next, and of its job.
-use Rattle.std.proofs.Common.{◌≡◌, Bool, true, false, not, ◌&&◌, ◌||◌, List, [], ◌∷◌, ℤ, ◌≤ℤ◌, ◌<ℤ◌, int_le, int_lt, Option, Some, None, sym, refl, ap, ◌∙◌, subst, arith}
+use Rattle.std.proofs.Common.{◌≡◌, Bool, true, false, not, ◌&&◌, List, [], ◌∷◌, ℤ, ◌≤ℤ◌, ◌<ℤ◌, int_le, int_lt, Option, Some, None, sym, refl, ap, ◌∙◌, subst, arith}
 use Rattle.std.specs.List.{AllByRecursion, list_all}
-use Rattle.std.proofs.lemmas.Bool.{true≢false, and_parts, and_from}
+use Rattle.std.proofs.lemmas.Bool.{and_parts, and_from}
 use Rattle.std.proofs.lemmas.Int.{ints}
+use Rattle.std.proofs.Math.Bool.{and-false}
 use Rattle.ts_bucket.specs.Bucket.{first_of, is_bucket}
 use Rattle.ts_bucket.specs.Positions.{is_above}
 use Rattle.ts_bucket.specs.Ranges.{AreRanges, IsWholeRange, RiseApart, is_asked, lies_in}
@@ -23,6 +24,7 @@ use Rattle.ts_model.proofs.CutLaws.{cut_sound}
 use Rattle.refresh_build.specs.declared.jobs.Job.{Job}
 use Rattle.refresh_build.specs.Fitting.{FitsView, JobFits}
 use Rattle.engine_state.specs.Groups.{AreRenewed}
+use Rattle.ts_model.proofs.FinishLaws.{covers_part}
 
 -- ---- a job that fits
 
@@ -80,15 +82,6 @@ part_inside w whole part b e inside =
     let before : int_lt b part.hi ≡ true = here.1 in
     and_from _ _ (let l : int_le whole.lo b ≡ true = grind (arith, ints) in l) (let g : int_lt b whole.hi ≡ true = grind (arith, ints) in g)
 
-parts_inside : (w : Width) (whole : Span) (parts : List Span) (b : ℤ) → list_all (is_part_of w whole) parts ≡ true → lies_in parts b ≡ true → in_span whole b ≡ true
-parts_inside w whole [] b e inside = absurd (true≢false (sym inside))
-parts_inside w whole (part ∷ parts) b e inside =
-    let all = and_parts (is_part_of w whole part) (list_all (is_part_of w whole) parts) e in
-    elim (in_span part b) as (λ t. in_span part b ≡ t → (t || lies_in parts b) ≡ true → in_span whole b ≡ true) [
-      | true ↦ λ is _. part_inside w whole part b all.0 is
-      | false ↦ λ _ x. parts_inside w whole parts b all.1 x
-    ] refl inside
-
 -- ---- the ranges that it renews
 
 pub ranges_sizes : (w : Width) (ranges : List Span) → AllByRecursion (IsWholeRange w) ranges → AreSpans ranges
@@ -100,22 +93,18 @@ ranges_rise [] r = tt
 ranges_rise (s ∷ []) r = tt
 ranges_rise (s ∷ t ∷ ss) r = let apart : s.hi <ℤ t.lo = r.0 in (omega (arith, ints), ranges_rise (t ∷ ss) r.1)
 
-and_none : (t : Bool) → (t && false) ≡ false
-and_none true = refl
-and_none false = refl
-
 asked_inside : (w : Width) (whole : Span) (parts : List Span) (b : ℤ) (above : Bool) → IsWholeSpan w whole → is_bucket w b ≡ true → list_all (is_part_of w whole) parts ≡ true → (is_asked w whole b && (lies_in parts b && not above)) ≡ (lies_in parts b && not above)
 asked_inside w whole parts b above s bucket e = by_parts (lies_in parts b) refl
   where
     by_parts : (t : Bool) → lies_in parts b ≡ t → (is_asked w whole b && (t && not above)) ≡ (t && not above)
     by_parts true is =
-        let inside = parts_inside w whole parts b e is in
+        let inside = covers_part w whole parts b e is in
         let first : first_of w ≤ℤ whole.lo = s.from_first in
         let low : int_le whole.lo b ≡ true = (and_parts (int_le whole.lo b) (int_lt b whole.hi) inside).0 in
         let from : int_le (first_of w) b ≡ true = grind (arith, ints) in
         let asked : is_asked w whole b ≡ true = and_from _ _ inside (and_from _ _ bucket from) in
         ap (λ t. t && not above) asked
-    by_parts false is = and_none (is_asked w whole b)
+    by_parts false is = and-false (is_asked w whole b)
 
 -- the ranges of a job whose last refresh isn't above its snapshot are renewed by its groups
 pub job_renews : (h : History) (job : Job) (def : ViewDef) (log : LogValue) (renewed : List Span) → IsWholeSpan def.fold.width job.span → Fits job.view def h job.cut job.snap job.span job.spans job.groups job.top → log.width ≡ def.fold.width → ((b : ℤ) → is_bucket def.fold.width b ≡ true → last_at log b ≡ last job.view h b) → AreRanges log.width job.span (λ b. lies_in job.spans b && is_renewed log job.snap b) renewed → AreRenewed job.view def h job.snap job.spans job.groups renewed job.groups

@@ -1,6 +1,6 @@
 -- Of an aggregate that isn't there yet nothing is marked, and a cut is of one aggregate.
 use Rattle.std.proofs.Common.{◌≡◌, ℕ, suc, ◌≤◌, true, false, ◌&&◌, ◌==◌, cond, Option, Some, None, sym, refl, ap, ◌∙◌, arith}
-use Rattle.std.proofs.lemmas.Bool.{true≢false, and_parts, eqb-true}
+use Rattle.std.proofs.lemmas.Bool.{and_parts, eqb-true}
 use Rattle.ts_num.specs.Aggregates.{greater}
 use Rattle.ts_bucket.specs.declared.spans.Span.{Span}
 use Rattle.ts_model.specs.declared.events.Event.TheVariants.{Cut, Built}
@@ -9,17 +9,8 @@ use Rattle.ts_model.specs.History.{History, start, ◌▸◌, position}
 use Rattle.ts_model.specs.Roster.{roster, view_of}
 use Rattle.ts_model.specs.Allowed.{all_allowed}
 use Rattle.ts_model.specs.Refreshes.{watermark, span_of_cut, top_of}
-use Rattle.ts_model.specs.Sound.{span_fits}
 use Rattle.ts_model.proofs.AllowedLaws.{cut_bounded}
-use Rattle.ts_model.proofs.CutLaws.{cut_sound}
-use Rattle.coverage.proofs.ModelLaws.{absent_before}
-
-pub never_cut : (n : ℕ) (h : History) (k : ℕ) → all_allowed h ≡ true → view_of (roster h) n ≡ None → span_of_cut n h k ≡ None
-never_cut n h k ok none = by_span (span_of_cut n h k) refl
-  where
-    by_span : (o : Option Span) → span_of_cut n h k ≡ o → span_of_cut n h k ≡ None
-    by_span None is = is
-    by_span (Some span) is = absurd (true≢false (sym (cut_sound n h k span ok is) ∙ ap (span_fits span) none))
+use Rattle.coverage.proofs.ModelLaws.{absent_before, never_cut}
 
 pub never_marked : (n : ℕ) (def : ViewDef) (h : History) → all_allowed h ≡ true → view_of (roster h) n ≡ None → watermark n def h ≡ None
 never_marked n def start ok none = refl

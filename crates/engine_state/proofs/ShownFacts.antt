@@ -58,13 +58,7 @@ use Rattle.engine_state.specs.Views.{ViewValue, ViewStands}
 use Rattle.engine_state.proofs.AnswerFacts.{answer_is}
 use Rattle.engine_state.proofs.FeedSteps.{fed_as_noted, noted_within}
 use Rattle.engine_state.proofs.WindowFacts.{if_there}
-
-by_test : {G : Type 0} (t : Bool) → (t ≡ true → G) → (t ≡ false → G) → G
-by_test true pass fail = pass refl
-by_test false pass fail = fail refl
-
-at_most : (a b : ℤ) → int_le a b ≡ true → a ≤ℤ b
-at_most a b e = grind (arith, ints, e)
+use Rattle.ts_schema.proofs.Cases.{by_test, int_le-true}
 
 -- ---- no group is of a bucket below the first
 
@@ -73,7 +67,7 @@ low_not_held w b t wide bucket time low =
     holds-is w b t wide bucket
     ∙ by_test (int_eq b (bucket_of w t))
     (λ e.
-    let from : min_time ≤ℤ t = at_most min_time t (and_parts (int_le min_time t) (int_le t max_time) time).0 in
+    let from : min_time ≤ℤ t = int_le-true min_time t (and_parts (int_le min_time t) (int_le t max_time) time).0 in
     let first : first_of w ≤ℤ bucket_of w t = first_of-least w t wide from in
     let same : b ≡ bucket_of w t = (Decides-int_eq b (bucket_of w t)).0 e in
     let high : int_le (first_of w) b ≡ true = grind (arith, ints, first, same) in
@@ -213,7 +207,7 @@ module _ (h : History) (n : ℕ) (def : ViewDef) (table : TableValue) (view : Vi
   -- a bucket from the first on that is below the mark is one of the range of buckets
   below_inside : (b mark : ℤ) → IsMark def.fold.width mark → int_le (first_of def.fold.width) b ≡ true → int_lt b mark ≡ true → in_span (whole_span def.fold.width) b ≡ true
   below_inside b mark is from below =
-      let least : first_of def.fold.width ≤ℤ b = at_most (first_of def.fold.width) b from in
+      let least : first_of def.fold.width ≤ℤ b = int_le-true (first_of def.fold.width) b from in
       let start : (mark -ℤ def.fold.width.step) ≤ℤ max_time = is.starts_at_or_below_a_time in
       let last : greatest <ℤ (bucket_of def.fold.width greatest +ℤ def.fold.width.step) = (bucket_of_meets def.fold.width greatest wide).end_above in
       let bounded : def.fold.width.step ≤ℤ max_step = wide.bounded in

@@ -1,13 +1,13 @@
 -- What a job that is made of a state's rows is beside a history.
-use Rattle.std.proofs.Common.{◌≡◌, ℕ, suc, ◌+◌, ◌≤◌, nat_le, nat_lt, Bool, true, false, cond, ◌==◌, ◌&&◌, ◌||◌, List, [], ◌∷◌, filter, ℤ, ◌+ℤ◌, ◌≤ℤ◌, ◌<ℤ◌, int_le, int_lt, Option, Some, None, Result, Ok, Err, IfOk, sym, refl, ap, ◌∙◌, subst, arith}
+use Rattle.std.proofs.Common.{◌≡◌, ℕ, suc, ◌+◌, ◌≤◌, nat_le, nat_lt, Bool, true, false, cond, ◌==◌, ◌&&◌, List, [], ◌∷◌, filter, ℤ, ◌+ℤ◌, ◌≤ℤ◌, ◌<ℤ◌, int_le, int_lt, Option, Some, None, Result, Ok, Err, IfOk, sym, refl, ap, ◌∙◌, subst, arith}
 use Rattle.std.specs.Prelude.{IsSome, sum_by}
 use Rattle.std.specs.List.{AllByRecursion, list_all}
-use Rattle.std.proofs.lemmas.Bool.{true≢false, and_parts, and_from, eqb-true, leb-true, or_left}
+use Rattle.std.proofs.lemmas.Bool.{true≢false, and_parts, and_from, eqb-true, leb-true, or_left, or_parts, or_right}
 use Rattle.std.proofs.lemmas.Int.{ints}
 use Rattle.std.proofs.lemmas.List.Sums.{sum_by-cons}
 use Rattle.ts_bucket.specs.Bucket.{IsWidth, bucket_of, first_of, is_bucket, is_time}
 use Rattle.ts_bucket.specs.Positions.{is_above, later}
-use Rattle.ts_bucket.proofs.PositionLaws.{at_or_below, is_above-later}
+use Rattle.ts_bucket.proofs.PositionLaws.{at_or_below}
 use Rattle.ts_bucket.specs.Ranges.{AreRanges, IsWholeRange, is_asked, lies_in}
 use Rattle.ts_bucket.specs.Spans.{in_span}
 use Rattle.ts_bucket.specs.WholeSpans.{IsWholeSpan, greatest, whole_span}
@@ -47,11 +47,10 @@ use Rattle.ts_model.proofs.FitLaws.{rows_are_times}
 use Rattle.ts_model.proofs.HistoryLaws.{base_below, prefix_end}
 use Rattle.ts_model.proofs.RangeLaws.{ranges_are_maximal}
 use Rattle.ts_model.proofs.RefreshLaws.{last_bounded}
-use Rattle.ts_model.proofs.RowLaws.{filter-in_order, in_order-twice}
+use Rattle.ts_model.proofs.RowLaws.{filter-in_order, in_order-twice, all-in_order}
 use Rattle.ts_model.proofs.SoundLaws.{view_width}
 use Rattle.group_fold.proofs.BucketGroups.{order_plays_no_part}
 use Rattle.group_fold.specs.Laws.{end_of_last}
-use Rattle.span_fold.proofs.ScanLaws.{all-in_order}
 use Rattle.span_fold.specs.Spans.{HaveTimes, near_each}
 use Rattle.refresh_build.specs.declared.jobs.Job.{Job}
 use Rattle.refresh_build.specs.declared.jobs.Refresh.{Refresh}
@@ -64,13 +63,8 @@ use Rattle.engine_state.specs.Scans.{seen_rows, stored_rows}
 use Rattle.engine_state.specs.Tables.{TableValue}
 use Rattle.engine_state.specs.Views.{ViewValue, ViewStands}
 use Rattle.engine_state.proofs.ShownFacts.{dirty_is}
-
-by_test : {G : Type 0} (t : Bool) → (t ≡ true → G) → (t ≡ false → G) → G
-by_test true pass fail = pass refl
-by_test false pass fail = fail refl
-
-at_most : (a b : ℤ) → int_le a b ≡ true → a ≤ℤ b
-at_most a b e = grind (arith, ints, e)
+use Rattle.ts_schema.proofs.Cases.{by_test, int_le-true, le-int_le, lt-int_lt}
+use Rattle.coverage.proofs.StepLaws.{low_before}
 
 -- ---- ranges of a span
 
@@ -88,18 +82,15 @@ cut_span span def e =
     let first = and_parts _ (int_le (first_of def.fold.width) span.lo) low.0 in
     let some = and_parts _ (int_lt span.lo span.hi) first.0 in
     let ends = and_parts (is_bucket def.fold.width span.lo) (is_bucket def.fold.width span.hi) some.0 in
-    record { starts = ends.0; ends = ends.1; from_first = at_most (first_of def.fold.width) span.lo first.1; upto = at_most span.hi greatest (and_parts _ (int_le span.hi greatest) high.1).1 }
+    record { starts = ends.0; ends = ends.1; from_first = int_le-true (first_of def.fold.width) span.lo first.1; upto = int_le-true span.hi greatest (and_parts _ (int_le span.hi greatest) high.1).1 }
 
 -- a bucket of a span is asked for by it, and one of the range of buckets
 in_asked : (w : Width) (span : Span) (b : ℤ) → IsCutSpan w span → is_bucket w b ≡ true → in_span span b ≡ true → is_asked w span b ≡ true
 in_asked w span b s bucket inside =
     let from : span.lo ≤ℤ b = (in_span-ends span b inside).0 in
     let first : first_of w ≤ℤ span.lo = s.from_first in
-    let high : int_le (first_of w) b ≡ true = at_least (first_of w) b (omega (arith, ints, from, first)) in
+    let high : int_le (first_of w) b ≡ true = le-int_le (first_of w) b (omega (arith, ints, from, first)) in
     and_from _ _ inside (and_from _ _ bucket high)
-  where
-    at_least : (x y : ℤ) → x ≤ℤ y → int_le x y ≡ true
-    at_least x y le = grind (arith, ints, le)
 
 in_whole : (w : Width) (span : Span) (b : ℤ) → IsWidth w → IsCutSpan w span → is_bucket w b ≡ true → in_span span b ≡ true → in_span (whole_span w) b ≡ true
 in_whole w span b wide s bucket inside =
@@ -128,24 +119,14 @@ parts_of w span (r ∷ rs) s whole inside =
     let held : in_span r span.hi ≡ true = in_span-from_ends r span.hi (omega (arith, ints, before)) past in
     let end = (in_span-ends span span.hi (inside span.hi s.ends (or_left _ _ held))).1 in
     absurd (not_less span.hi end)) in
-    and_from _ _ (and_from _ _ (and_from _ _ (and_from _ _ (and_from _ _ whole.0.starts whole.0.ends) (at_least span.lo r.lo from)) (is_less r.lo r.hi some)) upto)
-    (parts_of w span rs s whole.1 (λ b bucket e. inside b bucket (or_later (in_span r b) (lies_in rs b) e)))
+    and_from _ _ (and_from _ _ (and_from _ _ (and_from _ _ (and_from _ _ whole.0.starts whole.0.ends) (le-int_le span.lo r.lo from)) (lt-int_lt r.lo r.hi some)) upto)
+    (parts_of w span rs s whole.1 (λ b bucket e. inside b bucket (or_right (in_span r b) (lies_in rs b) e)))
   where
     less : (x y : ℤ) → int_le x y ≡ false → y <ℤ x
     less x y e = grind (arith, ints, e)
 
     not_less : (x : ℤ) → x <ℤ x → ⊥
     not_less x l = omega (arith, ints, l)
-
-    at_least : (x y : ℤ) → x ≤ℤ y → int_le x y ≡ true
-    at_least x y le = grind (arith, ints, le)
-
-    is_less : (x y : ℤ) → x <ℤ y → int_lt x y ≡ true
-    is_less x y l = grind (arith, ints, l)
-
-    or_later : (a b : Bool) → b ≡ true → (a || b) ≡ true
-    or_later true b e = refl
-    or_later false b e = e
 
 -- ---- rows in another order
 
@@ -163,13 +144,6 @@ made_in_order fold xs ys job wide same made =
 
 -- ---- what no commit touched after a position
 
-earlier_untouched : (r : ℕ) (p q : Option ℕ) → is_above r (later p q) ≡ false → is_above r p ≡ false
-earlier_untouched r p q e = first (is_above r p) (is_above r q) (sym (is_above-later r p q) ∙ e)
-  where
-    first : (x y : Bool) → (x || y) ≡ false → x ≡ false
-    first true y e = e
-    first false y e = refl
-
 -- no earlier position has a later touch
 pub untouched_before : (n : ℕ) (def : ViewDef) (h : History) (b : ℤ) (r s : ℕ) → is_above r (last_touch n def h b) ≡ false → is_above r (last_touch_at n def h s b) ≡ false
 untouched_before n def start b r s e = e
@@ -181,7 +155,7 @@ untouched_before n def (h ▸ x) b r s e =
     before (Hyper t hyper) e = e
     before (View made) e = e
     before (Mode v only) e = e
-    before (Commit ops) e = earlier_untouched r (last_touch n def h b) (cond (touches def ops h b) (Some (suc (position h))) None) e
+    before (Commit ops) e = low_before r (last_touch n def h b) (cond (touches def ops h b) (Some (suc (position h))) None) e
     before (Cut v span) e = e
     before (Built c k) e = e
 
@@ -238,15 +212,11 @@ module _ (h : History) (n : ℕ) (def : ViewDef) (table : TableValue) (view : Vi
   fits_then snap seen job after base taken rows_are ranges_are made =
       fits_from snap seen job (is_redone_with view.log table.log.entries snap) after base taken rows_are ranges_are made
       (λ b bucket inside out.
-      let parts = or_none (is_dirty_with view.log table.log.entries b) (is_refreshed_after view.log snap b) out in
+      let parts = or_parts (is_dirty_with view.log table.log.entries b) (is_refreshed_after view.log snap b) out in
       let earlier : is_above snap (last n h b) ≡ false = ap (is_above snap) (sym (stands.covered.refreshed b bucket)) ∙ parts.1 in
       let found = early_at b (last n h b) refl earlier (sym (dirty_at b bucket inside) ∙ parts.0) in
       (found.0, found.1, found.2, untouched_before n def h b found.0 snap found.3))
     where
-      or_none : (x y : Bool) → (x || y) ≡ false → (x ≡ false) × (y ≡ false)
-      or_none true y e = absurd (true≢false e)
-      or_none false y e = (refl, e)
-
       early_at : (b : ℤ) (o : Option ℕ) → last n h b ≡ o → is_above snap o ≡ false → is_invalid n def h b o ≡ false → (r : ℕ) × (r ≤ snap) × (was_refreshed n h b r ≡ true) × (is_above r (last_touch n def h b) ≡ false)
       early_at b None is above clean = absurd (true≢false clean)
       early_at b (Some r) is above clean = (r, at_or_below snap r above, lasts_are_last.refreshed n h b r is, clean)

@@ -6,6 +6,7 @@ use Rattle.std.specs.List.{list_all}
 use Rattle.std.specs.Option.{ForSome}
 use Rattle.std.proofs.lemmas.Bool.{true≢false, and_parts}
 use Rattle.std.proofs.lemmas.Int.{ints, by_lt_z}
+use Rattle.std.proofs.lemmas.Option.{slice_get_within}
 use Rattle.ts_bucket.specs.Bucket.{is_time}
 use Rattle.ts_bucket.specs.WholeSpans.{IsMark}
 use Rattle.ts_schema.specs.declared.rows.Row.{Row}
@@ -26,7 +27,7 @@ use Rattle.event_check.specs.Windows.{end_of}
 use Rattle.engine_state.specs.Stands.{StateValue, StandsFor}
 use Rattle.engine_state.specs.Tables.{TableValue, table_at}
 use Rattle.engine_state.specs.Views.{ViewValue}
-use Rattle.engine_state.proofs.CutFacts.{ViewThere, got, place_below}
+use Rattle.engine_state.proofs.CutFacts.{ViewThere, got}
 use Rattle.engine_state.proofs.StateSteps.{stands_there}
 
 -- what holds of the value that is there
@@ -75,7 +76,7 @@ some_def None e = absurd (true≢false (sym e))
 some_def (Some def) e = (def, refl)
 
 pub def_place : (r : Roster) (n : ℕ) → IsSome (view_of r n) → n < length r.views
-def_place r n some = let def = some_def (view_of r n) some in place_below r.views n def.0 def.1
+def_place r n some = let def = some_def (view_of r n) some in slice_get_within r.views n def.0 def.1
 
 pub def_is : (r : Roster) (n : ℕ) (def : ViewDef) → IsSome (view_of r n) → def ≡ get_or r.views n def → view_of r n ≡ Some def
 def_is r n def some item = got r.views n def (def_place r n some) item

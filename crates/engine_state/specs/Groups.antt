@@ -7,7 +7,8 @@ use Rattle.ts_bucket.specs.Ranges.{lies_in}
 use Rattle.ts_bucket.specs.WholeSpans.{is_below}
 use Rattle.ts_bucket.specs.declared.spans.Span.{Span}
 use Rattle.partial_agg.specs.declared.groups.Group.{Group}
-use Rattle.mat_rows.specs.Replacing.{AreInOrder, of_bucket}
+use Rattle.mat_rows.specs.Replacing.{of_bucket}
+use Rattle.partial_agg.specs.Groups.{AreInOrder}
 use Rattle.ts_model.specs.declared.views.ViewDef.{ViewDef}
 use Rattle.ts_model.specs.History.{History}
 use Rattle.ts_model.specs.Groups.{groups_at}

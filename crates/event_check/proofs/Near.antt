@@ -5,6 +5,7 @@ use Rattle.std.specs.Int.{int_max}
 use Rattle.std.specs.Option.{ForSome}
 use Rattle.std.proofs.lemmas.Bool.{and_parts}
 use Rattle.std.proofs.lemmas.Int.{ints}
+use Rattle.std.proofs.lemmas.Option.{same_Some}
 use Rattle.ts_num.specs.Aggregates.{greater}
 use Rattle.ts_bucket.specs.Bucket.{IsWidth, IsNearTimes, bucket_of, is_time, max_step, max_time, min_time}
 use Rattle.ts_bucket.specs.WholeSpans.{IsMark}
@@ -44,11 +45,8 @@ near_end w t width is =
 near_greater : (a b : Option ℤ) → ForSome a IsNearTimes → ForSome b IsNearTimes → ForSome (greater a b) IsNearTimes
 near_greater None b near also = also
 near_greater (Some x) None near also = near
-near_greater (Some x) (Some y) near also = λ z e. subst IsNearTimes (some_is _ z e) (between x y (near x refl) (also y refl))
+near_greater (Some x) (Some y) near also = λ z e. subst IsNearTimes (same_Some _ z e) (between x y (near x refl) (also y refl))
   where
-    some_is : (x z : ℤ) → Some x ≡ Some z → x ≡ z
-    some_is x z e = cc
-
     between : (x y : ℤ) → IsNearTimes x → IsNearTimes y → IsNearTimes (int_max x y)
     between x y p q =
         let a = p.low in let b = p.high in let c = q.low in let d = q.high in
@@ -56,10 +54,7 @@ near_greater (Some x) (Some y) near also = λ z e. subst IsNearTimes (some_is _ 
 
 near_ends : (w : Width) (latest : Option ℤ) → IsWidth w → ForSome latest (λ t. IsTrue (is_time t)) → ForSome (end_of w latest) IsNearTimes
 near_ends w None width times = λ z e. absurd (cc)
-near_ends w (Some t) width times = λ z e. subst IsNearTimes (some_is _ z e) (near_end w t width (times t refl))
-  where
-    some_is : (x z : ℤ) → Some x ≡ Some z → x ≡ z
-    some_is x z e = cc
+near_ends w (Some t) width times = λ z e. subst IsNearTimes (same_Some _ z e) (near_end w t width (times t refl))
 
 -- where a window without an end ends
 pub near_window_end : (w : Width) (mark latest end : Option ℤ) → IsWidth w → ForSome mark (IsMark w) → ForSome latest (λ t. IsTrue (is_time t)) → end ≡ greater mark (end_of w latest) → ForSome end IsNearTimes

@@ -2,6 +2,7 @@
 use Rattle.std.proofs.Common.{◌≡◌, ℕ, zero, suc, ◌-◌, ◌<◌, ◌≤◌, Bool, true, false, cond, ◌&&◌, nat_lt, int_le, List, [], ◌∷◌, length, get_or, drop, ℤ, ◌≤ℤ◌, ◌<ℤ◌, Result, Ok, Err, refl, sym, ap, subst, ◌∙◌, arith}
 use Rattle.std.proofs.lemmas.Bool.{and_from, lt-ltb}
 use Rattle.std.proofs.lemmas.Int.{ints}
+use Rattle.std.proofs.Math.Bool.{and-false}
 use Rattle.event_codec.specs.Reading.{StopsAt, go_on, mapped, least_above, most_below, is_low_byte, put_low, number}
 use lib.Signed.{lt_z}
 use Rattle.event_codec.specs.Reading.{IsNear}
@@ -42,11 +43,7 @@ stops_here zero lo hi bytes h l = stops_at_none lo hi bytes bytes
 stops_here (suc k) lo hi [] h l = absurd (omega (arith, h))
 stops_here (suc k) lo hi (b ∷ bytes) h l =
     let apart : int_le (least_above lo b) (most_below hi b) ≡ false = grind (arith, ints) in
-    stops k lo hi b bytes (is_low_byte lo hi b) refl (ap (λ (t : Bool). nat_lt b 256 && t) apart ∙ none (nat_lt b 256))
-  where
-    none : (t : Bool) → (t && false) ≡ false
-    none true = refl
-    none false = refl
+    stops k lo hi b bytes (is_low_byte lo hi b) refl (ap (λ (t : Bool). nat_lt b 256 && t) apart ∙ and-false (nat_lt b 256))
 
 -- the first byte begins one
 pub stops_later : (k : ℕ) (lo hi : ℤ) (bytes left : List ℕ) → 1 ≤ length bytes → 1 ≤ k → get_or bytes 0 0 < 256 → least_above lo (get_or bytes 0 0) ≤ℤ most_below hi (get_or bytes 0 0) → StopsAt (number (k - 1) (least_above lo (get_or bytes 0 0)) (most_below hi (get_or bytes 0 0)) (drop 1 bytes)) left → StopsAt (number k lo hi bytes) left
@@ -59,10 +56,10 @@ stops_later (suc k) lo hi (b ∷ bytes) left h p small l s =
 
 -- ---- the same, of numbers as the code reads them
 
-lt-true : (a b : ℤ) → lt_z a b ≡ true → a <ℤ b
+pub lt-true : (a b : ℤ) → lt_z a b ≡ true → a <ℤ b
 lt-true a b h = grind (arith, ints)
 
-lt-false : (a b : ℤ) → lt_z a b ≡ false → b ≤ℤ a
+pub lt-false : (a b : ℤ) → lt_z a b ≡ false → b ≤ℤ a
 lt-false a b h = grind (arith, ints)
 
 module _ (k : ℕ) (lo hi : ℤ) (bytes : List ℕ) (r s : ℤ) (lo_near : IsNear lo) (hi_near : IsNear hi) (r_near : IsNear r) (s_near : IsNear s) (some : 1 ≤ length bytes) (r_is : r ≡ least_above (read_again lo) (get_or bytes 0 0)) (s_is : s ≡ most_below (read_again hi) (get_or bytes 0 0)) where

@@ -16,13 +16,11 @@ use Rattle.event_codec.specs.Laws.{BytesAreCounted}
 use Rattle.event_codec.specs.Spelling as spelling
 use Rattle.event_codec.specs.Spelling.{four, eight, signed, few, many, name, value, row, test, agg, column, fold, op}
 use Rattle.event_codec.proofs.Fronts.{four_length, eight_length, signed_length}
+use Rattle.ts_model.proofs.FieldLaws.{sum_cons}
 
 sum_from : {X : Type 0} (f : X → ℕ) (n : ℕ) (xs : List X) → folded (λ a x. a + f x) n xs ≡ n + sum_by f xs
 sum_from f n [] = omega arith
 sum_from f n (x ∷ xs) = omega (arith, sum_from f (n + f x) xs, sum_from f (0 + f x) xs)
-
-sum_cons : {X : Type 0} (f : X → ℕ) (x : X) (xs : List X) → sum_by f (x ∷ xs) ≡ f x + sum_by f xs
-sum_cons f x xs = omega (arith, sum_from f (0 + f x) xs)
 
 -- items whose bytes are counted one by one
 counted : {X : Type 0} (spell : X → List ℕ) (f : X → ℕ) → ((x : X) → length (spell x) ≡ f x) → (xs : List X) → length (flat_map spell xs) ≡ sum_by f xs

@@ -1,14 +1,15 @@
 -- A number whose bytes stand in front is read; where none does, its reading fails.
 use Rattle.std.proofs.Common.{◌≡◌, ℕ, ◌-◌, ◌<◌, ◌≤◌, ◌^◌, List, ◌++◌, length, length-append, ℤ, pos, ◌≤ℤ◌, ◌<ℤ◌, unsigned_abs, true, false, Result, Ok, Err, refl, sym, ap, subst, ◌∙◌, arith}
 use Rattle.std.proofs.lemmas.Int.{ints, to_z_pos, to_z-of_z}
+use Rattle.ts_bucket.specs.WholeSpans.{least, greatest}
 use lib.Signed.{lt_z}
 use mir.Syntax.{w64, w128}
 use mir.Val.{SFits, of_z, to_z}
-use Rattle.event_codec.specs.Formed.{least_word, most_word}
 use Rattle.event_codec.specs.Spelling.{four, eight, signed}
 use Rattle.event_codec.specs.Reading.{Reads, StopsAt, go_on, mapped, number, four_upto, any_four, any_eight, between, any_word}
 use Rattle.event_codec.proofs.Formats.{IsFormat, same_value}
 use Rattle.event_codec.proofs.NumberLaws.{four_format, any_four_format, any_eight_format, between_format, any_word_format}
+use Rattle.event_codec.proofs.Begun.{lt-true, lt-false}
 
 -- a reading that gives nothing fails
 failing : {A : Type 0} (r : Result (A × List ℕ) (List ℕ)) (left : List ℕ) → StopsAt r left → ((a : A) (rest : List ℕ) → r ≡ Ok (a, rest) → ⊥) → r ≡ Err left
@@ -73,14 +74,14 @@ eight_short bytes left short stop = failing (any_eight bytes) left stop (λ a en
 
 -- ---- signed numbers
 
-module _ (lo hi : ℤ) (low : least_word ≤ℤ lo) (high : hi ≤ℤ most_word) (some : lo ≤ℤ hi) where
+module _ (lo hi : ℤ) (low : least ≤ℤ lo) (high : hi ≤ℤ greatest) (some : lo ≤ℤ hi) where
   format : IsFormat signed (λ z. (lo ≤ℤ z) × (z ≤ℤ hi)) (between lo hi)
   format = between_format lo hi some low high
 
   pub signed_is_read : (z : ℤ) (bytes rest : List ℕ) → lo ≤ℤ z → z ≤ℤ hi → bytes ≡ signed z ++ rest → between lo hi bytes ≡ Ok (z, rest)
   signed_is_read z bytes rest l h is = ap (between lo hi) is ∙ format.again z rest (l, h)
 
-  pub signed_outside : (z : ℤ) (bytes rest left : List ℕ) → least_word ≤ℤ z → z ≤ℤ most_word → ((lo ≤ℤ z) → (z ≤ℤ hi) → ⊥) → bytes ≡ signed z ++ rest → StopsAt (between lo hi bytes) left → between lo hi bytes ≡ Err left
+  pub signed_outside : (z : ℤ) (bytes rest left : List ℕ) → least ≤ℤ z → z ≤ℤ greatest → ((lo ≤ℤ z) → (z ≤ℤ hi) → ⊥) → bytes ≡ signed z ++ rest → StopsAt (between lo hi bytes) left → between lo hi bytes ≡ Err left
   signed_outside z bytes rest left l h outside is stop = failing (between lo hi bytes) left stop (λ a end e.
       let read = format.takes bytes a end e in
       let both : any_word bytes ≡ Ok (a, end) = ap any_word read.parts ∙ any_word_format.again a end (omega (arith, ints, low, read.ok.0), omega (arith, ints, high, read.ok.1)) in
@@ -101,17 +102,11 @@ read_word z = to_z w64 (of_z w64 z)
 tests_are : (a b : ℤ) → SFits w64 a → SFits w64 b → lt_z (read_word a) (read_word b) ≡ lt_z a b
 tests_are a b f g = ap (λ (z : ℤ). lt_z z (read_word b)) (to_z-of_z w64 a f) ∙ ap (lt_z a) (to_z-of_z w64 b g)
 
-tested : (a b : ℤ) → lt_z a b ≡ true → a <ℤ b
-tested a b h = grind (arith, ints)
-
-untested : (a b : ℤ) → lt_z a b ≡ false → b ≤ℤ a
-untested a b h = grind (arith, ints)
-
 pub is_less : (a b : ℤ) → SFits w64 a → SFits w64 b → lt_z (read_word a) (read_word b) ≡ true → a <ℤ b
-is_less a b f g h = tested a b (sym (tests_are a b f g) ∙ h)
+is_less a b f g h = lt-true a b (sym (tests_are a b f g) ∙ h)
 
 pub not_less : (a b : ℤ) → SFits w64 a → SFits w64 b → lt_z (read_word a) (read_word b) ≡ false → b ≤ℤ a
-not_less a b f g h = untested a b (sym (tests_are a b f g) ∙ h)
+not_less a b f g h = lt-false a b (sym (tests_are a b f g) ∙ h)
 
 pub seen_again : (read : Result (ℤ × List ℕ) (List ℕ)) (z : ℤ) (rest : List ℕ) → SFits w64 z → read ≡ Ok (z, rest) → read ≡ Ok (read_word z, rest)
 seen_again read z rest f e = subst (λ (y : ℤ). read ≡ Ok (y, rest)) (sym (to_z-of_z w64 z f)) e

@@ -3,10 +3,12 @@ use Rattle.std.proofs.Common.{◌≡◌, ℕ, zero, suc, ◌+◌, ◌-◌, ◌*�
 use Rattle.std.specs.Int.{w32, w64, to_le_bytes, cast_unsigned}
 use Rattle.std.proofs.lemmas.Bool.{and_parts, and_from, ltb-true, lt-ltb}
 use Rattle.std.proofs.lemmas.Int.{ints}
-use Rattle.event_codec.specs.Formed.{Within, IsFour, IsEight, IsWord, least_word, most_word}
+use Rattle.ts_bucket.specs.WholeSpans.{least, greatest}
+use Rattle.event_codec.specs.Formed.{Within, IsFour, IsEight, IsWord}
 use Rattle.event_codec.specs.Spelling.{four, eight, signed}
 use Rattle.event_codec.specs.Reading.{gives, pair, byte_where, low_byte, without_low, with_low, least_above, most_below, is_low_byte, put_low, number, any_byte, four_upto, any_four, any_eight, between, any_word}
 use Rattle.event_codec.proofs.Formats.{IsFormat, SameSpelling, byte_format, pair_format, map_format, gives_format, alike}
+use Rattle.ts_schema.proofs.Cases.{int_le-true, le-int_le}
 
 -- so many bytes of a whole number, the lowest first
 abbrev pub low_bytes : ℕ → ℤ → List ℕ
@@ -80,12 +82,6 @@ below hi b q h l = le_down (hi -ℤ pos b) q (omega (arith, ints, low_down b q h
 
 below_back : (hi : ℤ) (b : ℕ) (q : ℤ) → b < 256 → q ≤ℤ most_below hi b → with_low b q ≤ℤ hi
 below_back hi b q h l = let k = le_down_back (hi -ℤ pos b) q l in omega (arith, ints, low_down b q h, k)
-
-int_le-true : (a b : ℤ) → int_le a b ≡ true → a ≤ℤ b
-int_le-true a b h = grind (arith, ints)
-
-le-int_le : (a b : ℤ) → a ≤ℤ b → int_le a b ≡ true
-le-int_le a b h = grind (arith, ints)
 
 -- ---- a range, and what its lowest bytes leave of it
 
@@ -214,7 +210,7 @@ any_eight_format = map_format unsigned_abs (low_bytes 8) (Within (pos 0) (pos (2
       back = λ n h. record { value = pos n; ok = (omega (arith, ints), omega (arith, ints, h)); same = refl; spelled = eight_is n };
     })
 
-pub between_format : (lo hi : ℤ) → lo ≤ℤ hi → least_word ≤ℤ lo → hi ≤ℤ most_word → IsFormat signed (Within lo hi) (between lo hi)
+pub between_format : (lo hi : ℤ) → lo ≤ℤ hi → least ≤ℤ lo → hi ≤ℤ greatest → IsFormat signed (Within lo hi) (between lo hi)
 unfolding signed
 between_format lo hi l low high = alike (low_bytes 8) signed (Within lo hi) (Within lo hi) (between lo hi)
     (number_format 8 lo hi (2 ^ 64 - 1) l (omega (arith, ints, low, high)) (omega arith))
@@ -222,4 +218,4 @@ between_format lo hi l low high = alike (low_bytes 8) signed (Within lo hi) (Wit
     (λ z h. (h, signed_is z (omega (arith, ints, low, h.0), omega (arith, ints, high, h.1))))
 
 pub any_word_format : IsFormat signed IsWord any_word
-any_word_format = between_format least_word most_word (omega (arith, ints)) (omega (arith, ints)) (omega (arith, ints))
+any_word_format = between_format least greatest (omega (arith, ints)) (omega (arith, ints)) (omega (arith, ints))

@@ -3,6 +3,7 @@ use Rattle.std.proofs.Common.{◌≡◌, ℕ, ◌-◌, ◌<◌, ◌≤◌, ◌^�
 use Rattle.std.specs.List.{flat_map, list_all, AllByRecursion}
 use Rattle.std.proofs.lemmas.Bool.{and_parts, and_from, ltb-true, lt-ltb, leb-true, le-leb, true≢false}
 use Rattle.std.proofs.lemmas.Int.{ints}
+use Rattle.ts_bucket.specs.WholeSpans.{least, greatest}
 use Rattle.ts_bucket.specs.Bucket.{max_step, max_time, min_time}
 use Rattle.ts_num.specs.declared.values.Fun.{Fun}
 use Rattle.ts_num.specs.declared.values.Fun.TheVariants.{CountAll, Count, Sum, Min, Max, Avg}
@@ -14,7 +15,7 @@ use Rattle.ts_model.specs.declared.events.Op.TheVariants as ops
 use Rattle.event_codec.specs.declared.kinds.OpKind.{OpKind}
 use Rattle.event_codec.specs.declared.kinds.OpKind.TheVariants as op_kinds
 use Rattle.event_codec.specs.Codes.{op_code}
-use Rattle.event_codec.specs.Formed.{Within, Few, Many, IsFour, IsName, IsValue, IsRow, IsTest, IsAgg, IsColumn, IsStep, IsSpan, IsFold, IsOp, IsTable, IsHyper, IsView, IsWord, least_word, most_word, least_number, most_number, most_column}
+use Rattle.event_codec.specs.Formed.{Within, Few, Many, IsFour, IsName, IsValue, IsRow, IsTest, IsAgg, IsColumn, IsStep, IsSpan, IsFold, IsOp, IsTable, IsHyper, IsView, IsWord, least_number, most_number, most_column}
 use Rattle.event_codec.specs.Spelling.{four, signed, few, many, name, flag, value, row, test, agg, column, width, span, fold, op, table, hyper, view}
 use Rattle.event_codec.specs.Reading.{Reads, gives, pair, byte_where, put_before, items, second, any_byte, any_four, four_upto, between, any_word, few_of, many_of, coded, flag_of, cmp_of, fun_of, op_kind_of, is_name_length, name_text, name_at, value_body, value_at, to_row, row_at, to_test, test_at, to_agg, agg_at, to_column, column_at, to_width, width_at, to_span, span_at, to_fold, fold_at, to_insert, to_delete, op_body, op_at, to_table, table_at, to_hyper, hyper_at, to_view, view_at}
 use Rattle.event_codec.proofs.Formats.{IsFormat, Source, gives_format, byte_format, pair_format, map_format, items_format, listed_format, alike}
@@ -195,9 +196,9 @@ width_format = map_format to_width _ _ (pair (between (pos 1) max_step) (λ step
 
 pub span_format : IsFormat span IsSpan span_at
 unfolding span_at
-span_format = map_format to_span _ _ (pair (between least_word (most_word -ℤ pos 1)) (λ lo. between (lo +ℤ pos 1) most_word)) span IsSpan
-    (pair_format _ _ _ _ _ _ (between_format least_word (most_word -ℤ pos 1) (omega (arith, ints)) (omega (arith, ints)) (omega (arith, ints)))
-    (λ lo h. between_format (lo +ℤ pos 1) most_word (omega (arith, ints, h.1)) (omega (arith, ints, h.0)) (omega (arith, ints))))
+span_format = map_format to_span _ _ (pair (between least (greatest -ℤ pos 1)) (λ lo. between (lo +ℤ pos 1) greatest)) span IsSpan
+    (pair_format _ _ _ _ _ _ (between_format least (greatest -ℤ pos 1) (omega (arith, ints)) (omega (arith, ints)) (omega (arith, ints)))
+    (λ lo h. between_format (lo +ℤ pos 1) greatest (omega (arith, ints, h.1)) (omega (arith, ints, h.0)) (omega (arith, ints))))
     (record { there = λ x h. (record { lo = h.0; hi = h.1 }, refl); back = λ s h. record { value = (s.lo, s.hi); ok = (h.lo, h.hi); same = refl; spelled = refl } })
 
 pub fold_format : IsFormat fold IsFold fold_at

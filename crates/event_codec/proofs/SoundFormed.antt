@@ -1,5 +1,5 @@
 -- Sound events have a spelling.
-use Rattle.std.proofs.Common.{◌≡◌, ℕ, ◌-◌, ◌^◌, ◌<◌, ◌≤◌, Bool, true, ◌&&◌, ◌||◌, not, nat_lt, nat_le, List, [], ◌∷◌, map, length, ℤ, pos, negsuc, ◌≤ℤ◌, ◌<ℤ◌, int_lt, int_le, Option, Some, None, sym, arith}
+use Rattle.std.proofs.Common.{◌≡◌, ℕ, ◌-◌, ◌^◌, ◌<◌, ◌≤◌, Bool, true, ◌&&◌, ◌||◌, not, nat_lt, nat_le, List, [], ◌∷◌, map, length, ℤ, pos, negsuc, int_lt, int_le, Option, Some, None, sym, arith}
 use Rattle.std.specs.Prelude.{◌==◌, remove}
 use Rattle.std.specs.List.{list_all, AllByRecursion}
 use Rattle.std.specs.Ordering.{int_eq}
@@ -40,14 +40,9 @@ use Rattle.ts_model.proofs.FieldLaws.{counts_fit}
 use Rattle.ts_model.proofs.SoundLaws.{sound_in_roster}
 use Rattle.event_codec.specs.Formed.{Within, Many, IsFour, IsName, IsValue, IsRow, IsTest, IsAgg, IsColumn, IsStep, IsSpan, IsFold, IsOp, IsHyper, IsView, IsFormed, IsWord, least_number, most_number, most_column}
 use Rattle.event_codec.specs.Laws.{SoundAreFormed}
+use Rattle.ts_schema.proofs.Cases.{int_le-true, int_lt-true}
 
 -- ---- tests as facts
-
-le_true : (a b : ℤ) → int_le a b ≡ true → a ≤ℤ b
-le_true a b h = grind (arith, ints)
-
-lt_true : (a b : ℤ) → int_lt a b ≡ true → a <ℤ b
-lt_true a b h = grind (arith, ints)
 
 byte : (n : ℕ) → fits_byte n ≡ true → n < 2 ^ 8
 byte n h = ltb-true n (2 ^ 8) h
@@ -58,12 +53,12 @@ four n h = ltb-true n (2 ^ 32) h
 word : (z : ℤ) → is_word z ≡ true → IsWord z
 word z h =
     let p = and_parts (int_le (negsuc (2 ^ 63 - 1)) z) (int_le z (pos (2 ^ 63 - 1))) h in
-    (le_true (negsuc (2 ^ 63 - 1)) z p.0, le_true z (pos (2 ^ 63 - 1)) p.1)
+    (int_le-true (negsuc (2 ^ 63 - 1)) z p.0, int_le-true z (pos (2 ^ 63 - 1)) p.1)
 
 time : (z : ℤ) → is_time z ≡ true → Within min_time max_time z
 time z h =
     let p = and_parts (int_le min_time z) (int_le z max_time) h in
-    (le_true min_time z p.0, le_true z max_time p.1)
+    (int_le-true min_time z p.0, int_le-true z max_time p.1)
 
 -- what holds of each item, and so something else
 each : {X : Type 0} (test : X → Bool) (P : X → Type 0) → ((x : X) → test x ≡ true → P x) → (xs : List X) → list_all test xs ≡ true → AllByRecursion P xs
@@ -124,9 +119,9 @@ width w h =
     let last = and_parts (int_lt (pos 0) w.step && int_le w.step max_step && int_le (pos 0) w.shift) (int_lt w.shift w.step) h in
     let third = and_parts (int_lt (pos 0) w.step && int_le w.step max_step) (int_le (pos 0) w.shift) last.0 in
     let first = and_parts (int_lt (pos 0) w.step) (int_le w.step max_step) third.0 in
-    let positive = lt_true (pos 0) w.step first.0 in
-    let below = lt_true w.shift w.step last.1 in
-    record { step = (omega (arith, ints, positive), le_true w.step max_step first.1); shift = (le_true (pos 0) w.shift third.1, omega (arith, ints, below)) }
+    let positive = int_lt-true (pos 0) w.step first.0 in
+    let below = int_lt-true w.shift w.step last.1 in
+    record { step = (omega (arith, ints, positive), int_le-true w.step max_step first.1); shift = (int_le-true (pos 0) w.shift third.1, omega (arith, ints, below)) }
 
 fold : (n : ℕ) (f : Fold) → is_width f.width ≡ true → fold_fits n f ≡ true → fold_fits_fields f ≡ true → IsFold f
 fold n f w h k =
@@ -190,8 +185,8 @@ hyper t y None h k = absurd (true≢false (sym h))
 hyper t y (Some info) h k =
     let last = and_parts (nat_lt y.at (length info.def.cols) && int_lt (pos 0) y.interval) (int_le y.interval max_interval) h in
     let first = and_parts (nat_lt y.at (length info.def.cols)) (int_lt (pos 0) y.interval) last.0 in
-    let positive = lt_true (pos 0) y.interval first.1 in
-    let most = le_true y.interval max_interval last.1 in
+    let positive = int_lt-true (pos 0) y.interval first.1 in
+    let most = int_le-true y.interval max_interval last.1 in
     let p = and_parts (fits_four t) (fits_four y.at) k in
     (four t p.0, record { place = four y.at p.1; interval = (omega (arith, ints, positive), omega (arith, ints, most)) })
 
@@ -226,7 +221,7 @@ span s (Some def) h =
     let last = and_parts _ (is_word s.hi) h in
     let low = and_parts _ (is_word s.lo) last.0 in
     let from = and_parts _ (int_le (first_of def.fold.width) s.lo) low.0 in
-    let less = lt_true s.lo s.hi (and_parts _ (int_lt s.lo s.hi) from.0).1 in
+    let less = int_lt-true s.lo s.hi (and_parts _ (int_lt s.lo s.hi) from.0).1 in
     let lo = word s.lo low.1 in
     let hi = word s.hi last.1 in
     record { lo = (lo.0, omega (arith, ints, less, hi.1)); hi = (omega (arith, ints, less), hi.1) }

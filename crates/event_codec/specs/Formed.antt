@@ -1,6 +1,7 @@
 -- What has a spelling: events all of whose parts are in the range of their fields.
-use Rattle.std.specs.Prelude.{ℕ, ◌<◌, ◌≤◌, ◌^◌, ◌-◌, ℤ, pos, negsuc, ◌+ℤ◌, ◌-ℤ◌, ◌≤ℤ◌, List, length, Option, IfSome, IsTrue, if◌then◌else◌}
+use Rattle.std.specs.Prelude.{ℕ, ◌<◌, ◌≤◌, ◌^◌, ◌-◌, ℤ, pos, ◌+ℤ◌, ◌-ℤ◌, ◌≤ℤ◌, List, length, Option, IfSome, IsTrue, if◌then◌else◌}
 use Rattle.std.specs.List.{AllByRecursion}
+use Rattle.ts_bucket.specs.WholeSpans.{least, greatest}
 use Rattle.ts_bucket.specs.Bucket.{max_step, max_time, min_time}
 use Rattle.ts_bucket.specs.declared.spans.Span.{Span}
 use Rattle.ts_bucket.specs.declared.widths.Width.{Width}
@@ -23,19 +24,12 @@ use Rattle.ts_model.specs.declared.views.ViewDef.{ViewDef}
 
 -- ---- numbers and lists
 
--- the least and the greatest number of 64 bits
-abbrev pub least_word : ℤ
-least_word = negsuc (2 ^ 63 - 1)
-
-abbrev pub most_word : ℤ
-most_word = pos (2 ^ 63 - 1)
-
 -- from lo to hi
 abbrev pub Within : ℤ → ℤ → ℤ → Type 0
 Within lo hi z = (lo ≤ℤ z) × (z ≤ℤ hi)
 
 abbrev pub IsWord : ℤ → Type 0
-IsWord z = Within least_word most_word z
+IsWord z = Within least greatest z
 
 -- fewer than 2 ^ 8 items, or fewer than 2 ^ 32
 abbrev pub Few : {A : Type 0} → (A → Type 0) → List A → Type 0
@@ -68,10 +62,10 @@ pub record IsRow (r : Row) : Type 0 where
 
 -- the number of a test is 0 where it is a test on NULL
 abbrev pub least_number : Cmp → ℤ
-least_number cmp = if is_null_test cmp then pos 0 else least_word
+least_number cmp = if is_null_test cmp then pos 0 else least
 
 abbrev pub most_number : Cmp → ℤ
-most_number cmp = if is_null_test cmp then pos 0 else most_word
+most_number cmp = if is_null_test cmp then pos 0 else greatest
 
 pub record IsTest (t : Test) : Type 0 where
   pub column : IsFour t.col
@@ -94,8 +88,8 @@ pub record IsStep (w : Width) : Type 0 where
 
 -- a span that holds something
 pub record IsSpan (s : Span) : Type 0 where
-  pub lo : Within least_word (most_word -ℤ pos 1) s.lo
-  pub hi : Within (s.lo +ℤ pos 1) most_word s.hi
+  pub lo : Within least (greatest -ℤ pos 1) s.lo
+  pub hi : Within (s.lo +ℤ pos 1) greatest s.hi
 
 pub record IsFold (f : Fold) : Type 0 where
   pub width : IsStep f.width

@@ -1,5 +1,6 @@
 -- Reading from left to right: what stands in front and the bytes after it; or, where nothing of the kind stands in front, the bytes after the longest front that begins one.
 use Rattle.std.specs.Prelude.{◌≡◌, ℕ, zero, suc, ◌+◌, ◌-◌, ◌*◌, ◌/◌, ◌%◌, ◌^◌, nat_lt, nat_le, ◌==◌, ℤ, pos, negsuc, ◌+ℤ◌, ◌-ℤ◌, ◌≤ℤ◌, int_le, unsigned_abs, Bool, true, false, ◌&&◌, if◌then◌else◌, List, [], ◌∷◌, Result, Ok, Err, Option, Some, None}
+use Rattle.ts_bucket.specs.WholeSpans.{least, greatest}
 use Rattle.ts_bucket.specs.Bucket.{max_step, max_time, min_time}
 use Rattle.ts_bucket.specs.declared.spans.Span.{Span}
 use Rattle.ts_bucket.specs.declared.widths.Width.{Width}
@@ -27,7 +28,7 @@ use Rattle.event_codec.specs.declared.kinds.Kind.TheVariants as kinds
 use Rattle.event_codec.specs.declared.kinds.OpKind.{OpKind}
 use Rattle.event_codec.specs.declared.kinds.OpKind.TheVariants as op_kinds
 use Rattle.event_codec.specs.Codes.{flag_code, cmp_code, fun_code, kind_code, op_code}
-use Rattle.event_codec.specs.Formed.{least_word, most_word, least_number, most_number, most_column}
+use Rattle.event_codec.specs.Formed.{least_number, most_number, most_column}
 
 abbrev pub Reads : Type 0 → Type 0
 Reads A = List ℕ → Result (A × List ℕ) (List ℕ)
@@ -148,7 +149,7 @@ abbrev pub between : ℤ → ℤ → Reads ℤ
 between lo hi = number 8 lo hi
 
 abbrev pub any_word : Reads ℤ
-any_word = between least_word most_word
+any_word = between least greatest
 
 abbrev pub few_of : {A : Type 0} → Reads A → Reads (List A)
 few_of p = listed any_byte p
@@ -244,7 +245,7 @@ abbrev pub to_span : ℤ × ℤ → Span
 to_span x = record { lo = x.0; hi = x.1 }
 
 unfoldable pub span_at : Reads Span
-span_at = mapped to_span (pair (between least_word (most_word -ℤ pos 1)) (λ lo. between (lo +ℤ pos 1) most_word))
+span_at = mapped to_span (pair (between least (greatest -ℤ pos 1)) (λ lo. between (lo +ℤ pos 1) greatest))
 
 abbrev pub to_fold : Width × (List ℕ × (List Agg × List Test)) → Fold
 to_fold x = record { width = x.0; keys = x.1.0; aggs = x.1.1.0; tests = x.1.1.1 }

@@ -6,15 +6,12 @@ use Rattle.std.specs.Ordering.{int_cmp, int_eq, is_eq, is_gt}
 use Rattle.std.specs.declared.cmp.Ordering.TheVariants.{Less, Equal, Greater}
 use Rattle.std.proofs.lemmas.Int.{ints, clamps}
 use Rattle.std.proofs.lemmas.Bool.Decides.{Decides-int_eq}
-use Rattle.std.specs.declared.cmp.Ordering.{Ordering}
-use Rattle.std.specs.Ordering.{ordering_then}
 use Rattle.std.specs.Prelude.{int_lt, int_le}
 use Rattle.std.proofs.lemmas.Cmp.{int_cmp_total}
 use Rattle.std.proofs.lemmas.List.Elements.{filter-append}
 use Rattle.ts_num.specs.Aggregates.{greater}
-use Rattle.ts_num.proofs.EndLaws.{greater_assoc, greater_comm}
 use Rattle.ts_schema.specs.declared.rows.Row.{Row}
-use Rattle.ts_schema.specs.Rows.{row_cmp, values_cmp}
+use Rattle.ts_schema.specs.Rows.{row_cmp}
 use Rattle.ts_schema.specs.Conditions.{passes_all}
 use Rattle.ts_bucket.specs.Bucket.{IsWidth, is_bucket, is_time, bucket_of, first_of, min_time, max_time}
 use Rattle.ts_bucket.proofs.BucketLaws.{bucket_of_meets}
@@ -30,15 +27,17 @@ use Rattle.ts_model.proofs.SameRanges.{flat_map-buckets_in}
 use Rattle.ts_model.specs.Jobs.{rows_of_spans}
 use Rattle.ts_model.specs.Windows.{last_end}
 use Rattle.partial_agg.specs.declared.groups.Group.{Group}
-use Rattle.partial_agg.specs.Groups.{group_cmp}
-use Rattle.partial_agg.proofs.GroupLaws.{group_cmp_total, group_cmp-place}
+use Rattle.partial_agg.specs.Groups.{group_cmp, AreInOrder}
+use Rattle.partial_agg.proofs.GroupLaws.{group_cmp_total, group_cmp-place, less_start}
 use Rattle.group_fold.specs.Grouping.{row_group, IsOfTime}
-use Rattle.group_fold.specs.Merging.{AreInOrder, taken, with_group}
+use Rattle.group_fold.specs.Merging.{taken, with_group}
 use Rattle.group_fold.specs.Laws.{OrderPlaysNoPart, GroupsOfSomeBuckets, GroupsOfSpans, GroupsOfOneBucket, SpansKeepGroups, GroupsOfAsked, LastGroupEnds, end_of_last}
 use Rattle.group_fold.proofs.Insertions.{by_order, at_less, at_equal, at_greater, with_group-front}
-use Rattle.group_fold.proofs.Occurring.{all_above, all_weaker, all-map, any-once, is_eq-swap, sorted-once}
+use Rattle.group_fold.proofs.Occurring.{all_above, all-map, any-once, is_eq-swap, sorted-once}
 use Rattle.group_fold.proofs.RowGroups.{all-with_group, groups_of-more, no_bucket_rows, sorted-groups_of, starts_are_buckets, taken-commutes}
 use Rattle.group_fold.proofs.Scratches.{filter-all, filter-none, groups_of_bucket}
+use Rattle.ts_schema.proofs.Cases.{by_test, and_first, and_second, all_weaker}
+use Rattle.ts_model.proofs.FinishLaws.{greater_swap}
 
 -- ---- the order of rows
 
@@ -107,18 +106,6 @@ module _ (test : ℤ → Bool) where
         | true ↦ ap (λ ys. x ∷ ys) (passing-in g xs pass sorted.1) ∙ sym (at_greater g x (filter (λ y. test y.start) xs) e)
         | false ↦ passing-in g xs pass sorted.1
       ])
-
-and_first : (a b : Bool) → (a && b) ≡ true → a ≡ true
-and_first true b h = refl
-and_first false b h = h
-
-and_second : (a b : Bool) → (a && b) ≡ true → b ≡ true
-and_second true b h = h
-and_second false b h = cc
-
-by_test : {G : Type 0} (t : Bool) → (t ≡ true → G) → (t ≡ false → G) → G
-by_test true pass fail = pass refl
-by_test false pass fail = fail refl
 
 pub groups_of_some_buckets : GroupsOfSomeBuckets
 groups_of_some_buckets fold test [] wide = refl
@@ -205,9 +192,6 @@ twice None b = refl
 twice (Some x) None = ap Some (omega (arith, ints, clamps))
 twice (Some x) (Some y) = ap Some (omega (arith, ints, clamps))
 
-middle : (a b c : Option ℤ) → greater a (greater b c) ≡ greater b (greater a c)
-middle a b c = sym (greater_assoc a b c) ∙ (ap (λ x. greater x c) (greater_comm a b) ∙ greater_assoc b a c)
-
 end-with_group : (w : Width) (g : Group) (xs : List Group) → greatest_end w (with_group g xs) ≡ greater (Some (g.start +ℤ w.step)) (greatest_end w xs)
 end-with_group w g [] = refl
 end-with_group w g (x ∷ xs) =
@@ -219,25 +203,14 @@ end-with_group w g (x ∷ xs) =
     ∙ (sym (twice (Some (g.start +ℤ w.step)) (greatest_end w xs)) ∙ ap (λ s. greater (Some (g.start +ℤ w.step)) (greater (Some (s +ℤ w.step)) (greatest_end w xs))) same))
     (λ e.
     ap (greatest_end w) (at_greater g x xs e)
-    ∙ (ap (greater (Some (x.start +ℤ w.step))) (end-with_group w g xs) ∙ middle (Some (x.start +ℤ w.step)) (Some (g.start +ℤ w.step)) (greatest_end w xs)))
-
-not_above : (x y : ℤ) (o : Ordering) → ordering_then (int_cmp x y) o ≡ Less → x ≤ℤ y
-not_above x y o e =
-    elim (int_lt y x) as (λ b. int_lt y x ≡ b → ordering_then (cond (int_lt x y) Less (cond b Greater Equal)) o ≡ Less → x ≤ℤ y) [
-      | true ↦ λ above f. let below : int_lt x y ≡ false = grind (arith, ints, above) in cc (rw below at f)
-      | false ↦ λ low f. grind (arith, ints, low)
-    ] refl e
-
--- the first of two groups in order starts no later
-starts_first : (g h : Group) → group_cmp g h ≡ Less → g.start ≤ℤ h.start
-starts_first g h e = not_above g.start h.start (values_cmp g.keys h.keys) e
+    ∙ (ap (greater (Some (x.start +ℤ w.step))) (end-with_group w g xs) ∙ greater_swap (Some (x.start +ℤ w.step)) (Some (g.start +ℤ w.step)) (greatest_end w xs)))
 
 last_is_greatest : (w : Width) (gs : List Group) → AreInOrder gs → end_of_last w gs ≡ greatest_end w gs
 unfolding IsStrictlySortedBy
 last_is_greatest w [] sorted = refl
 last_is_greatest w (g ∷ []) sorted = refl
 last_is_greatest w (g ∷ h ∷ gs) sorted =
-    last_is_greatest w (h ∷ gs) sorted.1 ∙ sym (lower (g.start +ℤ w.step) (h.start +ℤ w.step) (greatest_end w gs) (omega (arith, ints, starts_first g h sorted.0.0)))
+    last_is_greatest w (h ∷ gs) sorted.1 ∙ sym (lower (g.start +ℤ w.step) (h.start +ℤ w.step) (greatest_end w gs) (omega (arith, ints, less_start g h sorted.0.0)))
   where
     lower : (x y : ℤ) (c : Option ℤ) → x ≤ℤ y → greater (Some x) (greater (Some y) c) ≡ greater (Some y) c
     lower x y None le = ap Some (omega (arith, ints, clamps, le))

@@ -17,7 +17,8 @@ use Rattle.group_fold.specs.Grouping.{row_parts}
 use Rattle.ts_model.specs.Groups.{column, group_at, groups_in, groups_of}
 use Rattle.group_fold.specs.Gathering.{IsBelow}
 use Rattle.group_fold.specs.Merging.{PartsFit, FitTogether}
-use Rattle.group_fold.proofs.Occurring.{all_weaker, all-map, all-flat_map}
+use Rattle.group_fold.proofs.Occurring.{all-map, all-flat_map}
+use Rattle.ts_schema.proofs.Cases.{all_weaker}
 
 length-filter : {X : Type 0} (test : X → Bool) (xs : List X) → length (filter test xs) ≤ length xs
 length-filter test [] = omega arith

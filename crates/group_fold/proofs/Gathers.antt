@@ -13,18 +13,19 @@ use Rattle.ts_model.specs.declared.views.Agg.{Agg}
 use Rattle.ts_model.specs.declared.views.Fold.{Fold}
 use Rattle.partial_agg.specs.declared.groups.Group.{Group}
 use Rattle.partial_agg.specs.Summaries.{Summary}
-use Rattle.partial_agg.specs.Groups.{group_cmp}
+use Rattle.partial_agg.specs.Groups.{group_cmp, AreInOrder}
 use Rattle.partial_agg.proofs.GroupLaws.{group_cmp_total, group_cmp-place}
 use Rattle.group_fold.specs.Grouping.{row_group, row_parts}
 use Rattle.ts_model.specs.Groups.{groups_of}
-use Rattle.group_fold.specs.Merging.{AreInOrder, CanJoin, PartsFit, FitTogether, joined_parts, merged, with_group, with_groups}
+use Rattle.group_fold.specs.Merging.{CanJoin, PartsFit, FitTogether, joined_parts, merged, with_group, with_groups}
 use Rattle.group_fold.specs.Gathering.{IsAt, IsBelow, ordered, most_counted, counted, HaveParts, parts_each, CanOrder, HasRoom, IsGathered, Takes}
 use Rattle.group_fold.proofs.Insertions.{by_order, equal_back, joined_parts_comm, with_group-commutes, with_group-front, with_group-twice, with_groups-with_group}
 use Rattle.group_fold.proofs.RowGroups.{groups_of-push, sorted-with_groups}
 use Rattle.group_fold.proofs.Counts.{length-row_parts}
 use Rattle.group_fold.proofs.CutRows.{take_drop}
-use Rattle.group_fold.proofs.Occurring.{all_weaker, all_above}
+use Rattle.group_fold.proofs.Occurring.{all_above}
 use Rattle.group_fold.proofs.AnyOrder.{gathered, gathered-permuted}
+use Rattle.ts_schema.proofs.Cases.{all_weaker}
 
 -- ---- one more group, or one that took in another
 

@@ -15,9 +15,10 @@ use Rattle.partial_agg.proofs.GroupLaws.{group_cmp_total}
 use Rattle.group_fold.specs.declared.joins.Next.TheVariants.{Mine, Theirs, Both}
 use Rattle.group_fold.specs.Merging.{AreGroupsOfBoth, CanJoin, PartsFit, joined_parts, merged, next_of_lists, with_group, with_groups}
 use Rattle.group_fold.proofs.Insertions.{by_order, less_back, greater_back, equal_back, at_equal, at_greater, with_group-front}
-use Rattle.group_fold.proofs.Occurring.{all_weaker, all_above, all_above_tied}
+use Rattle.group_fold.proofs.Occurring.{all_above, all_above_tied}
 use Rattle.group_fold.proofs.RowGroups.{all-with_groups, sorted-groups_of, groups_of-append}
 use Rattle.group_fold.proofs.Counts.{counts_below, fit_together}
+use Rattle.ts_schema.proofs.Cases.{all_weaker}
 
 -- ---- what is left can be put together too
 

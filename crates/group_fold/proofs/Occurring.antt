@@ -10,12 +10,9 @@ use Rattle.std.specs.declared.cmp.Ordering.TheVariants.{Less, Equal, Greater}
 use Rattle.std.proofs.lemmas.Cmp.{alike_right}
 use Rattle.ts_model.specs.Scratch.{once}
 use Rattle.group_fold.proofs.Insertions.{by_order}
+use Rattle.ts_schema.proofs.Cases.{all_weaker, or_swapped}
 
 -- ---- facts of each element
-
-pub all_weaker : {X : Type 0} (P Q : X → Type 0) → ((x : X) → P x → Q x) → (xs : List X) → AllByRecursion P xs → AllByRecursion Q xs
-all_weaker P Q f [] h = tt
-all_weaker P Q f (x ∷ xs) h = (f x h.0, all_weaker P Q f xs h.1)
 
 pub all-append : {X : Type 0} (P : X → Type 0) (xs ys : List X) → AllByRecursion P xs → AllByRecursion P ys → AllByRecursion P (xs ++ ys)
 all-append P [] ys h k = k
@@ -115,17 +112,11 @@ module _ {K : Type 0} (cmp : K → K → Ordering) (total : IsTotalOrder cmp) wh
       (λ e.
       let alike : cmp j k ≡ cmp j x = alike_right total k x j e in
       rw (e, alike) (twice (is_eq (cmp j x)) (list_any (λ x. is_eq (cmp j x)) xs)))
-      (λ e. rw (e, any-insert_key j xs k) (swapped (is_eq (cmp j x)) (is_eq (cmp j k)) (list_any (λ x. is_eq (cmp j x)) xs)))
+      (λ e. rw (e, any-insert_key j xs k) (or_swapped (is_eq (cmp j x)) (is_eq (cmp j k)) (list_any (λ x. is_eq (cmp j x)) xs)))
     where
       twice : (a b : Bool) → (a || b) ≡ (a || (a || b))
       twice true b = refl
       twice false b = refl
-
-      swapped : (a b c : Bool) → (a || (b || c)) ≡ (b || (a || c))
-      swapped true true c = refl
-      swapped true false c = refl
-      swapped false true c = refl
-      swapped false false c = refl
 
   pub any-once : (j : K) (ks : List K) → list_any (λ x. is_eq (cmp j x)) (once cmp ks) ≡ list_any (λ x. is_eq (cmp j x)) ks
   any-once j [] = refl

@@ -1,12 +1,14 @@
 -- Laws of the groups of rows: one row more, two lists one after the other, and their order.
 use Rattle.std.proofs.lemmas.List.{take_more}
-use Rattle.std.proofs.Common.{ℕ, ◌+◌, ◌<◌, length, get_or, take, ◌≡◌, Bool, true, false, cond, ◌&&◌, ◌||◌, List, [], ◌∷◌, ◌++◌, map, ℤ, sym, refl, ap, ◌∙◌}
+use Rattle.std.proofs.Common.{ℕ, ◌+◌, ◌<◌, length, get_or, take, ◌≡◌, Bool, true, false, cond, ◌&&◌, List, [], ◌∷◌, ◌++◌, map, ℤ, sym, refl, ap, ◌∙◌}
 use Rattle.std.specs.List.{AllByRecursion, list_any, flat_map, filter}
 use Rattle.std.specs.List.Sorted.{IsStrictlySortedBy}
 use Rattle.std.specs.BTreeSet.{insert_key}
 use Rattle.std.specs.Ordering.{int_cmp, is_eq, ordering_reverse}
 use Rattle.std.specs.declared.cmp.Ordering.TheVariants.{Less}
 use Rattle.std.proofs.lemmas.Cmp.{int_cmp_total}
+use Rattle.std.proofs.lemmas.Bool.{or_parts}
+use Rattle.std.proofs.Math.Bool.{and-false}
 use Rattle.ts_schema.specs.declared.rows.Row.{Row}
 use Rattle.ts_schema.specs.Conditions.{passes_all}
 use Rattle.ts_bucket.specs.Bucket.{IsWidth, is_bucket, bucket_of, holds}
@@ -14,18 +16,15 @@ use Rattle.ts_bucket.proofs.BucketLaws.{holds-is, is_bucket-bucket_of}
 use Rattle.ts_model.specs.declared.views.Fold.{Fold}
 use Rattle.ts_model.specs.Scratch.{bucket_rows, occurring_buckets}
 use Rattle.partial_agg.specs.declared.groups.Group.{Group}
-use Rattle.partial_agg.specs.Groups.{group_cmp}
+use Rattle.partial_agg.specs.Groups.{group_cmp, AreInOrder}
 use Rattle.partial_agg.proofs.GroupLaws.{group_cmp_total}
 use Rattle.group_fold.specs.Grouping.{row_group}
 use Rattle.ts_model.specs.Groups.{bucket_groups, groups_in, groups_of}
-use Rattle.group_fold.specs.Merging.{merged, with_group, with_groups, taken, AreInOrder}
+use Rattle.group_fold.specs.Merging.{merged, with_group, with_groups, taken}
 use Rattle.group_fold.proofs.Insertions.{by_order, with_group-commutes, with_groups-with_group}
 use Rattle.group_fold.proofs.Occurring.{all-map, all-once, sorted-once, any-once, flat_map-same, is_eq-swap, all_above, all_above_tied}
 use Rattle.group_fold.proofs.Steps.{put_bucket, untied_number}
-
-by_test : {G : Type 0} (t : Bool) → (t ≡ true → G) → (t ≡ false → G) → G
-by_test true pass fail = pass refl
-by_test false pass fail = fail refl
+use Rattle.ts_schema.proofs.Cases.{by_test}
 
 all_each : {X : Type 0} (P : X → Type 0) → ((x : X) → P x) → (xs : List X) → AllByRecursion P xs
 all_each P h [] = tt
@@ -33,25 +32,16 @@ all_each P h (x ∷ xs) = (h x, all_each P h xs)
 
 -- ---- one row more
 
-pub and_false : (a : Bool) → (a && false) ≡ false
-and_false true = refl
-and_false false = refl
-
 pub no_bucket_rows : (fold : Fold) (b : ℤ) → IsWidth fold.width → is_bucket fold.width b ≡ true → (rows : List Row) → list_any (λ x. is_eq (int_cmp b x)) (map (λ row. bucket_of fold.width row.at) (filter (λ row. passes_all row fold.tests) rows)) ≡ false → bucket_rows fold b rows ≡ []
 no_bucket_rows fold b wide p [] h = refl
 no_bucket_rows fold b wide p (row ∷ rows) h =
     elim (passes_all row fold.tests) as (λ t. list_any (λ x. is_eq (int_cmp b x)) (map (λ row. bucket_of fold.width row.at) (cond t (row ∷ filter (λ row. passes_all row fold.tests) rows) (filter (λ row. passes_all row fold.tests) rows))) ≡ false → cond (holds fold.width b row.at && t) (row ∷ bucket_rows fold b rows) (bucket_rows fold b rows) ≡ []) [
       | true ↦ λ k.
-          let parts = none_parts (is_eq (int_cmp b (bucket_of fold.width row.at))) (list_any (λ x. is_eq (int_cmp b x)) (map (λ row. bucket_of fold.width row.at) (filter (λ row. passes_all row fold.tests) rows))) k in
+          let parts = or_parts (is_eq (int_cmp b (bucket_of fold.width row.at))) (list_any (λ x. is_eq (int_cmp b x)) (map (λ row. bucket_of fold.width row.at) (filter (λ row. passes_all row fold.tests) rows))) k in
           let out : holds fold.width b row.at ≡ false = holds-is fold.width b row.at wide p ∙ untied_number (bucket_of fold.width row.at) b (is_eq-swap int_cmp int_cmp_total (bucket_of fold.width row.at) b ∙ parts.0) in
           rw out (no_bucket_rows fold b wide p rows parts.1)
-      | false ↦ λ k. rw (and_false (holds fold.width b row.at)) (no_bucket_rows fold b wide p rows k)
+      | false ↦ λ k. rw (and-false (holds fold.width b row.at)) (no_bucket_rows fold b wide p rows k)
     ] h
-  where
-    none_parts : (a b : Bool) → (a || b) ≡ false → (a ≡ false) × (b ≡ false)
-    none_parts true b e = cc
-    none_parts false b e = (refl, e)
-
 module _ (fold : Fold) (wide : IsWidth fold.width) where
   pub starts_are_buckets : (rows : List Row) → AllByRecursion (λ b. is_bucket fold.width b ≡ true) (occurring_buckets fold rows)
   starts_are_buckets rows =
@@ -74,7 +64,7 @@ module _ (fold : Fold) (wide : IsWidth fold.width) where
       (all_each (λ b. groups_in fold (row ∷ rows) b ≡ groups_in fold rows b) (λ b. ap (bucket_groups fold b) (out b row rows fail)) (occurring_buckets fold rows))
     where
       out : (b : ℤ) (row : Row) (rows : List Row) → passes_all row fold.tests ≡ false → bucket_rows fold b (row ∷ rows) ≡ bucket_rows fold b rows
-      out b row rows fail = rw (fail, and_false (holds fold.width b row.at)) refl
+      out b row rows fail = rw (fail, and-false (holds fold.width b row.at)) refl
 
   -- a row in front is taken in
   pub groups_of-more : (row : Row) (rows : List Row) → groups_of fold (row ∷ rows) ≡ taken fold row (groups_of fold rows)

@@ -8,6 +8,7 @@ use Rattle.std.proofs.lemmas.Cmp.{int_cmp_total}
 use Rattle.std.proofs.lemmas.Map.Lookups.{exact_signed}
 use Rattle.std.proofs.lemmas.Bool.Decides.{Decides-int_eq}
 use Rattle.std.proofs.lemmas.List.Elements.{filter-append}
+use Rattle.std.proofs.lemmas.List.{append-nil, map-append}
 use Rattle.ts_schema.specs.declared.rows.Row.{Row}
 use Rattle.ts_schema.specs.Conditions.{passes_all}
 use Rattle.ts_bucket.specs.Bucket.{IsWidth, is_bucket, bucket_of}
@@ -22,10 +23,6 @@ use Rattle.group_fold.proofs.Steps.{untied_number}
 use Rattle.group_fold.proofs.RowGroups.{no_bucket_rows}
 
 -- ---- what groups show
-
-map-append : {X Y : Type 0} (f : X → Y) (xs ys : List X) → map f (xs ++ ys) ≡ map f xs ++ map f ys
-map-append f [] ys = refl
-map-append f (x ∷ xs) ys = ap (λ zs. f x ∷ zs) (map-append f xs ys)
 
 all_cells : (fold : Fold) (rows : List Row) (bs : List ℤ) → map (cells_of fold) (flat_map (groups_in fold rows) bs) ≡ flat_map (λ b. scratch_of fold b rows) bs
 all_cells fold rows [] = refl
@@ -43,10 +40,6 @@ filter-none test (x ∷ xs) h = rw h.0 (filter-none test xs h.1)
 pub filter-all : {X : Type 0} (test : X → Bool) (xs : List X) → AllByRecursion (λ x. test x ≡ true) xs → filter test xs ≡ xs
 filter-all test [] h = refl
 filter-all test (x ∷ xs) h = rw h.0 (ap (λ ys. x ∷ ys) (filter-all test xs h.1))
-
-append-nil : {X : Type 0} (xs : List X) → xs ++ [] ≡ xs
-append-nil [] = refl
-append-nil (x ∷ xs) = ap (λ ys. x ∷ ys) (append-nil xs)
 
 module _ (fold : Fold) (rows : List Row) (b : ℤ) where
   own_kept : AllByRecursion (λ g. int_eq g.start b ≡ true) (groups_in fold rows b)

@@ -1,5 +1,5 @@
 -- The groups of rows with one more row in front: its group is put in its place.
-use Rattle.std.proofs.Common.{◌≡◌, Bool, true, false, ◌||◌, List, [], ◌∷◌, ◌++◌, map, Option, ℤ, sym, refl, ap, ◌∙◌, subst}
+use Rattle.std.proofs.Common.{◌≡◌, true, false, List, [], ◌∷◌, ◌++◌, map, Option, ℤ, sym, refl, ap, ◌∙◌, subst}
 use Rattle.std.specs.List.{AllByRecursion, list_any, flat_map}
 use Rattle.std.specs.List.Sorted.{IsStrictlySortedBy}
 use Rattle.std.specs.BTreeSet.{insert_key}
@@ -8,6 +8,7 @@ use Rattle.std.specs.declared.cmp.Ordering.TheVariants.{Less, Equal, Greater}
 use Rattle.std.proofs.lemmas.Cmp.{tied_itself, int_cmp_total}
 use Rattle.std.proofs.lemmas.Map.Lookups.{exact_signed}
 use Rattle.std.proofs.lemmas.Bool.Decides.{Decides-int_eq}
+use Rattle.std.proofs.lemmas.Bool.{or_parts, false_from_ne_true}
 use Rattle.ts_schema.specs.declared.rows.Row.{Row}
 use Rattle.ts_schema.specs.Rows.{field_of, values_cmp}
 use Rattle.ts_schema.specs.Conditions.{passes_all}
@@ -25,7 +26,8 @@ use Rattle.group_fold.specs.Grouping.{row_at, row_group}
 use Rattle.ts_model.specs.Groups.{column, group_at, bucket_groups, groups_in}
 use Rattle.group_fold.specs.Merging.{joined_parts, merged, with_group}
 use Rattle.group_fold.proofs.Insertions.{by_order, at_less, at_equal, at_greater, with_group-front, with_group-low, with_group-past}
-use Rattle.group_fold.proofs.Occurring.{all_weaker, all-map, all-flat_map, map-same, flat_map-same, none_from_all, not_eq-less, not_eq-greater, is_eq-swap, all_above, all_above_tied, all_untied, sorted-once, any-once, key_less, key_equal, key_greater}
+use Rattle.group_fold.proofs.Occurring.{all-map, all-flat_map, map-same, flat_map-same, none_from_all, not_eq-less, not_eq-greater, is_eq-swap, all_above, all_above_tied, all_untied, sorted-once, any-once, key_less, key_equal, key_greater}
+use Rattle.ts_schema.proofs.Cases.{all_weaker}
 
 -- ---- in one bucket
 
@@ -94,13 +96,9 @@ module _ (fold : Fold) (b : ℤ) (row : Row) (found : List Row) where
 no_rows : (fold : Fold) (keys : List (Option ℤ)) (found : List Row) → list_any (λ q. is_eq (values_cmp keys q)) (map (keys_of fold.keys) found) ≡ false → with_keys fold keys found ≡ []
 no_rows fold keys [] h = refl
 no_rows fold keys (row ∷ found) h =
-    let parts = none_parts (is_eq (values_cmp keys (keys_of fold.keys row))) (list_any (λ q. is_eq (values_cmp keys q)) (map (keys_of fold.keys) found)) h in
+    let parts = or_parts (is_eq (values_cmp keys (keys_of fold.keys row))) (list_any (λ q. is_eq (values_cmp keys q)) (map (keys_of fold.keys) found)) h in
     let untied : is_eq (values_cmp (keys_of fold.keys row) keys) ≡ false = is_eq-swap values_cmp values_cmp_total (keys_of fold.keys row) keys ∙ parts.0 in
     rw untied (no_rows fold keys found parts.1)
-  where
-    none_parts : (a b : Bool) → (a || b) ≡ false → (a ≡ false) × (b ≡ false)
-    none_parts true b e = cc
-    none_parts false b e = (refl, e)
 
 pub bucket_groups-more : (fold : Fold) (b : ℤ) (row : Row) (found : List Row) → bucket_groups fold b (row ∷ found) ≡ with_group (row_at fold b row) (bucket_groups fold b found)
 bucket_groups-more fold b row found =
@@ -112,15 +110,10 @@ bucket_groups-more fold b row found =
 -- a test of the order tells what the test of numbers tells
 pub untied_number : (a b : ℤ) → is_eq (int_cmp a b) ≡ false → int_eq b a ≡ false
 untied_number a b e =
-    no_tie (int_eq b a) (λ t.
+    false_from_ne_true (int_eq b a) (λ t.
     let same : b ≡ a = (Decides-int_eq b a).0 t in
     let tied : is_eq (int_cmp a b) ≡ true = subst (λ x. is_eq (int_cmp a x) ≡ true) (sym same) (ap is_eq (tied_itself int_cmp_total a)) in
     cc)
-  where
-    no_tie : (t : Bool) → (t ≡ true → ⊥) → t ≡ false
-    no_tie true h = absurd (h refl)
-    no_tie false h = refl
-
 module _ (fold : Fold) (wide : IsWidth fold.width) (row : Row) (rows : List Row) where
   -- the rows of another bucket stay
   groups_in-other : (b : ℤ) → is_bucket fold.width b ≡ true → is_eq (int_cmp (bucket_of fold.width row.at) b) ≡ false → groups_in fold (row ∷ rows) b ≡ groups_in fold rows b

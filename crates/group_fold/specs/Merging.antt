@@ -1,7 +1,6 @@
 -- Lists of groups put together.
 use Rattle.std.specs.Prelude.{◌≡◌, ◌+◌, ◌^◌, ◌<◌, cond, List, [], ◌∷◌, ◌++◌, Option, MatchOption}
 use Rattle.std.specs.List.{AllByRecursion, AllZip}
-use Rattle.std.specs.List.Sorted.{IsStrictlySortedBy}
 use Rattle.std.specs.Ordering.{match_ordering}
 use Rattle.std.specs.declared.cmp.Ordering.TheVariants.{Equal}
 use Rattle.ts_schema.specs.declared.rows.Row.{Row}
@@ -14,7 +13,7 @@ use Rattle.group_fold.specs.declared.joins.Next.{Next}
 use Rattle.group_fold.specs.declared.joins.Next.TheVariants.{Neither, Mine, Theirs, Both}
 use Rattle.partial_agg.specs.declared.groups.Group.{Group}
 use Rattle.partial_agg.specs.Summaries.{Summary, joined}
-use Rattle.partial_agg.specs.Groups.{group_cmp}
+use Rattle.partial_agg.specs.Groups.{group_cmp, AreInOrder}
 
 -- partial aggregates joined, place by place
 abbrev pub joined_parts : List Summary → List Summary → List Summary
@@ -35,10 +34,6 @@ with_group g (x ∷ xs) = match_ordering (group_cmp g x) (g ∷ x ∷ xs) (merge
 abbrev pub with_groups : List Group → List Group → List Group
 with_groups [] hs = hs
 with_groups (g ∷ gs) hs = with_group g (with_groups gs hs)
-
--- groups are in strict order by bucket and keys
-abbrev pub AreInOrder : List Group → Type 0
-AreInOrder groups = IsStrictlySortedBy group_cmp groups
 
 -- as many parts, whose counts are at each place together below 2^62
 abbrev pub PartsFit : List Summary → List Summary → Type 0

@@ -1,9 +1,8 @@
 //! Groups put in order.
 ghost use Rattle.std.specs.Prelude.{◌≡◌, ◌∷◌, true, IfOk};
 ghost use Rattle.std.specs.declared.cmp.Ordering.TheVariants.{Less};
-ghost use Rattle.partial_agg.specs.Groups.{group_cmp};
+ghost use Rattle.partial_agg.specs.Groups.{group_cmp, AreInOrder};
 ghost use Rattle.group_fold.specs.Gathering.{CanOrder, ordered};
-ghost use Rattle.group_fold.specs.Merging.{AreInOrder};
 
 use crate::joins::join_lists;
 use partial_agg::Group;

@@ -1,5 +1,5 @@
 -- A log of invalidations: a threshold, and the hulls that were noted below it.
-use Rattle.std.specs.Prelude.{ℕ, Bool, cond, ◌-◌, ◌^◌, ℤ, negsuc, int_lt, List, [], ◌∷◌, ◌++◌}
+use Rattle.std.specs.Prelude.{ℕ, Bool, cond, ◌-◌, ℤ, int_lt, List, [], ◌∷◌, ◌++◌}
 use Rattle.ts_bucket.specs.Spans.{HullValue}
 use Rattle.inval_log.specs.declared.entries.Entry.{Entry}
 
@@ -8,10 +8,6 @@ pub record LogValue : Type 0 where
   pub threshold : ℤ
   pub entries : List Entry
   pub room : ℕ
-
--- the threshold of a new log, which is below every time
-abbrev pub lowest : ℤ
-lowest = negsuc (2 ^ 63 - 1)
 
 -- the hull begins below the threshold
 abbrev pub begins_below : HullValue → ℤ → Bool

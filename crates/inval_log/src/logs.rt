@@ -2,7 +2,8 @@
 
 ghost use Rattle.std.specs.Prelude.{◌≡◌, ◌≤◌, [], IfOk, OnOk};
 ghost use Rattle.std.specs.Int.{int_max};
-ghost use Rattle.inval_log.specs.Logs.{lowest, begins_below, entries_noted};
+ghost use Rattle.ts_bucket.specs.WholeSpans.{least};
+ghost use Rattle.inval_log.specs.Logs.{begins_below, entries_noted};
 
 use crate::entries::Entry;
 use block_list::BlockList;
@@ -31,7 +32,7 @@ impl Model for InvalLog {
 impl InvalLog {
     /// The empty log, whose threshold is below every time. It takes no memory.
     pub fn new(alloc: Global) -> InvalLog
-        ensures threshold { result.threshold ≡ lowest }
+        ensures threshold { result.threshold ≡ least }
         ensures entries { result.entries ≡ [] }
     {
         InvalLog {

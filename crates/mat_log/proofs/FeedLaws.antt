@@ -3,6 +3,7 @@ use Rattle.std.proofs.Common.{◌≡◌, ℕ, ◌≤◌, max, Bool, true, false,
 use Rattle.std.proofs.lemmas.Int.{ints}
 use Rattle.std.proofs.lemmas.Bool.{false≢true}
 use Rattle.std.proofs.lemmas.Bool.Decides.{nat_tests}
+use Rattle.std.proofs.Math.Bool.{or-false, or-true, or_assoc}
 use Rattle.ts_bucket.specs.Bucket.{WidthValue, IsWidth, is_bucket, bucket_of}
 use Rattle.ts_bucket.specs.Positions.{later, above_last, is_before}
 use Rattle.ts_bucket.specs.Spans.{SpanValue, HullValue, in_span, meets, overlaps, touched_span}
@@ -117,42 +118,18 @@ fed_is w b n r (e ∷ es) v h bucket rising =
 
 -- ---- whether something is pending
 
-or_assoc : (a b c : Bool) → ((a || b) || c) ≡ (a || (b || c))
-or_assoc true b c = refl
-or_assoc false b c = refl
-
 some_step : (p : ℕ) (met : Bool) (r v : Option ℕ) → is_some (cond (met && is_before p r) (Some p) v) ≡ (is_some v || is_some (above_last r (cond met (Some p) None)))
-some_step p false r v = sym (ap (λ x. is_some v || is_some x) (above_last-nothing r) ∙ or_none (is_some v))
-  where
-    or_none : (b : Bool) → (b || false) ≡ b
-    or_none true = refl
-    or_none false = refl
-some_step p true None v = sym (or_true (is_some v))
-  where
-    or_true : (b : Bool) → (b || true) ≡ true
-    or_true true = refl
-    or_true false = refl
+some_step p false r v = sym (ap (λ x. is_some v || is_some x) (above_last-nothing r) ∙ or-false (is_some v))
+some_step p true None v = sym (or-true (is_some v))
 some_step p true (Some s) v = by (nat_lt s p)
   where
-    or_any : (b : Bool) → (b || true) ≡ true
-    or_any true = refl
-    or_any false = refl
-
-    or_no : (b : Bool) → (b || false) ≡ b
-    or_no true = refl
-    or_no false = refl
-
     by : (b : Bool) → is_some (cond b (Some p) v) ≡ (is_some v || is_some (cond b (Some p) None))
-    by true = sym (or_any (is_some v))
-    by false = sym (or_no (is_some v))
+    by true = sym (or-true (is_some v))
+    by false = sym (or-false (is_some v))
 
 -- something is pending after any entries exactly where it was, or the latest of them is above the last refresh
 pub fed_some : (w : WidthValue) (b : ℤ) (r : Option ℕ) (es : List Entry) (v : Option ℕ) → IsWidth w → is_bucket w b ≡ true → is_some (pending_after_all w b r es v) ≡ (is_some v || is_some (above_last r (touch_at w es b)))
-fed_some w b r [] v h bucket = sym (ap (λ x. is_some v || is_some x) (above_last-nothing r) ∙ or_none (is_some v))
-  where
-    or_none : (c : Bool) → (c || false) ≡ c
-    or_none true = refl
-    or_none false = refl
+fed_some w b r [] v h bucket = sym (ap (λ x. is_some v || is_some x) (above_last-nothing r) ∙ or-false (is_some v))
 fed_some w b r (e ∷ es) v h bucket =
     let one = cond (meets w b e.hull) (Some e.pos) None in
     fed_some w b r es (pending_after w b r e v) h bucket

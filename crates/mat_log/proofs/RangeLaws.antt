@@ -4,8 +4,9 @@ use Rattle.std.specs.Ordering.{int_eq}
 use Rattle.std.specs.List.{AllByRecursion}
 use Rattle.std.proofs.lemmas.Result.{IfOk-weaker}
 use Rattle.std.proofs.lemmas.Int.{ints, by_lt_z}
-use Rattle.std.proofs.lemmas.Bool.{false≢true}
+use Rattle.std.proofs.lemmas.Bool.{false≢true, or_left}
 use Rattle.std.proofs.lemmas.Bool.Decides.{Decides-int_eq, nat_tests}
+use Rattle.std.proofs.Math.Bool.{and-true, and_assoc}
 use Rattle.ts_bucket.specs.Bucket.{WidthValue, IsWidth, is_bucket, bucket_of, first_of}
 use Rattle.ts_bucket.specs.Spans.{SpanValue, in_span, overlaps}
 use Rattle.ts_bucket.proofs.BucketLaws.{bucket_of_meets, bucket_of-last, holds-one, holds-from_parts, is_bucket-bucket_of}
@@ -37,7 +38,7 @@ abbrev AreApart : List SpanValue → Type 0
 AreApart [] = Unit {0}
 AreApart (s ∷ ss) = (s.lo <ℤ s.hi) × IsBeforeRanges s.hi ss × AreApart ss
 
-out_below : (s : SpanValue) (t : ℤ) → t <ℤ s.lo → in_span s t ≡ false
+pub out_below : (s : SpanValue) (t : ℤ) → t <ℤ s.lo → in_span s t ≡ false
 out_below s t l = grind (arith, ints)
 
 out_above : (s : SpanValue) (t : ℤ) → s.hi ≤ℤ t → in_span s t ≡ false
@@ -136,9 +137,6 @@ differ a b p q e = false≢true (sym p ∙ e ∙ q)
 
 differ' : (a b : Bool) → a ≡ true → b ≡ false → a ≡ b → ⊥
 differ' a b p q e = true≢false (sym p ∙ e ∙ q)
-
-or_left : (a b : Bool) → a ≡ true → (a || b) ≡ true
-or_left a b e = ap (λ c. c || b) e
 
 -- ranges of such a test start and end where buckets do
 whole_from : (w : WidthValue) (test : ℤ → Bool) (x : ℤ) (ss : List SpanValue) → IsWidth w → ((t : ℤ) → test t ≡ test (bucket_of w t)) → AreApart ss → IsBeforeRanges x ss → ((t : ℤ) → x ≤ℤ t → lies_in ss t ≡ test t) → AllByRecursion (IsWholeRange w) ss
@@ -265,14 +263,6 @@ stale_same w s starts mark test b bucket exact = by_lt_z b (first_of w)
     let from : int_le (first_of w) b ≡ true = grind (arith, ints) in
     is_first s (test b) from ∙ ap (λ x. x && test b) (exact above) ∙ and_assoc (in_span starts b) (is_below b mark) (test b) ∙ sym (is_first starts (is_below b mark && test b) from))
   where
-    and_assoc : (x y z : Bool) → ((x && y) && z) ≡ (x && (y && z))
-    and_assoc true y z = refl
-    and_assoc false y z = refl
-
-    and_true : (x : Bool) → (x && true) ≡ x
-    and_true true = refl
-    and_true false = refl
-
     none : (x y z : Bool) → ((x && (y && false)) && z) ≡ false
     none true true z = refl
     none true false z = refl
@@ -285,7 +275,7 @@ stale_same w s starts mark test b bucket exact = by_lt_z b (first_of w)
     is_first t z e =
         ap (λ x. (in_span t b && (is_bucket w b && x)) && z) e
         ∙ ap (λ x. (in_span t b && (x && true)) && z) bucket
-        ∙ ap (λ x. x && z) (and_true (in_span t b))
+        ∙ ap (λ x. x && z) (and-true (in_span t b))
 
 -- the ranges of the buckets with a last refresh and something pending, where the pieces are those of what is pending then near a span
 pub changed_with_as : {E : Type 0} (log : LogValue) (es : List Entry) (s : SpanValue) (f q r : ℤ → Option ℕ) (pieces : List Piece) (found : Result (List SpanValue) E) → IsInStep log.width (pending_at log) (last_at log) → IsWholeSpan log.width s → ((t : ℤ) → q t ≡ cond (in_span s t) (pending_or_fresh log (filter (λ e. overlaps e.hull s) es) t) None) → ((t : ℤ) → r t ≡ cond (in_span s t) (last_at log t) None) → ((t : ℤ) → f t ≡ combined_by Where (r t) (q t)) → ((t : ℤ) → piece_at pieces t ≡ cond (in_span s t) (f t) None) → ArePieces s.lo s.hi pieces → IfOk found (λ ranges. ranges ≡ joined None pieces) → IfOk found (AreRanges log.width s (is_changed_with log es))

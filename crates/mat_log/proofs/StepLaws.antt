@@ -1,5 +1,6 @@
 -- The two functions of a log stay in step through each change.
 use Rattle.std.proofs.Common.{◌≡◌, ℕ, Bool, true, false, cond, ◌&&◌, ◌||◌, ℤ, Option, Some, None, is_some, refl, sym, ap, ◌∙◌}
+use Rattle.std.proofs.Math.Bool.{or-true}
 use Rattle.ts_bucket.specs.Bucket.{WidthValue, IsWidth, is_bucket, bucket_of}
 use Rattle.ts_bucket.specs.Positions.{later, above, is_before}
 use Rattle.ts_bucket.specs.Spans.{SpanValue, in_span}
@@ -18,12 +19,8 @@ in_step-new w pending refreshed made h p r = record {
   bounds = h;
   one_pending = λ t. p t ∙ ap (λ b. cond b (Some made) None) (in_span-bucket w (whole_span w) t h (is_bucket-first w h) (is_bucket-bucket_of w greatest h)) ∙ sym (p (bucket_of w t));
   one_refreshed = λ t. r t ∙ sym (r (bucket_of w t));
-  marked = λ t inside. ap (λ v. is_some (refreshed t) || is_some v) (p t ∙ ap (λ b. cond b (Some made) None) inside) ∙ or_true (is_some (refreshed t));
+  marked = λ t inside. ap (λ v. is_some (refreshed t) || is_some v) (p t ∙ ap (λ b. cond b (Some made) None) inside) ∙ or-true (is_some (refreshed t));
 }
-  where
-    or_true : (b : Bool) → (b || true) ≡ true
-    or_true true = refl
-    or_true false = refl
 
 -- the same functions
 pub in_step-same : (w : WidthValue) (p r p' r' : ℤ → Option ℕ) → IsInStep w p r → ((t : ℤ) → p' t ≡ p t) → ((t : ℤ) → r' t ≡ r t) → IsInStep w p' r'

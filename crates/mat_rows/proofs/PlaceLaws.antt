@@ -2,47 +2,29 @@
 use Rattle.std.proofs.Common.{◌≡◌, ℕ, zero, suc, ◌+◌, ◌-◌, ◌<◌, ◌≤◌, Bool, true, false, cond, ◌&&◌, ℤ, ◌≤ℤ◌, int_lt, int_le, List, [], ◌∷◌, filter, length, take, drop, get_or, ◌⊎◌, inl, inr, refl, sym, ap, ◌∙◌, subst, arith}
 use Rattle.std.specs.List.{AllByRecursion}
 use Rattle.std.specs.List.Sorted.{IsStrictlySortedBy, IsPartitionPoint, IsPartitionedBy}
-use Rattle.std.specs.Ordering.{ordering_then}
-use Rattle.std.specs.declared.cmp.Ordering.TheVariants.{Less, Equal, Greater}
-use Rattle.std.proofs.lemmas.Int.{ints, by_lt_z}
+use Rattle.std.specs.declared.cmp.Ordering.TheVariants.{Less}
+use Rattle.std.proofs.lemmas.Int.{ints}
 use Rattle.std.proofs.lemmas.Bool.{cases_lt}
 use Rattle.block_list.proofs.RunLaws.{drop-drop}
 use Rattle.std.proofs.lemmas.List.{get_or_default, get_or-drop, length-drop}
 use Rattle.std.proofs.lemmas.List.Kept.{IsStrictlySortedBy-filter}
 use Rattle.ts_bucket.specs.Spans.{SpanValue, in_span}
-use Rattle.ts_schema.specs.Rows.{values_cmp}
 use Rattle.partial_agg.specs.declared.groups.Group.{Group}
-use Rattle.partial_agg.specs.Groups.{group_cmp}
-use Rattle.mat_rows.specs.Replacing.{AreInOrder, PartsAt, below, from_on, within}
+use Rattle.partial_agg.specs.Groups.{group_cmp, AreInOrder}
+use Rattle.mat_rows.specs.Replacing.{PartsAt, below, from_on, within}
+use Rattle.ts_schema.proofs.Cases.{all_weaker}
+use Rattle.partial_agg.proofs.GroupLaws.{less_start}
 
 -- the start of each group is at or below those of the groups after it
 abbrev pub StartsRise : List Group → Type 0
 StartsRise [] = Unit {0}
 StartsRise (g ∷ gs) = AllByRecursion (λ h. g.start ≤ℤ h.start) gs × StartsRise gs
 
-less_start : (g h : Group) → group_cmp g h ≡ Less → g.start ≤ℤ h.start
-less_start g h e = by_lt_z h.start g.start
-    (λ below.
-    let one : int_lt g.start h.start ≡ false = grind (arith, ints) in
-    let two : int_lt h.start g.start ≡ true = grind (arith, ints) in
-    absurd (no (ap (λ b. ordering_then (cond b Less (cond (int_lt h.start g.start) Greater Equal)) (values_cmp g.keys h.keys)) (sym one) ∙ refl) two))
-    (λ above. above)
-  where
-    no : ordering_then (cond false Less (cond (int_lt h.start g.start) Greater Equal)) (values_cmp g.keys h.keys) ≡ group_cmp g h → int_lt h.start g.start ≡ true → ⊥
-    no same two = differ (sym (ap (λ b. ordering_then (cond b Greater Equal) (values_cmp g.keys h.keys)) two) ∙ same ∙ e)
-      where
-        differ : Greater ≡ Less → ⊥
-        differ p = cc
-
-all_later : (P Q : Group → Type 0) → ((h : Group) → P h → Q h) → (gs : List Group) → AllByRecursion P gs → AllByRecursion Q gs
-all_later P Q f [] a = tt
-all_later P Q f (g ∷ gs) a = (f g a.0, all_later P Q f gs a.1)
-
 -- the buckets of groups in order rise
 pub order_starts : (gs : List Group) → AreInOrder gs → StartsRise gs
 unfolding IsStrictlySortedBy
 order_starts [] h = tt
-order_starts (g ∷ gs) h = (all_later (λ x. group_cmp g x ≡ Less) (λ x. g.start ≤ℤ x.start) (less_start g) gs h.0, order_starts gs h.1)
+order_starts (g ∷ gs) h = (all_weaker (λ x. group_cmp g x ≡ Less) (λ x. g.start ≤ℤ x.start) (less_start g) gs h.0, order_starts gs h.1)
 
 pub order_none : AreInOrder []
 unfolding IsStrictlySortedBy

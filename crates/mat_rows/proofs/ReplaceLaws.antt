@@ -1,7 +1,6 @@
 -- Laws of groups replaced: by the groups at each bucket, in order, and nothing else.
 use Rattle.std.proofs.Common.{◌≡◌, ℕ, ◌+◌, ◌-◌, ◌<◌, ◌≤◌, length, take, drop, get_or, Bool, true, false, cond, ◌&&◌, ◌||◌, ℤ, ◌≤ℤ◌, ◌<ℤ◌, int_lt, int_le, List, [], ◌∷◌, ◌++◌, filter, refl, sym, ap, ◌∙◌, subst, arith}
 use Rattle.std.specs.List.{AllByRecursion, list_all}
-use Rattle.std.proofs.lemmas.Bool.{false≢true}
 use Rattle.std.specs.List.Sorted.{IsStrictlySortedBy}
 use Rattle.std.specs.Ordering.{int_eq, ordering_then}
 use Rattle.std.specs.declared.cmp.Ordering.TheVariants.{Less, Equal, Greater}
@@ -14,9 +13,10 @@ use Rattle.ts_bucket.specs.Ranges.{lies_in}
 use Rattle.ts_bucket.proofs.SpanLaws.{in_span-ends}
 use Rattle.ts_schema.specs.Rows.{values_cmp}
 use Rattle.partial_agg.specs.declared.groups.Group.{Group}
-use Rattle.partial_agg.specs.Groups.{group_cmp}
-use Rattle.mat_rows.specs.Replacing.{AreInOrder, PartsAt, SpansRise, AreSpans, below, from_on, within, of_bucket, replaced}
+use Rattle.partial_agg.specs.Groups.{group_cmp, AreInOrder}
+use Rattle.mat_rows.specs.Replacing.{PartsAt, SpansRise, AreSpans, below, from_on, within, of_bucket, replaced}
 use Rattle.mat_rows.proofs.PlaceLaws.{order_below, order_from, order_within, parts_up, before_parts, after_parts}
+use Rattle.ts_schema.proofs.Cases.{all_weaker, all_passed}
 
 -- ---- the groups of one bucket
 
@@ -124,10 +124,6 @@ less_by_start g h l =
 all_append : (P : Group → Type 0) (gs hs : List Group) → AllByRecursion P gs → AllByRecursion P hs → AllByRecursion P (gs ++ hs)
 all_append P [] hs p q = q
 all_append P (g ∷ gs) hs p q = (p.0, all_append P gs hs p.1 q)
-
-all_weaker : (P Q : Group → Type 0) → ((g : Group) → P g → Q g) → (gs : List Group) → AllByRecursion P gs → AllByRecursion Q gs
-all_weaker P Q f [] p = tt
-all_weaker P Q f (g ∷ gs) p = (f g p.0, all_weaker P Q f gs p.1)
 
 filter_step : (P : Group → Type 0) (g : Group) (gs : List Group) (b : Bool) → (b ≡ true → P g) → AllByRecursion P gs → AllByRecursion P (cond b (g ∷ gs) gs)
 filter_step P g gs true h p = (h refl, p)
@@ -246,22 +242,10 @@ replacing_end wanted new old made at ss k made' l e h =
 pub of_bucket-within : (b : ℤ) (s : SpanValue) (gs : List Group) → of_bucket b (within s gs) ≡ cond (in_span s b) (of_bucket b gs) []
 of_bucket-within b s gs = bucket_of_filter (in_span s) b gs
 
-and_left : (a b : Bool) → (a && b) ≡ true → a ≡ true
-and_left true b e = refl
-and_left false b e = e
-
-and_right : (a b : Bool) → (a && b) ≡ true → b ≡ true
-and_right true b e = e
-and_right false b e = absurd (false≢true e)
-
-passed : (test : Group → Bool) (gs : List Group) → list_all test gs ≡ true → AllByRecursion (λ g. test g ≡ true) gs
-passed test [] r = tt
-passed test (g ∷ gs) r = (and_left (test g) (list_all test gs) r, passed test gs (and_right (test g) (list_all test gs) r))
-
 tested : (test : Group → Bool) (gs : List Group) → AllByRecursion (λ g. test g ≡ true) gs → list_all test gs ≡ true
 tested test [] h = refl
 tested test (g ∷ gs) h = ap (λ b. b && list_all test gs) h.0 ∙ tested test gs h.1
 
 -- the same of a test
 pub list_all-replaced : (test : Group → Bool) (ss : List SpanValue) (new old : List Group) → list_all test new ≡ true → list_all test old ≡ true → list_all test (replaced ss new old) ≡ true
-list_all-replaced test ss new old p q = tested test (replaced ss new old) (all_replaced (λ g. test g ≡ true) ss new old (passed test new p) (passed test old q))
+list_all-replaced test ss new old p q = tested test (replaced ss new old) (all_replaced (λ g. test g ≡ true) ss new old (all_passed test new p) (all_passed test old q))

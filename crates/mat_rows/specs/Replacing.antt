@@ -1,10 +1,9 @@
 -- Groups with those of some spans replaced.
 use Rattle.std.specs.Prelude.{◌≡◌, ℕ, true, false, ℤ, ◌≤ℤ◌, int_lt, int_le, List, [], ◌∷◌, ◌++◌, filter, Bool, cond}
-use Rattle.std.specs.List.Sorted.{IsStrictlySortedBy, IsPartitionPoint}
+use Rattle.std.specs.List.Sorted.{IsPartitionPoint}
 use Rattle.std.specs.Ordering.{int_eq}
 use Rattle.ts_bucket.specs.Spans.{SpanValue, in_span}
 use Rattle.partial_agg.specs.declared.groups.Group.{Group}
-use Rattle.partial_agg.specs.Groups.{group_cmp}
 use Rattle.std.specs.List.{list_all}
 use Rattle.ts_bucket.specs.Ranges.{lies_in}
 
@@ -49,7 +48,3 @@ SpansRise (s ∷ t ∷ ss) = (s.hi ≤ℤ t.lo) × SpansRise (t ∷ ss)
 abbrev pub AreSpans : List SpanValue → Type 0
 AreSpans [] = Unit {0}
 AreSpans (s ∷ ss) = (s.lo ≤ℤ s.hi) × AreSpans ss
-
--- groups in order: by bucket, and then by keys, and no two of one bucket with the same keys
-abbrev pub AreInOrder : List Group → Type 0
-AreInOrder groups = IsStrictlySortedBy group_cmp groups

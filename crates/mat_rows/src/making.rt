@@ -1,7 +1,8 @@
 //! Lists of groups in the making.
 
 ghost use Rattle.std.specs.Prelude.{◌≡◌, ◌-◌, ◌≤◌, ◌++◌, length, take, drop, IfOk};
-ghost use Rattle.mat_rows.specs.Replacing.{AreInOrder, within};
+ghost use Rattle.mat_rows.specs.Replacing.{within};
+ghost use Rattle.partial_agg.specs.Groups.{AreInOrder};
 
 use crate::search::places;
 use block_list::{BlockList, Builder};

@@ -1,7 +1,8 @@
 //! Materialised groups.
 
 ghost use Rattle.std.specs.Prelude.{◌≡◌, ◌==◌, [], length, IfOk};
-ghost use Rattle.mat_rows.specs.Replacing.{AreInOrder, AreSpans, BucketsAreOfBoth, PassAsBoth, SpansRise};
+ghost use Rattle.mat_rows.specs.Replacing.{AreSpans, BucketsAreOfBoth, PassAsBoth, SpansRise};
+ghost use Rattle.partial_agg.specs.Groups.{AreInOrder};
 ghost use Rattle.mat_rows.specs.Replacing.{replaced, within};
 
 use crate::making::{in_blocks, keep, keep_within};
@@ -24,7 +25,7 @@ pub struct MatRows {
 impl Model for MatRows {
     ghost use Rattle.std.specs.Prelude.{List};
     ghost use Rattle.partial_agg.specs.declared.groups.Group.{Group};
-    ghost use Rattle.mat_rows.specs.Replacing.{AreInOrder};
+    ghost use Rattle.partial_agg.specs.Groups.{AreInOrder};
 
     ghost Value = { List Group };
 

@@ -1,7 +1,8 @@
 //! Where the groups from a number on begin.
 
 ghost use Rattle.std.specs.Prelude.{◌≤◌, length};
-ghost use Rattle.mat_rows.specs.Replacing.{AreInOrder, PartsAt};
+ghost use Rattle.mat_rows.specs.Replacing.{PartsAt};
+ghost use Rattle.partial_agg.specs.Groups.{AreInOrder};
 
 use block_list::BlockList;
 use partial_agg::Group;

@@ -15,7 +15,6 @@ use Rattle.shared_store.specs.Stores.{Shared, Ticket, history_of}
 use Rattle.crew_run.specs.Outcomes.{AllOutcomes}
 use Rattle.crew_run.specs.Slots.{Knows}
 use Rattle.crew_run.proofs.OutcomeLaws.{begins_seen}
-use Rattle.crew_run.proofs.SlotLaws.{stays_then}
 use Rattle.ts_sessions.specs.Places.{Places, Turn, no_places}
 use Rattle.ts_sessions.specs.Replies.{reply_to}
 use Rattle.ts_sessions.specs.Script.{SessionScript}
@@ -31,6 +30,7 @@ use Rattle.one_history.proofs.NumberLaws.{AreWithin, explained_within}
 use Rattle.one_history.proofs.PartLaws.{three_parts}
 use Rattle.one_history.proofs.PhaseLaws.{EndsAt, outcomes_explained}
 use Rattle.one_history.proofs.StopLaws.{explained_stop}
+use Rattle.turn_lock.proofs.Gathering.{stays_then}
 
 -- where none of several is so, the first isn't, and none of the others
 none_first : (a b : Bool) → (a || b) ≡ false → a ≡ false
@@ -43,7 +43,7 @@ none_later false b e = e
 
 -- ---- what a snapshot leaves of a backend that is alone
 
-snapped_same : {P : History → Type 0} (alone : Bool) (old new : State) → IsTrue alone → Looked alone old P new → new ≡ old
+pub snapped_same : {P : History → Type 0} (alone : Bool) (old new : State) → IsTrue alone → Looked alone old P new → new ≡ old
 snapped_same alone old new is_alone looked =
     let k = looked.keeps in
     let f = looked.found in

@@ -35,7 +35,7 @@ abbrev pub Other : Option Refusal → Type 0
 Other None = ⊤
 Other (Some r) = IsOther r.code
 
-below : (code : ℕ) → code < stopped → IsOther code
+pub below : (code : ℕ) → code < stopped → IsOther code
 below code lt e = absurd (omega (arith, lt, e))
 
 then_other : (a b : Option Refusal) → Other a → Other b → Other (a ⊳ b)

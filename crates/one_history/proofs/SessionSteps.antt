@@ -2,6 +2,7 @@
 use Rattle.std.proofs.Common.{◌≡◌, ℕ, Bool, true, false, List, [], ◌∷◌, ◌++◌, append_assoc, append-nil, sym, refl, ap, ◌∙◌}
 use Rattle.std.specs.Prelude.{◌||◌}
 use Rattle.std.specs.List.{list_any}
+use Rattle.std.proofs.Math.Bool.{or-false}
 use Rattle.ts_model.specs.History.{History, position}
 use Rattle.ts_model.specs.States.{State}
 use Rattle.ts_sessions.specs.declared.blocks.Open.{Open}
@@ -27,11 +28,7 @@ texts_more name [] turn = append-nil (text_of name turn.said)
 texts_more name (t ∷ turns) turn = ap (λ text. text_of name t.said ++ text) (texts_more name turns turn) ∙ sym (append_assoc (text_of name t.said) (texts_of name turns) (text_of name turn.said))
 
 any_more : (turns : List (Turn Places)) (turn : Turn Places) → list_any (λ t. has_fault t.said) (turns ++ turn ∷ []) ≡ (list_any (λ t. has_fault t.said) turns || has_fault turn.said)
-any_more [] turn = last (has_fault turn.said)
-  where
-    last : (b : Bool) → (b || false) ≡ b
-    last true = refl
-    last false = refl
+any_more [] turn = or-false (has_fault turn.said)
 any_more (t ∷ turns) turn = first (has_fault t.said) (list_any (λ t. has_fault t.said) turns) (has_fault turn.said) (list_any (λ t. has_fault t.said) (turns ++ turn ∷ [])) (any_more turns turn)
   where
     first : (a b c d : Bool) → d ≡ (b || c) → (a || d) ≡ ((a || b) || c)

@@ -1,5 +1,5 @@
 -- A reply is E24 only where the store had stopped, with that position.
-use Rattle.std.proofs.Common.{◌≡◌, ℕ, suc, ◌≤◌, ◌<◌, Bool, true, false, cond, nat_lt, List, [], ◌∷◌, ◌++◌, length, Option, Some, None, inl, inr, sym, refl, ap, ◌∙◌, subst, arith}
+use Rattle.std.proofs.Common.{◌≡◌, ℕ, suc, ◌≤◌, Bool, true, false, cond, nat_lt, List, [], ◌∷◌, ◌++◌, length, Option, Some, None, inl, inr, sym, refl, ap, ◌∙◌, subst, arith}
 use Rattle.std.specs.Prelude.{Result, Ok, Err, ℤ, IfSome, is_some, not, ⊤}
 use Rattle.std.specs.List.{AllByRecursion}
 use Rattle.std.proofs.lemmas.Bool.{true≢false, ltb-true, ltb-false}
@@ -48,7 +48,8 @@ use Rattle.one_history.specs.Laws.{OnlyStopsAreReported}
 use Rattle.one_history.specs.Parallel.{AreReplies, SessionReplies, lines_in, places_after}
 use Rattle.one_history.specs.Phases.{AllExplained}
 use Rattle.one_history.specs.Stopped.{StopsAt, ReplyStopsAt, RepliesStopAt}
-use Rattle.one_history.proofs.RefusalCodes.{IsOther, Other, checks_other}
+use Rattle.one_history.proofs.RefusalCodes.{IsOther, Other, checks_other, below}
+use Rattle.ts_sessions.proofs.SteadyLaws.{ended_passed, refused_here}
 
 position_at : (h : History) (p : ℕ) → p ≤ position h → position (prefix h p) ≡ p
 position_at start p le = omega (arith, le)
@@ -135,9 +136,6 @@ other_fault stop r other e = absurd (other e)
 meets_said : {A : Type 0} (h : History) (act : Act A) (g : Result A Refusal → Turn Places) → Plain act → ((stop : Option ℕ) (a : A) → ReplyStopsAt stop (g (Ok a))) → ((stop : Option ℕ) (r : Refusal) → StopsAt stop (said.Fault r) → ReplyStopsAt stop (g (Err r))) → Meets ReplyStopsAt (Some (position h)) (ending_as g (tries_at h act))
 meets_said h act g plain done refused =
     meets_tries ReplyStopsAt h (λ r. ends (g r)) act plain (λ r other stop. refused stop r (other_fault stop r other)) (λ p a stop. done stop a) (refused (Some (position h)) (refusal stopped h 0) (λ e. refl))
-
-below : (code : ℕ) → code < stopped → IsOther code
-below code lt e = absurd (omega (arith, lt, e))
 
 new_plain : (h : History) (taken : Bool) (many : ℕ) (e : Event) → Plain (new_relation h taken many e)
 new_plain h true many e = below name_taken (omega arith)
@@ -297,10 +295,6 @@ ended last (ends a) i t = t
 hidden_so : (p : Places) (bytes : ℕ) (stmt : Stmt) (h : History) → IsEnded (named p bytes stmt h) → EndsSo (λ y. (stop : Option ℕ) → ReplyStopsAt stop y) (named p bytes stmt h)
 hidden_so p bytes stmt h i = ended (Some (position h)) (named p bytes stmt h) i (meets_named h p bytes stmt)
 
-ended_passed : (p : Places) (bytes : ℕ) (stmt : Stmt) (h : History) (o : Option Refusal) → IsEnded (acts p bytes h (action_of (roster h) stmt)) → IsEnded (passed p bytes h stmt o)
-ended_passed p bytes stmt h (Some r) i = tt
-ended_passed p bytes stmt h None i = i
-
 ended_named : (p : Places) (bytes : ℕ) (stmt : Stmt) (h : History) → IsEnded (acts p bytes h (action_of (roster h) stmt)) → IsEnded (named p bytes stmt h)
 ended_named p bytes stmt h i = ended_passed p bytes stmt h (refusal_of (position h) (roster h) stmt) i
 
@@ -337,9 +331,6 @@ meets_queue last p bytes stmt ops n i = let q = enters (writing ops n) p in meet
 meets_commit : (last : Option ℕ) (p : Places) (bytes : ℕ) (ops : List Op) (n : ℕ) → Meets ReplyStopsAt last (named_here (enters (writing ops n) p) bytes stmts.Commit)
 meets_commit last p bytes [] n = meets_queue last p bytes stmts.Commit [] n (λ h. tt)
 meets_commit last p bytes (op ∷ ops) n = meets_here last (enters (writing (op ∷ ops) n) p) bytes stmts.Commit (λ h look. refl) (λ h hidden. absurd (true≢false hidden))
-
-refused_here : {X : Type 0} (r : Refusal) → Some r ≡ None → X
-refused_here r e = absurd cc
 
 meets_writing : (last : Option ℕ) (p : Places) (bytes : ℕ) (stmt : Stmt) (ops : List Op) (n : ℕ) → block_refusal (writing ops n) (kind_of stmt) ≡ None → Meets ReplyStopsAt last (named_here (enters (writing ops n) p) bytes stmt)
 meets_writing last p bytes (stmts.Table name cols) ops n e = refused_here _ e

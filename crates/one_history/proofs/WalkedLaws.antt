@@ -1,38 +1,26 @@
 -- What was walked line by line is answered over each longer history.
-use Rattle.std.proofs.Common.{◌≡◌, ℕ, ◌≤◌, Bool, true, false, List, [], ◌∷◌, ◌++◌, append_assoc, append-nil, Option, Some, None, inl, inr, sym, refl, ap, ◌∙◌, subst, arith}
-use Rattle.std.specs.Prelude.{IsTrue, is_some, cond}
-use Rattle.std.proofs.lemmas.Bool.{true≢false}
+use Rattle.std.proofs.Common.{◌≡◌, ℕ, ◌≤◌, Bool, true, false, List, [], ◌∷◌, ◌++◌, append_assoc, append-nil, Option, Some, None, sym, refl, ap, ◌∙◌, subst, arith}
+use Rattle.std.specs.Prelude.{IsTrue, cond}
 use Rattle.ts_model.specs.History.{History, position, Begins}
 use Rattle.ts_model.specs.States.{State, stands_still, stop_of}
 use Rattle.ts_model.specs.Allowed.{all_allowed}
 use Rattle.ts_model.proofs.AllowedLaws.{allowed_begins}
 use Rattle.ts_model.proofs.HistoryLaws.{begins_trans}
-use Rattle.ts_sessions.specs.Procedures.{Procedure, sees, adds, ends}
+use Rattle.ts_sessions.specs.Procedures.{Procedure, ends}
 use Rattle.ts_sessions.specs.Gives.{StopsLater, numbers}
 use Rattle.ts_sessions.specs.Held.{GoesOn}
 use Rattle.ts_sessions.specs.Script.{SessionLine}
 use Rattle.ts_sessions.specs.Steady.{Steady}
-use Rattle.ts_sessions.specs.Walks.{Walks, Sees}
-use Rattle.ts_sessions.proofs.StateLaws.{goes_same, goes_seen, goes_trans}
+use Rattle.ts_sessions.specs.Walks.{Walks}
+use Rattle.ts_sessions.proofs.StateLaws.{goes_same, goes_trans}
 use Rattle.ts_sessions.proofs.WalkLaws.{goes_walks}
 use Rattle.ts_sessions.proofs.GivesLaws.{gives_longer}
-use Rattle.ts_sessions.proofs.GivenWalks.{walks_are_given}
+use Rattle.ts_sessions.proofs.GivenWalks.{walks_are_given, history_stays}
 use Rattle.one_history.specs.Walked.{WalkedOne, Walked}
 use Rattle.one_history.specs.Laws.{AreSteady, WalkedLinesAreAnswered}
 use Rattle.one_history.specs.Answered.{LineAnswer, ends_of, numbers_of, last_in, Answered, IsAnswered}
 
 -- ---- where a store stands still
-
-seen_still : (alone : Bool) (old found : State) → IsTrue (stands_still old) → Sees alone old found → found.history ≡ old.history
-seen_still alone old found s (inl e) = ap (λ x. x.history) e
-seen_still alone old found s (inr f) = f.still_there s
-
-walk_stays : {A : Type 0} (alone failed : Bool) (old : State) (procedure : Procedure A) (new : State) (y : A) → IsTrue (stands_still old) → Walks alone failed old procedure new y → new.history ≡ old.history
-walk_stays alone failed old (sees shown f) new y s w = walk_stays alone failed w.mid (f w.mid.history) new y ((goes_seen alone old w.mid w.first).still s) w.rest ∙ seen_still alone old w.mid s w.first
-walk_stays alone failed old (adds e next stop) new y s (inl w) = walk_stays alone failed old stop new y s w.1
-walk_stays alone failed old (adds e next stop) new y s (inr (inl w)) = absurd (true≢false (sym (subst (λ x. IsTrue (is_some x)) w.first.went_on s)))
-walk_stays alone failed old (adds e next stop) new y s (inr (inr w)) = absurd (true≢false (sym (subst (λ x. IsTrue (is_some x)) w.1.first.went_on s)))
-walk_stays alone failed old (ends a) new y s w = ap (λ x. x.history) w.1
 
 -- a store that stopped by a state stopped there for good
 pub stops_on : (mid new : State) (later : Option ℕ) → GoesOn mid new → (IsTrue (stands_still mid) → new.history ≡ mid.history) → StopsLater (stop_of new) later → StopsLater (stop_of mid) later
@@ -60,7 +48,7 @@ module _ {P A : Type 0} (does : P → List ℕ → ℕ → Procedure A) (next : 
   walked_stays alone s p (line ∷ lines) [] new q still w = absurd w
   walked_stays alone s p (line ∷ lines) (y ∷ ys) new q still w =
       walked_stays alone w.mid (next y) lines ys new q ((goes_walks alone w.first.failed s (does p line.text line.skip) w.mid y w.first.walks).still still) w.rest
-      ∙ walk_stays alone w.first.failed s (does p line.text line.skip) w.mid y still w.first.walks
+      ∙ history_stays alone w.first.failed s (does p line.text line.skip) w.mid y still w.first.walks
 
   -- ---- one line more
 

@@ -1,9 +1,8 @@
 -- How a run comes to its end.
-use Rattle.std.proofs.Common.{◌≡◌, ℕ, Bool, true, false, not, List, Option, Some, None, Result, Ok, Err, ap, refl, sym, ◌∙◌, subst, true≢false}
-use Rattle.std.specs.Prelude.{IfOk, IsTrue, MatchResult, OnOk, is_some}
+use Rattle.std.proofs.Common.{◌≡◌, ℕ, Bool, true, false, not, List, Result, Ok, Err, ap, refl, sym, ◌∙◌, subst}
+use Rattle.std.specs.Prelude.{IfOk, IsTrue, MatchResult, OnOk}
 use Rattle.std.specs.List.{list_any}
 use Rattle.ts_schema.specs.declared.memory.NoMemory.{NoMemory}
-use Rattle.ts_model.specs.Allowed.{all_allowed}
 use Rattle.ts_model.specs.Calls.{Looked}
 use Rattle.ts_model.specs.History.{History}
 use Rattle.ts_model.specs.States.{State}
@@ -15,6 +14,7 @@ use Rattle.ts_sessions.specs.Script.{SessionScript}
 use Rattle.one_history.specs.Parallel.{RanInParallel}
 use Rattle.par_run.specs.declared.replies.Replies.{Replies}
 use Rattle.par_run.specs.Ends.{is_disk_fault, stop_by}
+use Rattle.one_history.proofs.OneHistory.{snapped_same}
 
 -- there was memory for all that a run replied, of which these facts then hold
 pub record HasReplied (A B C S : Type 0) (R E : Replies → Type 0) : Type 0 where
@@ -38,25 +38,10 @@ pub stop_is : (b : Bool) → is_disk_fault (stop_by b) ≡ b
 stop_is true = refl
 stop_is false = refl
 
--- a snapshot leaves a backend that is alone as it was
-looked_same : {P : History → Type 0} (alone : Bool) (old new : State) → IsTrue alone → Looked alone old P new → new ≡ old
-looked_same alone old new is_alone looked =
-    let k = looked.keeps in
-    (λ i. record { history = k.history i; failed = k.failed i; faults = k.faults i; made = k.made i; origin = k.origin i }) ∙ looked.finds.alone_found is_alone
-
 pub goes_on_looked : {P : History → Type 0} (alone : Bool) (first old new : State) → IsTrue alone → Looked alone old P new → GoesOn first old → GoesOn first new
-goes_on_looked alone first old new is_alone looked goes = subst (GoesOn first) (sym (looked_same alone old new is_alone looked)) goes
-
--- and of what was looked at it tells that it was allowed
-pub looked_allowed : {Q : History → Type 0} (alone : Bool) (old new : State) → Looked alone old (λ h. IsTrue (all_allowed h) × Q h) new → Looked alone old (λ h. IsTrue (all_allowed h)) new
-looked_allowed alone old new looked = record { found = looked.found; finds = looked.finds; keeps = looked.keeps; tells = looked.tells.0 }
+goes_on_looked alone first old new is_alone looked goes = subst (GoesOn first) (sym (snapped_same alone old new is_alone looked)) goes
 
 -- ---- a run over the lines of an input
-
--- a store that stands still nowhere has no event at which its disk failed
-pub going_on : {E : Type 0} (failed : Option E) → is_some failed ≡ false → failed ≡ None
-going_on None going = refl
-going_on (Some e) going = absurd (true≢false going)
 
 -- what ran of some refusals and sessions ran of the same
 pub ran_of_same : (opening : History) (refusals refusals_too : List ℕ) (setup setup_too others others_too final final_too : List SessionScript) (new : State) (text : List ℕ) (fault : Bool)

@@ -4,6 +4,7 @@ use Rattle.std.specs.Prelude.{int_le, int_lt}
 use Rattle.std.specs.Int.{int_max}
 use Rattle.std.specs.List.{AllByRecursion, filter, list_all}
 use Rattle.std.proofs.lemmas.Int.{ints, clamps}
+use Rattle.std.proofs.Math.Bool.{or-false}
 use Rattle.ts_bucket.specs.Bucket.{IsWidth, WidthValue, is_bucket, is_time, bucket_of, first_of, min_time, max_time}
 use Rattle.ts_bucket.specs.Ranges.{lies_in}
 use Rattle.ts_bucket.specs.Spans.{SpanValue, in_span}
@@ -25,43 +26,19 @@ use Rattle.group_fold.proofs.RowGroups.{all-with_group, groups_of-more}
 use Rattle.group_fold.proofs.BucketGroups.{groups_of_some_buckets, order_plays_no_part}
 use Rattle.span_fold.specs.Spans.{HaveTimes, rows_in}
 use Rattle.realtime_union.specs.Live.{IsLiveSpan, all_times, is_live}
+use Rattle.ts_schema.proofs.Cases.{by_test, int_le-true, le-int_le, lt-int_lt, and_first, and_second, all_weaker, filter_same}
 
 -- the part of a span at or above a number
 pub cut_at : (lo hi mark l h b : ℤ) → l ≡ int_max lo mark → h ≡ int_max hi l → (int_le l b && int_lt b h) ≡ ((int_le lo b && int_lt b hi) && not (int_lt b mark))
 cut_at lo hi mark l h b p q = rw (q, p) (grind (arith, ints, clamps))
 
-filter_same : (p q : Row → Bool) (xs : List Row) → ((row : Row) → p row ≡ q row) → filter p xs ≡ filter q xs
-filter_same p q [] same = refl
-filter_same p q (x ∷ xs) same = ap (λ b. cond b (x ∷ filter p xs) (filter p xs)) (same x) ∙ ap (λ ys. cond (q x) (x ∷ ys) ys) (filter_same p q xs same)
-
 filter_alike : (p q : Group → Bool) (xs : List Group) → AllByRecursion (λ g. p g ≡ q g) xs → filter p xs ≡ filter q xs
 filter_alike p q [] same = refl
 filter_alike p q (x ∷ xs) same = ap (λ b. cond b (x ∷ filter p xs) (filter p xs)) same.0 ∙ ap (λ ys. cond (q x) (x ∷ ys) ys) (filter_alike p q xs same.1)
 
-all_weaker : (P Q : Group → Type 0) → ((g : Group) → P g → Q g) → (xs : List Group) → AllByRecursion P xs → AllByRecursion Q xs
-all_weaker P Q f [] all = tt
-all_weaker P Q f (x ∷ xs) all = (f x all.0, all_weaker P Q f xs all.1)
-
 -- a group of a bucket of the range of buckets
 abbrev Ranged : WidthValue → Group → Type 0
 Ranged w g = (is_bucket w g.start ≡ true) × (in_span (whole_span w) g.start ≡ true)
-
-and_first : (a b : Bool) → (a && b) ≡ true → a ≡ true
-and_first true b h = refl
-and_first false b h = h
-
-and_second : (a b : Bool) → (a && b) ≡ true → b ≡ true
-and_second true b h = h
-and_second false b h = cc
-
-at_most : (a b : ℤ) → int_le a b ≡ true → a ≤ℤ b
-at_most a b e = grind (arith, ints, e)
-
-is_at_most : (a b : ℤ) → a ≤ℤ b → int_le a b ≡ true
-is_at_most a b le = grind (arith, ints, le)
-
-is_below_it : (a b : ℤ) → a <ℤ b → int_lt a b ≡ true
-is_below_it a b lt = grind (arith, ints, lt)
 
 row_ranged : (w : WidthValue) (t : ℤ) → IsWidth w → is_time t ≡ true → (is_bucket w (bucket_of w t) ≡ true) × (in_span (whole_span w) (bucket_of w t) ≡ true)
 row_ranged w t wide time =
@@ -69,16 +46,12 @@ row_ranged w t wide time =
     let ends = range_end w wide in
     let last : greatest <ℤ ((whole_span w).hi +ℤ w.step) = ends.1 in
     let bounded = wide.bounded in
-    let from : min_time ≤ℤ t = at_most min_time t (and_first (int_le min_time t) (int_le t max_time) time) in
-    let upto : t ≤ℤ max_time = at_most t max_time (and_second (int_le min_time t) (int_le t max_time) time) in
-    let low : int_le (first_of w) t ≡ true = is_at_most (first_of w) t (omega (arith, ints, first, from)) in
-    let high : int_lt t (whole_span w).hi ≡ true = is_below_it t (whole_span w).hi (omega (arith, ints, last, bounded, upto)) in
+    let from : min_time ≤ℤ t = int_le-true min_time t (and_first (int_le min_time t) (int_le t max_time) time) in
+    let upto : t ≤ℤ max_time = int_le-true t max_time (and_second (int_le min_time t) (int_le t max_time) time) in
+    let low : int_le (first_of w) t ≡ true = le-int_le (first_of w) t (omega (arith, ints, first, from)) in
+    let high : int_lt t (whole_span w).hi ≡ true = lt-int_lt t (whole_span w).hi (omega (arith, ints, last, bounded, upto)) in
     let inside : in_span (whole_span w) t ≡ true = rw (low, high) refl in
     (is_bucket-bucket_of w t wide, sym (in_span-bucket w (whole_span w) t wide (is_bucket-bucket_of w min_time wide) (is_bucket-range_end w wide)) ∙ inside)
-
-by_test : {G : Type 0} (t : Bool) → (t ≡ true → G) → (t ≡ false → G) → G
-by_test true pass fail = pass refl
-by_test false pass fail = fail refl
 
 groups_ranged : (fold : Fold) → IsWidth fold.width → (rows : List Row) → HaveTimes rows → AllByRecursion (Ranged fold.width) (groups_of fold rows)
 groups_ranged fold wide [] e = tt
@@ -89,10 +62,6 @@ groups_ranged fold wide (row ∷ rows) e =
     (by_test (passes_all row fold.tests)
     (λ pass. rw pass (all-with_group (Ranged fold.width) (λ g h p. p) (row_group fold row) (groups_of fold rows) (row_ranged fold.width row.at wide here) rest))
     (λ fail. rw fail rest))
-
-or_false : (a : Bool) → (a || false) ≡ a
-or_false true = refl
-or_false false = refl
 
 -- a bucket of the range of buckets is in the live span exactly where it is live
 live_at : (w : WidthValue) (mark : Option ℤ) (starts live : SpanValue) (b : ℤ) → IsLiveSpan w mark starts live → is_bucket w b ≡ true → in_span (whole_span w) b ≡ true → in_span live b ≡ is_live w mark starts b
@@ -115,7 +84,7 @@ live_are fold wide mark starts live rows is times =
     ∙ (sym (groups_of_some_buckets fold (lies_in (live ∷ [])) rows wide)
     ∙ filter_alike (λ g. lies_in (live ∷ []) g.start) (λ g. is_live fold.width mark starts g.start) (groups_of fold rows)
     (all_weaker (Ranged fold.width) (λ g. lies_in (live ∷ []) g.start ≡ is_live fold.width mark starts g.start)
-    (λ g p. or_false (in_span live g.start) ∙ live_at fold.width mark starts live g.start is p.0 p.1) (groups_of fold rows) (groups_ranged fold wide rows times))
+    (λ g p. or-false (in_span live g.start) ∙ live_at fold.width mark starts live g.start is p.0 p.1) (groups_of fold rows) (groups_ranged fold wide rows times))
     ∙ ap (filter (λ g. is_live fold.width mark starts g.start)) (groups_as_in_order fold wide rows))
 
 -- ---- whole tables
@@ -123,7 +92,7 @@ live_are fold wide mark starts live rows is times =
 time_inside : (t : ℤ) → is_time t ≡ true → lies_in (all_times ∷ []) t ≡ true
 time_inside t time =
     let low : int_le min_time t ≡ true = and_first (int_le min_time t) (int_le t max_time) time in
-    let high : int_lt t (max_time +ℤ pos 1) ≡ true = is_below_it t (max_time +ℤ pos 1) (omega (arith, ints, at_most t max_time (and_second (int_le min_time t) (int_le t max_time) time))) in
+    let high : int_lt t (max_time +ℤ pos 1) ≡ true = lt-int_lt t (max_time +ℤ pos 1) (omega (arith, ints, int_le-true t max_time (and_second (int_le min_time t) (int_le t max_time) time))) in
     rw (low, high) refl
 
 -- all rows with times are rows of all times
@@ -141,4 +110,4 @@ all_shown fold wide rows groups times made =
 
 -- what a scan of all times finds
 pub all_scanned : (rows : List Row) → HaveTimes rows → filter (λ row. in_span all_times row.at) rows ≡ rows
-all_scanned rows times = filter_same (λ row. in_span all_times row.at) (λ row. lies_in (all_times ∷ []) row.at) rows (λ row. sym (or_false (in_span all_times row.at))) ∙ all_inside rows times
+all_scanned rows times = filter_same (λ row. in_span all_times row.at) (λ row. lies_in (all_times ∷ []) row.at) rows (λ row. sym (or-false (in_span all_times row.at))) ∙ all_inside rows times

@@ -21,33 +21,12 @@ use Rattle.ts_model.specs.Answers.{buckets_in}
 use Rattle.ts_model.specs.Reads.{chunk_within, rows_near, spans_meet}
 use Rattle.ts_model.proofs.CountLaws.{count_cons}
 use Rattle.ts_model.proofs.RangeLaws.{among, among-buckets_in}
-use Rattle.ts_model.proofs.ReadLaws.{Meet, meet_parts, meet_from, meets_some_bucket}
+use Rattle.ts_model.proofs.ReadLaws.{Meet, meet_parts, meet_from, meets_some_bucket, any_found, any_from, list_any-map}
 use Rattle.realtime_union.specs.Live.{IsLiveSpan, all_times}
 use Rattle.realtime_union.specs.Laws.{AllTimesReadAll, LiveReadsAreOfBuckets}
-
-by_test : {G : Type 0} (t : Bool) → (t ≡ true → G) → (t ≡ false → G) → G
-by_test true pass fail = pass refl
-by_test false pass fail = fail refl
+use Rattle.ts_schema.proofs.Cases.{by_test, int_le-true, same_test}
 
 -- ---- some of these numbers pass
-
-list_any-map : {A B : Type 0} (q : B → Bool) (g : A → B) (xs : List A) → list_any q (map g xs) ≡ list_any (λ x. q (g x)) xs
-list_any-map q g [] = refl
-list_any-map q g (x ∷ xs) = ap (λ b. q (g x) || b) (list_any-map q g xs)
-
-any_from : (q : ℤ → Bool) (bs : List ℤ) (c : ℤ) → among c bs ≡ true → q c ≡ true → list_any q bs ≡ true
-any_from q [] c e p = absurd (true≢false (sym e))
-any_from q (b ∷ bs) c e p =
-    by_test (int_eq b c)
-    (λ here. or_left _ _ (ap q ((Decides-int_eq b c).0 here) ∙ p))
-    (λ later. or_right (q b) _ (any_from q bs c (sym (ap (λ t. t || among c bs) later) ∙ e) p))
-
-any_found : (P : Type 0) (q : ℤ → Bool) (bs : List ℤ) → ((b : ℤ) → among b bs ≡ true → q b ≡ true → P) → list_any q bs ≡ true → P
-any_found P q [] gives e = absurd (true≢false (sym e))
-any_found P q (b ∷ bs) gives e =
-    by_test (q b)
-    (λ here. gives b (or_left _ _ ((Decides-int_eq b b).1 refl)) here)
-    (λ later. any_found P q bs (λ c i p. gives c (or_right (int_eq b c) _ i) p) (sym (ap (λ t. t || list_any q bs) later) ∙ e))
 
 among-filter : (test : ℤ → Bool) (c : ℤ) (bs : List ℤ) → among c bs ≡ true → test c ≡ true → among c (filter test bs) ≡ true
 among-filter test c [] e p = e
@@ -69,20 +48,9 @@ filter-among test c (b ∷ bs) e =
     (λ later. (let rest = filter-among test c bs (sym (ap (λ t. t || among c (filter test bs)) later) ∙ kept) in (or_right (int_eq b c) _ rest.0, rest.1))))
     (λ out. (let rest = filter-among test c bs (sym (ap (λ t. among c (cond t (b ∷ filter test bs) (filter test bs))) out) ∙ e) in (or_right (int_eq b c) _ rest.0, rest.1)))
 
-both_ways : (s t : Bool) → (s ≡ true → t ≡ true) → (t ≡ true → s ≡ true) → s ≡ t
-both_ways true t f g = sym (f refl)
-both_ways false true f g = g refl
-both_ways false false f g = refl
-
 alone : (b : Bool) → (b || false) ≡ true → b ≡ true
 alone true e = refl
 alone false e = e
-
-at_most : (a b : ℤ) → int_le a b ≡ true → a ≤ℤ b
-at_most a b e = grind (arith, ints, e)
-
-is_at_most : (a b : ℤ) → a ≤ℤ b → int_le a b ≡ true
-is_at_most a b le = grind (arith, ints, le)
 
 -- ---- the chunks near live buckets
 
@@ -100,7 +68,7 @@ module _ (w : Width) (wide : IsWidth w) (mark : Option ℤ) (starts live : Span)
       let asked : is_asked w starts b ≡ true = sym (among-buckets_in w starts b) ∙ parts.0 in
       let asked_parts = and_parts (in_span starts b) (is_bucket w b && int_le (first_of w) b) asked in
       let bucket = and_parts (is_bucket w b) (int_le (first_of w) b) asked_parts.1 in
-      let from : first_of w ≤ℤ b = at_most (first_of w) b bucket.1 in
+      let from : first_of w ≤ℤ b = int_le-true (first_of w) b bucket.1 in
       let before : b <ℤ chunk.hi = (meet_parts chunk (bucket_span w b) meets).after in
       let last : greatest <ℤ (bucket_of w greatest +ℤ w.step) = (bucket_of_meets w greatest wide).end_above in
       let bounded = wide.bounded in
@@ -143,7 +111,7 @@ module _ (w : Width) (wide : IsWidth w) (mark : Option ℤ) (starts live : Span)
 
   same_chunks : list_any (spans_meet chunk) (live ∷ []) ≡ list_any (spans_meet chunk) (map (bucket_span w) live_list)
   same_chunks =
-      both_ways (list_any (spans_meet chunk) (live ∷ [])) (list_any near live_list)
+      same_test (list_any (spans_meet chunk) (live ∷ [])) (list_any near live_list)
       (λ e. live_of_chunk (meet_parts chunk live (alone (spans_meet chunk live) e)))
       (λ e. any_found (list_any (spans_meet chunk) (live ∷ []) ≡ true) near live_list (λ b i p. or_left _ _ (meet_from chunk live (chunk_of_live b i p))) e)
       ∙ sym (list_any-map (spans_meet chunk) (bucket_span w) live_list)
@@ -155,7 +123,7 @@ live_reads_are_of_buckets w mark starts live interval (row ∷ stored) wide is w
     let near : List Span → Row → Bool = λ spans x. list_any (spans_meet (chunk_of interval x.at)) spans in
     let parts = and_parts (chunk_within (min_time -ℤ max_interval) (max_time +ℤ max_interval) interval row) (list_all (chunk_within (min_time -ℤ max_interval) (max_time +ℤ max_interval) interval) stored) within in
     let chunk = chunk_of interval row.at in
-    let low : chunk.hi ≤ℤ (max_time +ℤ max_interval) = at_most chunk.hi (max_time +ℤ max_interval) (and_parts (int_le (min_time -ℤ max_interval) chunk.lo) (int_le chunk.hi (max_time +ℤ max_interval)) parts.0).1 in
+    let low : chunk.hi ≤ℤ (max_time +ℤ max_interval) = int_le-true chunk.hi (max_time +ℤ max_interval) (and_parts (int_le (min_time -ℤ max_interval) chunk.lo) (int_le chunk.hi (max_time +ℤ max_interval)) parts.0).1 in
     count_cons (near (live ∷ [])) row stored
     ∙ (ap (λ t. cond t 1 0 + rows_near interval stored (live ∷ [])) (same_chunks w wide mark starts live is chunk low)
     ∙ (ap (λ m. cond (near buckets row) 1 0 + m) (live_reads_are_of_buckets w mark starts live interval stored wide is parts.1)
@@ -172,8 +140,8 @@ chunk_meets_times interval t is time =
     let from : pos 0 ≤ℤ int_rem_euclid t interval = rest.0 in
     let below : int_rem_euclid t interval <ℤ interval = rest.1 in
     let times = and_parts (int_le min_time t) (int_le t max_time) time in
-    let low : min_time ≤ℤ t = at_most min_time t times.0 in
-    let high : t ≤ℤ max_time = at_most t max_time times.1 in
+    let low : min_time ≤ℤ t = int_le-true min_time t times.0 in
+    let high : t ≤ℤ max_time = int_le-true t max_time times.1 in
     meet_from chunk all_times (meet t (int_rem_euclid t interval) interval low high from below)
   where
     first_positive : (x : ℤ) → pos 1 ≤ℤ x → pos 0 <ℤ x

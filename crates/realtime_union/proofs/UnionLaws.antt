@@ -1,46 +1,38 @@
 -- What is shown, bucket by bucket.
 use Rattle.std.proofs.Common.{◌≡◌, Bool, true, false, not, ◌&&◌, ◌||◌, cond, map, filter, List, [], ◌∷◌, ◌++◌, ℤ, pos, ◌+ℤ◌, ◌≤ℤ◌, ◌<ℤ◌, int_lt, Option, Some, None, refl, sym, ap, subst, ◌∙◌, arith}
-use Rattle.std.specs.List.{AllByRecursion, flat_map, list_all}
+use Rattle.std.specs.List.{AllByRecursion, flat_map}
 use Rattle.std.specs.List.Sorted.{IsStrictlySortedBy}
-use Rattle.std.specs.Ordering.{int_eq, ordering_then}
-use Rattle.std.specs.declared.cmp.Ordering.{Ordering}
-use Rattle.std.specs.declared.cmp.Ordering.TheVariants.{Less, Greater}
+use Rattle.std.specs.Ordering.{int_eq}
+use Rattle.std.specs.declared.cmp.Ordering.TheVariants.{Less}
 use Rattle.std.proofs.lemmas.Bool.{true≢false, and_parts}
 use Rattle.std.proofs.lemmas.Bool.Decides.{Decides-int_eq}
 use Rattle.std.proofs.lemmas.Int.{ints}
 use Rattle.std.proofs.lemmas.List.Elements.{filter-append}
+use Rattle.std.proofs.lemmas.List.{append-nil, map-append}
 use Rattle.ts_bucket.specs.Bucket.{IsWidth, is_bucket}
 use Rattle.ts_bucket.specs.Ranges.{is_asked}
 use Rattle.ts_bucket.specs.WholeSpans.{is_below}
 use Rattle.ts_bucket.specs.declared.spans.Span.{Span}
 use Rattle.ts_bucket.specs.declared.widths.Width.{Width}
-use Rattle.ts_schema.specs.Rows.{values_cmp}
 use Rattle.ts_schema.specs.declared.rows.Row.{Row}
 use Rattle.partial_agg.specs.declared.groups.Group.{Group}
-use Rattle.partial_agg.specs.Groups.{group_cmp}
+use Rattle.partial_agg.specs.Groups.{group_cmp, AreInOrder}
 use Rattle.ts_model.specs.declared.views.ViewDef.{ViewDef}
 use Rattle.ts_model.specs.Answers.{buckets_in}
 use Rattle.ts_model.specs.Groups.{cells_of, groups_in, groups_of}
 use Rattle.ts_model.proofs.RangeLaws.{RisingBuckets, among, among-buckets_in, rising-buckets_in}
-use Rattle.group_fold.specs.Merging.{AreInOrder}
-use Rattle.group_fold.proofs.Occurring.{all_weaker, all-append, flat_map-same}
+use Rattle.group_fold.proofs.Occurring.{all-append, flat_map-same}
 use Rattle.group_fold.proofs.RowGroups.{sorted-groups_of}
 use Rattle.group_fold.proofs.Scratches.{filter-none, groups_of_bucket}
 use Rattle.realtime_union.specs.Live.{is_live, live_groups}
 use Rattle.realtime_union.specs.Laws.{AreKept, UnionsAreOfBuckets, groups_shown}
+use Rattle.ts_schema.proofs.Cases.{by_test, all_weaker, all_passed}
+use Rattle.partial_agg.proofs.GroupLaws.{less_start}
 
 -- ---- tests of groups
 
 abbrev of_bucket : ℤ → List Group → List Group
 of_bucket b gs = filter (λ g. int_eq g.start b) gs
-
-by_test : {G : Type 0} (t : Bool) → (t ≡ true → G) → (t ≡ false → G) → G
-by_test true pass fail = pass refl
-by_test false pass fail = fail refl
-
-all_from : (test : Group → Bool) (gs : List Group) → list_all test gs ≡ true → AllByRecursion (λ g. test g ≡ true) gs
-all_from test [] e = tt
-all_from test (g ∷ gs) e = let parts = and_parts (test g) (list_all test gs) e in (parts.0, all_from test gs parts.1)
 
 kept_all : (P : Group → Type 0) (test : Group → Bool) (gs : List Group) → AllByRecursion P gs → AllByRecursion (λ g. P g × (test g ≡ true)) (filter test gs)
 kept_all P test [] h = tt
@@ -53,21 +45,10 @@ abbrev StartsUp : List Group → Type 0
 StartsUp [] = Unit {0}
 StartsUp (g ∷ gs) = AllByRecursion (λ h. g.start ≤ℤ h.start) gs × StartsUp gs
 
-upto_next : (g h : Group) → group_cmp g h ≡ Less → g.start ≤ℤ h.start
-upto_next g h e =
-    by_test (int_lt h.start g.start)
-    (λ below.
-    let above : int_lt g.start h.start ≡ false = grind (arith, ints) in
-    absurd (greater_is_less (values_cmp g.keys h.keys) (sym (rw (above, below) refl) ∙ e)))
-    (λ not_below. grind (arith, ints))
-  where
-    greater_is_less : (o : Ordering) → ordering_then Greater o ≡ Less → ⊥
-    greater_is_less o e = absurd (cc)
-
 starts_up : (gs : List Group) → AreInOrder gs → StartsUp gs
 unfolding IsStrictlySortedBy
 starts_up [] o = tt
-starts_up (g ∷ gs) o = (all_weaker (λ h. group_cmp g h ≡ Less) (λ h. g.start ≤ℤ h.start) (upto_next g) gs o.0, starts_up gs o.1)
+starts_up (g ∷ gs) o = (all_weaker (λ h. group_cmp g h ≡ Less) (λ h. g.start ≤ℤ h.start) (less_start g) gs o.0, starts_up gs o.1)
 
 up-filter : (test : Group → Bool) (gs : List Group) → StartsUp gs → StartsUp (filter test gs)
 up-filter test [] up = tt
@@ -157,10 +138,6 @@ by_buckets w low (b ∷ bs) rising gs up all =
 
 -- ---- materialised groups and live ones
 
-map-append : {X Y : Type 0} (f : X → Y) (xs ys : List X) → map f (xs ++ ys) ≡ map f xs ++ map f ys
-map-append f [] ys = refl
-map-append f (x ∷ xs) ys = ap (λ zs. f x ∷ zs) (map-append f xs ys)
-
 map-flat_map : {X Y Z : Type 0} (f : Y → Z) (g : X → List Y) (xs : List X) → map f (flat_map g xs) ≡ flat_map (λ x. map f (g x)) xs
 map-flat_map f g [] = refl
 map-flat_map f g (x ∷ xs) = map-append f (g x) (flat_map g xs) ∙ ap (λ zs. map f (g x) ++ zs) (map-flat_map f g xs)
@@ -204,16 +181,12 @@ module _ (w : Width) (mark : Option ℤ) (starts : Span) where
       (λ here. (let at : is_live w mark starts g.start ≡ true = ap (is_live w mark starts) ((Decides-int_eq g.start b).0 here) ∙ e in rw (at, here) (ap (λ xs. g ∷ xs) (live_all b gs e))))
       (λ other. by_test (is_live w mark starts g.start) (λ at. rw (at, other) (live_all b gs e)) (λ at. rw (at, other) (live_all b gs e)))
 
-append-nil : {X : Type 0} (xs : List X) → xs ++ [] ≡ xs
-append-nil [] = refl
-append-nil (x ∷ xs) = ap (λ ys. x ∷ ys) (append-nil xs)
-
 module _ (def : ViewDef) (kept : List Group) (mark : Option ℤ) (starts : Span) (rows : List Row) (wide : IsWidth def.fold.width) (are : AreKept def.fold.width mark starts kept) where
   abbrev live : List Group
   live = live_groups def mark starts rows
 
   kept_is : AllByRecursion (IsKept def.fold.width mark starts) kept
-  kept_is = all_from (λ g. is_asked def.fold.width starts g.start && is_below g.start mark) kept are.all
+  kept_is = all_passed (λ g. is_asked def.fold.width starts g.start && is_below g.start mark) kept are.all
 
   live_is : AllByRecursion (IsLive def.fold.width mark starts) live
   live_is =

@@ -11,7 +11,7 @@ use Rattle.ts_bucket.specs.declared.spans.Span.{Span}
 use Rattle.ts_bucket.specs.declared.widths.Width.{Width}
 use Rattle.ts_schema.specs.declared.rows.Row.{Row}
 use Rattle.partial_agg.specs.declared.groups.Group.{Group}
-use Rattle.group_fold.specs.Merging.{AreInOrder}
+use Rattle.partial_agg.specs.Groups.{AreInOrder}
 use Rattle.ts_model.specs.declared.views.ViewDef.{ViewDef}
 use Rattle.ts_model.specs.Answers.{buckets_in}
 use Rattle.ts_model.specs.Groups.{cells_of, groups_in}

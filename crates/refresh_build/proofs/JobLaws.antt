@@ -22,19 +22,18 @@ use Rattle.partial_agg.specs.declared.groups.Group.{Group}
 use Rattle.group_fold.specs.Laws.{end_of_last}
 use Rattle.group_fold.proofs.BucketGroups.{groups_of_some_buckets, groups_of_spans, last_group_ends}
 use Rattle.span_fold.specs.Spans.{AreApart, rows_in}
+use Rattle.span_fold.proofs.ScanLaws.{all-filter}
+use Rattle.mat_log.proofs.RangeLaws.{out_below}
+use Rattle.ts_schema.proofs.Cases.{filter_same}
 
 -- ---- ranges of whole buckets
 
--- a span that starts above a number holds none at or below it
-not_below : (s : SpanValue) (t : ℤ) → t <ℤ s.lo → in_span s t ≡ false
-not_below s t above = grind (arith, ints, above)
-
 -- ranges that rise hold nothing at or below what is below the first
 none_below : (w : WidthValue) (x : ℤ) (s : Span) (ss : List Span) (t : ℤ) → AllByRecursion (IsWholeRange w) (s ∷ ss) → RiseApart (s ∷ ss) → x <ℤ s.lo → t ≤ℤ x → lies_in (s ∷ ss) t ≡ false
-none_below w x s [] t whole rise above low = rw (not_below s t (omega (arith, ints, above, low))) refl
+none_below w x s [] t whole rise above low = rw (out_below s t (omega (arith, ints, above, low))) refl
 none_below w x s (u ∷ ss) t whole rise above low =
     let some : s.lo <ℤ s.hi = whole.0.some in
-    rw (not_below s t (omega (arith, ints, above, low))) (none_below w s.hi u ss t whole.1 rise.1 rise.0 (omega (arith, ints, above, low, some)))
+    rw (out_below s t (omega (arith, ints, above, low))) (none_below w s.hi u ss t whole.1 rise.1 rise.0 (omega (arith, ints, above, low, some)))
 
 -- ranges that rise apart hold no number twice
 pub rising_apart : (w : WidthValue) (spans : List Span) → AllByRecursion (IsWholeRange w) spans → RiseApart spans → AreApart spans
@@ -55,10 +54,6 @@ lies_in-bucket w (s ∷ ss) t wide whole =
     ap (λ b. b || lies_in ss t) (in_span-bucket w s t wide whole.0.starts whole.0.ends) ∙ ap (λ b. in_span s (bucket_of w t) || b) (lies_in-bucket w ss t wide whole.1)
 
 -- ---- the rows of the spans
-
-filter_same : (p q : Row → Bool) (xs : List Row) → ((row : Row) → p row ≡ q row) → filter p xs ≡ filter q xs
-filter_same p q [] same = refl
-filter_same p q (x ∷ xs) same = ap (λ b. cond b (x ∷ filter p xs) (filter p xs)) (same x) ∙ ap (λ ys. cond (q x) (x ∷ ys) ys) (filter_same p q xs same)
 
 -- the groups of the rows whose times lie in ranges of whole buckets are those of the rows of the ranges
 pub groups_of_ranges : (fold : Fold) (spans : List Span) (rows : List Row) → IsWidth fold.width → AllByRecursion (IsWholeRange fold.width) spans → groups_of fold (rows_in spans rows) ≡ groups_of fold (rows_of_spans fold spans rows)
@@ -86,22 +81,6 @@ top_of_groups fold spans rows groups top wide made is =
     ∙ (ap (end_of_last fold.width) made
     ∙ (last_group_ends fold (rows_of_spans fold spans rows) wide
     ∙ ap (last_end fold.width) (already_passing (λ row. lies_in spans (bucket_of fold.width row.at)) (λ row. passes_all row fold.tests) rows)))
-
-all-filter : (p q : Row → Bool) (xs : List Row) → list_all p xs ≡ true → list_all p (filter q xs) ≡ true
-all-filter p q [] e = refl
-all-filter p q (x ∷ xs) e =
-    elim (q x) as (λ b. list_all p (cond b (x ∷ filter q xs) (filter q xs)) ≡ true) [
-      | true ↦ both (p x) (list_all p xs) (list_all p (filter q xs)) e (all-filter p q xs)
-      | false ↦ second (p x) (list_all p xs) (list_all p (filter q xs)) e (all-filter p q xs)
-    ]
-  where
-    both : (a b c : Bool) → (a && b) ≡ true → (b ≡ true → c ≡ true) → (a && c) ≡ true
-    both true b c e f = f e
-    both false b c e f = e
-
-    second : (a b c : Bool) → (a && b) ≡ true → (b ≡ true → c ≡ true) → c ≡ true
-    second true b c e f = f e
-    second false b c e f = cc
 
 pub times_of_spans : (spans : List Span) (rows : List Row) → list_all (λ row. is_time row.at) rows ≡ true → list_all (λ row. is_time row.at) (rows_in spans rows) ≡ true
 times_of_spans spans rows times = all-filter (λ row. is_time row.at) (λ row. lies_in spans row.at) rows times

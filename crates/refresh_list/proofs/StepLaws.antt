@@ -2,7 +2,7 @@
 use Rattle.std.proofs.Common.{◌≡◌, ℕ, suc, ◌<◌, Bool, true, false, ◌&&◌, cond, ◌==◌, List, [], ◌∷◌, ◌++◌, map, filter, not, Option, Some, None, sym, refl, ap, ◌∙◌, subst, arith}
 use Rattle.std.specs.Prelude.{unwrap_or}
 use Rattle.std.specs.List.{AllByRecursion}
-use Rattle.std.proofs.lemmas.Bool.{true≢false, eqb-true, eq-eqb}
+use Rattle.std.proofs.lemmas.Bool.{true≢false, eqb-true}
 use Rattle.ts_bucket.specs.declared.spans.Span.{Span}
 use Rattle.ts_model.specs.declared.events.Event.{Event}
 use Rattle.ts_model.specs.declared.events.Event.TheVariants.{Table, Hyper, View, Mode, Commit, Cut, Built}
@@ -15,6 +15,7 @@ use Rattle.ts_model.proofs.AllowedLaws.{cut_further}
 use Rattle.refresh_list.specs.declared.refreshes.Refresh.{Refresh}
 use Rattle.refresh_list.specs.Refreshes.{CutsBelow, pending_in, state_by, waiting_in, with_waiting, newly_cut, finished_at, finished_one}
 use Rattle.refresh_list.specs.Laws.{RefreshesBegin, CutsStand, FinishesStand, OthersStand}
+use Rattle.ts_schema.proofs.Cases.{same_number}
 
 pub refreshes_begin : RefreshesBegin
 refreshes_begin = record { pending = λ k. refl; waiting = refl; spans = tt; past = tt }
@@ -39,9 +40,6 @@ others_stand h (Cut v span) rs quiet s = absurd (true≢false quiet)
 others_stand h (Built cut snap) rs quiet s = absurd (true≢false quiet)
 
 -- ---- one more cut
-
-same_number : (n : ℕ) → (n == n) ≡ true
-same_number n = eq-eqb n n refl
 
 apart : (k a b : ℕ) → a < b → (k == a) ≡ true → (k == b) ≡ false
 apart k a b l e =

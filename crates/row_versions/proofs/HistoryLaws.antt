@@ -1,11 +1,11 @@
 -- Tables beside histories: how they begin, what events make of them, and what they tell.
-use Rattle.std.proofs.Common.{◌≡◌, ℕ, suc, ◌+◌, ◌<◌, ◌≤◌, Bool, true, false, not, ◌||◌, ◌++◌, cond, nat_lt, Option, Some, None, List, [], ◌∷◌, ℤ, ◌+ℤ◌, ◌≤ℤ◌, refl, sym, ◌∙◌, ap, subst, arith}
+use Rattle.std.proofs.Common.{◌≡◌, ℕ, suc, ◌+◌, ◌<◌, ◌≤◌, Bool, true, false, not, ◌++◌, cond, nat_lt, Option, Some, None, List, [], ◌∷◌, ℤ, ◌+ℤ◌, ◌≤ℤ◌, refl, sym, ◌∙◌, ap, subst, arith}
 use Rattle.std.specs.List.{filter, list_any, count_by}
 use Rattle.std.specs.Option.{option_map}
 use Rattle.std.specs.Int.{int_max}
 use Rattle.std.specs.Ordering.{is_gt}
 use Rattle.std.proofs.lemmas.Int.{ints, clamps, by_lt_z}
-use Rattle.std.proofs.lemmas.Bool.{true≢false, ltb-true, ltb-false}
+use Rattle.std.proofs.lemmas.Bool.{true≢false, ltb-true, ltb-false, or_parts}
 use Rattle.std.proofs.lemmas.List.Sums.{sum_by-cons}
 use Rattle.ts_num.specs.Aggregates.{greater}
 use Rattle.ts_bucket.specs.Bucket.{IsWidth, bucket_of}
@@ -28,24 +28,21 @@ use Rattle.ts_model.specs.Reads.{inserted, spans_meet}
 use Rattle.ts_bucket.specs.Chunks.{chunk_of}
 use Rattle.ts_model.specs.Windows.{last_end}
 use Rattle.ts_model.proofs.HistoryLaws.{prefix_end}
-use Rattle.ts_model.proofs.RowLaws.{filter-in_order}
+use Rattle.ts_model.proofs.RowLaws.{filter-in_order, same_before}
 use Rattle.seg_rows.specs.Versions.{later_time, latest_of, latest_at, rows_of}
 use Rattle.seg_rows.proofs.HullLaws.{later_time-assoc, later_time-comm}
 use Rattle.chunk_catalog.specs.Chunks.{ChunksValue}
 use Rattle.row_versions.specs.Histories.{Holds}
 use Rattle.row_versions.specs.Laws.{is_commit, CommitsAreHeld, EffectsAreOfCommits, OthersAreHeld, HeldTablesTell, UnnamedAreHeld}
 use Rattle.row_versions.specs.Tables.{visible_rows, IsEffect, Follows, is_on}
-use Rattle.row_versions.proofs.TableLaws.{both_alike, up_to_more}
+use Rattle.row_versions.proofs.TableLaws.{up_to_more}
+use Rattle.ts_model.proofs.CountLaws.{count-with_row}
 
 -- ---- commits
 
 -- at a position after its own a history is itself
 seen_now : (t : ℕ) (h : History) (table : ChunksValue) (q : ℕ) → Holds t h table → position h ≤ q → in_order (visible_rows q table.versions) ≡ rows t h
 seen_now t h table q held l = held.seen q ∙ ap (rows t) (prefix_end h q l)
-
-or_false : (a b : Bool) → (a || b) ≡ false → (a ≡ false) × (b ≡ false)
-or_false true b e = cc
-or_false false b e = (refl, e)
 
 module _ (t : ℕ) (h : History) (ops : List Op) (old new : ChunksValue) (held : Holds t h old) (follows : Follows t ops (suc (position h)) old new) where
   seen_at : (q : ℕ) (late : Bool) → nat_lt (position h) q ≡ late → in_order (visible_rows q new.versions) ≡ rows t (cond late (h ▸ Commit ops) (prefix h q))
@@ -59,26 +56,26 @@ module _ (t : ℕ) (h : History) (ops : List Op) (old new : ChunksValue) (held :
   pub commit_held : Holds t (h ▸ Commit ops) new
   commit_held = record {
     seen = λ q. seen_at q (nat_lt (position h) q) refl;
-    stored = follows.stored ∙ both_alike (rows_of old.versions) (inserted t h) (all_appended t ops) held.stored;
+    stored = follows.stored ∙ same_before (rows_of old.versions) (inserted t h) (all_appended t ops) held.stored;
     up_to = follows.up_to;
   }
 
 -- operations on other tables do nothing to a table
-unnamed_rows : (t : ℕ) (ops : List Op) (xs : List Row) → list_any (is_on t) ops ≡ false → after_ops t ops xs ≡ xs
+pub unnamed_rows : (t : ℕ) (ops : List Op) (xs : List Row) → list_any (is_on t) ops ≡ false → after_ops t ops xs ≡ xs
 unnamed_rows t [] xs none = refl
 unnamed_rows t (Insert u new ∷ ops) xs none =
-    let parts = or_false (u == t) (list_any (is_on t) ops) none in
+    let parts = or_parts (u == t) (list_any (is_on t) ops) none in
     ap (λ b. after_ops t ops (cond b (with_rows new xs) xs)) parts.0 ∙ unnamed_rows t ops xs parts.1
 unnamed_rows t (Delete u tests ∷ ops) xs none =
-    let parts = or_false (u == t) (list_any (is_on t) ops) none in
+    let parts = or_parts (u == t) (list_any (is_on t) ops) none in
     ap (λ b. after_ops t ops (cond b (filter (λ row. not (passes_all row tests)) xs) xs)) parts.0 ∙ unnamed_rows t ops xs parts.1
 
-unnamed_appended : (t : ℕ) (ops : List Op) → list_any (is_on t) ops ≡ false → all_appended t ops ≡ []
+pub unnamed_appended : (t : ℕ) (ops : List Op) → list_any (is_on t) ops ≡ false → all_appended t ops ≡ []
 unnamed_appended t [] none = refl
 unnamed_appended t (Insert u new ∷ ops) none =
-    let parts = or_false (u == t) (list_any (is_on t) ops) none in
+    let parts = or_parts (u == t) (list_any (is_on t) ops) none in
     ap (λ b. cond b new [] ++ all_appended t ops) parts.0 ∙ unnamed_appended t ops parts.1
-unnamed_appended t (Delete u tests ∷ ops) none = unnamed_appended t ops (or_false (u == t) (list_any (is_on t) ops) none).1
+unnamed_appended t (Delete u tests ∷ ops) none = unnamed_appended t ops (or_parts (u == t) (list_any (is_on t) ops) none).1
 
 pub unnamed_are_held : UnnamedAreHeld
 unnamed_are_held t h ops table held none = commit_held t h ops table table held (record {
@@ -155,14 +152,6 @@ latest_of-in_order (x ∷ xs) = latest_of-with_row x (in_order xs) ∙ ap (later
 -- how many rows pass doesn't look at their order
 count-cons : (p : Row → Bool) (x : Row) (xs : List Row) → count_by p (x ∷ xs) ≡ cond (p x) 1 0 + count_by p xs
 count-cons p x xs = sum_by-cons (λ y. cond (p y) 1 0) x xs
-
-count-with_row : (p : Row → Bool) (row : Row) (xs : List Row) → count_by p (with_row row xs) ≡ cond (p row) 1 0 + count_by p xs
-count-with_row p row [] = count-cons p row []
-count-with_row p row (x ∷ xs) =
-    elim (is_gt (row_cmp row x)) as (λ b. count_by p (cond b (x ∷ with_row row xs) (row ∷ x ∷ xs)) ≡ cond (p row) 1 0 + count_by p (x ∷ xs)) [
-      | true ↦ omega (arith, count-cons p x (with_row row xs), count-with_row p row xs, count-cons p x xs)
-      | false ↦ count-cons p row (x ∷ xs)
-    ]
 
 count-in_order : (p : Row → Bool) (xs : List Row) → count_by p (in_order xs) ≡ count_by p xs
 count-in_order p [] = refl

@@ -1,6 +1,6 @@
 -- Rows that come as often stand in the same order, and have the same hull.
 use Rattle.std.proofs.Common.{◌≡◌, ℕ, ◌+◌, ◌≤◌, ◌&&◌, Bool, true, false, cond, Option, List, [], ◌∷◌, ◌++◌, refl, sym, ◌∙◌, ap, arith}
-use Rattle.std.specs.List.{filter, list_all, count_by}
+use Rattle.std.specs.List.{filter, count_by}
 use Rattle.std.specs.Ordering.{is_gt, is_eq, ordering_reverse}
 use Rattle.std.specs.declared.cmp.Ordering.{Ordering}
 use Rattle.std.specs.declared.cmp.Ordering.TheVariants.{Less, Equal, Greater}
@@ -15,7 +15,8 @@ use Rattle.ts_model.proofs.RowLaws.{in_order-append_swap}
 use Rattle.seg_rows.specs.Hulls.{joined_hull, hull_at, hull_of}
 use Rattle.seg_rows.specs.Versions.{AsOften}
 use Rattle.seg_rows.proofs.HullLaws.{joined_hull-assoc, joined_hull-comm}
-use Rattle.chunk_catalog.proofs.PartLaws.{count_append}
+use Rattle.ts_model.proofs.CountLaws.{count_cons}
+use Rattle.ts_schema.proofs.Cases.{count-append}
 
 -- an order answers equal where it is turned round into itself
 same_turned : (o : Ordering) → o ≡ ordering_reverse o → is_eq o ≡ true
@@ -49,21 +50,18 @@ found test (y ∷ ys) h =
           record { item = rest.item; front = y ∷ rest.front; back = rest.back; passes = rest.passes; whole = ap (λ zs. y ∷ zs) rest.whole }
     ] refl
 
-count-cons : {X : Type 0} (test : X → Bool) (x : X) (xs : List X) → count_by test (x ∷ xs) ≡ cond (test x) 1 0 + count_by test xs
-count-cons test x xs = sum_by-cons (λ z. cond (test z) 1 0) x xs
-
 -- an item at the front or in between, the rest as often
 without_item : {X : Type 0} (x : X) (xs front back : List X) → AsOften (x ∷ xs) (front ++ x ∷ back) → AsOften xs (front ++ back)
 without_item x xs front back same = λ test.
-    omega (arith, same test, count-cons test x xs, count_append test front (x ∷ back), count-cons test x back, count_append test front back)
+    omega (arith, same test, count_cons test x xs, count-append test front (x ∷ back), count_cons test x back, count-append test front back)
 
 -- rows that come as often stand in the same order
 pub in_order-as_often : (xs ys : List Row) → AsOften xs ys → in_order xs ≡ in_order ys
 in_order-as_often [] [] same = refl
-in_order-as_often [] (y ∷ ys) same = absurd (omega (arith, same (λ z. true), count-cons (λ (z : Row). true) y ys))
+in_order-as_often [] (y ∷ ys) same = absurd (omega (arith, same (λ z. true), count_cons (λ (z : Row). true) y ys))
 in_order-as_often (x ∷ xs) ys same =
     let here : 1 ≤ count_by (λ y. is_eq (row_cmp x y)) ys =
-    omega (arith, same (λ y. is_eq (row_cmp x y)), count-cons (λ y. is_eq (row_cmp x y)) x xs, ap {B = ℕ} (λ b. cond b 1 0) (row_same x)) in
+    omega (arith, same (λ y. is_eq (row_cmp x y)), count_cons (λ y. is_eq (row_cmp x y)) x xs, ap {B = ℕ} (λ b. cond b 1 0) (row_same x)) in
     let at = found (λ y. is_eq (row_cmp x y)) ys here in
     let is : x ≡ at.item = row_cmp_same x at.item (equal_if (row_cmp x at.item) at.passes) in
     let whole : ys ≡ at.front ++ x ∷ at.back = at.whole ∙ ap (λ z. at.front ++ z ∷ at.back) (sym is) in
@@ -87,29 +85,11 @@ pub hull_of-in_order : (xs : List Row) → hull_of (in_order xs) ≡ hull_of xs
 hull_of-in_order [] = refl
 hull_of-in_order (x ∷ xs) = hull_of-with_row x (in_order xs) ∙ ap (joined_hull (hull_at x.at)) (hull_of-in_order xs)
 
--- a test of all rows doesn't look at their order
-and_swap : (a b c : Bool) → (a && (b && c)) ≡ (b && (a && c))
-and_swap true b c = refl
-and_swap false true c = refl
-and_swap false false c = refl
-
-all-with_row : (p : Row → Bool) (row : Row) (xs : List Row) → list_all p (with_row row xs) ≡ (p row && list_all p xs)
-all-with_row p row [] = refl
-all-with_row p row (x ∷ xs) =
-    elim (is_gt (row_cmp row x)) as (λ b. list_all p (cond b (x ∷ with_row row xs) (row ∷ x ∷ xs)) ≡ (p row && (p x && list_all p xs))) [
-      | true ↦ ap (λ b. p x && b) (all-with_row p row xs) ∙ and_swap (p x) (p row) (list_all p xs)
-      | false ↦ refl
-    ]
-
-pub all-in_order : (p : Row → Bool) (xs : List Row) → list_all p (in_order xs) ≡ list_all p xs
-all-in_order p [] = refl
-all-in_order p (x ∷ xs) = all-with_row p x (in_order xs) ∙ ap (λ b. p x && b) (all-in_order p xs)
-
 -- how many items of a selection pass
 pub count_filter : {X : Type 0} (q t : X → Bool) (xs : List X) → count_by t (filter q xs) ≡ count_by (λ x. q x && t x) xs
 count_filter q t [] = refl
 count_filter q t (x ∷ xs) =
     elim (q x) as (λ b. count_by t (cond b (x ∷ filter q xs) (filter q xs)) ≡ cond (b && t x) 1 0 + count_by (λ y. q y && t y) xs) [
-      | true ↦ count-cons t x (filter q xs) ∙ ap (λ n. cond (t x) 1 0 + n) (count_filter q t xs)
+      | true ↦ count_cons t x (filter q xs) ∙ ap (λ n. cond (t x) 1 0 + n) (count_filter q t xs)
       | false ↦ count_filter q t xs ∙ omega arith
-    ] ∙ sym (count-cons (λ y. q y && t y) x xs)
+    ] ∙ sym (count_cons (λ y. q y && t y) x xs)

@@ -1,13 +1,14 @@
 -- What inserts and deletes make of the versions of a table.
-use Rattle.std.proofs.Common.{◌≡◌, ℕ, ◌+◌, ◌<◌, ◌≤◌, ◌&&◌, Bool, true, false, cond, not, Option, Some, None, List, [], ◌∷◌, ◌++◌, length, map, get_or, take, take_all, drop, ◌-◌, ℤ, ◌+ℤ◌, refl, sym, ◌∙◌, ap, subst, eq-eqb, arith}
+use Rattle.std.proofs.Common.{◌≡◌, ℕ, ◌+◌, ◌<◌, ◌≤◌, ◌&&◌, Bool, true, false, cond, not, Option, Some, None, List, [], ◌∷◌, ◌++◌, length, map, get_or, take, take_all, drop, ◌-◌, ℤ, ◌+ℤ◌, refl, sym, ◌∙◌, ap, subst, arith}
 use Rattle.std.proofs.lemmas.List.Folds.{list_all-append}
 use Rattle.std.specs.List.{filter, list_all, list_any, count_by}
 use Rattle.std.specs.Prelude.{nat_le, int_lt, ◌||◌, ◌==◌, Result, Ok, Err, IfOk, OnOk, OnErr, MatchResult}
 use Rattle.std.proofs.lemmas.Int.{ints}
-use Rattle.std.proofs.lemmas.Bool.{and_parts, and_from, le-leb, leb-true}
+use Rattle.std.proofs.lemmas.Bool.{and_parts, and_from, le-leb, leb-true, not-true}
 use Rattle.std.proofs.lemmas.List.{append-nil, append_assoc, map-append, length-append}
 use Rattle.std.proofs.lemmas.List.Elements.{filter-append}
 use Rattle.std.proofs.lemmas.List.Sums.{sum_by-cons}
+use Rattle.std.proofs.Math.Bool.{and-false}
 use Rattle.ts_bucket.specs.Bucket.{is_time}
 use Rattle.ts_bucket.specs.Spans.{SpanValue, HullValue, in_span}
 use Rattle.ts_schema.specs.declared.rows.Row.{Row}
@@ -27,11 +28,13 @@ use Rattle.seg_rows.specs.Versions.{Version, AsOften, is_dead_at, visible_at, sh
 use Rattle.seg_rows.proofs.HullLaws.{hull_of-append, joined_hull-assoc, joined_hull-none}
 use Rattle.chunk_catalog.specs.Chunks.{ChunksValue, is_near, held_near, HaveTimes}
 use Rattle.ts_bucket.specs.Chunks.{IsInterval, chunk_start}
-use Rattle.chunk_catalog.proofs.PartLaws.{all_from_count, count_from_all, count_map, count_append}
+use Rattle.chunk_catalog.proofs.PartLaws.{all_from_count, count_from_all, count_map}
 use Rattle.row_versions.specs.declared.effects.Effect.{Effect}
 use Rattle.row_versions.specs.declared.tables.Applied.{Applied}
 use Rattle.row_versions.specs.Tables.{visible_rows, died_by, is_up_to, IsUpTo, Follows, Counts, IsEffect}
 use Rattle.row_versions.proofs.OrderLaws.{in_order-as_often, hull_of-in_order, count_filter, hulls_swap}
+use Rattle.seg_rows.proofs.VersionLaws.{rows_of-killed}
+use Rattle.ts_schema.proofs.Cases.{same_number, count-append}
 
 -- ---- what a position sees
 
@@ -96,18 +99,10 @@ module _ (p : ℕ) (old new : List Version) (rows : List Row) (put : AsOften new
   put_up_to h =
       all_from_count (is_up_to p) new
       (put (λ v. not (is_up_to p v))
-      ∙ (count_append (λ v. not (is_up_to p v)) old (map (newborn p) rows)
+      ∙ (count-append (λ v. not (is_up_to p v)) old (map (newborn p) rows)
       ∙ omega (arith, count_from_all (is_up_to p) old h, count_from_all (is_up_to p) (map (newborn p) rows) (newborn_up_to p rows))))
 
 -- ---- deletes
-
-never : (a : Bool) → (a && false) ≡ false
-never true = refl
-never false = refl
-
-not_is : (b : Bool) → not b ≡ true → b ≡ false
-not_is true h = sym h
-not_is false h = refl
 
 still_dead : (p q : ℕ) (died : Option ℕ) → p ≤ q → died_by p died ≡ true → is_dead_at q died ≡ is_dead_at p died
 still_dead p q None h e = refl
@@ -134,7 +129,7 @@ kill_cases q false t v k e f = e
 
 kill_later_one : (p q : ℕ) (tests : List Test) (v : Version) → p ≤ q → is_up_to p v ≡ true → visible_at q (after_kill p tests v) ≡ (visible_at q v && not (passes_all v.row tests))
 kill_later_one p q tests v h e =
-    let gone : visible_at q (record { row = v.row; born = v.born; died = Some p }) ≡ false = ap (λ b. nat_le v.born q && not b) (le-leb p q h) ∙ never (nat_le v.born q) in
+    let gone : visible_at q (record { row = v.row; born = v.born; died = Some p }) ≡ false = ap (λ b. nat_le v.born q && not b) (le-leb p q h) ∙ and-false (nat_le v.born q) in
     kill_cases q (visible_at p v) (passes_all v.row tests) v (record { row = v.row; born = v.born; died = Some p }) (later_seen p q v h e) gone
     ∙ ap (λ s. s && not (passes_all v.row tests)) (sym (later_seen p q v h e))
 
@@ -148,7 +143,7 @@ kill_earlier_one p q tests v h =
     (λ taken.
     let seen = and_parts (visible_at p v) (passes_all v.row tests) taken in
     let alive = and_parts (nat_le v.born p) (not (is_dead_at p v.died)) seen.0 in
-    ap (λ b. nat_le v.born q && not b) (unseen p q h ∙ sym (not_yet_dead p q v.died h (not_is (is_dead_at p v.died) alive.1))))
+    ap (λ b. nat_le v.born q && not b) (unseen p q h ∙ sym (not_yet_dead p q v.died h (not-true (is_dead_at p v.died) alive.1))))
 
 row_cases : (t : Bool) (v : Version) (died : Option ℕ) → (cond t (record { row = v.row; born = v.born; died = died }) v).row ≡ v.row
 row_cases true v died = refl
@@ -192,10 +187,6 @@ taken_is p tests (v ∷ vs) =
     ∙ (ap (λ rs. cond (visible_at p v && passes_all v.row tests) (v.row ∷ rs) rs) (taken_is p tests vs)
     ∙ (sym (filter-cond (visible_at p v) (λ row. passes_all row tests) v.row (visible_rows p vs)) ∙ ap (filter (λ row. passes_all row tests)) (sym (seen-cons p v vs))))
 
-pub kill_stored : (p : ℕ) (tests : List Test) (vs : List Version) → rows_of (map (after_kill p tests) vs) ≡ rows_of vs
-kill_stored p tests [] = refl
-kill_stored p tests (v ∷ vs) = ap (λ r. r ∷ rows_of (map (after_kill p tests) vs)) (kept_row p tests v) ∙ ap (λ rs. v.row ∷ rs) (kill_stored p tests vs)
-
 up_to_cases : (p : ℕ) (t : Bool) (v : Version) → is_up_to p v ≡ true → is_up_to p (cond t (record { row = v.row; born = v.born; died = Some p }) v) ≡ true
 up_to_cases p true v e = and_from (nat_le v.born p) (nat_le p p) ((and_parts (nat_le v.born p) (died_by p v.died) e).0) (le-leb p p (omega arith))
 up_to_cases p false v e = e
@@ -221,21 +212,18 @@ up_to_more p q (v ∷ vs) h e =
 
 -- ---- one operation
 
-same_table : (t : ℕ) → (t == t) ≡ true
-same_table t = eq-eqb t t refl
-
 appended_here : (t : ℕ) (rows : List Row) → all_appended t (Insert t rows ∷ []) ≡ rows
-appended_here t rows = ap (λ b. cond b rows [] ++ []) (same_table t) ∙ append-nil rows
+appended_here t rows = ap (λ b. cond b rows [] ++ []) (same_number t) ∙ append-nil rows
 
 taken_here : (t : ℕ) (tests : List Test) (rows : List Row) → all_taken t (Delete t tests ∷ []) rows ≡ filter (λ row. passes_all row tests) rows
-taken_here t tests rows = ap (λ b. cond b (filter (λ row. passes_all row tests) rows) [] ++ []) (same_table t) ∙ append-nil (filter (λ row. passes_all row tests) rows)
+taken_here t tests rows = ap (λ b. cond b (filter (λ row. passes_all row tests) rows) [] ++ []) (same_number t) ∙ append-nil (filter (λ row. passes_all row tests) rows)
 
 pub follows_insert : (t : ℕ) (rows : List Row) (p : ℕ) (old new : ChunksValue) → new.interval ≡ old.interval → AsOften new.versions (old.versions ++ map (newborn p) rows) → IsUpTo p old.versions
     → Follows t (Insert t rows ∷ []) p old new
 follows_insert t rows p old new same put e = record {
   interval = same;
   earlier = λ q h. put_earlier p old.versions new.versions rows put q h;
-  later = λ q h. put_later p old.versions new.versions rows put q h ∙ ap (λ b. cond b (with_rows rows (in_order (visible_rows q old.versions))) (in_order (visible_rows q old.versions))) (sym (same_table t));
+  later = λ q h. put_later p old.versions new.versions rows put q h ∙ ap (λ b. cond b (with_rows rows (in_order (visible_rows q old.versions))) (in_order (visible_rows q old.versions))) (sym (same_number t));
   stored = put_stored p old.versions new.versions rows put ∙ ap (λ rs. in_order (rows_of old.versions ++ rs)) (sym (appended_here t rows));
   up_to = put_up_to p old.versions new.versions rows put e;
 }
@@ -249,8 +237,8 @@ follows_delete t tests p old new same killed e = record {
       ap (λ vs. in_order (visible_rows q vs)) killed
       ∙ (ap in_order (kill_later p q tests old.versions h e)
       ∙ (sym (filter-in_order (λ row. not (passes_all row tests)) (visible_rows q old.versions))
-      ∙ ap (λ b. cond b (filter (λ row. not (passes_all row tests)) (in_order (visible_rows q old.versions))) (in_order (visible_rows q old.versions))) (sym (same_table t))));
-  stored = ap (λ vs. in_order (rows_of vs)) killed ∙ (ap in_order (kill_stored p tests old.versions) ∙ ap in_order (sym (append-nil (rows_of old.versions))));
+      ∙ ap (λ b. cond b (filter (λ row. not (passes_all row tests)) (in_order (visible_rows q old.versions))) (in_order (visible_rows q old.versions))) (sym (same_number t))));
+  stored = ap (λ vs. in_order (rows_of vs)) killed ∙ (ap in_order (rows_of-killed p tests old.versions) ∙ ap in_order (sym (append-nil (rows_of old.versions))));
   up_to = subst (IsUpTo p) (sym killed) (kill_up_to p tests old.versions e);
 }
 
@@ -371,9 +359,6 @@ counts_more t op ops rows x y z one rest = record {
 
 -- ---- what operations ask for
 
-pub both_alike : (xs ys new : List Row) → in_order xs ≡ in_order ys → in_order (xs ++ new) ≡ in_order (ys ++ new)
-both_alike xs ys new e = in_order-append_swap xs new ∙ (in_order-append new xs ∙ (ap (with_rows new) e ∙ (sym (in_order-append new ys) ∙ in_order-append_swap new ys)))
-
 -- rows of operations that are times are times in the first operation, and in the rest
 pub first_times : (t : ℕ) (op : Op) (ops : List Op) → HaveTimes (all_appended t (op ∷ ops)) → HaveTimes (all_appended t (op ∷ []))
 first_times t op ops times =
@@ -396,7 +381,7 @@ pushed_times t (x ∷ ops) op times here =
 
 pub times_here : (t : ℕ) (new : List Row) → HaveTimes (all_appended t (Insert t new ∷ [])) → HaveTimes new
 times_here t new times =
-    ap (list_all (λ row. is_time row.at)) (sym (append-nil new) ∙ ap (λ b. cond b new [] ++ []) (sym (same_table t))) ∙ times
+    ap (list_all (λ row. is_time row.at)) (sym (append-nil new) ∙ ap (λ b. cond b new [] ++ []) (sym (same_number t))) ∙ times
 
 -- ---- the loop over operations
 

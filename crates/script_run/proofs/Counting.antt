@@ -2,10 +2,6 @@
 use Rattle.std.proofs.Common.{◌≡◌, ℕ, ◌+◌, ◌<◌, ◌≤◌, ◌^◌, arith}
 use Rattle.ts_schema.specs.Counts.{raised_by}
 
--- no row was read
-pub raised_none : (n : ℕ) → n < 2 ^ 64 → n ≡ raised_by 0 n
-raised_none n small = omega arith
-
 -- one after the other
 pub raised_twice : (m k n mid after : ℕ) → mid ≡ raised_by m n → after ≡ raised_by k mid → after ≡ raised_by (m + k) n
 raised_twice m k n mid after e f = omega arith

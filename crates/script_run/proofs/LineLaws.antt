@@ -22,8 +22,9 @@ use Rattle.ts_sessions.specs.Script.{Semantics, LineResult, ScriptState, text_of
 use Rattle.ts_sessions.specs.Sessions.{IfAnswered, Stepped}
 use Rattle.ts_sessions.proofs.WalkLaws.{goes_walks, goes_breaks}
 use Rattle.script_run.specs.LineEnds.{RepliesWith, Replies, LineExecuted, LineAnswered, LineBroken, LineFailed, ends_with}
-use Rattle.script_run.proofs.Counting.{raised_some, raised_none}
+use Rattle.script_run.proofs.Counting.{raised_some}
 use Rattle.script_run.proofs.WalkedAlone.{WalkedBroken, WalkedFailed, begins_after, breaks_alone, walks_failed, walks_whole, went_same}
+use Rattle.ts_sessions.proofs.NameCheckWalks.{unraised}
 
 -- ---- a session's turn
 
@@ -88,7 +89,7 @@ same_answered line_result reply s script_state count small going replied e none 
   replied = replied;
   reached = sym e;
   went = went_same s s going refl;
-  counted = subst (λ n. count ≡ raised_by n count) (sym none) (raised_none count small);
+  counted = subst (λ n. count ≡ raised_by n count) (sym none) (unraised count small);
 }
 
 -- a line that was given up for want of memory before it did anything

@@ -2,6 +2,7 @@
 use Rattle.std.proofs.Common.{◌≡◌, ℕ, suc, ◌+◌, ◌<◌, ◌≤◌, ◌^◌, Bool, false, true, ◌||◌, List, [], ◌∷◌, ◌++◌, length, Option, refl, sym, ap, ◌∙◌, subst, arith, append-nil, append_assoc, length-append}
 use Rattle.std.specs.Io.KnownBytes.{Appends}
 use Rattle.std.proofs.KnownBytes.{Appends-nil, Appends-trans}
+use Rattle.std.proofs.Math.Bool.{or-false, or-true}
 use Rattle.ts_schema.specs.Counts.{raised_by}
 use Rattle.ts_io.specs.declared.limits.TheConstants.{LINE_LIMIT}
 use Rattle.ts_model.specs.History.{History, Begins, same}
@@ -17,9 +18,10 @@ use Rattle.script_run.specs.LineEnds.{LineWritten}
 use Rattle.script_run.specs.Stops.{EventFailed, LineCut, LineGivenUp, RefusalCut, ReplyCut}
 use Rattle.script_run.specs.Stopped.{end_of_input, end_of_stop}
 use Rattle.script_run.specs.Runs.{Executed, Left, Ran, ReadWhole, StoppedAtEvent, StoppedBefore, StoppedWithin, StoppedWriting, executed, has_fault, history_of, output_of, reads_of, script_state_after}
-use Rattle.script_run.proofs.Counting.{raised_none, raised_twice}
+use Rattle.script_run.proofs.Counting.{raised_twice}
 use Rattle.script_run.proofs.LineLaws.{line_begins, long_line}
 use Rattle.script_run.proofs.ScriptLaws.{final-append, output-append, reads-append, refused-append}
+use Rattle.ts_sessions.proofs.NameCheckWalks.{unraised}
 
 -- a script with these sessions at what a store has seen
 abbrev pub script_state_at : {P : Type 0} → State → List (List ℕ × P) → ScriptState P
@@ -59,15 +61,11 @@ module _ {P : Type 0} (semantics : Semantics P) (h : History) where
     script_state_then : script_state_after semantics h (done ++ line ∷ []) ≡ (executes semantics script_state n line).script_state
     script_state_then = final-append semantics (opening_script_state h) 1 done (line ∷ []) ∙ (λ i. (executes semantics (f i) (number i) line).script_state)
 
-    or_false : (b : Bool) → (b || false) ≡ b
-    or_false true = refl
-    or_false false = refl
-
     fault_then : has_fault semantics h (done ++ line ∷ []) ≡ (has_fault semantics h done || (executes semantics script_state n line).fault)
     fault_then =
         refused-append semantics (opening_script_state h) 1 done (line ∷ [])
         ∙ (λ i. has_fault semantics h done || ((executes semantics (f i) (number i) line).fault || false))
-        ∙ ap (λ b. has_fault semantics h done || b) (or_false (executes semantics script_state n line).fault)
+        ∙ ap (λ b. has_fault semantics h done || b) (or-false (executes semantics script_state n line).fault)
 
     plus_none : (a b : ℕ) → a + (b + 0) ≡ a + b
     plus_none a b = omega arith
@@ -92,7 +90,7 @@ module _ {P : Type 0} (semantics : Semantics P) (h : History) where
     reached = (λ i. record { history = sym there i; sessions = sym nobody i });
     wrote = Appends-nil w;
     fault = sym quiet;
-    counted = raised_none read small;
+    counted = unraised read small;
   }
 
   module _ (lines rest : List (List ℕ)) (line : List ℕ) (before : Option (List ℕ)) (read_before : ℕ) where
@@ -199,7 +197,7 @@ module _ {P : Type 0} (semantics : Semantics P) (h : History) where
     split = refl;
     wrote = Appends-nil w;
     between = subst (λ g. IsBetween g g s) there (record { began = same; within = same });
-    counted = subst (λ k. k ≤ read) (raised_none read small) (omega arith);
+    counted = subst (λ k. k ≤ read) (unraised read small) (omega arith);
   }
   never_began (line ∷ lines) s w read there small = record {
     done = [];
@@ -207,7 +205,7 @@ module _ {P : Type 0} (semantics : Semantics P) (h : History) where
     split = refl;
     wrote = Appends-nil w;
     between = record { began = subst (λ g. Begins g s.history) there same; within = subst (λ g. Begins g (history_of semantics h (line ∷ []))) (sym there) (line_begins semantics (opening_script_state h) 1 line) };
-    counted = subst (λ k. k ≤ read) (raised_none read small) (omega arith);
+    counted = subst (λ k. k ≤ read) (unraised read small) (omega arith);
   }
 
 -- a run that came to the end of its input
@@ -219,20 +217,17 @@ end_ran false semantics h input rest left whole done fault = (whole, done, fault
 -- ---- a line that is too long
 
 module _ {P : Type 0} (semantics : Semantics P) (script_state : ScriptState P) (k : ℕ) (line : List ℕ) (long : LINE_LIMIT < length line) where
-  or_true : (b : Bool) → (b || true) ≡ true
-  or_true true = refl
-  or_true false = refl
 
   pub refused_written : (next : ScriptState P) (w v : Option (List ℕ)) (was is : Bool) (read : ℕ) → read < 2 ^ 64 → next ≡ script_state → Appends w v (line_fault_text k (bare LINE_LONG)) → is ≡ true
       → LineWritten (executes semantics script_state k line) next w v was is read read
   refused_written next w v was is read small kept wrote refused =
-      let written : LineWritten (refused_line script_state k LINE_LONG) next w v was is read read = record { reached = kept; wrote = wrote; refused = refused ∙ sym (or_true was); counted = raised_none read small } in
+      let written : LineWritten (refused_line script_state k LINE_LONG) next w v was is read read = record { reached = kept; wrote = wrote; refused = refused ∙ sym (or-true was); counted = unraised read small } in
       subst (λ p. LineWritten p next w v was is read read) (sym (long_line semantics script_state k line long)) written
 
   pub refused_cut : (stop : Stop) (s : State) (next : ScriptState P) (w v : Option (List ℕ)) (read : ℕ) → read < 2 ^ 64 → script_state.history ≡ s.history → next ≡ script_state → RefusalCut stop w v (line_fault_text k (bare LINE_LONG))
       → LineCut stop (executes semantics script_state k line) s s next w v read read
   refused_cut WriteFault s next w v read small there kept part =
-      let cut : ReplyCut (refused_line script_state k LINE_LONG) next w v read read = record { reached = kept; wrote = part; counted = raised_none read small } in
+      let cut : ReplyCut (refused_line script_state k LINE_LONG) next w v read read = record { reached = kept; wrote = part; counted = unraised read small } in
       subst (λ p. ReplyCut p next w v read read) (sym (long_line semantics script_state k line long)) cut
   refused_cut DiskFault s next w v read small there kept part = absurd part
   refused_cut NoMemory s next w v read small there kept part =

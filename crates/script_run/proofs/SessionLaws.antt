@@ -1,5 +1,5 @@
 -- The sessions that contracts see, and the map that it is kept in.
-use Rattle.std.proofs.Common.{◌≡◌, ℕ, zero, suc, ◌+◌, ◌≤◌, Bool, true, false, cond, List, [], ◌∷◌, length, slice_get, position, Option, Some, None, Result, Ok, OnOk, refl, sym, ap, ◌∙◌, subst, true≢false, unwrap_or, is_some, nat_eq, if◌then◌else◌, arith}
+use Rattle.std.proofs.Common.{◌≡◌, ℕ, zero, suc, ◌+◌, ◌≤◌, Bool, true, false, cond, List, [], ◌∷◌, length, slice_get, position, Some, None, Result, Ok, OnOk, refl, sym, ap, ◌∙◌, subst, true≢false, unwrap_or, is_some, nat_eq, arith, if◌then◌else◌}
 use Rattle.std.proofs.lemmas.Cmp.{nat_list_eq_equiv}
 use Rattle.std.specs.Cmp.Lexicographic.{pointwise, same_text}
 use Rattle.std.specs.Global.{Vec}
@@ -13,6 +13,7 @@ use Rattle.ts_sessions.specs.Held.{GoesOn}
 use Rattle.ts_sessions.specs.Script.{places_of, with_places}
 use Rattle.script_run.specs.Sessions.{sessions_of, waiting_in, IsMember, AreSessions, AreSessionsFrom}
 use Rattle.ts_sessions.specs.declared.actors.Actor.{Ghosts as Actor}
+use Rattle.ts_schema.proofs.Cases.{none_there}
 
 -- a key is this name
 abbrev is_key : List ℕ → Vec ℕ → Bool
@@ -84,11 +85,7 @@ module _ {A : Type 0} (name : List ℕ) (entries : List (Vec ℕ × A)) (i : ℕ
 
 -- a name that isn't found has no places
 pub no_places_found : {A P : Type 0} (places : A → P) (name : List ℕ) (entries : List (Vec ℕ × A)) → is_some (lookup (is_key name) entries) ≡ false → places_of name (sessions_of places entries) ≡ None
-no_places_found places name entries missing = places_found places name entries ∙ ap (option_map places) (none_of (lookup (is_key name) entries) missing)
-  where
-    none_of : {X : Type 0} (o : Option X) → is_some o ≡ false → o ≡ None
-    none_of None h = refl
-    none_of (Some x) h = absurd (true≢false h)
+no_places_found places name entries missing = places_found places name entries ∙ ap (option_map places) (none_there (lookup (is_key name) entries) missing)
 
 -- what is so where a call was well is so
 pub at_ok : {X E : Type 0} (r : Result X E) (x : X) (P : Type 0) → r ≡ Ok x → OnOk r P → P

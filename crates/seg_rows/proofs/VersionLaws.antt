@@ -1,5 +1,5 @@
 -- Laws of versions: what one more version adds to what is shown or taken.
-use Rattle.std.proofs.Common.{◌≡◌, ℕ, ◌<◌, ◌≤◌, ◌+◌, Bool, true, false, cond, ◌&&◌, Option, Some, None, ℤ, List, [], ◌∷◌, ◌++◌, length, get_or, take, drop, map, refl, sym, ◌∙◌, ap, subst, arith}
+use Rattle.std.proofs.Common.{◌≡◌, ℕ, ◌<◌, ◌≤◌, ◌+◌, Bool, true, false, cond, ◌&&◌, Option, Some, None, ℤ, List, [], ◌∷◌, ◌++◌, length, get_or, take, drop, map, refl, sym, ◌∙◌, ap, arith}
 use Rattle.std.specs.List.{filter}
 use Rattle.std.proofs.lemmas.List.Folds.{list_all-append}
 use Rattle.std.proofs.lemmas.List.{append_assoc, append-nil, map-append, length-append, length-map, take_at, take-append-drop}
@@ -10,7 +10,7 @@ use Rattle.ts_schema.specs.declared.rows.Row.{Row}
 use Rattle.ts_schema.specs.declared.conditions.Test.{Test}
 use Rattle.seg_rows.specs.Hulls.{joined_hull, hull_at, hull_of}
 use Rattle.seg_rows.specs.Versions.{Version, visible_at, shown_at, rows_of, rows_at, is_taken, taken_at, after_kill, later_time, latest_of, latest_at}
-use Rattle.seg_rows.proofs.HullLaws.{hull_of-append, latest_of-append, later_time-assoc, later_apart, later_time-none}
+use Rattle.seg_rows.proofs.HullLaws.{hull_of-append, latest_of-append, later_time-assoc, later_apart}
 
 map-cond : {X Y : Type 0} (f : X → Y) (b : Bool) (x : X) → map f (cond b (x ∷ []) []) ≡ cond b (f x ∷ []) []
 map-cond f true x = refl
@@ -26,14 +26,6 @@ picked_more f p xs i d x h e =
 pub picked-append : {X Y : Type 0} (f : X → Y) (p : X → Bool) (xs ys : List X)
     → map f (filter p (xs ++ ys)) ≡ map f (filter p xs) ++ map f (filter p ys)
 picked-append f p xs ys = ap (map f) (filter-append p xs ys) ∙ map-append f (filter p xs) (filter p ys)
-
-pub and_first : (a b : Bool) → (a && b) ≡ true → a ≡ true
-and_first true b h = refl
-and_first false b h = h
-
-pub and_second : (a b : Bool) → (a && b) ≡ true → b ≡ true
-and_second true b h = h
-and_second false b h = cc
 
 pub and_true : (a b r : Bool) → a ≡ true → r ≡ b → r ≡ (a && b)
 and_true a b r e h = grind arith
@@ -87,6 +79,10 @@ taken_at-more_hull p tests vs i d v h e =
 pub taken_at-length : (p : ℕ) (tests : List Test) (vs : List Version) → length (taken_at p tests vs) ≤ length vs
 taken_at-length p tests vs = omega (arith, length-map (filter (is_taken p tests) vs) (λ (v : Version). v.row), length-filter (is_taken p tests) vs, count_by-le-length (is_taken p tests) vs)
 
+-- the same, under a name that an attribute of code can write: a delete takes no more than there is
+pub taken_few : (p : ℕ) (tests : List Test) (vs : List Version) → length (taken_at p tests vs) ≤ length vs
+taken_few p tests vs = taken_at-length p tests vs
+
 pub taken_at-append : (p : ℕ) (tests : List Test) (xs ys : List Version) → taken_at p tests (xs ++ ys) ≡ taken_at p tests xs ++ taken_at p tests ys
 taken_at-append p tests xs ys = picked-append (λ v. v.row) (is_taken p tests) xs ys
 
@@ -120,10 +116,6 @@ kill_nothing p tests old new removed after counted none = after ∙ after_kill-n
 
 -- what is seen and taken of two lists
 pub ruleset parts = (rows_at-append, taken_at-append, latest_at-append, hull_of-append, latest_of-append, length-append, map-append, append-nil, list_all-append)
-
--- a delete takes no more than there is
-pub taken_few : (p : ℕ) (tests : List Test) (vs : List Version) → length (taken_at p tests vs) ≤ length vs
-taken_few p tests vs = taken_at-length p tests vs
 
 -- where no version has a later time, no visible one has
 pub no_later : (p : ℕ) (best : Option ℤ) (vs : List Version) → later_time best (latest_of (rows_of vs)) ≡ best → later_time best (latest_at p vs) ≡ best

@@ -4,6 +4,7 @@ use Rattle.std.specs.List.{list_any, position}
 use Rattle.std.proofs.lemmas.List.{length-map, map_push}
 use Rattle.std.proofs.lemmas.List.Folds.{list_any_at}
 use Rattle.std.proofs.lemmas.List.Quantifiers.{position-Some}
+use Rattle.std.proofs.Math.Bool.{or-true}
 use Rattle.ts_model.specs.Roster.{same_name}
 use Rattle.result_text.specs.declared.codes.TheConstants.{TOO_MANY_SESSIONS}
 use Rattle.result_text.specs.declared.replies.Said.TheVariants as said
@@ -53,12 +54,7 @@ module _ (name : List ℕ) (line : SessionLine) where
     as_new : length s.sessions < most_sessions → sorts_as name line s ≡ taken
     as_new few =
         let room : nat_lt (length s.sessions) most_sessions ≡ true = lt-ltb (length s.sessions) most_sessions few in
-        ap (λ b. cond (appears_in name s.sessions || b) taken refused) room ∙ ap (λ b. cond b taken refused) (either (appears_in name s.sessions))
-      where
-        either : (b : Bool) → (b || true) ≡ true
-        either true = refl
-        either false = refl
-
+        ap (λ b. cond (appears_in name s.sessions || b) taken refused) room ∙ ap (λ b. cond b taken refused) (or-true (appears_in name s.sessions))
     -- and where there is none
     as_refused : appears_in name s.sessions ≡ false → most_sessions ≤ length s.sessions → sorts_as name line s ≡ refused
     as_refused absent many =

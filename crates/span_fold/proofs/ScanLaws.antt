@@ -1,8 +1,7 @@
 -- Laws of rows in spans and in pieces.
-use Rattle.std.proofs.Common.{◌≡◌, ℕ, ◌+◌, ◌≤◌, ◌<◌, ◌^◌, ◌-◌, length, get_or, take, take_all, drop, Bool, true, false, ◌&&◌, ◌||◌, cond, List, [], ◌∷◌, ◌++◌, ℤ, refl, sym, ◌∙◌, ap, arith}
+use Rattle.std.proofs.Common.{◌≡◌, ℕ, ◌+◌, ◌≤◌, ◌<◌, ◌^◌, ◌-◌, length, get_or, take, take_all, drop, Bool, true, false, ◌||◌, cond, List, [], ◌∷◌, ◌++◌, ℤ, refl, sym, ◌∙◌, ap, arith}
 use Rattle.std.specs.List.{filter, list_all}
 use Rattle.std.specs.Prelude.{Result, Ok, Err, MatchResult}
-use Rattle.std.specs.Ordering.{is_gt}
 use Rattle.std.proofs.lemmas.Bool.{and_parts, and_from}
 use Rattle.std.proofs.lemmas.List.{append_assoc, append-nil}
 use Rattle.std.proofs.lemmas.List.Folds.{list_all-append}
@@ -11,12 +10,11 @@ use Rattle.ts_bucket.specs.Ranges.{lies_in}
 use Rattle.ts_bucket.specs.Spans.{in_span}
 use Rattle.ts_bucket.specs.declared.spans.Span.{Span}
 use Rattle.ts_schema.specs.declared.rows.Row.{Row}
-use Rattle.ts_schema.specs.Rows.{row_cmp}
 use Rattle.ts_schema.specs.Counts.{raised_by, RaisedUpTo}
 use Rattle.ts_model.specs.declared.views.Fold.{Fold}
 use Rattle.ts_model.specs.Rows.{with_row, with_rows, in_order}
 use Rattle.ts_model.specs.Groups.{groups_of}
-use Rattle.ts_model.proofs.RowLaws.{in_order-append, in_order-append_swap, with_rows-with_row}
+use Rattle.ts_model.proofs.RowLaws.{in_order-append, in_order-append_swap, with_rows-with_row, all-in_order, same_before}
 use Rattle.group_fold.specs.Grouping.{AreTimes, PiecesAreTimes, all_rows}
 use Rattle.group_fold.proofs.BucketGroups.{order_plays_no_part}
 use Rattle.group_fold.proofs.CutRows.{all_rows-append, take_drop}
@@ -24,34 +22,12 @@ use Rattle.span_fold.specs.Spans.{HaveTimes, rows_in}
 
 -- ---- rows in order
 
-all-with_row : (p : Row → Bool) (row : Row) (xs : List Row) → list_all p (with_row row xs) ≡ (p row && list_all p xs)
-all-with_row p row [] = refl
-all-with_row p row (x ∷ xs) =
-    elim (is_gt (row_cmp row x)) as (λ b. list_all p (cond b (x ∷ with_row row xs) (row ∷ x ∷ xs)) ≡ (p row && (p x && list_all p xs))) [
-      | true ↦ ap (λ b. p x && b) (all-with_row p row xs) ∙ swapped (p x) (p row) (list_all p xs)
-      | false ↦ refl
-    ]
-  where
-    swapped : (a b c : Bool) → (a && (b && c)) ≡ (b && (a && c))
-    swapped true true c = refl
-    swapped true false c = refl
-    swapped false true c = refl
-    swapped false false c = refl
-
--- a test that all rows pass is passed by all in any order
-pub all-in_order : (p : Row → Bool) (xs : List Row) → list_all p (in_order xs) ≡ list_all p xs
-all-in_order p [] = refl
-all-in_order p (x ∷ xs) = all-with_row p x (in_order xs) ∙ ap (λ b. p x && b) (all-in_order p xs)
-
 pub same_all : (p : Row → Bool) (xs ys : List Row) → in_order xs ≡ in_order ys → list_all p xs ≡ list_all p ys
 same_all p xs ys e = sym (all-in_order p xs) ∙ (ap (list_all p) e ∙ all-in_order p ys)
 
 -- rows behind others may be in any order
 pub same_behind : (xs ys zs : List Row) → in_order ys ≡ in_order zs → in_order (xs ++ ys) ≡ in_order (xs ++ zs)
 same_behind xs ys zs e = in_order-append xs ys ∙ (ap (with_rows xs) e ∙ sym (in_order-append xs zs))
-
-pub same_before : (xs ys zs : List Row) → in_order xs ≡ in_order ys → in_order (xs ++ zs) ≡ in_order (ys ++ zs)
-same_before xs ys zs e = in_order-append_swap xs zs ∙ (same_behind zs xs ys e ∙ in_order-append_swap zs ys)
 
 -- ---- pieces
 
@@ -82,7 +58,7 @@ pieces_are_times (piece ∷ pieces) e =
 
 -- ---- spans
 
-all-filter : (p q : Row → Bool) (xs : List Row) → list_all p xs ≡ true → list_all p (filter q xs) ≡ true
+pub all-filter : (p q : Row → Bool) (xs : List Row) → list_all p xs ≡ true → list_all p (filter q xs) ≡ true
 all-filter p q [] e = refl
 all-filter p q (x ∷ xs) e =
     let parts = and_parts (p x) (list_all p xs) e in

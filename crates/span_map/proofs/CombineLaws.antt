@@ -5,6 +5,7 @@ use Rattle.std.specs.Option.{option_eq}
 use Rattle.std.specs.Ordering.{int_eq}
 use Rattle.std.proofs.lemmas.Int.{ints, clamps, by_lt_z}
 use Rattle.std.proofs.lemmas.Bool.Decides.{Decides-int_eq}
+use Rattle.std.proofs.lemmas.Option.{same_Some}
 use Rattle.span_map.specs.declared.edges.Edge.{Edge}
 use Rattle.span_map.specs.declared.rules.Rule.{Rule}
 use Rattle.span_map.specs.declared.rules.Rule.TheVariants.{Over, Later, Above, NotBelow, Where}
@@ -91,17 +92,14 @@ from_below x (e ∷ es) h = let l : x <ℤ e.from = h in omega (arith, ints)
 next_step : (d e : Edge) (x : ℤ) → x ≡ int_min d.from e.from → (x ≤ℤ d.from) × (x ≤ℤ e.from) × ((d.from ≡ x) ⊎ (e.from ≡ x))
 next_step d e x h = (omega (arith, ints, clamps), omega (arith, ints, clamps), by_lt_z e.from d.from (λ l. inr (omega (arith, ints, clamps))) (λ g. inl (omega (arith, ints, clamps))))
 
-some_same : (x y : ℤ) → Some x ≡ Some y → x ≡ y
-some_same x y e = ap (λ (o : Option ℤ). elim o [ Some z ↦ z | None ↦ x ]) e
-
 pub next_is : (ds es : List Edge) (x : ℤ) → earliest ds es ≡ Some x → IsFrom x ds × IsFrom x es × (BeginsAt x ds ⊎ BeginsAt x es)
 next_is [] [] x h = absurd (no_some h)
   where
     no_some : None ≡ Some x → ⊥
     no_some p = grind arith
-next_is [] (e ∷ es) x h = let same : e.from ≡ x = some_same e.from x h in (tt, omega (arith, ints), inr same)
-next_is (d ∷ ds) [] x h = let same : d.from ≡ x = some_same d.from x h in (omega (arith, ints), tt, inl same)
-next_is (d ∷ ds) (e ∷ es) x h = next_step d e x (sym (some_same (int_min d.from e.from) x h))
+next_is [] (e ∷ es) x h = let same : e.from ≡ x = same_Some e.from x h in (tt, omega (arith, ints), inr same)
+next_is (d ∷ ds) [] x h = let same : d.from ≡ x = same_Some d.from x h in (omega (arith, ints), tt, inl same)
+next_is (d ∷ ds) (e ∷ es) x h = next_step d e x (sym (same_Some (int_min d.from e.from) x h))
 
 pub none_left : (ds es : List Edge) → earliest ds es ≡ None → (ds ≡ []) × (es ≡ [])
 none_left [] [] h = (refl, refl)

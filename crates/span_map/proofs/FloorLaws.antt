@@ -10,6 +10,7 @@ use Rattle.span_map.specs.Edges.{value_from, IsBelowFirst, IsRising, place_upto,
 use Rattle.span_map.specs.Floors.{run_filled, run_on, opened, floor_filled}
 use Rattle.span_map.proofs.EdgeLaws.{value_from-below, IsBelowFirst-from}
 use Rattle.span_map.proofs.PieceLaws.{rising-between, value_from-between}
+use Rattle.ts_schema.proofs.Cases.{le-int_le}
 
 -- t is at or above the start of the open run, or of the span where none is open
 abbrev run_from : SpanValue → Option ℤ → ℤ → Bool
@@ -64,10 +65,7 @@ opens s pos w e es v t h =
     out_of x t l = grind (arith, ints)
 
     max_test : (x y t : ℤ) → x ≤ℤ t → int_le (int_max x y) t ≡ int_le y t
-    max_test x y t l = by_lt_z t y (λ below. out_of (int_max x y) t (omega (arith, ints, clamps)) ∙ sym (out_of y t below)) (λ above. in_of (int_max x y) t (omega (arith, ints, clamps)) ∙ sym (in_of y t above))
-      where
-        in_of : (x t : ℤ) → x ≤ℤ t → int_le x t ≡ true
-        in_of x t l = grind (arith, ints)
+    max_test x y t l = by_lt_z t y (λ below. out_of (int_max x y) t (omega (arith, ints, clamps)) ∙ sym (out_of y t below)) (λ above. le-int_le (int_max x y) t (omega (arith, ints, clamps)) ∙ sym (le-int_le y t above))
 
 -- an edge that ends a run
 ends : (s : SpanValue) (pos : ℕ) (from : ℤ) (w : Option ℕ) (e : Edge) (es : List Edge) (v : Option ℕ) (t : ℤ) → IsRising (e ∷ es) → RunFits s pos (Some from) w (e ∷ es) → is_before pos e.value ≡ false → wanted s pos None e.value es (run_filled (Some from) (int_min e.from s.hi) pos v t) t ≡ wanted s pos (Some from) w (e ∷ es) v t

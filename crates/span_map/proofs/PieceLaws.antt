@@ -7,15 +7,13 @@ use Rattle.span_map.specs.declared.pieces.Piece.{Piece}
 use Rattle.span_map.specs.Edges.{value_from, last_value, IsBelowFirst, IsRising, place_upto, place_below, value_on, between, framed}
 use Rattle.span_map.proofs.EdgeLaws.{AllBelow, value_from-before_end, value_from-end, rising-end, below-end}
 use Rattle.span_map.specs.Pieces.{piece_at, ArePieces, piece_of, pieces_from}
+use Rattle.ts_schema.proofs.Cases.{le-int_le}
 
 lower : (x t : ℤ) → t <ℤ x → int_lt t x ≡ true
 lower x t l = grind (arith, ints)
 
 higher : (x t : ℤ) → x ≤ℤ t → int_lt t x ≡ false
 higher x t l = grind (arith, ints)
-
-from : (x t : ℤ) → x ≤ℤ t → int_le x t ≡ true
-from x t l = grind (arith, ints)
 
 not_from : (x t : ℤ) → t <ℤ x → int_le x t ≡ false
 not_from x t l = grind (arith, ints)
@@ -80,7 +78,7 @@ piece_at-pieces_from lo hi v (e ∷ es) t h r b =
     (λ above.
     let low : lo ≤ℤ t = let first : lo <ℤ e.from = h in omega (arith, ints) in
     ap (λ c. cond c (cond (int_le lo t) v None) (piece_at (pieces_from e.from hi e.value es) t)) (higher e.from t above)
-    ∙ rest ∙ ap (λ c. cond (c && int_lt t hi) (value_from e.value es t) None) (from e.from t above ∙ sym (from lo t low))
+    ∙ rest ∙ ap (λ c. cond (c && int_lt t hi) (value_from e.value es t) None) (le-int_le e.from t above ∙ sym (le-int_le lo t low))
     ∙ ap (λ c. cond (int_le lo t && int_lt t hi) (cond c v (value_from e.value es t)) None) (sym (higher e.from t above)))
   where
     both : (c : Bool) → cond c v None ≡ cond (c && true) v None

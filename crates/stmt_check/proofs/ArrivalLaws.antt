@@ -1,7 +1,7 @@
 -- The value written for a column arrives in that column.
 use Rattle.std.proofs.Common.{◌≡◌, ◌∙◌, refl, sym, ap, subst, ℕ, zero, suc, ◌+◌, ◌<◌, ◌≤◌, Bool, true, false, cond, not, ◌==◌, ◌&&◌, List, [], ◌∷◌, map, length, get_or, Option, Some, None, is_some, is_none, ℤ, pos, arith}
 use Rattle.std.specs.Prelude.{nat_le, nat_lt, unwrap_or, slice_get, option_map, ◌||◌}
-use Rattle.std.proofs.lemmas.Bool.{eq-eqb, ne_eqb, eqb-true, cases_lt}
+use Rattle.std.proofs.lemmas.Bool.{eq-eqb, ne_eqb, eqb-true, cases_lt, or_parts, or_right}
 use Rattle.std.specs.Prelude.{◌⊎◌}
 use Rattle.std.proofs.Common.{inl, inr}
 use Rattle.std.proofs.lemmas.Option.{get_or_from_slice_get}
@@ -15,7 +15,7 @@ use Rattle.stmt_check.specs.Refusals.{marked, refused}
 use Rattle.stmt_check.specs.Rows.{leaves_out, list_refusal_of, other_places, picked, place_in, row_of, row_refusal, rows_of, rows_refusal, rule_at, shape_of, time_place, value_rules, values_refusal}
 use Rattle.stmt_check.specs.Subject.{value_named, value_written, ValuesArrive}
 use Rattle.stmt_check.proofs.PassedLaws.{neither, not_wrong, has_to_be}
-use Rattle.stmt_check.proofs.RowLaws.{by_rule, neither_of, rule_there}
+use Rattle.stmt_check.proofs.RowLaws.{by_rule, rule_there}
 use Rattle.stmt_check.proofs.TableLaws.{columns_apart}
 use Rattle.stmt_check.specs.Codes.{most_rows}
 
@@ -138,16 +138,12 @@ is_left_out at names k [] j c e left = absurd cc
 is_left_out at names k (d ∷ cols) zero c e left =
     let same : d ≡ c = cc in
     let here : k ≡ k + 0 = omega arith in
-    let first = (neither_of ((d.must || at == k) && is_none (place_in names k d)) (leaves_out at names (k + 1) cols) left).0 in
+    let first = (or_parts ((d.must || at == k) && is_none (place_in names k d)) (leaves_out at names (k + 1) cols) left).0 in
     subst (λ (i : ℕ). ((c.must || at == i) && is_none (place_in names i c)) ≡ false) here (subst (λ (x : Column). ((x.must || at == k) && is_none (place_in names k x)) ≡ false) same first)
 is_left_out at names k (d ∷ cols) (suc j) c e left =
     let next : k + 1 + j ≡ k + suc j = omega arith in
-    let rest = (neither_of ((d.must || at == k) && is_none (place_in names k d)) (leaves_out at names (k + 1) cols) left).1 in
+    let rest = (or_parts ((d.must || at == k) && is_none (place_in names k d)) (leaves_out at names (k + 1) cols) left).1 in
     subst (λ (i : ℕ). ((c.must || at == i) && is_none (place_in names i c)) ≡ false) next (is_left_out at names (k + 1) cols j c e rest)
-
-or_right : (x y : Bool) → y ≡ true → (x || y) ≡ true
-or_right true y e = refl
-or_right false y e = e
 
 -- the value of the time column of a row that isn't refused
 time_is_given : (p at : ℕ) (cols : List Column) (names : Option (List (List ℕ))) (values : List (Option ℤ)) (c : Column) → all_apart (map (λ d. d.name) cols) ≡ true → slice_get cols at ≡ Some c → leaves_out at names 0 cols ≡ false

@@ -4,7 +4,7 @@ use Rattle.std.specs.Prelude.{nat_lt, nat_le, ◌==◌, unwrap_or}
 use Rattle.std.specs.Option.{option_map}
 use Rattle.std.specs.List.{AllByRecursion, list_all, list_any}
 use Rattle.std.specs.Ordering.{int_eq}
-use Rattle.std.proofs.lemmas.Bool.{and_parts, and_from, lt-ltb, leb-false, not-true}
+use Rattle.std.proofs.lemmas.Bool.{and_parts, and_from, lt-ltb, leb-false, not-true, or_parts}
 use Rattle.std.proofs.lemmas.Bool.Decides.{Decides-int_eq, nat_tests}
 use Rattle.std.proofs.lemmas.Int.{ints}
 use Rattle.std.proofs.lemmas.List.{length-append, append_assoc, append-nil}
@@ -18,7 +18,7 @@ use Rattle.ts_schema.specs.declared.conditions.Cmp.TheVariants as cmp
 use Rattle.ts_model.specs.declared.tables.Hyper.{Hyper as HyperInfo}
 use Rattle.ts_model.specs.declared.tables.TableInfo.{TableInfo}
 use Rattle.ts_model.specs.Roster.{same_name}
-use Rattle.ts_model.specs.Sound.{agg_fits, all_apart, fold_fits, is_count_all, test_fits, output_count as columns_out}
+use Rattle.ts_model.specs.Sound.{agg_fits, all_apart, fold_fits, is_count_all, test_fits}
 use Rattle.ts_model.specs.Sound as allowed
 use Rattle.ts_catalog.specs.Columns.{column_from, column_of, hyper_number, number_of}
 use Rattle.ts_schema.specs.Names.{is_name}
@@ -202,15 +202,11 @@ pub apart_push : (names : List (List ℕ)) (n : List ℕ) → all_apart names �
 apart_push [] n a e = refl
 apart_push (m ∷ names) n a e =
     let parts = and_parts (not (list_any (same_name m) names)) (all_apart names) a in
-    let others = or_both (same_name m n) (list_any (λ other. same_name other n) names) e in
+    let others = or_parts (same_name m n) (list_any (λ other. same_name other n) names) e in
     and_from _ _
     (ap not (list_any-append (same_name m) names (n ∷ []) ∙ none_of (list_any (same_name m) names) (same_name m n) (not-true _ parts.0) others.0))
     (apart_push names n parts.1 others.1)
   where
-    or_both : (x y : Bool) → (x || y) ≡ false → (x ≡ false) × (y ≡ false)
-    or_both true y e = absurd cc
-    or_both false y e = (refl, e)
-
     none_of : (x y : Bool) → x ≡ false → y ≡ false → (x || (y || false)) ≡ false
     none_of x y a b = rw (a, b) refl
 

@@ -1,14 +1,13 @@
 -- What would be allowed isn't refused.
-use Rattle.std.proofs.Common.{◌≡◌, ◌∙◌, refl, sym, ap, subst, ℕ, zero, suc, ◌+◌, ◌<◌, ◌≤◌, Bool, true, false, cond, not, ◌&&◌, ◌||◌, ◌==◌, List, [], ◌∷◌, ◌++◌, map, length, get_or, Option, Some, None, is_some, is_none, ℤ, pos, int_le, int_lt, arith}
+use Rattle.std.proofs.Common.{◌≡◌, ◌∙◌, refl, sym, ap, subst, ℕ, zero, suc, ◌+◌, ◌<◌, ◌≤◌, Bool, true, false, cond, not, ◌&&◌, ◌||◌, ◌==◌, List, [], ◌∷◌, ◌++◌, map, length, get_or, Option, Some, None, is_some, is_none, ℤ, pos, int_lt, arith}
 use Rattle.std.specs.Prelude.{nat_lt, nat_le, slice_get, option_and_then, IfSome}
 use Rattle.std.specs.List.{list_all, list_any, position_from, AllByRecursion}
-use Rattle.std.proofs.lemmas.Bool.{and_parts, not-true, ltb-true, leb-true, eqb-true}
+use Rattle.std.proofs.lemmas.Bool.{and_parts, not-true, ltb-true, leb-true, or_parts, or_from, and_right}
 use Rattle.std.proofs.lemmas.Int.{ints}
 use Rattle.std.proofs.lemmas.Iterator.Adapters.{position_from-zero}
 use Rattle.std.proofs.lemmas.List.{length-map, length-append, append_assoc}
 use Rattle.std.proofs.lemmas.List.Folds.{list_any-append}
 use Rattle.std.proofs.lemmas.Option.{get_or_from_slice_get}
-use Rattle.std.proofs.lemmas.Slice.Eq.{bytes_eq-Decides}
 use Rattle.ts_schema.specs.Names.{is_name}
 use Rattle.ts_schema.specs.declared.columns.Column.{Column}
 use Rattle.ts_model.specs.declared.events.Event.TheVariants as events
@@ -40,6 +39,9 @@ use Rattle.stmt_check.specs.Subject.{AllowedIsReady, NamesColumns}
 use Rattle.stmt_check.specs.Tables.{columns_refusal, hyper_refusal, is_column, is_interval}
 use Rattle.stmt_check.proofs.FoldLaws.{any_name}
 use Rattle.stmt_check.proofs.TableLaws.{any_column, columns_apart, names_of}
+use Rattle.ts_schema.proofs.Cases.{none_there}
+use Rattle.stmt_check.proofs.RowLaws.{same_itself}
+use Rattle.stmt_check.proofs.RosterLaws.{interval_in_range}
 
 -- ---- refusals
 
@@ -69,15 +71,12 @@ apart_before (n ∷ before) name behind e =
     let parts = and_parts (not (list_any (same_name n) (before ++ name ∷ behind))) (all_apart (before ++ name ∷ behind)) e in
     let none = not-true _ parts.0 in
     let split : (list_any (same_name n) before || (same_name n name || list_any (same_name n) behind)) ≡ false = sym (list_any-append (same_name n) before (name ∷ behind)) ∙ none in
-    neither (same_name n name) (list_any (λ other. same_name other name) before) (middle (list_any (same_name n) before) (same_name n name) (list_any (same_name n) behind) split) (apart_before before name behind parts.1)
+    or_from (same_name n name) (list_any (λ other. same_name other name) before) (middle (list_any (same_name n) before) (same_name n name) (list_any (same_name n) behind) split) (apart_before before name behind parts.1)
   where
     middle : (x y z : Bool) → (x || (y || z)) ≡ false → y ≡ false
     middle true y z h = absurd cc
     middle false true z h = absurd cc
     middle false false z h = refl
-
-    neither : (x y : Bool) → x ≡ false → y ≡ false → (x || y) ≡ false
-    neither x y p q = ap (λ b. b || y) p ∙ q
 
 -- a name that isn't taken stands for nothing
 free_tables : (name : List ℕ) (k : ℕ) (ts : List TableInfo) → position_from (λ t. same_name t.def.name name) k ts ≡ None → table_from name k ts ≡ found.None
@@ -96,20 +95,12 @@ free_views name k (v ∷ vs) e = here (same_name v.name name) (free_views name (
     here true rest h = absurd cc
     here false rest h = rest h
 
-none_is : {X : Type 0} (o : Option X) → is_some o ≡ false → o ≡ None
-none_is None e = refl
-none_is (Some x) e = absurd cc
-
 pub nothing_found : (r : Roster) (name : List ℕ) → name_is_taken r name ≡ false → found_in r name ≡ found.None
 nothing_found r name e =
-    let both = neither_of (is_some (table_named r name)) (is_some (view_named r name)) e in
-    let tables : position_from (λ t. same_name t.def.name name) 0 r.tables ≡ None = sym (position_from-zero (λ t. same_name t.def.name name) r.tables) ∙ none_is (table_named r name) both.0 in
-    let views : position_from (λ v. same_name v.name name) 0 r.views ≡ None = sym (position_from-zero (λ v. same_name v.name name) r.views) ∙ none_is (view_named r name) both.1 in
+    let both = or_parts (is_some (table_named r name)) (is_some (view_named r name)) e in
+    let tables : position_from (λ t. same_name t.def.name name) 0 r.tables ≡ None = sym (position_from-zero (λ t. same_name t.def.name name) r.tables) ∙ none_there (table_named r name) both.0 in
+    let views : position_from (λ v. same_name v.name name) 0 r.views ≡ None = sym (position_from-zero (λ v. same_name v.name name) r.views) ∙ none_there (view_named r name) both.1 in
     ap (λ x. or_else x (view_from name 0 r.views)) (free_tables name 0 r.tables tables) ∙ free_views name 0 r.views views
-  where
-    neither_of : (x y : Bool) → (x || y) ≡ false → (x ≡ false) × (y ≡ false)
-    neither_of true y h = absurd cc
-    neither_of false y h = (refl, h)
 
 name_is_free : (p : ℕ) (r : Roster) (name : List ℕ) (many : ℕ) → (not (name_is_taken r name) && nat_lt many most_relations) ≡ true → name_refusal p r name many ≡ None
 name_is_free p r name many e =
@@ -183,9 +174,6 @@ table_ready h p name cols e =
 
 -- ---- create_hypertable
 
-same_itself : (name : List ℕ) → same_name name name ≡ true
-same_itself name = (bytes_eq-Decides name name).1 refl
-
 column_there : (k : ℕ) (cols : List Column) (j : ℕ) (c : Column) → slice_get cols j ≡ Some c → is_some (column_from c.name k cols) ≡ true
 column_there k [] j c e = absurd cc
 column_there k (d ∷ cols) zero c e =
@@ -199,10 +187,7 @@ interval_ready : (hyper : HyperInfo) (info : TableInfo) → hyper_fits hyper (So
 interval_ready hyper info e =
     let parts = and_parts (nat_lt hyper.at (length info.def.cols) && int_lt (pos 0) hyper.interval) _ e in
     let positive = (and_parts (nat_lt hyper.at (length info.def.cols)) _ parts.0).1 in
-    in_range hyper.interval positive parts.1
-  where
-    in_range : (n : ℤ) → int_lt (pos 0) n ≡ true → int_le n (pos 1125899906842624) ≡ true → is_interval n ≡ true
-    in_range n a b = grind (arith, ints)
+    interval_in_range hyper.interval positive parts.1
 
 hyper_ready : (h : History) (p : ℕ) (table : List ℕ) (n : ℕ) (info : TableInfo) (at : ℕ) (c : Column) (interval : ℤ)
     → table_named (roster h) table ≡ Some n → table_of (roster h) n ≡ Some info → slice_get info.def.cols at ≡ Some c
@@ -256,10 +241,6 @@ argument_ready : (p : ℕ) (info : TableInfo) (o : Option (List ℕ)) → IfSome
 argument_ready p info None h = refl
 argument_ready p info (Some c) h = there p 8 (column_of info c) h
 
-and_false : (x y : Bool) → y ≡ false → (x && y) ≡ false
-and_false true y e = e
-and_false false y e = refl
-
 aggregates_ready : (p count : ℕ) (info : TableInfo) (head : List ℕ) (keys : List (List ℕ)) (before aggs : List NamedAgg) → all_apart ((head ∷ keys) ++ map aggregate_name (before ++ aggs)) ≡ true → suc (length keys + (length before + length aggs)) ≤ 16
     → AllByRecursion (λ a. IfSome a.col (λ c. is_some (column_of info c) ≡ true)) aggs → aggregates_refusal p true count info head keys before aggs ≡ None
 aggregates_ready p count info head keys before [] e few h = refl
@@ -273,9 +254,9 @@ aggregates_ready p count info head keys before (a ∷ aggs) e few h =
     let shifted : all_apart ((head ∷ keys) ++ map aggregate_name ((before ++ a ∷ []) ++ aggs)) ≡ true = subst (λ (xs : List NamedAgg). all_apart ((head ∷ keys) ++ map aggregate_name xs) ≡ true) (sym (append_assoc before (a ∷ []) aggs)) e in
     let longer : length (before ++ a ∷ []) ≡ length before + 1 = length-append before (a ∷ []) in
     both_none (aggregate_refusal p count info (columns_before (length keys) (length before)) (is_taken head keys before name) a) _
-    (both_none (refused p 7 (is_none a.name && is_taken head keys before name)) _ (fine p 7 0 _ (and_false (is_none a.name) _ new))
+    (both_none (refused p 7 (is_none a.name && is_taken head keys before name)) _ (fine p 7 0 _ (and_right (is_none a.name) _ new))
     (both_none (marked p 21 count (nat_le 16 (columns_before (length keys) (length before)))) _ (fine p 21 count _ (not_le 16 _ (few_before (length keys) (length before) (omega arith))))
-    (both_none (argument_refusal p info a.col) _ (argument_ready p info a.col h.0) (fine p 7 0 _ (and_false (is_some a.name) _ new)))))
+    (both_none (argument_refusal p info a.col) _ (argument_ready p info a.col h.0) (fine p 7 0 _ (and_right (is_some a.name) _ new)))))
     (aggregates_ready p count info head keys (before ++ a ∷ []) aggs shifted (omega arith) h.1)
   where
     map_append : (xs ys : List NamedAgg) → map aggregate_name (xs ++ ys) ≡ map aggregate_name xs ++ map aggregate_name ys

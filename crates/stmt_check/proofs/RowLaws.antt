@@ -2,7 +2,7 @@
 use Rattle.std.proofs.Common.{◌≡◌, ◌∙◌, refl, sym, subst, ap, ℕ, zero, suc, ◌+◌, ◌*◌, ◌<◌, ◌≤◌, Bool, true, false, cond, not, ◌&&◌, ◌||◌, List, [], ◌∷◌, map, length, get_or, drop, Option, Some, None, is_some, is_none, arith, ℤ, pos}
 use Rattle.std.specs.Prelude.{nat_le, ◌==◌, unwrap_or, slice_get, sum_by, remove}
 use Rattle.std.specs.List.{list_all, list_any, AllByRecursion}
-use Rattle.std.proofs.lemmas.Bool.{and_parts, and_from, eqb-true, ne_eqb, eq-eqb, not-true}
+use Rattle.std.proofs.lemmas.Bool.{and_parts, and_from, eqb-true, ne_eqb, eq-eqb, not-true, or_parts, or_right, or_left}
 use Rattle.std.proofs.lemmas.List.{length-map}
 use Rattle.std.proofs.lemmas.List.Sums.{sum_by-cons}
 use Rattle.std.proofs.lemmas.Option.{get_or_from_slice_get}
@@ -25,11 +25,6 @@ use Rattle.stmt_check.specs.Rows.{insert_refusal, inserted_rows, leaves_out, lis
 use Rattle.stmt_check.proofs.RosterLaws.{all_at}
 use Rattle.stmt_check.proofs.PassedLaws.{neither, not_wrong, has_to_be}
 use Rattle.stmt_check.specs.Codes.{most_rows}
-
--- neither of two tests
-pub neither_of : (x y : Bool) → (x || y) ≡ false → (x ≡ false) × (y ≡ false)
-neither_of true y e = absurd cc
-neither_of false y e = (refl, e)
 
 -- ---- the value of a column
 
@@ -69,13 +64,13 @@ named_there name k (n ∷ names) i e = here k n names i (same_name n name) refl 
     here k n names i true is rest e = let here : k ≡ i = cc in (0, omega arith, ap Some (same_text n name (sym is)))
     here k n names i false is rest e = let r = rest e in (suc r.0, (let f : i ≡ k + 1 + r.0 = r.1 in omega (arith, f)), r.2)
 
-same_itself : (name : List ℕ) → same_name name name ≡ true
+pub same_itself : (name : List ℕ) → same_name name name ≡ true
 same_itself name = (bytes_eq-Decides name name).1 refl
 
 -- no column passes where no name does
 none_at : (test : List ℕ → Bool) (cols : List Column) (j : ℕ) (c : Column) → list_any test (map (λ d. d.name) cols) ≡ false → slice_get cols j ≡ Some c → test c.name ≡ false
 none_at test [] j c e at = absurd cc
-none_at test (d ∷ cols) j c e at = here test d cols j c (neither_of (test d.name) (list_any test (map (λ x. x.name) cols)) e) (λ i f. none_at test cols i c (neither_of (test d.name) (list_any test (map (λ x. x.name) cols)) e).1 f) at
+none_at test (d ∷ cols) j c e at = here test d cols j c (or_parts (test d.name) (list_any test (map (λ x. x.name) cols)) e) (λ i f. none_at test cols i c (or_parts (test d.name) (list_any test (map (λ x. x.name) cols)) e).1 f) at
   where
     here : (test : List ℕ → Bool) (d : Column) (cols : List Column) (j : ℕ) (c : Column) → (test d.name ≡ false) × (list_any test (map (λ x. x.name) cols) ≡ false) → ((i : ℕ) → slice_get cols i ≡ Some c → test c.name ≡ false) → slice_get (d ∷ cols) j ≡ Some c → test c.name ≡ false
     here test d cols zero c both rest at = let same : d ≡ c = cc in ap (λ (x : Column). test x.name) (sym same) ∙ both.0
@@ -170,15 +165,11 @@ first_of (x ∷ xs) (suc k) c cs e =
 all_fine : (p at : ℕ) (cols : List Column) (names : Option (List (List ℕ))) (values : List (Option ℤ)) (k : ℕ) (cs : List Column) → RowPasses p at cols names values → drop k cols ≡ cs → leaves_out at names k cs ≡ false → AllFine at names values k cs
 all_fine p at cols names values k [] r d left = tt
 all_fine p at cols names values k (c ∷ cs) r d left =
-    let both = neither_of ((c.must || at == k) && is_none (place_in names k c)) (leaves_out at names (k + 1) cs) left in
+    let both = or_parts ((c.must || at == k) && is_none (place_in names k c)) (leaves_out at names (k + 1) cs) left in
     let here = first_of cols k c cs d in
     (column_value p at cols names values k c r here.0 both.0, all_fine p at cols names values (k + 1) cs r here.1 both.1)
 
 -- ---- the row
-
-or_left : (x y : Bool) → x ≡ true → (x || y) ≡ true
-or_left true y e = refl
-or_left false y e = absurd cc
 
 must_fit : (c : Column) (v : Option ℤ) → (c.must ≡ true → is_some v ≡ true) → IsValue v → value_fits c v ≡ true
 must_fit c None h k = unless_must c.must h
@@ -248,21 +239,17 @@ not_left_out true None m e = absurd cc
 not_left_out true (Some i) m e = refl
 not_left_out false o m e = absurd cc
 
-or_true : (x y : Bool) → y ≡ true → (x || y) ≡ true
-or_true true y e = refl
-or_true false y e = e
-
 counted_from : (at : ℕ) (names : Option (List (List ℕ))) (k : ℕ) (cs : List Column) (j : ℕ) → at ≡ k + j → j < length cs → leaves_out at names k cs ≡ false → Counted (other_places at names k cs) 1 (length cs) (taken names k cs)
 counted_from at names k [] j e lt left = absurd (omega arith)
 counted_from at names k (c ∷ cs) zero e lt left =
     let here : (at == k) ≡ true = eq-eqb at k (omega arith) in
-    let both = neither_of ((c.must || at == k) && is_none (place_in names k c)) (leaves_out at names (k + 1) cs) left in
-    let one = not_left_out (c.must || at == k) (place_in names k c) (or_true c.must (at == k) here) both.0 in
+    let both = or_parts ((c.must || at == k) && is_none (place_in names k c)) (leaves_out at names (k + 1) cs) left in
+    let one = not_left_out (c.must || at == k) (place_in names k c) (or_right c.must (at == k) here) both.0 in
     let rest = counted_behind at names (k + 1) cs (omega arith) in
     rw here (record { length = omega (arith, rest.length); given = omega (arith, rest.given, one) })
 counted_from at names k (c ∷ cs) (suc j) e lt left =
     let apart : (at == k) ≡ false = ne_eqb at k (λ s. omega arith) in
-    let both = neither_of ((c.must || at == k) && is_none (place_in names k c)) (leaves_out at names (k + 1) cs) left in
+    let both = or_parts ((c.must || at == k) && is_none (place_in names k c)) (leaves_out at names (k + 1) cs) left in
     let rest = counted_from at names (k + 1) cs j (omega arith) (omega arith) both.1 in
     rw apart (record { length = omega (arith, rest.length); given = omega (arith, rest.given) })
 
@@ -275,7 +262,7 @@ same_count test (c ∷ cs) = one_if (test c.name) + same_count test cs
 none_the_same : (test : List ℕ → Bool) (cs : List Column) → list_any test (map (λ c. c.name) cs) ≡ false → same_count test cs ≡ 0
 none_the_same test [] e = refl
 none_the_same test (c ∷ cs) e =
-    let both = neither_of (test c.name) (list_any test (map (λ d. d.name) cs)) e in
+    let both = or_parts (test c.name) (list_any test (map (λ d. d.name) cs)) e in
     omega (arith, ap one_if both.0, none_the_same test cs both.1)
 
 -- of columns whose names are apart, at most one has a name

@@ -6,6 +6,7 @@ use Rattle.std.specs.Ordering.{int_eq}
 use Rattle.std.proofs.lemmas.Bool.{and_parts}
 use Rattle.std.proofs.lemmas.Bool.Decides.{same_from_decides}
 use Rattle.std.proofs.lemmas.Int.{ints, clamps, by_lt_z}
+use Rattle.std.proofs.Math.Bool.{and-true, and_assoc}
 use Rattle.ts_bucket.specs.Chunks.{chunk_of, chunk_start}
 use Rattle.ts_bucket.proofs.Remainders.{remainder_bounds, remainder-without, remainder-step, whole_apart}
 use Rattle.ts_schema.specs.Conditions.{compares}
@@ -14,7 +15,8 @@ use Rattle.ts_schema.specs.declared.conditions.Cmp.TheVariants.{Eq, Ne, Lt, Le, 
 use Rattle.ts_model.specs.declared.views.ViewDef.{ViewDef}
 use Rattle.ts_catalog.specs.Columns.{view_column_of}
 use Rattle.stmt_reader.specs.declared.statements.NamedTest.{NamedTest}
-use Rattle.stmt_check.specs.Queries.{bounds_start, below_all, below_of, from_all, from_of, greatest, is_bucket_column, least, next, starts_refusal}
+use Rattle.stmt_check.specs.Queries.{bounds_start, below_all, below_of, from_all, from_of, is_bucket_column, next, starts_refusal}
+use Rattle.ts_bucket.specs.WholeSpans.{least, greatest}
 use Rattle.stmt_check.specs.Refusals.{refused}
 use Rattle.stmt_check.specs.Subject.{start_passes, StartsPassEach, DropsWholeChunks}
 use Rattle.stmt_check.proofs.PassedLaws.{neither, has_to_be}
@@ -28,11 +30,7 @@ one_test Ne n b e low high = absurd cc
 one_test Lt n b e low high = let l : int_le least b ≡ true = grind (arith, ints) in ap (λ x. x && int_lt b n) l
 one_test Le n b e low high = same_from_decides {P = b ≤ℤ n} (int_le least b && int_lt b (next n)) (int_le b n) ((λ t. let u : b <ℤ next n = grind (arith, ints) in omega (arith, ints, clamps)), (λ s. let u : b <ℤ next n = omega (arith, ints, clamps) in grind (arith, ints))) ((λ t. grind (arith, ints)), (λ s. grind (arith, ints)))
 one_test Gt n b e low high = same_from_decides {P = n <ℤ b} (int_le (next n) b && int_lt b greatest) (int_lt n b) ((λ t. let l : next n ≤ℤ b = grind (arith, ints) in omega (arith, ints, clamps)), (λ s. let l : next n ≤ℤ b = omega (arith, ints, clamps) in grind (arith, ints))) ((λ t. grind (arith, ints)), (λ s. grind (arith, ints)))
-one_test Ge n b e low high = let u : int_lt b greatest ≡ true = grind (arith, ints) in ap (λ x. int_le n b && x) u ∙ right_true (int_le n b)
-  where
-    right_true : (x : Bool) → (x && true) ≡ x
-    right_true true = refl
-    right_true false = refl
+one_test Ge n b e low high = let u : int_lt b greatest ≡ true = grind (arith, ints) in ap (λ x. int_le n b && x) u ∙ and-true (int_le n b)
 one_test IsNull n b e low high = absurd cc
 one_test NotNull n b e low high = absurd cc
 
@@ -52,18 +50,10 @@ regroup true false true v a e = e
 regroup true false false v a e = refl
 regroup false f u v a e = refl
 
-and_assoc : (a b c : Bool) → ((a && b) && c) ≡ (a && (b && c))
-and_assoc true b c = refl
-and_assoc false b c = refl
-
 -- between all bounds
 between : (pos : ℕ) (def : ViewDef) (lo hi : ℤ) (tests : List NamedTest) (b : ℤ) → starts_refusal pos def tests ≡ None → least ≤ℤ b → b <ℤ greatest
     → (int_le (from_all lo tests) b && int_lt b (below_all hi tests)) ≡ ((int_le lo b && int_lt b hi) && list_all (start_passes b) tests)
-between p def lo hi [] b e low high = sym (right (int_le lo b && int_lt b hi))
-  where
-    right : (x : Bool) → (x && true) ≡ x
-    right true = refl
-    right false = refl
+between p def lo hi [] b e low high = sym (and-true (int_le lo b && int_lt b hi))
 between p def lo hi (t ∷ tests) b e low high =
     let both = neither (refused p 8 (not (is_bucket_column (view_column_of def t.col) && bounds_start t.cmp))) _ e in
     let bounds = (and_parts _ (bounds_start t.cmp) (has_to_be p 8 0 (is_bucket_column (view_column_of def t.col) && bounds_start t.cmp) both.0)).1 in
@@ -117,8 +107,4 @@ chunk_ends d n t h =
 pub drops_whole_chunks : DropsWholeChunks
 drops_whole_chunks interval bound row wide =
     let one : pos 1 ≤ℤ interval = wide.0 in
-    right (int_lt row.at (chunk_start interval bound)) ∙ chunk_ends interval bound row.at (let positive : pos 0 <ℤ interval = omega (arith, ints) in positive)
-  where
-    right : (x : Bool) → (x && true) ≡ x
-    right true = refl
-    right false = refl
+    and-true (int_lt row.at (chunk_start interval bound)) ∙ chunk_ends interval bound row.at (let positive : pos 0 <ℤ interval = omega (arith, ints) in positive)

@@ -16,6 +16,7 @@ use Rattle.ts_catalog.specs.Columns.{column_of}
 use Rattle.stmt_reader.specs.declared.statements.NamedAgg.{NamedAgg}
 use Rattle.stmt_reader.specs.declared.statements.NamedFold.{NamedFold}
 use Rattle.stmt_reader.specs.declared.statements.NamedTest.{NamedTest}
+use Rattle.stmt_reader.specs.Words.{bucket_word}
 use Rattle.stmt_check.specs.declared.folds.Rest.{Rest}
 use Rattle.stmt_check.specs.Refusals.{◌⊳◌, marked, missing, refused}
 use Rattle.std.specs.List.{list_any}
@@ -50,10 +51,6 @@ function_name Sum = codes "sum"
 function_name Min = codes "min"
 function_name Max = codes "max"
 function_name Avg = codes "avg"
-
--- the name of the bucket where no other name is given
-abbrev pub bucket_name : List ℕ
-bucket_name = codes "time_bucket"
 
 -- the name of an aggregate's column
 abbrev pub aggregate_name : NamedAgg → List ℕ
@@ -119,7 +116,7 @@ head_name word f = unwrap_or f.name word
 
 -- the name of the bucket's column
 abbrev pub bucket_column : NamedFold → List ℕ
-bucket_column f = head_name bucket_name f
+bucket_column f = head_name bucket_word f
 
 -- the names of the output columns, of which the head's is the first
 abbrev pub names_after : List ℕ → NamedFold → List (List ℕ)

@@ -1,6 +1,7 @@
 -- The buckets of an aggregate that tests ask for, and the chunks below a bound.
-use Rattle.std.specs.Prelude.{ℕ, ◌==◌, Bool, true, false, not, ◌&&◌, ℤ, pos as nonneg, negsuc, ◌+ℤ◌, ◌^◌, ◌-◌, List, [], ◌∷◌, Option, Some, None}
+use Rattle.std.specs.Prelude.{ℕ, ◌==◌, Bool, true, false, not, ◌&&◌, ℤ, pos as nonneg, ◌+ℤ◌, ◌-◌, List, [], ◌∷◌, Option, Some, None}
 use Rattle.std.specs.Int.{int_max, int_min}
+use Rattle.ts_bucket.specs.WholeSpans.{least, greatest}
 use Rattle.ts_bucket.specs.Chunks.{chunk_start}
 use Rattle.ts_bucket.specs.Bucket.{is_time}
 use Rattle.ts_bucket.specs.Spans.{SpanValue}
@@ -13,14 +14,6 @@ use Rattle.ts_schema.specs.declared.conditions.Test.{Test}
 use Rattle.ts_catalog.specs.Columns.{view_column_of}
 use Rattle.stmt_reader.specs.declared.statements.NamedTest.{NamedTest}
 use Rattle.stmt_check.specs.Refusals.{◌⊳◌, refused}
-
--- the least number of 64 bits
-abbrev pub least : ℤ
-least = negsuc (2 ^ 63 - 1)
-
--- the greatest number of 64 bits
-abbrev pub greatest : ℤ
-greatest = nonneg (2 ^ 63 - 1)
 
 -- the next number, where there is one of 64 bits
 abbrev pub next : ℤ → ℤ

@@ -20,7 +20,8 @@ use Rattle.stmt_reader.specs.declared.statements.NamedTest.{NamedTest}
 use Rattle.stmt_reader.specs.declared.statements.Stmt.TheVariants as stmts
 use Rattle.stmt_check.specs.Check.{refusal_of}
 use Rattle.stmt_check.specs.Folds.{fold_of, output_names}
-use Rattle.stmt_check.specs.Queries.{drop_test, greatest, least, starts_of, starts_refusal}
+use Rattle.stmt_check.specs.Queries.{drop_test, starts_of, starts_refusal}
+use Rattle.ts_bucket.specs.WholeSpans.{least, greatest}
 use Rattle.stmt_check.specs.Rows.{insert_refusal, inserted_rows}
 
 -- ---- which buckets, which rows

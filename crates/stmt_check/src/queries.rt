@@ -1,7 +1,8 @@
 //! The buckets of an aggregate that tests ask for, and the chunks below a bound.
 ghost use Rattle.std.specs.Prelude.{◌≡◌, ◌<◌, ◌≤ℤ◌, ◌^◌, pos as nonneg, length, IsTrue};
 ghost use Rattle.ts_bucket.specs.Bucket.{is_time};
-ghost use Rattle.stmt_check.specs.Queries.{below_all, below_of, bound_refusal, bounds_start, drop_test, from_all, from_of, is_bucket_column, least, greatest, starts_of, starts_refusal};
+ghost use Rattle.stmt_check.specs.Queries.{below_all, below_of, bound_refusal, bounds_start, drop_test, from_all, from_of, is_bucket_column, starts_of, starts_refusal};
+ghost use Rattle.ts_bucket.specs.WholeSpans.{least, greatest};
 ghost use Rattle.stmt_check.specs.Results.{Checks, Passes};
 ghost use Rattle.stmt_check.specs.Tables.{is_interval};
 

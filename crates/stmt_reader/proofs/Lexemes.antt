@@ -37,9 +37,6 @@ Fits most (Some l) = (0 < l.len) × (l.len ≤ most)
 fits_if : (most : ℕ) (b : Bool) (x y : Option Lexeme) → (b ≡ true → Fits most x) → (b ≡ false → Fits most y) → Fits most (cond b x y)
 fits_if most b x y = cond_both b x y (Fits most)
 
-one_more : (n : ℕ) → 1 + n ≡ suc n
-one_more n = omega arith
-
 begins_continues : (b : ℕ) → begins_word b ≡ true → continues_word b ≡ true
 begins_continues b e = rw e refl
 

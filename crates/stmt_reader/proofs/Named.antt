@@ -7,11 +7,12 @@ use Rattle.std.proofs.lemmas.List.{length-map}
 use Rattle.std.proofs.lemmas.List.Folds.{length-prefix_len}
 use Rattle.std.specs.Char.{to_ascii_lowercase, is_ascii_digit}
 use Rattle.std.specs.List.{prefix_len, list_all}
+use Rattle.std.proofs.Math.Numerals.{one-add}
 use Rattle.ts_schema.specs.Names.{is_head, is_tail, is_name}
 use Rattle.stmt_reader.specs.Bytes.{begins_word, continues_word, lower}
 use Rattle.stmt_reader.specs.Tokens.{Lexeme, sign_len, number_at, begins_with, quoted_at, long_mark, short_mark, mark_of_len, or_else, mark_at, lexeme_at, of_lexeme, next_here, next, blank_len}
 use Rattle.stmt_reader.specs.Scan as scan
-use Rattle.stmt_reader.specs.Scan.{SeenNext, Seen, seen, seen_next, IsNamedToken}
+use Rattle.stmt_reader.specs.Scan.{SeenNext, seen, seen_next, IsNamedToken}
 
 -- a token whose name, where it has one, is a name
 abbrev pub IsNamedLexeme : Option Lexeme → Type 0
@@ -21,17 +22,14 @@ IsNamedLexeme (Some l) = IsNamedToken (seen l.token)
 named_if : (b : Bool) (x y : Option Lexeme) → (b ≡ true → IsNamedLexeme x) → (b ≡ false → IsNamedLexeme y) → IsNamedLexeme (cond b x y)
 named_if b x y = cond_both b x y IsNamedLexeme
 
-one_more : (n : ℕ) → 1 + n ≡ suc n
-one_more n = omega arith
-
 tails : (bs : List ℕ) → list_all is_tail (lower (take (prefix_len continues_word bs) bs)) ≡ true
 tails [] = refl
 tails (b ∷ bs) =
     cond_both (continues_word b) (1 + prefix_len continues_word bs) 0 (λ n. list_all is_tail (lower (take n (b ∷ bs))) ≡ true)
-    (λ e. rw (one_more (prefix_len continues_word bs), e) (tails bs))
+    (λ e. rw (one-add (prefix_len continues_word bs), e) (tails bs))
     (λ e. refl)
 
-word_len : (bs : List ℕ) → length (lower (take (prefix_len continues_word bs) bs)) ≡ prefix_len continues_word bs
+pub word_len : (bs : List ℕ) → length (lower (take (prefix_len continues_word bs) bs)) ≡ prefix_len continues_word bs
 word_len bs = length-map (take (prefix_len continues_word bs) bs) to_ascii_lowercase ∙ length-prefix_len continues_word bs
 
 head_and_tails : (b : ℕ) (bs : List ℕ) (n : ℕ) → begins_word b ≡ true → n ≡ 1 + prefix_len continues_word bs → n ≤ 63 → is_name (lower (take n (b ∷ bs))) ≡ true

@@ -7,19 +7,17 @@ use Rattle.std.proofs.lemmas.Str.Parse.{digit_at}
 use Rattle.std.specs.Char.{is_ascii_digit, digit_value}
 use Rattle.std.specs.List.{prefix_len}
 use Rattle.std.specs.Str.Parse.{AllDigits, IsNumeral, without_leading_sign}
+use Rattle.std.proofs.Math.Numerals.{one-add}
 use Rattle.stmt_reader.specs.Tokens.{sign_len}
 
 digit_is : (b : ℕ) → is_ascii_digit b ≡ true → digit_value b < 10
 digit_is b e = grind (arith, nat_tests)
 
-one_more : (n : ℕ) → 1 + n ≡ suc n
-one_more n = omega arith
-
 digits_in_front : (bs : List ℕ) → AllDigits 10 (take (prefix_len is_ascii_digit bs) bs)
 digits_in_front [] = tt
 digits_in_front (b ∷ bs) =
     cond_both (is_ascii_digit b) (1 + prefix_len is_ascii_digit bs) 0 (λ n. AllDigits 10 (take n (b ∷ bs)))
-    (λ e. rw (one_more (prefix_len is_ascii_digit bs)) (digit_is b e, digits_in_front bs))
+    (λ e. rw (one-add (prefix_len is_ascii_digit bs)) (digit_is b e, digits_in_front bs))
     (λ e. tt)
 
 numeral_in_front : (bs : List ℕ) → prefix_len is_ascii_digit bs ≢ 0 → IsNumeral 10 (take (prefix_len is_ascii_digit bs) bs)

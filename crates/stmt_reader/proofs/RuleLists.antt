@@ -1,7 +1,7 @@
 -- Readings of lists.
-use Rattle.std.proofs.Common.{◌≡◌, ℕ, zero, suc, Bool, true, false, ◌||◌, List, [], ◌∷◌, ◌++◌, None, refl, sym, ap, subst, ◌∙◌, append_assoc, arith, inl, inr}
+use Rattle.std.proofs.Common.{◌≡◌, ℕ, zero, suc, Bool, true, false, List, [], ◌∷◌, ◌++◌, None, refl, sym, ap, subst, ◌∙◌, append_assoc, arith, inl, inr}
 use Rattle.std.specs.Prelude.{◌⊎◌}
-use Rattle.std.proofs.lemmas.Bool.{cases_Bool}
+use Rattle.std.proofs.lemmas.Bool.{cases_Bool, or_parts}
 use Rattle.std.proofs.lemmas.List.{append-nil}
 use Rattle.stmt_reader.specs.Tokens.{Token, word}
 use Rattle.stmt_reader.specs.Scan as scan
@@ -17,7 +17,7 @@ use Rattle.stmt_reader.specs.declared.phrases.Separator.{Separator}
 use Rattle.stmt_reader.specs.declared.tokens.Mark.TheVariants as marks
 use Rattle.stmt_reader.proofs.Loops.{more_ends, more_goes}
 use Rattle.stmt_reader.proofs.Placed.{size-onto, nothing_placed}
-use Rattle.stmt_reader.proofs.Rules.{Reads, none, any, heads-any, or_false, Avoids, Alike, reads_alike, reads_gives, reads_bind, reads_then}
+use Rattle.stmt_reader.proofs.Rules.{Reads, none, any, heads-any, Avoids, Alike, reads_alike, reads_gives, reads_bind, reads_then}
 use Rattle.stmt_reader.proofs.RuleTokens.{Inner, behind, reads_takes, reads_mark, reads_wanted, same_text, avoids_means}
 
 -- a reading that reads a rule never goes back
@@ -43,14 +43,11 @@ first_at : (c : Seen → Bool) (ts : List Placed) (t : Token) (rest : List Token
 first_at c [] t rest left e k = absurd cc
 first_at c (x ∷ xs) t rest left e k = let h : x.token ≡ t = cc in ap (λ y. c (seen y)) h ∙ k
 
-false_or : (x y : Bool) → x ≡ false → y ≡ false → (x || y) ≡ false
-false_or x y a b = rw (a, b) refl
-
 weaker : (test c : Seen → Bool) (s : Stream) → heads (any test c) s ≡ false → heads (any test (any (any test c) none)) s ≡ false
 weaker test c (ends q) e = refl
 weaker test c (stops q) e = refl
 weaker test c (t then s) e =
-    let k = or_false (test (seen t.token)) (c (seen t.token)) e in
+    let k = or_parts (test (seen t.token)) (c (seen t.token)) e in
     rw (k.0, k.1) refl
 
 -- one more item, or none

@@ -1,6 +1,7 @@
 -- A reading reads a rule: what it finds is in the rule, what the rule has is found, and a fault is the first one.
-use Rattle.std.proofs.Common.{◌≡◌, ℕ, ◌+◌, ◌≤◌, Bool, true, false, ◌||◌, List, [], ◌∷◌, ◌++◌, length, Result, Ok, Err, refl, sym, ap, subst, ◌∙◌, append_assoc, length-append, arith, inl, inr}
+use Rattle.std.proofs.Common.{◌≡◌, ℕ, ◌+◌, ◌≤◌, Bool, false, ◌||◌, List, [], ◌∷◌, ◌++◌, length, Result, Ok, Err, refl, sym, ap, subst, ◌∙◌, append_assoc, length-append, arith, inl, inr}
 use Rattle.std.specs.Prelude.{◌⊎◌}
+use Rattle.std.proofs.lemmas.Bool.{or_parts}
 use Rattle.stmt_reader.specs.Tokens.{Token}
 use Rattle.stmt_reader.specs.Scan.{Seen, seen}
 use Rattle.stmt_reader.specs.Streams.{Placed, Stream, ends, stops, ◌then◌, onto, plain, size, seen_ahead, heads}
@@ -63,14 +64,10 @@ heads-none (t then s) = refl
 abbrev pub any : (Seen → Bool) → (Seen → Bool) → Seen → Bool
 any c d t = c t || d t
 
-pub or_false : (x y : Bool) → (x || y) ≡ false → (x ≡ false) × (y ≡ false)
-or_false true y e = absurd cc
-or_false false y e = (refl, e)
-
 pub heads-any : (c d : Seen → Bool) (s : Stream) → heads (any c d) s ≡ false → (heads c s ≡ false) × (heads d s ≡ false)
 heads-any c d (ends p) e = (refl, refl)
 heads-any c d (stops p) e = (refl, refl)
-heads-any c d (t then s) e = or_false (c (seen t.token)) (d (seen t.token)) e
+heads-any c d (t then s) e = or_parts (c (seen t.token)) (d (seen t.token)) e
 
 -- no word of M, with nothing of `on` behind it, begins with a token of `test`
 abbrev pub Avoids : {B : Type 0} → (Seen → Bool) → Rule B → (Seen → Bool) → Type 0

@@ -1,5 +1,5 @@
 -- A line with a statement has the name of its session, which is a good one, directly before its colon.
-use Rattle.std.proofs.Common.{◌≡◌, ℕ, zero, suc, ◌+◌, ◌-◌, ◌<◌, ◌≤◌, Bool, true, false, cond, not, ◌&&◌, ◌||◌, ◌==◌, List, [], ◌∷◌, length, take, drop, nat_le, IsTrue, refl, sym, ap, ◌∙◌, true≢false, if◌then◌else◌, arith, length-take, length-drop}
+use Rattle.std.proofs.Common.{◌≡◌, ℕ, zero, suc, ◌+◌, ◌-◌, ◌<◌, ◌≤◌, Bool, true, false, cond, not, ◌&&◌, ◌||◌, ◌==◌, List, [], ◌∷◌, length, take, drop, nat_le, refl, sym, ap, ◌∙◌, true≢false, arith, length-take, length-drop, if◌then◌else◌}
 use Rattle.std.specs.Char.{is_ascii}
 use Rattle.std.specs.List.{list_all}
 use Rattle.std.proofs.lemmas.List.{take-take, drop-take}
@@ -7,8 +7,9 @@ use Rattle.std.proofs.lemmas.Bool.Decides.{nat_tests}
 use Rattle.std.proofs.lemmas.List.Folds.{length-prefix_len}
 use Rattle.ts_schema.specs.Names.{is_name, is_head, is_tail}
 use Rattle.stmt_reader.specs.Tokens.{blank_len, begins_with}
-use Rattle.stmt_reader.specs.Lines.{comment_at, begins_session, continues_session, session_len, has_session, line_kind, session_name, IsStatementLine}
+use Rattle.stmt_reader.specs.Lines.{comment_at, begins_session, continues_session, session_len, has_session, line_kind, IsStatementLine}
 use Rattle.stmt_reader.specs.declared.lines.LineKind.TheVariants.{Blank, NotAscii, NoSession, Stmt}
+use Rattle.ts_schema.proofs.Cases.{and_first, and_second}
 
 -- ---- what a line is
 
@@ -26,14 +27,6 @@ parts false false false n s e len skip end h = absurd cc
 parts false false true n s e len skip end h = record { has = refl; lens = cc; skips = cc; ends = cc }
 
 -- ---- names
-
-and_left : (a b : Bool) → (a && b) ≡ true → a ≡ true
-and_left true b h = refl
-and_left false b h = h
-
-and_right : (a b : Bool) → (a && b) ≡ true → b ≡ true
-and_right true b h = h
-and_right false b h = absurd (true≢false (sym h))
 
 -- a byte that goes on with a session's name goes on with a name
 tail_of : (letter digit bar : Bool) → ((letter || digit) || bar) ≡ true → ((letter || bar) || digit) ≡ true
@@ -71,9 +64,9 @@ good_name : (bytes : List ℕ) → has_session bytes ≡ true → GoodName bytes
 good_name [] h = absurd (true≢false (sym h))
 good_name (b ∷ bytes) h =
     let len = session_len (b ∷ bytes) in
-    let front = and_left (begins_session b && nat_le len 16) (begins_with 58 (drop len (b ∷ bytes))) h in
-    let letter = and_left (begins_session b) (nat_le len 16) front in
-    let short = and_right (begins_session b) (nat_le len 16) front in
+    let front = and_first (begins_session b && nat_le len 16) (begins_with 58 (drop len (b ∷ bytes))) h in
+    let letter = and_first (begins_session b) (nat_le len 16) front in
+    let short = and_second (begins_session b) (nat_le len 16) front in
     let m = session_len bytes in
     let goes : continues_session b ≡ true = (λ i. (letter i || (nat_le 48 b && nat_le b 57)) || (b == 95)) in
     let size : len ≡ 1 + m = ap (λ t. cond t (1 + m) 0) goes in
@@ -84,7 +77,7 @@ good_name (b ∷ bytes) h =
     let whole : is_name (b ∷ take m bytes) ≡ true = (λ i. (few i && head i) && tails bytes i) in
     record {
       good = ap (λ n. is_name (take n (b ∷ bytes))) more ∙ whole;
-      colon = stands_within 58 len (b ∷ bytes) (and_right (begins_session b && nat_le len 16) (begins_with 58 (drop len (b ∷ bytes))) h);
+      colon = stands_within 58 len (b ∷ bytes) (and_second (begins_session b && nat_le len 16) (begins_with 58 (drop len (b ∷ bytes))) h);
     }
 
 -- ---- the same in the whole line

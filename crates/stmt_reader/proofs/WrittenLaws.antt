@@ -1,11 +1,9 @@
 -- The statement of a text is whole, and no longer than the text.
 use Rattle.std.proofs.Common.{◌≡◌, ℕ, zero, suc, ◌+◌, ◌<◌, ◌≤◌, Bool, true, false, cond, eqb, leb, ◌&&◌, List, [], ◌∷◌, length, take, drop, Option, Some, None, Result, Ok, Err, sym, ap, subst, ◌∙◌, arith}
 use Rattle.std.proofs.lemmas.Bool.{eqb-false, cond_both}
-use Rattle.std.proofs.lemmas.List.{length-map}
-use Rattle.std.proofs.lemmas.List.Folds.{length-prefix_len}
-use Rattle.std.specs.Char.{to_ascii_lowercase, is_ascii_digit}
+use Rattle.std.specs.Char.{is_ascii_digit}
 use Rattle.std.specs.List.{prefix_len}
-use Rattle.stmt_reader.specs.Bytes.{begins_word, continues_word, lower}
+use Rattle.stmt_reader.specs.Bytes.{begins_word, continues_word}
 use Rattle.stmt_reader.specs.Tokens.{Lexeme, Next, token, ended, nothing, word_at, sign_len, number_at, begins_with, quoted_at, long_mark, short_mark, mark_of_len, or_else, mark_at, lexeme_at, of_lexeme, next_here, next, blank_len}
 use Rattle.stmt_reader.specs.Streams.{Placed, Stream, ends, onto, plain, scan, stream}
 use Rattle.stmt_reader.specs.Grammar.{statement}
@@ -23,6 +21,7 @@ use Rattle.stmt_reader.proofs.ProperForms.{holds_statement}
 use Rattle.stmt_reader.proofs.ProperLaws.{stream_proper}
 use Rattle.stmt_reader.proofs.Verdict.{fit_statement, reads_by_the_grammar}
 use Rattle.stmt_reader.proofs.WrittenForms.{yields_statement}
+use Rattle.stmt_reader.proofs.Named.{word_len}
 
 -- ---- a token is as long as it is written
 
@@ -33,11 +32,8 @@ Sized (Some l) = token_size l.token ≤ l.len
 sized_if : (b : Bool) (x y : Option Lexeme) → (b ≡ true → Sized x) → (b ≡ false → Sized y) → Sized (cond b x y)
 sized_if b x y = cond_both b x y Sized
 
-lower_len : (bs : List ℕ) → length (lower (take (prefix_len continues_word bs) bs)) ≡ prefix_len continues_word bs
-lower_len bs = length-map (take (prefix_len continues_word bs) bs) to_ascii_lowercase ∙ length-prefix_len continues_word bs
-
 sized_word : (bs : List ℕ) → Sized (word_at bs)
-sized_word bs = sized_if (leb (prefix_len continues_word bs) 63) _ None (λ _. omega (arith, lower_len bs)) (λ _. tt)
+sized_word bs = sized_if (leb (prefix_len continues_word bs) 63) _ None (λ _. omega (arith, word_len bs)) (λ _. tt)
 
 sized_number : (bs : List ℕ) → Sized (number_at bs)
 sized_number bs =
@@ -48,7 +44,7 @@ sized_quoted : (bs : List ℕ) → Sized (quoted_at bs)
 sized_quoted [] = tt
 sized_quoted (b ∷ bs) =
     let n = prefix_len continues_word (b ∷ bs) in
-    sized_if (begins_word b && leb n 63 && begins_with 39 (drop n (b ∷ bs))) _ None (λ _. omega (arith, lower_len (b ∷ bs))) (λ _. tt)
+    sized_if (begins_word b && leb n 63 && begins_with 39 (drop n (b ∷ bs))) _ None (λ _. omega (arith, word_len (b ∷ bs))) (λ _. tt)
 
 sized_mark_of : (n : ℕ) (m : Option _) → 0 < n → Sized (mark_of_len n m)
 sized_mark_of n None some = tt

@@ -1,9 +1,12 @@
 -- Spans of whole buckets.
-use Rattle.std.specs.Prelude.{◌≡◌, true, false, Bool, ◌-◌, ◌^◌, ℤ, pos, ◌+ℤ◌, ◌-ℤ◌, ◌≤ℤ◌, ◌<ℤ◌, int_lt, Option, Some, None}
+use Rattle.std.specs.Prelude.{◌≡◌, true, false, Bool, ◌-◌, ◌^◌, ℤ, pos, negsuc, ◌+ℤ◌, ◌-ℤ◌, ◌≤ℤ◌, ◌<ℤ◌, int_lt, Option, Some, None}
 use Rattle.ts_bucket.specs.Bucket.{WidthValue, is_bucket, bucket_of, first_of, min_time, max_time}
 use Rattle.ts_bucket.specs.Spans.{SpanValue, HullValue}
 
--- the greatest number of 64 bits
+-- the least and the greatest number of 64 bits
+abbrev pub least : ℤ
+least = negsuc (2 ^ 63 - 1)
+
 abbrev pub greatest : ℤ
 greatest = pos (2 ^ 63 - 1)
 

@@ -1,6 +1,6 @@
 -- What is picked is an image.
-use Rattle.std.proofs.Common.{◌≡◌, ◌⊎◌, inl, inr, ⊎_elim, ℕ, ◌+◌, ◌-◌, ◌/◌, ◌<◌, ◌≤◌, Bool, true, false, ◌&&◌, ◌||◌, if◌then◌else◌, List, [], ◌∷◌, ◌++◌, length, get_or, replicate, refl, sym, ◌∙◌, ap, subst, arith, length-append, length-take}
-use Rattle.std.proofs.lemmas.Bool.{cases_Bool}
+use Rattle.std.proofs.Common.{◌≡◌, ◌⊎◌, inl, inr, ⊎_elim, ℕ, ◌+◌, ◌-◌, ◌/◌, ◌<◌, ◌≤◌, Bool, true, false, ◌&&◌, List, [], ◌∷◌, ◌++◌, length, get_or, replicate, refl, sym, ◌∙◌, ap, subst, arith, length-append, length-take, if◌then◌else◌}
+use Rattle.std.proofs.lemmas.Bool.{cases_Bool, or_parts}
 use Rattle.std.proofs.lemmas.List.{get_or_append_left, length-replicate}
 use Rattle.std.specs.List.{list_any}
 use Rattle.ts_disk.specs.CrashImage.{State, IsImage, covers, at_rest, written}
@@ -84,16 +84,12 @@ length-picked pick i file (piece ∷ pieces) n le all =
     let b : length (next_file pick i file piece pieces) ≤ length (picked_from pick i file (piece ∷ pieces)) = rest.0 in
     (omega arith, rest.1)
 
-none_first : (a b : Bool) → (a || b) ≡ false → (a ≡ false) × (b ≡ false)
-none_first true b is = absurd (cc is)
-none_first false b is = (refl, is)
-
 get_or-picked : (pick i : ℕ) (file : List ℕ) (pieces : List Piece) (n j : ℕ) → length file ≤ n → end_within n pieces → j < length file → list_any (covers j) pieces ≡ false → get_or (picked_from pick i file pieces) j 0 ≡ get_or file j 0
 get_or-picked pick i file [] n j le all in_file none = refl
 get_or-picked pick i file (piece ∷ pieces) n j le all in_file none =
     let one = length-next pick i file piece pieces n le all.0 in
     let longer : length file ≤ length (next_file pick i file piece pieces) = one.0 in
-    let parts = none_first (covers j piece) (list_any (covers j) pieces) none in
+    let parts = or_parts (covers j piece) (list_any (covers j) pieces) none in
     get_or-picked pick (i + 1) (next_file pick i file piece pieces) pieces n j one.1 all.1 (omega arith) parts.1
     ∙ get_or-next pick i file piece pieces j in_file parts.0
 

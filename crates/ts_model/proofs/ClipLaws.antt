@@ -21,17 +21,7 @@ use Rattle.ts_model.proofs.CountLaws.{count_cons}
 use Rattle.ts_model.proofs.ReadLaws.{meet_parts, meet_from}
 use Rattle.ts_model.proofs.FitLaws.{all_implied, rows_are_times}
 use Rattle.ts_model.proofs.SoundLaws.{rosters_are_sound}
-
-same_test : (s t : Bool) → (s ≡ true → t ≡ true) → (t ≡ true → s ≡ true) → s ≡ t
-same_test true t f g = sym (f refl)
-same_test false true f g = g refl
-same_test false false f g = refl
-
-at_most : (x y : ℤ) → int_le x y ≡ true → x ≤ℤ y
-at_most x y e = grind (arith, ints)
-
-at_least : (x y : ℤ) → x ≤ℤ y → int_le x y ≡ true
-at_least x y e = grind (arith, ints)
+use Rattle.ts_schema.proofs.Cases.{int_le-true, le-int_le, int_lt-true, same_test}
 
 clipped_meets : (low high : ℤ) (chunk span : Span) → low ≤ℤ chunk.lo → chunk.hi ≤ℤ high → spans_meet chunk (clipped low high span) ≡ spans_meet chunk span
 clipped_meets low high chunk span from to =
@@ -58,7 +48,7 @@ clipping_keeps_near low high interval (row ∷ stored) span e =
     let within = and_parts _ _ parts.0 in
     let chunk = chunk_of interval row.at in
     let near : Span → Row → Bool = λ s x. list_any (spans_meet (chunk_of interval x.at)) (s ∷ []) in
-    let same_here : near (clipped low high span) row ≡ near span row = ap (λ t. t || false) (clipped_meets low high chunk span (at_most low chunk.lo within.0) (at_most chunk.hi high within.1)) in
+    let same_here : near (clipped low high span) row ≡ near span row = ap (λ t. t || false) (clipped_meets low high chunk span (int_le-true low chunk.lo within.0) (int_le-true chunk.hi high within.1)) in
     count_cons (near (clipped low high span)) row stored
     ∙ ap (λ t. cond t 1 0 + rows_near interval stored (clipped low high span ∷ [])) same_here
     ∙ ap (λ m. cond (near span row) 1 0 + m) (clipping_keeps_near low high interval stored span parts.1)
@@ -72,9 +62,9 @@ chunk_near interval t positive bounded time =
     let from : pos 0 ≤ℤ int_rem_euclid t interval = rest.0 in
     let below : int_rem_euclid t interval <ℤ interval = rest.1 in
     let times = and_parts _ _ time in
-    let low : min_time ≤ℤ t = at_most min_time t times.0 in
-    let high : t ≤ℤ max_time = at_most t max_time times.1 in
-    and_from _ _ (at_least _ _ (lower t (int_rem_euclid t interval) interval low below bounded)) (at_least _ _ (upper t (int_rem_euclid t interval) interval high from bounded))
+    let low : min_time ≤ℤ t = int_le-true min_time t times.0 in
+    let high : t ≤ℤ max_time = int_le-true t max_time times.1 in
+    and_from _ _ (le-int_le _ _ (lower t (int_rem_euclid t interval) interval low below bounded)) (le-int_le _ _ (upper t (int_rem_euclid t interval) interval high from bounded))
   where
     lower : (t r d : ℤ) → min_time ≤ℤ t → r <ℤ d → d ≤ℤ max_interval → (min_time -ℤ max_interval) ≤ℤ (t -ℤ r)
     lower t r d e f g = omega (arith, ints)
@@ -90,10 +80,7 @@ long_hyper : (hyper : HyperInfo) (info : TableInfo) → hyper_fits hyper (Some i
 long_hyper hyper info e =
     let most = and_parts _ (int_le hyper.interval max_interval) e in
     let positive = and_parts _ (int_lt (pos 0) hyper.interval) most.0 in
-    record { positive = less (pos 0) hyper.interval positive.1; bounded = at_most hyper.interval max_interval most.1 }
-  where
-    less : (x y : ℤ) → int_lt x y ≡ true → x <ℤ y
-    less x y e = grind (arith, ints)
+    record { positive = int_lt-true (pos 0) hyper.interval positive.1; bounded = int_le-true hyper.interval max_interval most.1 }
 
 long_table : (r : Roster) (t : ℕ) (hyper : HyperInfo) → ((info : TableInfo) → table_of r t ≡ Some info → is_hyper_sound info info.hyper ≡ true) → hyper_of r t ≡ Some hyper → IsLong hyper.interval
 long_table r t hyper fits e = of_table (table_of r t) refl e

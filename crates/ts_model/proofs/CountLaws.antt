@@ -14,7 +14,7 @@ count_from test n (x ∷ xs) = omega (arith, count_from test (n + cond (test x) 
 pub count_cons : {X : Type 0} (test : X → Bool) (x : X) (xs : List X) → count_by test (x ∷ xs) ≡ cond (test x) 1 0 + count_by test xs
 count_cons test x xs = omega (arith, count_from test (0 + cond (test x) 1 0) xs)
 
-count-with_row : (test : Row → Bool) (row : Row) (xs : List Row) → count_by test (with_row row xs) ≡ cond (test row) 1 0 + count_by test xs
+pub count-with_row : (test : Row → Bool) (row : Row) (xs : List Row) → count_by test (with_row row xs) ≡ cond (test row) 1 0 + count_by test xs
 count-with_row test row [] = count_cons test row []
 count-with_row test row (x ∷ xs) =
     elim (is_gt (row_cmp row x)) as (λ t. count_by test (cond t (x ∷ with_row row xs) (row ∷ x ∷ xs)) ≡ cond (test row) 1 0 + count_by test (x ∷ xs)) [

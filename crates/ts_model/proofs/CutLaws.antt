@@ -1,6 +1,6 @@
 -- Laws of cuts and of last refreshes.
 use Rattle.std.proofs.Common.{◌≡◌, ℕ, suc, ◌≤◌, Bool, true, false, ◌&&◌, ◌||◌, cond, nat_le, nat_lt, ◌==◌, ℤ, Option, Some, None, ⊎_elim, sym, refl, ap, ◌∙◌, subst, arith}
-use Rattle.std.proofs.lemmas.Bool.{true≢false, or_left, or_right, and_left, and_parts, and_from, eqb-true, eq-eqb, le-leb, leb-true}
+use Rattle.std.proofs.lemmas.Bool.{true≢false, or_left, or_right, and_left, and_parts, and_from, eqb-true, eq-eqb, le-leb, leb-true, and_right}
 use Rattle.std.proofs.lemmas.Bool.Decides.{nat_tests}
 use Rattle.ts_bucket.specs.Positions.{later, is_before}
 use Rattle.ts_bucket.specs.Spans.{in_span}
@@ -121,12 +121,8 @@ last_latest n (h ▸ Built cut snap) b r e =
     is_before-later r (last n h b) (cond (is_covered b o) (Some snap) None)
     ∙ elim (was_refreshed n h b r) as (λ t. was_refreshed n h b r ≡ t → (t || (snap == r && is_covered b o)) ≡ true → (is_before r (last n h b) && is_before r (cond (is_covered b o) (Some snap) None)) ≡ false) [
       | true ↦ λ before _. and_left _ _ (last_latest n h b r before)
-      | false ↦ λ _ now. and_none (is_before r (last n h b)) _ (refreshed_now b o snap r now)
+      | false ↦ λ _ now. and_right (is_before r (last n h b)) _ (refreshed_now b o snap r now)
     ] refl e
-  where
-    and_none : (x y : Bool) → y ≡ false → (x && y) ≡ false
-    and_none true y e = e
-    and_none false y e = refl
 last_latest n (h ▸ x) b r e = last_latest n h b r e
 
 pub lasts_are_last : LastsAreLast

@@ -1,8 +1,9 @@
 -- Each count and each number of a sound event of an allowed history fits its field in a journal.
-use Rattle.std.proofs.Common.{◌≡◌, ℕ, suc, ◌+◌, ◌*◌, ◌<◌, ◌≤◌, true, ◌&&◌, nat_lt, nat_le, List, [], ◌∷◌, map, length, length-append, length-take, length-drop, take, drop, zero, pos, int_lt, int_le, Option, Some, None, sym, refl, arith}
-use Rattle.std.specs.Prelude.{◌==◌, remove, is_some, slice_get, sum_by}
+use Rattle.std.proofs.Common.{◌≡◌, ℕ, suc, ◌+◌, ◌*◌, ◌<◌, ◌≤◌, true, ◌&&◌, nat_lt, nat_le, List, [], ◌∷◌, map, length, length-append, length-take, length-drop, take, drop, pos, int_lt, int_le, Option, Some, None, sym, refl, arith}
+use Rattle.std.specs.Prelude.{◌==◌, remove, is_some, sum_by}
 use Rattle.std.specs.List.{list_all, fold}
 use Rattle.std.proofs.lemmas.Bool.{true≢false, and_parts, and_from, ltb-true, lt-ltb, leb-true, eqb-true}
+use Rattle.std.proofs.lemmas.Option.{slice_get_within}
 use Rattle.ts_bucket.specs.Bucket.{is_time, is_width}
 use Rattle.ts_bucket.specs.Chunks.{max_interval}
 use Rattle.ts_bucket.specs.declared.spans.Span.{Span}
@@ -36,7 +37,7 @@ sum_from : {X : Type 0} (f : X → ℕ) (n : ℕ) (xs : List X) → fold (λ a x
 sum_from f n [] = omega arith
 sum_from f n (x ∷ xs) = omega (arith, sum_from f (n + f x) xs, sum_from f (0 + f x) xs)
 
-sum_cons : {X : Type 0} (f : X → ℕ) (x : X) (xs : List X) → sum_by f (x ∷ xs) ≡ f x + sum_by f xs
+pub sum_cons : {X : Type 0} (f : X → ℕ) (x : X) (xs : List X) → sum_by f (x ∷ xs) ≡ f x + sum_by f xs
 sum_cons f x xs = omega (arith, sum_from f (0 + f x) xs)
 
 -- as many items as ones in the sum, where each gives at least one
@@ -90,23 +91,17 @@ columns_of info e =
     let def = and_parts (is_name info.def.name && columns_fit info.def.cols) (is_hyper_sound info info.hyper) e in
     few_columns info.def.cols (and_parts (is_name info.def.name) (columns_fit info.def.cols) def.0).1
 
--- a place at which a list has an item is below its length
-below_length : {X : Type 0} (xs : List X) (i : ℕ) (x : X) → slice_get xs i ≡ Some x → i < length xs
-below_length [] i x e = absurd (cc)
-below_length (y ∷ xs) zero x e = omega arith
-below_length (y ∷ xs) (suc i) x e = omega (arith, below_length xs i x e)
-
 module _ (r : Roster) (ok : IsSoundRoster r) where
   table_number : (t : ℕ) (info : TableInfo) → table_of r t ≡ Some info → fits_four t ≡ true
   table_number t info e =
       let few : length r.tables ≤ 64 = ok.few_tables in
-      four_from t (length r.tables) (below_length r.tables t info e) (omega arith)
+      four_from t (length r.tables) (slice_get_within r.tables t info e) (omega arith)
 
   view_number : (v : ℕ) (o : Option ViewDef) → view_of r v ≡ o → is_some o ≡ true → fits_four v ≡ true
   view_number v None is e = absurd (true≢false (sym e))
   view_number v (Some def) is e =
       let few : length r.views ≤ 64 = ok.few_views in
-      four_from v (length r.views) (below_length r.views v def is) (omega arith)
+      four_from v (length r.views) (slice_get_within r.views v def is) (omega arith)
 
   -- ---- rows and operations
 

@@ -1,5 +1,5 @@
 -- A finish of a job that fits raises the watermark to the job's top.
-use Rattle.std.proofs.Common.{◌≡◌, ℕ, ◌≤◌, Bool, true, false, ◌&&◌, ◌||◌, cond, ◌==◌, List, [], ◌∷◌, ℤ, ◌+ℤ◌, ◌≤ℤ◌, ◌<ℤ◌, int_le, int_lt, Option, Some, None, sym, refl, ap, ◌∙◌, subst, arith}
+use Rattle.std.proofs.Common.{◌≡◌, ℕ, ◌≤◌, Bool, true, false, ◌&&◌, ◌||◌, cond, ◌==◌, List, [], ◌∷◌, ℤ, ◌+ℤ◌, ◌≤ℤ◌, int_le, int_lt, Option, Some, None, sym, refl, ap, ◌∙◌, subst, arith}
 use Rattle.std.specs.Prelude.{IfSome}
 use Rattle.std.specs.Int.{int_max}
 use Rattle.std.specs.List.{list_all}
@@ -35,6 +35,7 @@ use Rattle.ts_model.proofs.SoundLaws.{view_width}
 use Rattle.ts_model.proofs.UntouchedLaws.{untouched_rows}
 use Rattle.ts_model.proofs.RefreshLaws.{is_below-greater, none_above, built_bounds}
 use Rattle.ts_model.proofs.MarkLaws.{watermark_ends}
+use Rattle.ts_schema.proofs.Cases.{int_lt-true}
 
 -- ---- a refreshed bucket at or above the watermark had no row at its snapshot
 
@@ -89,7 +90,7 @@ outside_empty n def h cut snap span spans groups top ok width f b bucket inside 
 
 -- ---- the top of the spans and the top of the whole span, beside the watermark
 
-covers_part : (w : Width) (whole : Span) (parts : List Span) (b : ℤ) → list_all (is_part_of w whole) parts ≡ true → lies_in parts b ≡ true → in_span whole b ≡ true
+pub covers_part : (w : Width) (whole : Span) (parts : List Span) (b : ℤ) → list_all (is_part_of w whole) parts ≡ true → lies_in parts b ≡ true → in_span whole b ≡ true
 covers_part w whole [] b e inside = absurd (true≢false (sym inside))
 covers_part w whole (part ∷ parts) b e inside =
     let first = and_parts (is_part_of w whole part) (list_all (is_part_of w whole) parts) e in
@@ -115,12 +116,9 @@ mark_stays x (Some z) y e l = let is : z ≡ y = cc in ap Some (top x z (subst (
 -- the end of a bucket below a mark is at or below it
 below_mark : (w : Width) (b : ℤ) (mark : Option ℤ) → IsWidth w → is_bucket w b ≡ true → IfSome mark (IsMark w) → is_below b mark ≡ true → greater (Some (b +ℤ w.step)) mark ≡ mark
 below_mark w b None width bucket m e = absurd (true≢false (sym e))
-below_mark w b (Some mark) width bucket m e = mark_stays (b +ℤ w.step) (Some mark) mark refl (buckets_apart w b mark width bucket m.ends (less b mark e))
-  where
-    less : (x y : ℤ) → int_lt x y ≡ true → x <ℤ y
-    less x y e = grind (arith, ints)
+below_mark w b (Some mark) width bucket m e = mark_stays (b +ℤ w.step) (Some mark) mark refl (buckets_apart w b mark width bucket m.ends (int_lt-true b mark e))
 
-greater_swap : (x a b : Option ℤ) → greater x (greater a b) ≡ greater a (greater x b)
+pub greater_swap : (x a b : Option ℤ) → greater x (greater a b) ≡ greater a (greater x b)
 greater_swap x a b = sym (greater_assoc x a b) ∙ ap (λ m. greater m b) (greater_comm x a) ∙ greater_assoc a x b
 
 -- what is at or below the mark adds nothing to it

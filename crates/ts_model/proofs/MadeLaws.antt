@@ -35,6 +35,7 @@ use Rattle.ts_model.specs.Laws.{MakesAllowed, CallsMakeAllowed}
 use Rattle.ts_bucket.specs.WholeSpans.{IsMark}
 use Rattle.ts_model.proofs.SoundLaws.{view_width}
 use Rattle.ts_model.proofs.MarkLaws.{window_ends}
+use Rattle.ts_schema.proofs.Cases.{le-int_le}
 
 -- a new relation is allowed where its name is free and there is room for it
 relation_allowed : (h : History) (taken : Bool) (many : ℕ) (e : Event) → (taken ≡ false → nat_lt many most_relations ≡ true → allowed h e ≡ true) → MakesAllowed h (new_relation h taken many e)
@@ -80,10 +81,7 @@ words_between lo hi low below high =
     let to : lo ≤ℤ pos 9223372036854775807 = omega (arith, ints) in
     let after : negsuc 9223372036854775807 ≤ℤ hi = omega (arith, ints) in
     let up_to : hi ≤ℤ pos 9223372036854775807 = omega (arith, ints) in
-    (and_from _ _ (at_most _ _ from) (at_most _ _ to), and_from _ _ (at_most _ _ after) (at_most _ _ up_to))
-  where
-    at_most : (x y : ℤ) → x ≤ℤ y → int_le x y ≡ true
-    at_most x y e = grind (arith, ints)
+    (and_from _ _ (le-int_le _ _ from) (le-int_le _ _ to), and_from _ _ (le-int_le _ _ after) (le-int_le _ _ up_to))
 
 -- a number up to the greatest end of a bucket that holds a time
 abbrev IsNear : ℤ → Type 0

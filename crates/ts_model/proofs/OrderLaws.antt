@@ -7,7 +7,7 @@ use Rattle.std.specs.declared.cmp.Ordering.TheVariants.{Less, Equal, Greater}
 use Rattle.std.specs.Cmp.{IsTotalOrder, int_cmp_total, upto}
 use Rattle.std.proofs.lemmas.Map.Lookups.{CmpEqualImpliesEq, exact_signed}
 use Rattle.std.specs.BTreeSet.{insert_key}
-use Rattle.std.proofs.lemmas.Bool.{and_parts, and_from}
+use Rattle.std.proofs.lemmas.Bool.{and_parts, and_from, not-true}
 use Rattle.ts_bucket.specs.Bucket.{bucket_of}
 use Rattle.ts_schema.specs.declared.rows.Row.{Row}
 use Rattle.ts_schema.specs.Rows.{values_cmp, row_cmp}
@@ -20,6 +20,7 @@ use Rattle.ts_model.specs.History.{start, ◌▸◌}
 use Rattle.ts_model.specs.Rows.{with_row, with_rows, after_op, after_ops, rows}
 use Rattle.ts_model.specs.Scratch.{keys_of, once}
 use Rattle.ts_model.specs.Laws.{InOrder, Rises, IsOnce, RowsStandInOrder, ResultsComeInOrder}
+use Rattle.ts_schema.proofs.Cases.{or_swapped}
 
 -- ---- the order of rows
 
@@ -54,15 +55,11 @@ greater_turned Less e = absurd (cc)
 greater_turned Equal e = absurd (cc)
 greater_turned Greater e = refl
 
-not_greater : (b : Bool) → not b ≡ true → b ≡ false
-not_greater true e = absurd (cc)
-not_greater false e = refl
-
 pub at_most_all : (row x : Row) (xs : List Row) → is_gt (row_cmp row x) ≡ false → list_all (λ y. not (is_gt (row_cmp x y))) xs ≡ true → list_all (λ y. not (is_gt (row_cmp row y))) xs ≡ true
 at_most_all row x [] l e = refl
 at_most_all row x (y ∷ ys) l e =
     let parts = and_parts (not (is_gt (row_cmp x y))) (list_all (λ z. not (is_gt (row_cmp x z))) ys) e in
-    and_from _ _ (ap not (upto row_cmp_total row x y l (not_greater _ parts.0))) (at_most_all row x ys l parts.1)
+    and_from _ _ (ap not (upto row_cmp_total row x y l (not-true _ parts.0))) (at_most_all row x ys l parts.1)
 
 pub in_order-with_row : (row : Row) (xs : List Row) → InOrder row_cmp xs → InOrder row_cmp (with_row row xs)
 in_order-with_row row [] o = (refl, tt)
@@ -143,17 +140,12 @@ module _ {K : Type 0} (cmp : K → K → Ordering) (total : IsTotalOrder cmp) (a
       elim (cmp k x) as (λ o. cmp k x ≡ o → list_any test (match_ordering o (k ∷ x ∷ xs) (x ∷ xs) (x ∷ insert_key cmp xs k)) ≡ (test k || (test x || list_any test xs))) [
         | Less ↦ λ e. refl
         | Equal ↦ λ e. twice (test k) (test x) (list_any test xs) (ap test (alike k x e))
-        | Greater ↦ λ e. ap (λ b. test x || b) (any-insert_key test xs k) ∙ swapped (test x) (test k) (list_any test xs)
+        | Greater ↦ λ e. ap (λ b. test x || b) (any-insert_key test xs k) ∙ or_swapped (test x) (test k) (list_any test xs)
       ] refl
     where
       twice : (a b c : Bool) → a ≡ b → (b || c) ≡ (a || (b || c))
       twice true b c e = ap (λ z. z || c) (sym e)
       twice false b c e = refl
-
-      swapped : (a b c : Bool) → (a || (b || c)) ≡ (b || (a || c))
-      swapped true true c = refl
-      swapped true false c = refl
-      swapped false b c = refl
 
   pub is_once : (keys : List K) → IsOnce cmp keys (once cmp keys)
   is_once [] = record { rising = tt; occurring = λ test. refl }

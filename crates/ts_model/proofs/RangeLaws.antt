@@ -5,6 +5,7 @@ use Rattle.std.specs.Ordering.{int_eq}
 use Rattle.std.proofs.lemmas.Bool.{and_parts, and_right, both_ways}
 use Rattle.std.proofs.lemmas.Bool.Decides.{Decides-int_eq}
 use Rattle.std.proofs.lemmas.Int.{ints}
+use Rattle.std.proofs.Math.Bool.{or_assoc}
 use Rattle.ts_bucket.specs.Bucket.{IsWidth, is_bucket, first_of}
 use Rattle.ts_bucket.specs.Spans.{in_span}
 use Rattle.ts_bucket.specs.declared.spans.Span.{Span}
@@ -143,10 +144,6 @@ apart_above m n l apart =
       | true ↦ λ e. grind (arith, ints)
       | false ↦ λ e. absurd (apart (let k : n ≤ℤ m = grind (arith, ints) in omega (arith, ints)))
     ] refl
-
-or_assoc : (a b c : Bool) → ((a || b) || c) ≡ (a || (b || c))
-or_assoc true b c = refl
-or_assoc false b c = refl
 
 same_test : (test : ℤ → Bool) (b c : ℤ) → int_eq b c ≡ true → test c ≡ test b
 same_test test b c e = sym (ap test ((Decides-int_eq b c).0 e))

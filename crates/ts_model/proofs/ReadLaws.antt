@@ -1,5 +1,5 @@
 -- Reads: the chunks that meet some bucket of a range are those that meet the range.
-use Rattle.std.proofs.Common.{◌≡◌, ℕ, ◌+◌, Bool, true, false, ◌&&◌, ◌||◌, cond, List, [], ◌∷◌, map, ℤ, pos, ◌+ℤ◌, ◌≤ℤ◌, ◌<ℤ◌, int_le, int_lt, sym, refl, ap, ◌∙◌, arith}
+use Rattle.std.proofs.Common.{◌≡◌, ℕ, ◌+◌, Bool, true, false, ◌&&◌, ◌||◌, cond, List, [], ◌∷◌, map, ℤ, pos, ◌+ℤ◌, ◌≤ℤ◌, ◌<ℤ◌, int_le, sym, refl, ap, ◌∙◌, arith}
 use Rattle.std.specs.List.{list_any, fold}
 use Rattle.std.specs.Int.{int_max}
 use Rattle.std.specs.Ordering.{int_eq}
@@ -18,14 +18,15 @@ use Rattle.ts_bucket.specs.Ranges.{is_asked, IsWholeRange}
 use Rattle.ts_model.specs.Reads.{spans_meet, rows_near}
 use Rattle.ts_bucket.specs.Chunks.{chunk_of}
 use Rattle.ts_model.proofs.RangeLaws.{among, among-buckets_in}
+use Rattle.ts_schema.proofs.Cases.{le-int_le, int_lt-true, lt-int_lt, same_test}
 
 -- ---- some bucket that passes
 
-list_any-map : {A B : Type 0} (q : B → Bool) (g : A → B) (xs : List A) → list_any q (map g xs) ≡ list_any (λ x. q (g x)) xs
+pub list_any-map : {A B : Type 0} (q : B → Bool) (g : A → B) (xs : List A) → list_any q (map g xs) ≡ list_any (λ x. q (g x)) xs
 list_any-map q g [] = refl
 list_any-map q g (x ∷ xs) = ap (λ b. q (g x) || b) (list_any-map q g xs)
 
-any_found : (P : Type 0) (q : ℤ → Bool) (bs : List ℤ) → ((b : ℤ) → among b bs ≡ true → q b ≡ true → P) → list_any q bs ≡ true → P
+pub any_found : (P : Type 0) (q : ℤ → Bool) (bs : List ℤ) → ((b : ℤ) → among b bs ≡ true → q b ≡ true → P) → list_any q bs ≡ true → P
 any_found P q [] gives e = absurd (true≢false (sym e))
 any_found P q (b ∷ bs) gives e =
     elim (q b) as (λ t. q b ≡ t → (t || list_any q bs) ≡ true → P) [
@@ -33,7 +34,7 @@ any_found P q (b ∷ bs) gives e =
       | false ↦ λ _ f. any_found P q bs (λ c i p. gives c (or_right (int_eq b c) _ i) p) f
     ] refl e
 
-any_from : (q : ℤ → Bool) (bs : List ℤ) (c : ℤ) → among c bs ≡ true → q c ≡ true → list_any q bs ≡ true
+pub any_from : (q : ℤ → Bool) (bs : List ℤ) (c : ℤ) → among c bs ≡ true → q c ≡ true → list_any q bs ≡ true
 any_from q [] c e p = absurd (true≢false (sym e))
 any_from q (b ∷ bs) c e p =
     elim (int_eq b c) as (λ t. int_eq b c ≡ t → (t || among c bs) ≡ true → (q b || list_any q bs) ≡ true) [
@@ -55,21 +56,14 @@ meet_parts a b e =
     let second = and_parts _ _ first.0 in
     let third = and_parts _ _ second.0 in
     record {
-      before = less a.lo b.hi third.0;
-      after = less b.lo a.hi third.1;
-      some_a = less a.lo a.hi second.1;
-      some_b = less b.lo b.hi first.1;
+      before = int_lt-true a.lo b.hi third.0;
+      after = int_lt-true b.lo a.hi third.1;
+      some_a = int_lt-true a.lo a.hi second.1;
+      some_b = int_lt-true b.lo b.hi first.1;
     }
-  where
-    less : (x y : ℤ) → int_lt x y ≡ true → x <ℤ y
-    less x y e = grind (arith, ints)
 
 pub meet_from : (a b : Span) → Meet a b → spans_meet a b ≡ true
-meet_from a b m = and_from _ _ (and_from _ _ (and_from _ _ (less a.lo b.hi m.before) (less b.lo a.hi m.after)) (less a.lo a.hi m.some_a)) (less b.lo b.hi m.some_b)
-  where
-    less : (x y : ℤ) → x <ℤ y → int_lt x y ≡ true
-    less x y e = grind (arith, ints)
-
+meet_from a b m = and_from _ _ (and_from _ _ (and_from _ _ (lt-int_lt a.lo b.hi m.before) (lt-int_lt b.lo a.hi m.after)) (lt-int_lt a.lo a.hi m.some_a)) (lt-int_lt b.lo b.hi m.some_b)
 module _ (w : Width) (width : IsWidth w) (range : Span) (whole : IsWholeRange w range) (first : first_of w ≤ℤ range.lo) (chunk : Span) where
   -- a chunk that meets a bucket of a range meets the range
   bucket_within : (b : ℤ) → is_asked w range b ≡ true → Meet chunk (bucket_span w b) → Meet chunk range
@@ -100,15 +94,11 @@ module _ (w : Width) (width : IsWidth w) (range : Span) (whole : IsWholeRange w 
       let at_or_below : b ≤ℤ t = held.at_or_below in
       let end_above : t <ℤ (b +ℤ w.step) = held.end_above in
       let from_range : range.lo ≤ℤ b = bucket_of-last w range.lo t width whole.starts above_range in
-      let from_first : int_le (first_of w) b ≡ true = at_least (first_of w) b (omega (arith, ints)) in
+      let from_first : int_le (first_of w) b ≡ true = le-int_le (first_of w) b (omega (arith, ints)) in
       let positive : pos 0 <ℤ w.step = width.positive in
       gives b
       (and_from _ _ (in_span-from_ends range b from_range (omega (arith, ints))) (and_from _ _ (is_bucket-bucket_of w t width) from_first))
       (record { before = omega (arith, ints); after = omega (arith, ints); some_a = some_chunk; some_b = omega (arith, ints) })
-    where
-      at_least : (x y : ℤ) → x ≤ℤ y → int_le x y ≡ true
-      at_least x y e = grind (arith, ints)
-
   -- a chunk meets some bucket of a range exactly where it meets the range
   pub meets_some_bucket : list_any (spans_meet chunk) (map (bucket_span w) (buckets_in w range)) ≡ list_any (spans_meet chunk) (range ∷ [])
   meets_some_bucket =
@@ -118,11 +108,6 @@ module _ (w : Width) (width : IsWidth w) (range : Span) (whole : IsWholeRange w 
       (λ e. or_left _ _ (meet_from chunk range (any_found (Meet chunk range) q (buckets_in w range) (λ b i p. bucket_within b (sym (among-buckets_in w range b) ∙ i) (meet_parts chunk (bucket_span w b) p)) e)))
       (λ e. bucket_of_both (list_any q (buckets_in w range) ≡ true) (λ b asked m. any_from q (buckets_in w range) b (among-buckets_in w range b ∙ asked) (meet_from chunk (bucket_span w b) m)) (meet_parts chunk range (alone (spans_meet chunk range) e)))
     where
-      same_test : (s t : Bool) → (s ≡ true → t ≡ true) → (t ≡ true → s ≡ true) → s ≡ t
-      same_test true t f g = sym (f refl)
-      same_test false true f g = g refl
-      same_test false false f g = refl
-
       alone : (b : Bool) → (b || false) ≡ true → b ≡ true
       alone true e = refl
       alone false e = e

@@ -1,21 +1,17 @@
 -- Laws of rows in order: the order in which rows are put in their places plays no part.
-use Rattle.std.proofs.Common.{◌≡◌, suc, ◌+◌, Bool, true, false, not, cond, List, [], ◌∷◌, ◌++◌, filter, length, sym, refl, ap, ◌∙◌, arith}
+use Rattle.std.proofs.Common.{◌≡◌, suc, ◌+◌, Bool, true, false, not, cond, ◌&&◌, List, [], ◌∷◌, ◌++◌, filter, length, sym, refl, ap, ◌∙◌, arith}
 use Rattle.std.specs.List.{list_all}
 use Rattle.std.specs.Ordering.{is_gt, ordering_reverse}
 use Rattle.std.specs.declared.cmp.Ordering.{Ordering}
 use Rattle.std.specs.declared.cmp.Ordering.TheVariants.{Less, Equal, Greater}
 use Rattle.std.specs.Cmp.{upto}
-use Rattle.std.proofs.lemmas.Bool.{true≢false, and_parts, and_from, cond-true, cond-false}
+use Rattle.std.proofs.lemmas.Bool.{true≢false, and_parts, and_from, cond-true, cond-false, not-true}
 use Rattle.ts_schema.specs.declared.rows.Row.{Row}
 use Rattle.ts_schema.specs.Rows.{row_cmp}
 use Rattle.ts_model.specs.Rows.{with_row, with_rows, in_order}
 use Rattle.ts_model.specs.Laws.{InOrder}
 use Rattle.ts_schema.proofs.OrderLaws.{row_cmp_total}
 use Rattle.ts_model.proofs.OrderLaws.{row_cmp_same, in_order-with_rows, at_most_all}
-
-unturned : (b : Bool) → not b ≡ true → b ≡ false
-unturned true e = absurd (cc)
-unturned false e = refl
 
 -- ---- what the order says of two rows
 
@@ -126,7 +122,7 @@ in_order-is (x ∷ xs) o = ap (with_row x) (in_order-is xs o.1) ∙ first x xs o
   where
     first : (x : Row) (xs : List Row) → list_all (λ y. not (is_gt (row_cmp x y))) xs ≡ true → with_row x xs ≡ x ∷ xs
     first x [] e = refl
-    first x (y ∷ ys) e = with_row-here x y ys (unturned (is_gt (row_cmp x y)) (and_parts _ _ e).0)
+    first x (y ∷ ys) e = with_row-here x y ys (not-true (is_gt (row_cmp x y)) (and_parts _ _ e).0)
 
 pub in_order-twice : (xs : List Row) → in_order (in_order xs) ≡ in_order xs
 in_order-twice xs = with_rows-in_order xs []
@@ -142,7 +138,7 @@ kept_first p row [] e = refl
 kept_first p row (x ∷ xs) e =
     let parts = and_parts (not (is_gt (row_cmp row x))) (list_all (λ y. not (is_gt (row_cmp row y))) xs) e in
     elim (p x) as (λ b. with_row row (cond b (x ∷ filter p xs) (filter p xs)) ≡ row ∷ cond b (x ∷ filter p xs) (filter p xs)) [
-      | true ↦ with_row-here row x (filter p xs) (unturned (is_gt (row_cmp row x)) parts.0)
+      | true ↦ with_row-here row x (filter p xs) (not-true (is_gt (row_cmp row x)) parts.0)
       | false ↦ kept_first p row xs parts.1
     ]
 
@@ -188,3 +184,25 @@ length-with_row row (x ∷ xs) = elim (is_gt (row_cmp row x)) as (λ b. length (
 pub length-with_rows : (new xs : List Row) → length (with_rows new xs) ≡ length new + length xs
 length-with_rows [] xs = omega arith
 length-with_rows (row ∷ new) xs = length-with_row row (with_rows new xs) ∙ omega (arith, length-with_rows new xs)
+
+-- a test of all rows doesn't look at their order
+all-with_row : (p : Row → Bool) (row : Row) (xs : List Row) → list_all p (with_row row xs) ≡ (p row && list_all p xs)
+all-with_row p row [] = refl
+all-with_row p row (x ∷ xs) =
+    elim (is_gt (row_cmp row x)) as (λ b. list_all p (cond b (x ∷ with_row row xs) (row ∷ x ∷ xs)) ≡ (p row && (p x && list_all p xs))) [
+      | true ↦ ap (λ b. p x && b) (all-with_row p row xs) ∙ swapped (p x) (p row) (list_all p xs)
+      | false ↦ refl
+    ]
+  where
+    swapped : (a b c : Bool) → (a && (b && c)) ≡ (b && (a && c))
+    swapped true b c = refl
+    swapped false true c = refl
+    swapped false false c = refl
+
+pub all-in_order : (p : Row → Bool) (xs : List Row) → list_all p (in_order xs) ≡ list_all p xs
+all-in_order p [] = refl
+all-in_order p (x ∷ xs) = all-with_row p x (in_order xs) ∙ ap (λ b. p x && b) (all-in_order p xs)
+
+-- rows before others may be in any order
+pub same_before : (xs ys zs : List Row) → in_order xs ≡ in_order ys → in_order (xs ++ zs) ≡ in_order (ys ++ zs)
+same_before xs ys zs e = in_order-append_swap xs zs ∙ in_order-append zs xs ∙ ap (with_rows zs) e ∙ sym (in_order-append zs ys) ∙ in_order-append_swap zs ys

@@ -1,8 +1,7 @@
 -- The roster of an allowed history is sound: all that it holds is there and in range.
-use Rattle.std.proofs.Common.{◌≡◌, ℕ, zero, suc, ◌+◌, ◌<◌, ◌≤◌, Bool, true, nat_lt, nat_le, ◌==◌, List, [], ◌∷◌, ◌++◌, length, length-append, ℤ, pos, ◌≤ℤ◌, ◌<ℤ◌, int_lt, int_le, Option, Some, None, ◌⊎◌, inl, inr, ⊎_elim, sym, refl, ap, ◌∙◌, subst, arith}
+use Rattle.std.proofs.Common.{◌≡◌, ℕ, zero, suc, ◌+◌, ◌<◌, ◌≤◌, Bool, true, nat_lt, nat_le, ◌==◌, List, [], ◌∷◌, ◌++◌, length, length-append, pos, int_lt, int_le, Option, Some, None, ◌⊎◌, inl, inr, ⊎_elim, sym, refl, ap, ◌∙◌, subst, arith}
 use Rattle.std.specs.Prelude.{slice_get, unwrap_or}
 use Rattle.std.proofs.lemmas.Bool.{true≢false, and_parts, and_from, ltb-true}
-use Rattle.std.proofs.lemmas.Int.{ints}
 use Rattle.ts_bucket.specs.Bucket.{IsWidth, max_step, is_width}
 use Rattle.ts_bucket.specs.declared.widths.Width.{Width}
 use Rattle.ts_model.specs.declared.events.Event.{Event}
@@ -22,6 +21,7 @@ use Rattle.ts_model.specs.Allowed.{all_allowed, allowed}
 use Rattle.ts_model.specs.Laws.{is_hyper_sound, is_table_sound, IsSoundRoster, RostersAreSound, WidthsAreSound}
 use Rattle.ts_model.proofs.RosterLaws.{relations_further, length-change_at}
 use Rattle.ts_model.proofs.AllowedLaws.{sound_in_stays}
+use Rattle.ts_schema.proofs.Cases.{int_le-true, le-int_le, int_lt-true, lt-int_lt}
 
 -- ---- widths
 
@@ -30,23 +30,11 @@ width_is w e =
     let shift = and_parts _ (int_lt w.shift w.step) e in
     let zero_on = and_parts _ (int_le (pos 0) w.shift) shift.0 in
     let step = and_parts (int_lt (pos 0) w.step) (int_le w.step max_step) zero_on.0 in
-    record { positive = lt (pos 0) w.step step.0; bounded = le w.step max_step step.1; from_zero = le (pos 0) w.shift zero_on.1; below_step = lt w.shift w.step shift.1 }
-  where
-    lt : (x y : ℤ) → int_lt x y ≡ true → x <ℤ y
-    lt x y e = grind (arith, ints)
-
-    le : (x y : ℤ) → int_le x y ≡ true → x ≤ℤ y
-    le x y e = grind (arith, ints)
+    record { positive = int_lt-true (pos 0) w.step step.0; bounded = int_le-true w.step max_step step.1; from_zero = int_le-true (pos 0) w.shift zero_on.1; below_step = int_lt-true w.shift w.step shift.1 }
 
 pub width_from : (w : Width) → IsWidth w → is_width w ≡ true
 width_from w width =
-    and_from _ _ (and_from _ _ (and_from _ _ (lt (pos 0) w.step width.positive) (le w.step max_step width.bounded)) (le (pos 0) w.shift width.from_zero)) (lt w.shift w.step width.below_step)
-  where
-    lt : (x y : ℤ) → x <ℤ y → int_lt x y ≡ true
-    lt x y e = grind (arith, ints)
-
-    le : (x y : ℤ) → x ≤ℤ y → int_le x y ≡ true
-    le x y e = grind (arith, ints)
+    and_from _ _ (and_from _ _ (and_from _ _ (lt-int_lt (pos 0) w.step width.positive) (le-int_le w.step max_step width.bounded)) (le-int_le (pos 0) w.shift width.from_zero)) (lt-int_lt w.shift w.step width.below_step)
 
 -- ---- what stands in a list that grew at its end, or had one item changed
 

@@ -1,7 +1,6 @@
 -- A bucket that no commit touched after a position has the aggregation that it had there.
 use Rattle.std.proofs.Common.{◌≡◌, ℕ, suc, ◌<◌, ◌≤◌, Bool, true, false, ◌&&◌, ◌||◌, not, cond, nat_lt, ◌==◌, List, [], ◌∷◌, ◌++◌, filter, ℤ, Option, Some, None, sym, refl, ap, ◌∙◌, arith}
 use Rattle.std.specs.List.{list_any}
-use Rattle.std.specs.Ordering.{is_gt}
 use Rattle.std.proofs.lemmas.Bool.{true≢false, and_parts, and_from, or_parts, or_from, and_left, lt-ltb, ltb-false}
 use Rattle.std.proofs.lemmas.Int.{ints}
 use Rattle.ts_bucket.specs.Bucket.{IsWidth, holds, is_bucket, bucket_of}
@@ -14,7 +13,6 @@ use Rattle.ts_bucket.specs.declared.spans.Hull.{Hull}
 use Rattle.ts_bucket.specs.declared.widths.Width.{Width}
 use Rattle.ts_bucket.proofs.PositionLaws.{is_above-later}
 use Rattle.ts_schema.specs.declared.rows.Row.{Row}
-use Rattle.ts_schema.specs.Rows.{row_cmp}
 use Rattle.ts_schema.specs.Conditions.{passes_all}
 use Rattle.ts_model.specs.declared.events.Event.TheVariants.{Commit}
 use Rattle.ts_model.specs.declared.events.Op.{Op}
@@ -22,7 +20,7 @@ use Rattle.ts_model.specs.declared.events.Op.TheVariants.{Insert, Delete}
 use Rattle.ts_model.specs.declared.views.ViewDef.{ViewDef}
 use Rattle.ts_model.specs.declared.views.Fold.{Fold}
 use Rattle.ts_model.specs.History.{History, start, ◌▸◌, position, prefix}
-use Rattle.ts_model.specs.Rows.{with_row, with_rows, after_op, after_ops, rows, rows_at}
+use Rattle.ts_model.specs.Rows.{with_rows, after_op, after_ops, rows, rows_at}
 use Rattle.ts_model.specs.Effect.{appended_by, taken_by, all_appended, all_taken, hull_with, hull_of, hull_of_ops}
 use Rattle.ts_model.specs.Scratch.{bucket_rows, group_rows}
 use Rattle.ts_model.specs.Groups.{bucket_groups}
@@ -31,6 +29,7 @@ use Rattle.ts_model.specs.Laws.{UntouchedKeepsRows, UntouchedKeepsGroups, Untouc
 use Rattle.ts_model.specs.Jobs.{rows_of_spans}
 use Rattle.ts_model.proofs.HistoryLaws.{prefix_prefix}
 use Rattle.ts_model.proofs.GroupLaws.{scratch_at_is}
+use Rattle.ts_model.proofs.RowLaws.{filter-with_row_left}
 
 -- ---- what a test selects, where all rows that move fail it
 
@@ -38,19 +37,11 @@ pub list_any-append : {X : Type 0} (p : X → Bool) (xs ys : List X) → list_an
 list_any-append p [] ys = refl
 list_any-append p (x ∷ xs) ys = elim (p x) as (λ b. (b || list_any p (xs ++ ys)) ≡ ((b || list_any p xs) || list_any p ys)) [ true ↦ refl | false ↦ list_any-append p xs ys ]
 
-pub filter-with_row : (p : Row → Bool) (row : Row) (xs : List Row) → p row ≡ false → filter p (with_row row xs) ≡ filter p xs
-filter-with_row p row [] e = ap (λ b. cond b (row ∷ []) []) e
-filter-with_row p row (x ∷ xs) e =
-    elim (is_gt (row_cmp row x)) as (λ b. filter p (cond b (x ∷ with_row row xs) (row ∷ x ∷ xs)) ≡ filter p (x ∷ xs)) [
-      | true ↦ ap (λ ys. cond (p x) (x ∷ ys) ys) (filter-with_row p row xs e)
-      | false ↦ ap (λ b. cond b (row ∷ filter p (x ∷ xs)) (filter p (x ∷ xs))) e
-    ]
-
 pub filter-with_rows : (p : Row → Bool) (new xs : List Row) → list_any p new ≡ false → filter p (with_rows new xs) ≡ filter p xs
 filter-with_rows p [] xs e = refl
 filter-with_rows p (row ∷ new) xs e =
     let parts = or_parts (p row) (list_any p new) e in
-    filter-with_row p row (with_rows new xs) parts.0 ∙ filter-with_rows p new xs parts.1
+    filter-with_row_left p row (with_rows new xs) parts.0 ∙ filter-with_rows p new xs parts.1
 
 pub filter-kept : (p q : Row → Bool) (xs : List Row) → list_any p (filter q xs) ≡ false → filter p (filter (λ row. not (q row)) xs) ≡ filter p xs
 filter-kept p q [] e = refl

@@ -6,6 +6,7 @@ use Rattle.std.specs.declared.cmp.Ordering.TheVariants.{Less, Equal, Greater}
 use Rattle.std.proofs.lemmas.Bool.{and_parts, and_from, eqb-true, cond-true, cond-false, lt-ltb}
 use Rattle.std.proofs.lemmas.Bool.Decides.{nat_tests}
 use Rattle.std.proofs.lemmas.List.Elements.{filter-append}
+use Rattle.std.proofs.lemmas.List.{append-nil}
 use Rattle.ts_bucket.specs.declared.spans.Span.{Span}
 use Rattle.ts_model.specs.declared.events.Event.TheVariants.{Cut, Built}
 use Rattle.ts_model.specs.declared.refreshes.Pending.{Pending}
@@ -16,6 +17,7 @@ use Rattle.ts_model.specs.Refreshes.{span_of_cut}
 use Rattle.ts_model.specs.Pending.{finished_by, pending, waiting}
 use Rattle.ts_model.specs.Laws.{Rises}
 use Rattle.ts_model.specs.RefreshLaws.{waiting_over, waiting_as, WaitingIsPending}
+use Rattle.ts_schema.proofs.Cases.{same_number}
 
 -- ---- the cuts of waiting refreshes are not after the history, and rise
 
@@ -91,10 +93,6 @@ none_after p k (r ∷ rs) l u =
     apart : (c k : ℕ) → c < k → (c == k) ≡ false
     apart c k l = grind (arith, nat_tests)
 
-append_nothing : {X : Type 0} (xs : List X) → xs ++ [] ≡ xs
-append_nothing [] = refl
-append_nothing (x ∷ xs) = ap (λ ys. x ∷ ys) (append_nothing xs)
-
 -- a cut that is no other refresh's
 same_over : (h : History) (v : ℕ) (span : Span) (k : ℕ) → (k == suc (position h)) ≡ false → (p : Pending) → waiting_as (h ▸ Cut v span) k p ≡ waiting_as h k p
 same_over h v span k other (Waiting n) = ap (λ t. waiting_over k n (cond (t && v == n) (Some span) (span_of_cut n h k))) other
@@ -111,7 +109,7 @@ after_cut h v span k before =
     ∙ elim (k == suc (position h)) as (λ t. (k == suc (position h)) ≡ t → numbered k (waiting h) ++ numbered k (new ∷ []) ≡ waiting_as (h ▸ Cut v span) k (cond t (Waiting v) (pending h k))) [
       | true ↦ λ here.
           let is : k ≡ suc (position h) = eqb-true k (suc (position h)) here in
-          let same_view : (v == v) ≡ true = itself v in
+          let same_view : (v == v) ≡ true = same_number v in
           let this : (suc (position h) == k) ≡ true = turned (suc (position h)) k ∙ here in
           ap (λ rs. rs ++ numbered k (new ∷ [])) (none_after (position h) k (waiting h) (omega arith) (waiting_up_to h))
           ∙ cond-true (suc (position h) == k) (new ∷ []) [] this
@@ -120,13 +118,10 @@ after_cut h v span k before =
       | false ↦ λ other.
           let apart : (suc (position h) == k) ≡ false = turned (suc (position h)) k ∙ other in
           ap (λ rs. numbered k (waiting h) ++ rs) (cond-false (suc (position h) == k) (new ∷ []) [] apart)
-          ∙ append_nothing (numbered k (waiting h))
+          ∙ append-nil (numbered k (waiting h))
           ∙ before
           ∙ sym (same_over h v span k other (pending h k))
     ] refl
-  where
-    itself : (v : ℕ) → (v == v) ≡ true
-    itself v = grind (arith, nat_tests)
 
 gone : (k : ℕ) (rs : List WaitingRefresh) → numbered k (filter (λ r. not (r.cut == k)) rs) ≡ []
 gone k [] = refl

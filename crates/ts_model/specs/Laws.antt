@@ -1,5 +1,5 @@
 -- Laws of the definitions, each in one sentence.
-use Rattle.std.specs.Prelude.{◌≡◌, ℕ, ◌+◌, ◌^◌, ◌<◌, ◌≤◌, Bool, true, false, ◌&&◌, not, map, filter, negsuc, ◌-◌, List, [], ◌∷◌, length, count_by, ℤ, pos, neg_ℤ, ◌+ℤ◌, ◌-ℤ◌, ◌≤ℤ◌, Option, Some, None, IsTrue, IfSome}
+use Rattle.std.specs.Prelude.{◌≡◌, ℕ, ◌+◌, ◌^◌, ◌<◌, ◌≤◌, Bool, true, false, ◌&&◌, not, map, filter, ◌-◌, List, [], ◌∷◌, length, count_by, ℤ, pos, neg_ℤ, ◌+ℤ◌, ◌-ℤ◌, ◌≤ℤ◌, Option, Some, None, IsTrue, IfSome}
 use Rattle.std.specs.List.{AllByRecursion, list_all, list_any}
 use Rattle.std.specs.Ordering.{is_gt, is_lt, int_cmp}
 use Rattle.std.specs.declared.cmp.Ordering.{Ordering}
@@ -13,7 +13,7 @@ use Rattle.std.specs.Option.{ForSome}
 use Rattle.partial_agg.specs.declared.groups.Group.{Group}
 use Rattle.ts_bucket.specs.Bucket.{IsWidth, is_bucket, is_time, min_time, max_time, bucket_of}
 use Rattle.ts_bucket.specs.Chunks.{max_interval}
-use Rattle.ts_bucket.specs.WholeSpans.{IsMark, is_below}
+use Rattle.ts_bucket.specs.WholeSpans.{IsMark, least, greatest, is_below}
 use Rattle.ts_bucket.specs.Ranges.{AreRanges, lies_in}
 use Rattle.ts_bucket.specs.Positions.{is_above}
 use Rattle.ts_bucket.specs.declared.widths.Width.{Width}
@@ -212,7 +212,7 @@ pub record ResultsComeInOrder : Type 0 where
 
 -- a value of 64 bits
 abbrev pub IsWord : ℤ → Type 0
-IsWord v = (negsuc (2 ^ 63 - 1) ≤ℤ v) × (v ≤ℤ pos (2 ^ 63 - 1))
+IsWord v = (least ≤ℤ v) × (v ≤ℤ greatest)
 
 -- the sum of fewer than 2 ^ 62 values of 64 bits lies within 2 ^ 125 of 0, and so fits 128 bits
 abbrev pub SumsFit : Type 0

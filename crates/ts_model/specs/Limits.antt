@@ -1,5 +1,6 @@
 -- Limits of what events hold.
-use Rattle.std.specs.Prelude.{ℕ, Bool, ◌&&◌, ◌-◌, ◌^◌, ℤ, pos, negsuc, int_le}
+use Rattle.std.specs.Prelude.{ℕ, Bool, ◌&&◌, ◌-◌, ◌^◌, ℤ, int_le}
+use Rattle.ts_bucket.specs.WholeSpans.{least, greatest}
 
 -- the most tables, and the most aggregates
 abbrev pub most_relations : ℕ
@@ -15,4 +16,4 @@ bytes_limit = 2 ^ 32
 
 -- a number of 64 bits
 abbrev pub is_word : ℤ → Bool
-is_word v = int_le (negsuc (2 ^ 63 - 1)) v && int_le v (pos (2 ^ 63 - 1))
+is_word v = int_le least v && int_le v greatest

@@ -7,7 +7,7 @@ use Rattle.ts_num.specs.Aggregates.{lesser, greater, least_of, greatest_of}
 int_min_assoc : (x y z : ℤ) → int_min (int_min x y) z ≡ int_min x (int_min y z)
 int_min_assoc x y z = omega (arith, ints, clamps)
 
-int_max_assoc : (x y z : ℤ) → int_max (int_max x y) z ≡ int_max x (int_max y z)
+pub int_max_assoc : (x y z : ℤ) → int_max (int_max x y) z ≡ int_max x (int_max y z)
 int_max_assoc x y z = omega (arith, ints, clamps)
 
 pub lesser_assoc : (a b c : Option ℤ) → lesser (lesser a b) c ≡ lesser a (lesser b c)

@@ -3,6 +3,7 @@ use Rattle.std.proofs.Common.{◌≡◌, ℕ, suc, ◌≤◌, Bool, true, false,
 use Rattle.std.specs.Prelude.{IsTrue, is_some, cond}
 use Rattle.std.specs.List.{AllByRecursion}
 use Rattle.std.proofs.lemmas.Bool.{true≢false}
+use Rattle.std.proofs.lemmas.List.{append-nil}
 use Rattle.ts_model.specs.declared.events.Event.{Event}
 use Rattle.ts_model.specs.History.{History, ◌▸◌, event_at, position, prefix, Begins}
 use Rattle.ts_model.specs.States.{State, Makes, stands_still, stop_of}
@@ -15,15 +16,16 @@ use Rattle.ts_sessions.specs.Walks.{Walks, Sees}
 use Rattle.ts_sessions.proofs.GivesLaws.{all_above, last_event, steady_later}
 use Rattle.ts_sessions.proofs.StateLaws.{goes_failed, goes_made, goes_seen}
 use Rattle.ts_sessions.proofs.WalkLaws.{goes_walks}
+use Rattle.ts_sessions.proofs.MadeLaws.{seen_made}
 
 -- ---- where a store stands still
 
-seen_still : (alone : Bool) (old found : State) → IsTrue (stands_still old) → Sees alone old found → found.history ≡ old.history
+pub seen_still : (alone : Bool) (old found : State) → IsTrue (stands_still old) → Sees alone old found → found.history ≡ old.history
 seen_still alone old found s (inl e) = ap (λ x. x.history) e
 seen_still alone old found s (inr f) = f.still_there s
 
 -- where a store stands still a walk leaves its history
-history_stays : {A : Type 0} (alone failed : Bool) (old : State) (procedure : Procedure A) (new : State) (y : A) → IsTrue (stands_still old) → Walks alone failed old procedure new y → new.history ≡ old.history
+pub history_stays : {A : Type 0} (alone failed : Bool) (old : State) (procedure : Procedure A) (new : State) (y : A) → IsTrue (stands_still old) → Walks alone failed old procedure new y → new.history ≡ old.history
 history_stays alone failed old (sees shown f) new y s w = history_stays alone failed w.mid (f w.mid.history) new y ((goes_seen alone old w.mid w.first).still s) w.rest ∙ seen_still alone old w.mid s w.first
 history_stays alone failed old (adds e next stop) new y s (inl w) = history_stays alone failed old stop new y s w.1
 history_stays alone failed old (adds e next stop) new y s (inr (inl w)) = absurd (true≢false (sym (subst (λ x. IsTrue (is_some x)) w.first.went_on s)))
@@ -38,10 +40,6 @@ stopped_here alone failed old procedure new y s w =
 
 -- ---- looks and events
 
-seen_made : (alone : Bool) (old found : State) → Sees alone old found → found.made ≡ old.made
-seen_made alone old found (inl e) = ap (λ x. x.made) e
-seen_made alone old found (inr f) = f.made
-
 -- a walk with what was so far: what the procedure gives over the history that it left
 record GivenSo {A : Type 0} (old new : State) (at : ℕ) (so_far : List (ℕ × Event)) (procedure : Procedure A) (y : A) : Type 0 where
   looks : List (Option ℕ)
@@ -52,15 +50,11 @@ record GivenSo {A : Type 0} (old new : State) (at : ℕ) (so_far : List (ℕ × 
   made : new.made ≡ old.made ++ numbers more
   within : last ≤ position new.history
 
-append_none : {X : Type 0} (xs : List X) → xs ++ [] ≡ xs
-append_none [] = refl
-append_none (x ∷ xs) = ap (λ ys. x ∷ ys) (append_none xs)
-
 -- a procedure that has ended
 ended_so : {A : Type 0} (alone failed : Bool) (old : State) (all : History) (stop : Option ℕ) (at : ℕ) (so_far : List (ℕ × Event)) (procedure : Procedure A) (new : State) (y : A) → IsEnded procedure → Walks alone failed old procedure new y → (new ≡ old) × Gives all stop at so_far procedure [] at (so_far ++ []) y
 ended_so alone failed old all stop at so_far (sees shown f) new y i w = absurd i
 ended_so alone failed old all stop at so_far (adds e next stopped) new y i w = absurd i
-ended_so alone failed old all stop at so_far (ends a) new y i w = (w.1, (refl, append_none so_far, w.2))
+ended_so alone failed old all stop at so_far (ends a) new y i w = (w.1, (refl, append-nil so_far, w.2))
 
 -- after a look that is printed
 printed_so : {A : Type 0} (alone failed : Bool) (old mid : State) (at : ℕ) (so_far : List (ℕ × Event)) (shown : History → Bool) (f : History → Procedure A) (new : State) (y : A) → at ≤ position old.history → Sees alone old mid → Begins mid.history new.history → shown mid.history ≡ true → GivenSo mid new (position mid.history) so_far (f mid.history) y → GivenSo old new at so_far (sees shown f) y
@@ -89,7 +83,7 @@ unprinted_so alone failed old mid at so_far shown f new y le first later i w =
       more = [];
       gives = (later.0, subst (λ d. Gives new.history (stop_of new) at so_far d [] at (so_far ++ []) y) (sym later.1) rest.1);
       seen = tt;
-      made = ap (λ x. x.made) rest.0 ∙ seen_made alone old mid first ∙ sym (append_none old.made);
+      made = ap (λ x. x.made) rest.0 ∙ seen_made alone old mid first ∙ sym (append-nil old.made);
       within = omega (arith, le, before, after);
     }
 
@@ -153,9 +147,9 @@ walk_so alone failed fresh old at so_far (ends a) new y s le here w =
       looks = [];
       last = at;
       more = [];
-      gives = (refl, append_none so_far, w.2);
+      gives = (refl, append-nil so_far, w.2);
       seen = tt;
-      made = ap (λ x. x.made) same ∙ sym (append_none old.made);
+      made = ap (λ x. x.made) same ∙ sym (append-nil old.made);
       within = kept;
     }
 

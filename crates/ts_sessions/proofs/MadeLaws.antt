@@ -54,7 +54,7 @@ record Made {A : Type 0} (N : List ℕ → A → Type 0) (base new : List ℕ) (
   is : new ≡ base ++ all
   names : N all y
 
-seen_made : (alone : Bool) (old found : State) → Sees alone old found → found.made ≡ old.made
+pub seen_made : (alone : Bool) (old found : State) → Sees alone old found → found.made ≡ old.made
 seen_made alone old found (inl e) = ap (λ s. s.made) e
 seen_made alone old found (inr f) = f.made
 

@@ -202,7 +202,7 @@ steady_commit : (base : History) (p : Places) (bytes : ℕ) (ops : List Op) (n :
 steady_commit base p bytes [] n = let q = enters (writing [] n) p in unshown base q bytes stmts.Commit (turns (enters none q) said.CommitEmpty) (λ r. refl) (λ h. refl)
 steady_commit base p bytes (op ∷ ops) n = shown base (enters (writing (op ∷ ops) n) p) bytes stmts.Commit (λ r. refl)
 
-refused_here : {X : Type 0} (r : Refusal) → Some r ≡ None → X
+pub refused_here : {X : Type 0} (r : Refusal) → Some r ≡ None → X
 refused_here r e = absurd cc
 
 steady_writing : (base : History) (p : Places) (bytes : ℕ) (stmt : Stmt) (ops : List Op) (n : ℕ) → block_refusal (writing ops n) (kind_of stmt) ≡ None → Steady false base (named_here (enters (writing ops n) p) bytes stmt)
@@ -232,7 +232,7 @@ steady_read base p bytes stmt at le ended =
     let q = enters (reading at) p in
     hidden base q bytes stmt (λ h on e. (λ l c. (refl, ap (named q bytes stmt) (prefix_stays at c (omega (arith, le, position_begins on)))), ended (prefix h at)))
 
-ended_passed : (p : Places) (bytes : ℕ) (stmt : Stmt) (h : History) (o : Option Refusal) → IsEnded (acts p bytes h (action_of (roster h) stmt)) → IsEnded (passed p bytes h stmt o)
+pub ended_passed : (p : Places) (bytes : ℕ) (stmt : Stmt) (h : History) (o : Option Refusal) → IsEnded (acts p bytes h (action_of (roster h) stmt)) → IsEnded (passed p bytes h stmt o)
 ended_passed p bytes stmt h (Some r) i = tt
 ended_passed p bytes stmt h None i = i
 

@@ -8,7 +8,6 @@ use Rattle.std.proofs.lemmas.List.Sums.{prefix_len-le-length}
 use Rattle.std.proofs.lemmas.List.Folds.{position_or_len_push}
 use Rattle.std.proofs.Common.{length-append, ◌==◌}
 use Rattle.std.proofs.lemmas.Bool.Decides.{nat_tests}
-use Rattle.std.proofs.lemmas.Slice.Eq.{bytes_eq-Decides}
 use Rattle.std.specs.Prelude.{ℤ}
 use Rattle.ts_bucket.specs.Bucket.{first_of}
 use Rattle.ts_schema.specs.declared.memory.NoMemory.{NoMemory}
@@ -41,11 +40,9 @@ use Rattle.ts_sessions.specs.Walks.{Walks, Breaks}
 use Rattle.ts_sessions.proofs.CallWalks.{answered_tries}
 use Rattle.ts_sessions.proofs.EndLaws.{quiet, raised_up, completes_then, then_at}
 use Rattle.ts_sessions.proofs.WalkLaws.{breaks_first, walks_as, walks_break}
+use Rattle.stmt_check.proofs.RowLaws.{same_itself}
 
 -- ---- the number of an aggregate
-
-same_itself : (name : List ℕ) → same_name name name ≡ true
-same_itself name = (bytes_eq-Decides name name).1 refl
 
 named_at : (n m : ℕ) (k : ℕ) → cond (nat_lt n m) (Some n) None ≡ Some k → n ≡ k
 named_at n m k = elim (nat_lt n m) as (λ t. cond t (Some n) None ≡ Some k → n ≡ k) [ true ↦ λ e. cc | false ↦ λ e. absurd cc ]

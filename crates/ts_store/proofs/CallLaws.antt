@@ -19,9 +19,8 @@ use Rattle.engine_core.specs.Effects.{effect_of}
 use Rattle.engine_core.specs.Histories.{history_of}
 use Rattle.engine_core.proofs.ActLaws.{free_where_allowed}
 use Rattle.engine_core.proofs.EventLaws.{position_of}
-use Rattle.engine_core.proofs.StoreLaws.{kept_by_any}
+use Rattle.engine_core.proofs.StoreLaws.{kept_by_any, history_push}
 use Rattle.ts_store.specs.Stores.{StoreValue, Does, IsKept, numbers_above, seen, state_of}
-use Rattle.ts_store.proofs.KeptLaws.{seen_push}
 
 -- a store that is alone finds what it saw
 finds_itself : (s : State) → s.origin.faults ≤ s.faults → (IsTrue (stands_still s) → Rose s.origin.faults s.faults) → Found true s s
@@ -69,7 +68,7 @@ module _ {D : Type 0} (bytes : D → Option (List ℕ)) (may_leave : D → List 
   pub makes_state : (old new : StoreValue D) (e : Event) → Kept old → old.failed ≡ None → new.failed ≡ None → new.engine.events ≡ old.engine.events ++ (e ∷ [])
       → faults new.journal.disk ≡ faults old.journal.disk → new.begun ≡ old.begun → new.opened ≡ old.opened → Makes e (state old) (state new)
   makes_state old new e kept going goes with count begun opened =
-      let now : seen new ≡ (seen old ▸ e) = ap history_of with ∙ seen_push old.engine.events e in
+      let now : seen new ≡ (seen old ▸ e) = ap history_of with ∙ history_push old.engine.events e in
       let within : old.opened ≤ position (seen old) = omega (arith, kept.from, position_of old.engine.events) in
       record {
         went_on = going;

@@ -1,6 +1,5 @@
 -- An event in its frame.
-use Rattle.std.proofs.Common.{◌≡◌, ℕ, ◌<◌, ◌≤◌, ◌-◌, ◌^◌, min, List, ◌++◌, length, drop, Result, Ok, Err, refl, sym, ◌∙◌, ap, arith}
-use Rattle.std.specs.Prelude.{IfOk}
+use Rattle.std.proofs.Common.{◌≡◌, ℕ, ◌<◌, ◌≤◌, ◌-◌, ◌^◌, min, List, ◌++◌, length, drop, refl, sym, ◌∙◌, ap, arith}
 use Rattle.std.specs.Int.{w32, to_le_bytes}
 use Rattle.std.proofs.lemmas.List.{drop_at}
 use Rattle.std.proofs.Math.Nat.{min-eq_left}
@@ -24,7 +23,3 @@ framed e bytes is =
 
 pub fits_framed : (e : Event) (bytes : List ℕ) → drop 4 bytes ≡ spelling.event e → event_bytes e < 2 ^ 32 → Fits (drop 4 bytes)
 fits_framed e bytes is few = omega (arith, ap length is, bytes_counted e, few)
-
-pub ok_also : {A E : Type 0} (result : Result A E) (P Q : A → Type 0) → ((a : A) → P a → Q a) → IfOk result P → IfOk result Q
-ok_also (Ok a) P Q from p = from a p
-ok_also (Err e) P Q from p = p

@@ -1,12 +1,12 @@
 -- What is true of a store stays so.
-use Rattle.std.proofs.Common.{◌≡◌, Bool, ◌≢◌, inl, ⊎_elim, ℕ, ◌+◌, ◌-◌, ◌^◌, ◌≤◌, ◌<◌, true, false, min, List, [], ◌∷◌, ◌++◌, length, Option, Some, None, IsSomeAnd, refl, sym, ◌∙◌, ap, subst, arith}
+use Rattle.std.proofs.Common.{◌≡◌, Bool, ◌≢◌, inl, ⊎_elim, ℕ, ◌+◌, ◌-◌, ◌^◌, ◌≤◌, ◌<◌, true, false, min, List, length, Option, Some, None, IsSomeAnd, refl, sym, ◌∙◌, ap, subst, arith}
 use Rattle.std.specs.Prelude.{IsTrue, is_some}
 use Rattle.std.proofs.lemmas.Bool.{true≢false}
 use Rattle.std.proofs.Math.Nat.{min-le_left, min-le_right, le-min}
 use Rattle.ts_schema.specs.Faults.{Rose}
 use Rattle.ts_model.specs.declared.events.Event.{Event}
-use Rattle.ts_model.specs.History.{History, start, ◌▸◌, position, prefix, Begins, same}
-use Rattle.ts_model.proofs.HistoryLaws.{begins_prefix, begins_trans, followed_push, prefix_end, prefix_stays}
+use Rattle.ts_model.specs.History.{History, start, position, prefix, Begins, same}
+use Rattle.ts_model.proofs.HistoryLaws.{begins_prefix, begins_trans, prefix_end, prefix_stays}
 use Rattle.engine_core.specs.Histories.{history_of}
 use Rattle.engine_core.specs.Values.{EngineValue}
 use Rattle.engine_core.proofs.EventLaws.{position_of}
@@ -66,9 +66,6 @@ pub some_of_still : (failed : Option Event) (s : Standing) → is_some failed �
 some_of_still failed s is still = is ∙ ap is_still still
 
 -- ---- histories
-
-pub seen_push : (events : List Event) (e : Event) → history_of (events ++ (e ∷ [])) ≡ (history_of events ▸ e)
-seen_push events e = followed_push start events e
 
 -- an opening stays the same
 pub opening_stays : (g h : History) (opened : ℕ) → Begins g h → opened ≤ position g → prefix h opened ≡ prefix g opened

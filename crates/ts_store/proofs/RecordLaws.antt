@@ -35,7 +35,8 @@ use Rattle.ts_store.specs.declared.recorders.Recorder.{Recorder}
 use Rattle.ts_store.proofs.CallLaws.{does_failed, does_made, fails_state, makes_state}
 use Rattle.ts_store.proofs.HistoryLaws.{sound_push}
 use Rattle.ts_store.proofs.ImageLaws.{begin_on, either_stands, shown_at_rest, some_also}
-use Rattle.ts_store.proofs.KeptLaws.{kept_after, ready_headed, still_headed, rose_above, rose_from, rose_none, safe_of, seen_push}
+use Rattle.ts_store.proofs.KeptLaws.{kept_after, ready_headed, still_headed, rose_above, rose_from, rose_none, safe_of}
+use Rattle.engine_core.proofs.StoreLaws.{history_push}
 
 module _ {D : Type 0} (bytes : D → Option (List ℕ)) (may_leave : D → List ℕ → Type 0) (moment : D → ℕ) (left_since : D → ℕ → List ℕ → Type 0) (faults : D → ℕ) where
   module _ (old new : Recorder D) (e : Event) (frame : List ℕ) (sound : IsSound (history_of old.engine.events)) (fits : IsTrue (allowed (history_of old.engine.events) e)) (formed : IsFormed e) (framed : frame ≡ spelling.event e) (going : old.failed ≡ None)
@@ -56,7 +57,7 @@ module _ {D : Type 0} (bytes : D → Option (List ℕ)) (may_leave : D → List 
     module _ (with : new.engine.events ≡ old.engine.events ++ (e ∷ [])) (goes : new.failed ≡ None) (ready : new.journal.standing ≡ Ready) (count : faults new.journal.disk ≡ faults old.journal.disk)
         (done : (payloads : List (List ℕ)) → IsAtRest bytes may_leave old.journal payloads → IsAtRest bytes may_leave new.journal (payloads ++ frame ∷ [])) where
       now : history_of new.engine.events ≡ (before ▸ e)
-      now = ap history_of with ∙ seen_push old.engine.events e
+      now = ap history_of with ∙ history_push old.engine.events e
 
       latest_now : latest (history_of new.engine.events) new.failed ≡ (before ▸ e)
       latest_now = ap (λ (o : Option Event). latest (history_of new.engine.events) o) goes ∙ now

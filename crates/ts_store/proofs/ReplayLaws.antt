@@ -11,20 +11,20 @@ use Rattle.txn_journal.proofs.ReadingLaws.{split}
 use Rattle.ts_store.specs.Stands.{IsDamagedAt, IsNoEvent, IsSound, IsWrong, payloads_of}
 use Rattle.ts_store.specs.Takes.{IsTaken}
 use Rattle.ts_store.proofs.HistoryLaws.{sound_push}
-use Rattle.ts_store.proofs.KeptLaws.{seen_push}
+use Rattle.engine_core.proofs.StoreLaws.{history_push}
 
 -- ---- a payload whose event took effect
 
 pub taken_more : (payload : List ℕ) (old new : List Event) → IsTaken payload old new → payloads_of (history_of new) ≡ payloads_of (history_of old) ++ payload ∷ []
 taken_more payload old new taken =
     ap (λ (es : List Event). payloads_of (history_of es)) taken.events
-    ∙ ap payloads_of (seen_push old taken.event)
+    ∙ ap payloads_of (history_push old taken.event)
     ∙ ap (λ (p : List ℕ). payloads_of (history_of old) ++ p ∷ []) (sym taken.next.spelled)
 
 pub taken_sound : (payload : List ℕ) (old new : List Event) → IsSound (history_of old) → IsTaken payload old new → IsSound (history_of new)
 taken_sound payload old new sound taken =
     subst (λ (es : List Event). IsSound (history_of es)) (sym taken.events)
-    (subst IsSound (sym (seen_push old taken.event)) (sound_push (history_of old) taken.event sound taken.next.fits taken.next.formed))
+    (subst IsSound (sym (history_push old taken.event)) (sound_push (history_of old) taken.event sound taken.next.fits taken.next.formed))
 
 -- ---- a payload of no event
 

@@ -1,9 +1,6 @@
 -- What contracts see of a store.
-use Rattle.std.specs.Prelude.{◌≡◌, ◌≢◌, ℕ, suc, ◌≤◌, ◌<◌, ◌^◌, Bool, true, false, cond, nat_lt, List, [], ◌∷◌, ◌++◌, length, Option, Some, None, Result, is_some, IfOk, IsTrue, IsSomeAnd}
+use Rattle.std.specs.Prelude.{◌≡◌, ◌≢◌, ℕ, suc, ◌≤◌, ◌<◌, ◌^◌, Bool, true, false, cond, nat_lt, List, [], ◌∷◌, ◌++◌, length, Option, Some, None, is_some, IsTrue, IsSomeAnd}
 use Rattle.ts_schema.specs.Faults.{Rose}
-use Rattle.ts_schema.specs.declared.memory.NoMemory.{NoMemory}
-use Rattle.ts_model.specs.Allowed.{all_allowed}
-use Rattle.engine_state.specs.Stands.{StateValue, StandsFor}
 use Rattle.ts_model.specs.declared.events.Event.{Event}
 use Rattle.ts_model.specs.declared.outcomes.Outcome.{Outcome}
 use Rattle.ts_model.specs.Calls.{Act, Called}
@@ -95,10 +92,6 @@ pub record IsKept {D : Type 0} (bytes : D → Option (List ℕ)) (may_leave : D 
   -- what reads give
   pub shown : IsDurable bytes may_leave s.begun → IsSomeAnd (bytes s.journal.disk) (StandsForEither (seen s) (latest (seen s) s.failed))
   pub images : IsDurable bytes may_leave s.begun → (c : List ℕ) → left_since s.journal.disk (moment s.begun) c → IsBetween (opening s) (seen s) s.failed c
-
--- a snapshot that was made is of this history, which is an allowed one
-abbrev pub Shows : Result StateValue NoMemory → History → Type 0
-Shows result h = IsTrue (all_allowed h) × IfOk result (λ shot. StandsFor h shot)
 
 -- a call that does this, on a store that nobody else changes
 abbrev pub Does : {D A : Type 0} → (D → ℕ) → (D → ℕ) → (History → Act A) → StoreValue D → Outcome A → StoreValue D → Type 0

@@ -3,13 +3,14 @@ ghost use Rattle.std.specs.Prelude.{◌≡◌, IsSome, IsTrue, true};
 ghost use Rattle.std.specs.Option.{ForSome};
 ghost use Rattle.ts_bucket.specs.Bucket.{is_time};
 ghost use Rattle.ts_model.specs.declared.events.Event.TheVariants.{Table, Hyper as HyperMade, View, Mode, Commit};
-ghost use Rattle.ts_model.specs.Calls.{Looked, committing, cutting, finishing};
+ghost use Rattle.ts_model.specs.Calls.{Looked, Snapped, committing, cutting, finishing};
 ghost use Rattle.ts_model.specs.Calls.{making_hyper, making_table, making_view, setting_mode};
 ghost use Rattle.ts_model.specs.Roster.{roster, view_of};
 ghost use Rattle.ts_model.specs.Sound.{sound};
+ghost use Rattle.engine_state.specs.Stands.{StandsFor};
 ghost use Rattle.refresh_build.specs.Fitting.{JobFits};
 ghost use Rattle.ts_store.specs.Safe.{IsSafe};
-ghost use Rattle.ts_store.specs.Stores.{Does, Shows, known_of, seen, state_of};
+ghost use Rattle.ts_store.specs.Stores.{Does, known_of, seen, state_of};
 
 use crate::stores::Store;
 use engine_core::{Shot, cut_over, no_bucket, numbered};
@@ -34,7 +35,7 @@ impl<D: Disk> Backend for Store<D> {
     ghost kin = { λ s. known_of s };
 
     fn snap(&mut self) -> Result<Shot, NoMemory>
-        ensures looked { Looked true (state_of D.faults D.moment self.old) (Shows result)
+        ensures looked { Looked true (state_of D.faults D.moment self.old) (Snapped (λ shot h. StandsFor h shot) result)
             (state_of D.faults D.moment self.new) }
         ensures kin { known_of self.new ≡ known_of self.old }
         ensures same { self.new ≡ self.old }

@@ -109,7 +109,3 @@ pub printed_all : (old new : Option (List ℕ)) (events : List Event) (place : �
 printed_all old new events place end so_far =
     let names = roster (history_of events) in
     subst (Appends old new) (sym (log_is events ∙ so_far.split ∙ ap (λ es. so_far.done ++ lines_after names place es) (drop_end events place end) ∙ append-nil so_far.done)) so_far.wrote
-
--- nothing of a text is a part of it
-pub nothing_yet : (w : Option (List ℕ)) (text : List ℕ) → AppendsPart w w text
-nothing_yet w text = record { done = []; todo = text; split = refl; grew = Appends-nil w }

@@ -1,6 +1,6 @@
 -- What the top call has done, by how its script ended and what the store then says of its disk.
 use Rattle.std.proofs.Common.{◌≡◌, ◌≤◌, inl, inr, ⊎_elim, ℕ, false, List, [], ◌∷◌, ◌++◌, Option, Some, None, IfSome, take, refl, sym, ap, ◌∙◌, subst, arith}
-use Rattle.std.specs.Prelude.{is_some, IsSome, IsSomeAnd}
+use Rattle.std.specs.Prelude.{IsSome, IsSomeAnd}
 use Rattle.std.specs.Io.KnownBytes.{Appends}
 use Rattle.std.proofs.KnownBytes.{Appends-nil}
 use Rattle.ts_disk.specs.CrashImage.{LeavesOnly}
@@ -21,20 +21,14 @@ use Rattle.ts_top.specs.declared.endings.Status.{Status}
 use Rattle.ts_top.specs.declared.endings.Status.TheVariants.{Done, Refused, BadWords, ReadFault, WriteFault, DiskFault, Damaged, NoMemory, InputLong}
 use Rattle.ts_top.specs.Scripts.{history_after}
 use Rattle.ts_top.specs.Outcomes.{Outside, StandsBetween, Holds, ImagesUpTo, RanWhole, RanBefore, RanWithin, RanWriting, RanTo, IfReading}
+use Rattle.ts_schema.proofs.Cases.{none_there}
+use Rattle.ts_store.proofs.ImageLaws.{some_also}
 
 -- ---- options
-
-pub some_and : {T : Type 0} (o : Option T) (P Q : T → Type 0) → ((x : T) → P x → Q x) → IsSomeAnd o P → IsSomeAnd o Q
-some_and None P Q gives p = p
-some_and (Some x) P Q gives p = gives x p
 
 pub if_some : {T : Type 0} (o : Option T) (P Q : T → Type 0) → ((x : T) → P x → Q x) → IfSome o P → IfSome o Q
 if_some None P Q gives p = p
 if_some (Some x) P Q gives p = gives x p
-
-pub none_there : {T : Type 0} (o : Option T) → is_some o ≡ false → o ≡ None
-none_there None is = refl
-none_there (Some x) is = absurd (cc is)
 
 -- ---- files
 
@@ -78,7 +72,7 @@ left_of s o = record { store = s; written_before = o.written_before; written = o
 
 module _ (durable : Type 0) (left : List ℕ → Type 0) (untouched : Type 0) (o : Outside) (h : History) (s : State) (closed : Closed durable left h s o.file) where
   holds_all : (to : History) → s.failed ≡ None → s.history ≡ to → durable → Holds o.file to
-  holds_all to none is d = some_and o.file (StandsForEither s.history (latest s.history s.failed)) (λ file. Stands file to) (λ file either. subst (λ g. Stands file g) is (the_one s.history s.failed file none either)) (closed.shown d)
+  holds_all to none is d = some_also o.file (StandsForEither s.history (latest s.history s.failed)) (λ file. Stands file to) (λ file either. subst (λ g. Stands file g) is (the_one s.history s.failed file none either)) (closed.shown d)
 
   images_all : (to : History) → s.failed ≡ None → Begins s.history to → durable → ImagesUpTo left h to
   images_all to none within d = λ c image. image_before h s.history to s.failed c none within (closed.images d c image)
@@ -120,7 +114,7 @@ module _ (durable : Type 0) (left : List ℕ → Type 0) (untouched : Type 0) (o
         rest = stopped.rest;
         split = stopped.split;
         wrote = stopped.wrote;
-        holds = λ d. some_and o.file (StandsForEither s.history (latest s.history s.failed)) (StandsBetween from to)
+        holds = λ d. some_also o.file (StandsForEither s.history (latest s.history s.failed)) (StandsBetween from to)
             (λ file either. record { history = s.history; stands = the_one s.history s.failed file none either; began = stopped.between.began; within = stopped.between.within }) (closed.shown d);
         images = images_all to none stopped.between.within;
         counted = stopped.counted;
@@ -136,7 +130,7 @@ module _ (durable : Type 0) (left : List ℕ → Type 0) (untouched : Type 0) (o
         rest = stopped.line ∷ stopped.rest;
         split = stopped.split;
         wrote = stopped.wrote;
-        holds = λ d. some_and o.file (StandsForEither s.history (latest s.history s.failed)) (StandsBetween from to)
+        holds = λ d. some_also o.file (StandsForEither s.history (latest s.history s.failed)) (StandsBetween from to)
             (λ file either. file_failed from s.history to failed.event s.failed file failed.failed failed.began failed.next either) (closed.shown d);
         images = λ d c image. image_failed h s.history to failed.event s.failed c failed.failed failed.next (closed.images d c image);
         counted = stopped.counted;
@@ -232,7 +226,7 @@ stopped_at_header durable left untouched o h stood same_written none_read holds 
       rest = executed bytes;
       split = refl;
       wrote = subst (λ w. Appends o.written_before w []) (sym same_written) (Appends-nil o.written_before);
-      holds = λ d. some_and o.file (λ file. Stands file h) (StandsBetween h (history_after h (take 1 (executed bytes)))) (λ file stands. record { history = h; stands = stands; began = same; within = begun_lines h (executed bytes) }) (holds d);
+      holds = λ d. some_also o.file (λ file. Stands file h) (StandsBetween h (history_after h (take 1 (executed bytes)))) (λ file stands. record { history = h; stands = stands; began = same; within = begun_lines h (executed bytes) }) (holds d);
       images = λ d c image. record { history = h; stands = images d c image; began = same; within = begun_lines h (executed bytes) };
       counted = omega (arith, none_read);
     }

@@ -25,7 +25,9 @@ use Rattle.ts_top.specs.Endings.{is_disk_fault, status_answered}
 use Rattle.ts_top.specs.Openings.{NotOpened}
 use Rattle.ts_top.specs.Outcomes.{Holds, Outside, Untouched}
 use Rattle.ts_top.specs.Parallel.{Any, ByWorkers, GaveUp, InputRan, InputTo, ParTo, PrintsReplies, RanNothing, status_given_up}
-use Rattle.ts_top.proofs.OutcomeLaws.{Closed, if_some, none_there, some_and}
+use Rattle.ts_top.proofs.OutcomeLaws.{Closed, if_some}
+use Rattle.ts_schema.proofs.Cases.{none_there}
+use Rattle.ts_store.proofs.ImageLaws.{some_also}
 
 -- ---- histories
 
@@ -74,7 +76,7 @@ module _ (durable : Type 0) (left : List ℕ → Type 0) (h : History) (input : 
   gave_up : Begins h s.history → written ≡ before → GaveUp durable left h (written ≡ before) file
   gave_up b none = record {
     printed_nothing = none;
-    holds = λ d. some_and file (StandsForEither s.history (latest s.history s.failed)) (StandsForMore h) (λ c either. either_more h s.history s.failed c b either) (closed.shown d);
+    holds = λ d. some_also file (StandsForEither s.history (latest s.history s.failed)) (StandsForMore h) (λ c either. either_more h s.history s.failed c b either) (closed.shown d);
     images = λ d c image. let i = closed.images d c image in record { all = i.history; stands = i.stands; begins = i.from };
   }
 

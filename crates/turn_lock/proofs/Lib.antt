@@ -4,5 +4,5 @@ mod Views
 mod Turning
 mod Shares
 mod Ends
-mod Gathering
+pub mod Gathering
 mod Always

@@ -8,12 +8,12 @@ use Rattle.std.proofs.lemmas.List.{length-append, length-map, nil_from_length}
 use Rattle.std.proofs.lemmas.List.Folds.{list_all-append}
 use Rattle.ts_bucket.specs.Bucket.{is_time}
 use Rattle.seg_rows.specs.Versions.{newborn}
-use Rattle.seg_rows.proofs.VersionLaws.{and_first}
 use Rattle.chunk_catalog.specs.Chunks.{HaveTimes}
 use Rattle.chunk_catalog.specs.Places.{place, in_chunk}
 use Rattle.chunk_catalog.specs.Parts.{placed_rows}
 use Rattle.chunk_catalog.proofs.PartLaws.{times_kept, length_kept, placed_kept, part_step, length_more}
 use Rattle.chunk_catalog.proofs.parts.put_rows.Goals as goal
+use Rattle.ts_schema.proofs.Cases.{and_first}
 
 pub loop-alloc-init : goal.loop-alloc-init
 loop-alloc-init c = record {

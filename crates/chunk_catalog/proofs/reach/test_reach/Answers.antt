@@ -2,8 +2,9 @@ use Rattle.std.proofs.Common.{◌≡◌, pos, ◌-ℤ◌, ◌∙◌, ap, rules}
 use Rattle.std.specs.Prelude.{FitsSigned, int_le}
 use Rattle.std.specs.Int.{w64}
 use Rattle.std.proofs.lemmas.Int.{to_z-of_z}
+use Rattle.std.proofs.lemmas.Bool.{false_from_ne_true}
 use Rattle.ts_schema.specs.Conditions.{passes_all}
-use Rattle.chunk_catalog.proofs.ReachLaws.{lies, start_reached, false_unless, not_both, fits_time, fits_before, start_low}
+use Rattle.chunk_catalog.proofs.ReachLaws.{lies, start_reached, not_both, fits_time, fits_before, start_low}
 use Rattle.chunk_catalog.proofs.reach.test_reach.Goals as goal
 
 pub returns : goal.returns
@@ -18,7 +19,7 @@ returns c =
           let fits : FitsSigned w64 x.version.row.at = fits_time x.version.row.at here.time_low here.time_high in
           let fits_by : FitsSigned w64 (c.args.interval -ℤ pos 1) = fits_before c.args.interval c.requires in
           let floor : int_le c.lowered.result x.start ≡ int_le (c.test_times-times.result.first -ℤ (c.args.interval -ℤ pos 1)) x.start = simp to_z-of_z at (c.lowered.ensures.floor x.start (start_low c.args.interval x c.requires here)) in
-          false_unless _ (λ passes.
+          false_from_ne_true _ (λ passes.
           let times = c.test_times-times.ensures.every x.version.row fits (ap (λ ts. passes_all x.version.row ts) c.items.ensures.items ∙ passes) in
           not_both _ (start_reached c.args.interval c.lowered.result c.test_times-times.result.first c.test_times-times.result.last x.start x.version.row.at here.at_or_after here.before_end floor times) (simp to_z-of_z at apart));
     }

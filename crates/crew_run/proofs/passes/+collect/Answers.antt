@@ -1,5 +1,6 @@
-use Rattle.crew_run.proofs.SlotLaws.{known_more, pass_of_store, passes_first, stays_then, there_is_pass}
+use Rattle.crew_run.proofs.SlotLaws.{known_more, pass_of_store, passes_first, there_is_pass}
 use Rattle.crew_run.proofs.passes.+collect.Goals as goal
+use Rattle.turn_lock.proofs.Gathering.{stays_then}
 
 pub take_pass-pass-requires : goal.take_pass-pass-requires
 take_pass-pass-requires g t c = there_is_pass c.args.store.now c.in-Some.slot.now (passes_first c.args.store.now _ c.in-Some.slot.now c.in-Some.rest.now c.in-Some.ensures.cases.0 c.requires.passes)

@@ -1,17 +1,18 @@
 -- A disk without a byte stands for the empty history, and is damaged nowhere.
 use Rattle.std.proofs.Common.{◌≡◌, ◌∙◌, ap, [], Some}
+use Rattle.std.proofs.lemmas.Result.{IfOk-weaker}
 use Rattle.ts_disk.specs.MemDisk.{known}
 use Rattle.ts_model.specs.History.{start}
 use Rattle.ts_store.specs.Stores.{seen}
 use Rattle.ts_store.proofs.StandsLaws.{journals_stand_once, journals_stand_or_are_damaged}
-use Rattle.demo_run.proofs.RunLaws.{empty_stands, if_ok}
+use Rattle.demo_run.proofs.RunLaws.{empty_stands}
 use Rattle.demo_run.proofs.runs.empty_store.Goals as goal
 
 pub returns-in-Ready-clause-empty : goal.returns-in-Ready-clause-empty
 returns-in-Ready-clause-empty g c =
     let bytes : known c.new-2.result ≡ Some [] = ap known c.new-2.ensures.made ∙ ap Some c.new.ensures.items in
     let empty : seen c.in-Ready.store ≡ start = journals_stand_once [] (seen c.in-Ready.store) start (c.in-Ready.ensures.starts [] bytes) empty_stands in
-    if_ok c.with_header.result _ _ (λ armed same. same ∙ empty) c.with_header.ensures.same
+    IfOk-weaker c.with_header.result _ _ (λ armed same. same ∙ empty) c.with_header.ensures.same
 
 pub unreachable-requires : goal.unreachable-requires
 unreachable-requires g c =

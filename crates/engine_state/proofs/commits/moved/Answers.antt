@@ -3,8 +3,9 @@ use Rattle.std.proofs.Common.{◌≡◌, ◌∙◌, false, length, ap, sym}
 use Rattle.std.specs.List.{list_any}
 use Rattle.row_versions.specs.Tables.{is_on}
 use Rattle.engine_state.specs.Steps.{rows_before}
-use Rattle.engine_state.proofs.UnnamedFacts.{appends_none, goes_unnamed, takes_none}
+use Rattle.engine_state.proofs.UnnamedFacts.{goes_unnamed, takes_none}
 use Rattle.engine_state.proofs.commits.moved.Goals as goal
+use Rattle.row_versions.proofs.HistoryLaws.{unnamed_appended}
 
 pub returns-clause-goes : goal.returns-clause-goes
 returns-clause-goes c =
@@ -14,7 +15,7 @@ returns-clause-goes c =
 pub returns-clause-inserted : goal.returns-clause-inserted
 returns-clause-inserted c =
     let none : list_any (is_on c.args.number) c.args.ops.now ≡ false = ap (list_any (is_on c.args.number)) (sym c.items.ensures.items) ∙ sym c.are_on.ensures ∙ c.if-are_on.false in
-    ap length (sym (appends_none c.args.number c.args.ops.now none))
+    ap length (sym (unnamed_appended c.args.number c.args.ops.now none))
 
 pub returns-clause-removed : goal.returns-clause-removed
 returns-clause-removed c =

@@ -2,7 +2,7 @@ use Rattle.std.proofs.Common.{◌≡◌, ◌++◌, ◌≤ℤ◌, arith, rules}
 use Rattle.std.specs.Prelude.{FitsSigned}
 use Rattle.std.specs.Int.{w64}
 use Rattle.std.proofs.lemmas.Int.{ints, to_z-of_z}
-use Rattle.event_codec.specs.Formed.{least_word, most_word}
+use Rattle.ts_bucket.specs.WholeSpans.{least, greatest}
 use Rattle.event_codec.specs.Spelling.{signed}
 use Rattle.event_codec.specs.Reading.{StopsAt, between}
 use Rattle.event_codec.proofs.Fronts.{is_less, not_less, seen_again, signed_is_read, signed_outside, signed_short}
@@ -11,8 +11,8 @@ use Rattle.event_codec.proofs.numbers.read_between.Goals as goal
 
 pub returns-in_default-clause-read : goal.returns-in_default-clause-read
 returns-in_default-clause-read c =
-    let low : least_word ≤ℤ c.args.least = omega (arith, ints, c.ranges.least) in
-    let high : c.args.most ≤ℤ most_word = omega (arith, ints, c.ranges.most) in
+    let low : least ≤ℤ c.args.least = omega (arith, ints, c.ranges.least) in
+    let high : c.args.most ≤ℤ greatest = omega (arith, ints, c.ranges.most) in
     let least : FitsSigned w64 c.args.least = c.ranges.least in
     let most : FitsSigned w64 c.args.most = c.ranges.most in
     let stop : StopsAt (between c.args.least c.args.most c.args.bytes.now) c.after_between.result.now = simp to_z-of_z at c.after_between.ensures in
@@ -20,8 +20,8 @@ returns-in_default-clause-read c =
 
 pub returns-then-number-least-clause-read : goal.returns-then-number-least-clause-read
 returns-then-number-least-clause-read c =
-    let low : least_word ≤ℤ c.args.least = omega (arith, ints, c.ranges.least) in
-    let high : c.args.most ≤ℤ most_word = omega (arith, ints, c.ranges.most) in
+    let low : least ≤ℤ c.args.least = omega (arith, ints, c.ranges.least) in
+    let high : c.args.most ≤ℤ greatest = omega (arith, ints, c.ranges.most) in
     let least : FitsSigned w64 c.args.least = c.ranges.least in
     let most : FitsSigned w64 c.args.most = c.ranges.most in
     let number : FitsSigned w64 c.in-Some.number = search rules in
@@ -35,8 +35,8 @@ returns-then-number-least-clause-read c =
 
 pub returns-clause-read : goal.returns-clause-read
 returns-clause-read c =
-    let low : least_word ≤ℤ c.args.least = omega (arith, ints, c.ranges.least) in
-    let high : c.args.most ≤ℤ most_word = omega (arith, ints, c.ranges.most) in
+    let low : least ≤ℤ c.args.least = omega (arith, ints, c.ranges.least) in
+    let high : c.args.most ≤ℤ greatest = omega (arith, ints, c.ranges.most) in
     let least : FitsSigned w64 c.args.least = c.ranges.least in
     let most : FitsSigned w64 c.args.most = c.ranges.most in
     let number : FitsSigned w64 c.in-Some.number = search rules in

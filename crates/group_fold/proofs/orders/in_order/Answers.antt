@@ -1,7 +1,7 @@
 use Rattle.std.proofs.Common.{◌≡◌, ◌∙◌, sym, subst}
 use Rattle.std.proofs.lemmas.Result.{IfOk-weaker}
 use Rattle.group_fold.specs.Gathering.{ordered}
-use Rattle.group_fold.specs.Merging.{AreInOrder}
+use Rattle.partial_agg.specs.Groups.{AreInOrder}
 use Rattle.group_fold.proofs.AnyOrder.{ordered-permuted}
 use Rattle.group_fold.proofs.Gathers.{ordered_already, permuted_ordered}
 use Rattle.group_fold.proofs.orders.in_order.Goals as goal

@@ -1,5 +1,5 @@
 use Rattle.std.proofs.Common.{length}
-use Rattle.group_fold.specs.Merging.{AreInOrder}
+use Rattle.partial_agg.specs.Groups.{AreInOrder}
 use Rattle.group_fold.proofs.orders.rises.Given as goal
 
 abbrev pub invariant-loop-left : goal.invariant-loop-left

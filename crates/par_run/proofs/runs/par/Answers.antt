@@ -3,11 +3,12 @@ use Rattle.shared_store.specs.Wrapped.{GoesOn}
 use Rattle.shared_store.proofs.GoesOnLaws.{goes_nowhere}
 use Rattle.session_lines.specs.Sorted.{at_once, final, only, setup, sorted}
 use Rattle.par_run.specs.Crews.{scripts_in}
-use Rattle.par_run.proofs.RunLaws.{going_on, ran_of_same}
+use Rattle.par_run.proofs.RunLaws.{ran_of_same}
 use Rattle.par_run.proofs.runs.par.Goals as goal
+use Rattle.ts_schema.proofs.Cases.{none_there}
 
 pub run_over-requires-clause-going : goal.run_over-requires-clause-going
-run_over-requires-clause-going g c κs within = going_on (g.B.Backend.state c.args.backend).failed c.requires.going
+run_over-requires-clause-going g c κs within = none_there (g.B.Backend.state c.args.backend).failed c.requires.going
 
 pub returns-in-Ok-clause-ran : goal.returns-in-Ok-clause-ran
 returns-in-Ok-clause-ran g c = λ other.
@@ -22,4 +23,4 @@ returns-in-Ok-clause-ran g c = λ other.
 pub returns-in-Err-clause-goes_on : goal.returns-in-Err-clause-goes_on
 returns-in-Err-clause-goes_on g c =
     let first = g.B.Backend.state c.args.backend in
-    subst (λ b. GoesOn first (g.B.Backend.state b)) (sym c.ended.ensures.backend) (goes_nowhere first (going_on first.failed c.requires.going))
+    subst (λ b. GoesOn first (g.B.Backend.state b)) (sym c.ended.ensures.backend) (goes_nowhere first (none_there first.failed c.requires.going))

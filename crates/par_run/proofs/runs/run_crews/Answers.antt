@@ -3,13 +3,13 @@ use Rattle.std.specs.List.{list_any}
 use Rattle.ts_model.specs.States.{stands_still}
 use Rattle.shared_store.specs.Wrapped.{GoesOn}
 use Rattle.crew_run.specs.Slots.{workers_of}
-use Rattle.one_history.proofs.OneHistory.{one_history}
+use Rattle.one_history.proofs.OneHistory.{one_history, looked_allowed}
 use Rattle.par_run.specs.declared.ends.ParStop.TheVariants.{NoMemory}
 use Rattle.par_run.specs.Crews.{scripts_in, CrewsRan}
 use Rattle.par_run.specs.Ends.{is_disk_fault, stop_by}
 use Rattle.par_run.specs.Replies.{replies_in, with_all}
 use Rattle.par_run.specs.Workers.{ran_out, replies_of, worker_script}
-use Rattle.par_run.proofs.RunLaws.{HasReplied, enough_is, goes_on_looked, has_replied, looked_allowed, stop_is}
+use Rattle.par_run.proofs.RunLaws.{HasReplied, enough_is, goes_on_looked, has_replied, stop_is}
 use Rattle.par_run.proofs.runs.run_crews.Goals as goal
 use Rattle.par_run.proofs.runs.run_crews.Goals.{then-enough, else-enough}
 

@@ -1,5 +1,6 @@
 use Rattle.std.proofs.Common.{◌≡◌, drop}
-use Rattle.stmt_check.specs.Queries.{below_all, greatest}
+use Rattle.stmt_check.specs.Queries.{below_all}
+use Rattle.ts_bucket.specs.WholeSpans.{greatest}
 use Rattle.stmt_check.proofs.queries.start_below.Given as goal
 
 -- the bound so far, over what is left

@@ -1,5 +1,6 @@
 use Rattle.std.proofs.Common.{◌≡◌, drop}
-use Rattle.stmt_check.specs.Queries.{from_all, least}
+use Rattle.stmt_check.specs.Queries.{from_all}
+use Rattle.ts_bucket.specs.WholeSpans.{least}
 use Rattle.stmt_check.proofs.queries.start_from.Given as goal
 
 -- the bound so far, over what is left

@@ -3,14 +3,15 @@ use Rattle.std.proofs.Common.{ap, subst}
 use Rattle.ts_store.specs.Images.{IsBetween, StandsForEither, latest}
 use Rattle.ts_store.specs.Stands.{Stands}
 use Rattle.ts_store.specs.Stores.{seen}
-use Rattle.ts_top.proofs.OutcomeLaws.{some_and, the_one}
+use Rattle.ts_top.proofs.OutcomeLaws.{the_one}
 use Rattle.ts_top.proofs.ParallelLaws.{only_one}
 use Rattle.ts_top.proofs.parallel.closed.Goals as goal
+use Rattle.ts_store.proofs.ImageLaws.{some_also}
 
 pub returns-clause-holds : goal.returns-clause-holds
 returns-clause-holds g c d =
     let store = c.args.store in
-    some_and (g.D.Disk.bytes c.close.result) (StandsForEither (seen store) (latest (seen store) store.failed)) (λ file. Stands file (seen store))
+    some_also (g.D.Disk.bytes c.close.result) (StandsForEither (seen store) (latest (seen store) store.failed)) (λ file. Stands file (seen store))
     (λ file either. the_one (seen store) store.failed file c.requires.goes_on either) (c.close.ensures.shown d)
 
 pub returns-clause-images : goal.returns-clause-images

@@ -8,8 +8,9 @@ use Rattle.ts_store.specs.Stores.{known_of, opening, seen, state_of}
 use Rattle.script_run.specs.Runs.{Ran as RanScript}
 use Rattle.ts_top.specs.Endings.{is_disk_fault, is_read_fault, is_write_fault}
 use Rattle.ts_top.specs.Outcomes.{IfReading, Outside, RanTo}
-use Rattle.ts_top.proofs.OutcomeLaws.{Closed, headed, none_there, same_disk_fault, same_read_fault, same_write_fault, told_run}
+use Rattle.ts_top.proofs.OutcomeLaws.{Closed, headed, same_disk_fault, same_read_fault, same_write_fault, told_run}
 use Rattle.ts_top.proofs.scripts.run_lines.Goals as goal
+use Rattle.ts_schema.proofs.Cases.{none_there}
 
 pub returns-clause-outcome : goal.returns-clause-outcome
 returns-clause-outcome g c before stood =

@@ -5,6 +5,7 @@ use Rattle.std.specs.Int.{w64}
 use Rattle.std.specs.List.{AllByRecursion}
 use Rattle.std.proofs.lemmas.Bool.{and_from}
 use Rattle.std.proofs.lemmas.Int.{to_z-of_z}
+use Rattle.std.proofs.lemmas.Option.{slice_get_within}
 use mir.Val.{to_z, of_z}
 use Rattle.ts_bucket.specs.declared.spans.Span.{Span}
 use Rattle.refresh_list.specs.Refreshes.{CutsBelow, newly_cut}
@@ -13,7 +14,7 @@ use Rattle.engine_state.specs.Stands.{StateValue}
 use Rattle.engine_state.specs.Steps.{FedAt, TableCut, TakesIf}
 use Rattle.engine_state.specs.Tables.{TableValue, table_at}
 use Rattle.engine_state.specs.Views.{ViewValue}
-use Rattle.engine_state.proofs.CutFacts.{cut_takes, cut_view, cuts_below, got, place_below, some_table, view_place, view_there}
+use Rattle.engine_state.proofs.CutFacts.{cut_takes, cut_view, cuts_below, got, some_table, view_place, view_there}
 use Rattle.engine_state.proofs.RefreshSteps.{state_of_cut}
 use Rattle.engine_state.proofs.StateSteps.{state_there}
 use Rattle.engine_state.proofs.parts.Parts.with_cut.Goals as goal
@@ -45,7 +46,7 @@ pub set-requires : goal.set-requires
 set-requires c =
     let s = c.args.self.now in
     let same : c.in_ok-tables.tables ≡ s.tables = c.in_ok-tables.ensures.same ∙ ap (λ (s : StateValue). s.tables) c.self.view_is in
-    subst (λ (tables : List (Option TableValue)). c.table-number.result < length tables) (sym same) (place_below s.tables c.table-number.result (Some c.table-table.result.now) (state_there s.tables c.table-number.result c.table-table.result.now c.table-table.ensures.table))
+    subst (λ (tables : List (Option TableValue)). c.table-number.result < length tables) (sym same) (slice_get_within s.tables c.table-number.result (Some c.table-table.result.now) (state_there s.tables c.table-number.result c.table-table.result.now c.table-table.ensures.table))
 
 pub with_cut-requires : goal.with_cut-requires
 with_cut-requires c =

@@ -1,6 +1,6 @@
 -- No groups are in order.
 use Rattle.std.proofs.Common.{sym, subst}
-use Rattle.mat_rows.specs.Replacing.{AreInOrder}
+use Rattle.partial_agg.specs.Groups.{AreInOrder}
 use Rattle.mat_rows.proofs.PlaceLaws.{order_none}
 use Rattle.mat_rows.proofs.rows.MatRows.new.Goals as goal
 

@@ -1,6 +1,6 @@
 -- The groups were in order.
 use Rattle.std.proofs.Common.{◌∙◌, sym, subst}
-use Rattle.mat_rows.specs.Replacing.{AreInOrder}
+use Rattle.partial_agg.specs.Groups.{AreInOrder}
 use Rattle.mat_rows.proofs.rows.MatRows.of.Goals as goal
 
 pub invariant_of-result : goal.invariant_of-result

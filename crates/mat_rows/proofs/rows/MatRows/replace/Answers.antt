@@ -1,7 +1,8 @@
 -- The groups are in order, as the old and the new ones.
 use Rattle.std.proofs.Common.{◌≡◌, ◌∙◌, ap, sym, subst}
 use Rattle.std.specs.List.{list_all}
-use Rattle.mat_rows.specs.Replacing.{AreInOrder, of_bucket, replaced}
+use Rattle.mat_rows.specs.Replacing.{of_bucket, replaced}
+use Rattle.partial_agg.specs.Groups.{AreInOrder}
 use Rattle.mat_rows.proofs.ReplaceLaws.{order_replaced, of_bucket-replaced, list_all-replaced}
 use Rattle.mat_rows.proofs.rows.MatRows.replace.Goals as goal
 use Rattle.mat_rows.proofs.rows.MatRows.replace.Goals.{In_ok-replaced_in}
