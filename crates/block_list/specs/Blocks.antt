@@ -18,7 +18,9 @@ pub record PartValue (X : Type 0) : Type 0 where
   pub items : List X
 
 abbrev pub part_value_code : {X : Type 0} → Coded X → Coded (PartValue X)
-part_value_code {X} x = code_by (ℕ × List X) (coded× coded_ℕ (coded_list x)) (λ p. (p.start, p.items)) (λ p. record { start = p.0; items = p.1 }) (λ _. refl)
+part_value_code {X} x =
+    code_by (ℕ × List X) (coded× coded_ℕ (coded_list x)) (λ p. (p.start, p.items))
+    (λ p. record { start = p.0; items = p.1 }) (λ _. refl)
 
 module _ {X : Type 0} where
   -- the items of the parts, one part after another

@@ -9,7 +9,9 @@ pub record ListValue (X : Type 0) : Type 0 where
   pub room : ℕ
 
 abbrev pub list_value_code : {X : Type 0} → Coded X → Coded (ListValue X)
-list_value_code {X} x = code_by (List X × ℕ) (coded× (coded_list x) coded_ℕ) (λ v. (v.items, v.room)) (λ p. record { items = p.0; room = p.1 }) (λ _. refl)
+list_value_code {X} x =
+    code_by (List X × ℕ) (coded× (coded_list x) coded_ℕ) (λ v. (v.items, v.room))
+    (λ p. record { items = p.0; room = p.1 }) (λ _. refl)
 
 -- for how many items there is room beside so many, where a vector has this capacity: no more than fill a block
 abbrev pub room_of : ℕ → ℕ → ℕ

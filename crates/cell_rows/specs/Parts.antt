@@ -10,4 +10,5 @@ module _ {X : Type 0} where
   -- the places rise, and the last one is the end of the list
   abbrev pub AreParts : ℕ → List ℕ → List X → Type 0
   AreParts from [] cells = cells ≡ []
-  AreParts from (end ∷ ends) cells = (from ≤ end) × (end - from ≤ length cells) × AreParts end ends (drop (end - from) cells)
+  AreParts from (end ∷ ends) cells =
+      (from ≤ end) × (end - from ≤ length cells) × AreParts end ends (drop (end - from) cells)

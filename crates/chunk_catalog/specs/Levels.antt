@@ -31,7 +31,8 @@ pub record AreNear (l r : Levels) : Type 0 where
   pub left : l.chunks ≤ suc (suc r.chunks)
   pub right : r.chunks ≤ suc (suc l.chunks)
 
--- the levels of a tree that was made of two and a chunk between them: one more than the higher has, or as many where that one was
+-- the levels of a tree that was made of two and a chunk between them: one more than the higher has, or as many where
+-- that one was
 -- too high
 pub record Balances (l r new : Levels) : Type 0 where
   pub least : max l.chunks r.chunks ≤ new.chunks
@@ -54,7 +55,8 @@ no_tree = ([], record { chunks = 0; segments = 0 })
 abbrev pub tree_over : TreeValue → Kept → TreeValue → TreeValue
 tree_over l chunk r = (l.0 ++ in_chunk chunk.start chunk.versions ++ r.0, levels_over l.1 chunk.levels r.1)
 
--- what holds of a chunk between two trees, with a hull and a number of levels: the starts lie in the hull, the number is that of
+-- what holds of a chunk between two trees, with a hull and a number of levels: the starts lie in the hull, the number
+-- is that of
 -- the levels of chunks, both sides are level, and there are few levels
 pub record IsOver (l : TreeValue) (chunk : Kept) (r : TreeValue) (starts : HullValue) (height : ℕ) : Type 0 where
   pub starts_in : StartsIn (Some starts) (tree_over l chunk r).0

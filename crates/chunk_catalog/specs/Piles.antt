@@ -9,7 +9,8 @@ abbrev pub pile_view : Shape → List Version × ℕ
 pile_view (Leaf s) = (s, zero)
 pile_view (Fork l r n latest) = (l.value.0 ++ r.value.0, suc (max l.value.1 r.value.1))
 
--- two piles may hang side by side: the later one is a segment or no larger than the earlier one, and there are few levels
+-- two piles may hang side by side: the later one is a segment or no larger than the earlier one, and there are few
+-- levels
 pub record AreEven (l r : List Version × ℕ) : Type 0 where
   pub lean : 0 < r.1 → length r.0 ≤ length l.0
   pub few : AreFew (suc (max l.1 r.1)) (2 * length (l.0 ++ r.0))

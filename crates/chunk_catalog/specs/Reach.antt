@@ -17,4 +17,5 @@ HoldsPassing tests r = (row : Row) → FitsSigned w64 row.at → passes_all row 
 -- the second range holds what the first does of the times of rows that pass a test
 abbrev pub Narrows : Reach → Test → Reach → Type 0
 Narrows times test r =
-    (row : Row) → FitsSigned w64 row.at → in_reach times row.at ≡ true → passes_one row test ≡ true → in_reach r row.at ≡ true
+    (row : Row) → FitsSigned w64 row.at → in_reach times row.at ≡ true → passes_one row test ≡ true
+    → in_reach r row.at ≡ true

@@ -26,7 +26,9 @@ use Rattle.coverage.specs.Coverage.{is_upto, pending_position, IsCovered}
 
 -- a commit that notes its hull
 abbrev pub CommitsKeep : Type 0
-CommitsKeep = (n : ℕ) (def : ViewDef) (h : History) (ops : List Op) (notes : Notes) → IsCovered n def h notes → IsCovered n def (h ▸ Commit ops) (noted (hull_of_ops def.table ops (rows def.table h)) (suc (position h)) notes)
+CommitsKeep =
+    (n : ℕ) (def : ViewDef) (h : History) (ops : List Op) (notes : Notes) → IsCovered n def h notes
+    → IsCovered n def (h ▸ Commit ops) (noted (hull_of_ops def.table ops (rows def.table h)) (suc (position h)) notes)
 
 -- a span ends where a bucket does
 pub record EndsWhole (w : Width) (span : Span) : Type 0 where
@@ -35,13 +37,19 @@ pub record EndsWhole (w : Width) (span : Span) : Type 0 where
 
 -- a cut of any aggregate over the table, where one of this aggregate has a span that ends where a bucket does
 abbrev pub CutsKeep : Type 0
-CutsKeep = (n : ℕ) (def : ViewDef) (h : History) (v : ℕ) (span : Span) (notes : Notes) → ((v == n) ≡ true → EndsWhole def.fold.width span) → IsCovered n def h notes → IsCovered n def (h ▸ Cut v span) (cut_to def.fold.width span.hi notes)
+CutsKeep =
+    (n : ℕ) (def : ViewDef) (h : History) (v : ℕ) (span : Span) (notes : Notes)
+    → ((v == n) ≡ true → EndsWhole def.fold.width span) → IsCovered n def h notes
+    → IsCovered n def (h ▸ Cut v span) (cut_to def.fold.width span.hi notes)
 
 -- a finish that settles the span of its cut
 abbrev pub FinishesKeep : Type 0
-FinishesKeep = (n : ℕ) (def : ViewDef) (h : History) (cut snap : ℕ) (notes : Notes) → IsCovered n def h notes → IsCovered n def (h ▸ Built cut snap) (settled (span_of_cut n h cut) snap notes)
+FinishesKeep =
+    (n : ℕ) (def : ViewDef) (h : History) (cut snap : ℕ) (notes : Notes) → IsCovered n def h notes
+    → IsCovered n def (h ▸ Built cut snap) (settled (span_of_cut n h cut) snap notes)
 
--- an event of which the notes of aggregate n hear nothing: a new table or mode, another aggregate, and a cut of another aggregate
+-- an event of which the notes of aggregate n hear nothing: a new table or mode, another aggregate, and a cut of
+-- another aggregate
 abbrev pub is_quiet : ℕ → History → Event → Bool
 is_quiet n h (View made) = not (length (roster h).views == n)
 is_quiet n h (Commit ops) = false
@@ -51,11 +59,16 @@ is_quiet n h e = true
 
 -- such an event changes nothing
 abbrev pub QuietKeeps : Type 0
-QuietKeeps = (n : ℕ) (def : ViewDef) (h : History) (e : Event) (notes : Notes) → is_quiet n h e ≡ true → IsCovered n def h notes → IsCovered n def (h ▸ e) notes
+QuietKeeps =
+    (n : ℕ) (def : ViewDef) (h : History) (e : Event) (notes : Notes) → is_quiet n h e ≡ true
+    → IsCovered n def h notes → IsCovered n def (h ▸ e) notes
 
 -- the event that makes the aggregate, on any log of its table whose positions are not after the history
 abbrev pub BeginningsCover : Type 0
-BeginningsCover = (n : ℕ) (def : ViewDef) (h : History) (made : ViewDef) (notes : Notes) → all_allowed h ≡ true → view_of (roster h) n ≡ None → is_upto (position h) notes.log ≡ true → IsCovered n def (h ▸ View made) (begun def.fold.width (suc (position h)) notes)
+BeginningsCover =
+    (n : ℕ) (def : ViewDef) (h : History) (made : ViewDef) (notes : Notes) → all_allowed h ≡ true
+    → view_of (roster h) n ≡ None → is_upto (position h) notes.log ≡ true
+    → IsCovered n def (h ▸ View made) (begun def.fold.width (suc (position h)) notes)
 
 -- an aggregate of which nothing but the mode may have changed, where it is there
 abbrev pub IsOf : ViewDef → Option ViewDef → Type 0
@@ -64,25 +77,37 @@ IsOf def (Some found) = (found.table ≡ def.table) × (found.fold ≡ def.fold)
 
 -- any allowed event
 abbrev pub EventsKeep : Type 0
-EventsKeep = (n : ℕ) (def : ViewDef) (h : History) (e : Event) (notes : Notes) → all_allowed (h ▸ e) ≡ true → IsOf def (view_of (roster h) n) → IsCovered n def h notes → IsCovered n def (h ▸ e) (notes_after n def h e notes)
+EventsKeep =
+    (n : ℕ) (def : ViewDef) (h : History) (e : Event) (notes : Notes) → all_allowed (h ▸ e) ≡ true
+    → IsOf def (view_of (roster h) n) → IsCovered n def h notes
+    → IsCovered n def (h ▸ e) (notes_after n def h e notes)
 
 -- notes that say the same cover the same
 abbrev pub SameCover : Type 0
-SameCover = (n : ℕ) (def : ViewDef) (h : History) (a b : Notes) → AreSame def.fold.width a b → IsCovered n def h a → IsCovered n def h b
+SameCover =
+    (n : ℕ) (def : ViewDef) (h : History) (a b : Notes) → AreSame def.fold.width a b → IsCovered n def h a
+    → IsCovered n def h b
 
 -- feeding all that is logged
 abbrev pub FeedsKeep : Type 0
-FeedsKeep = (n : ℕ) (def : ViewDef) (h : History) (notes : Notes) → IsCovered n def h notes → IsCovered n def h (all_fed def.fold.width notes)
+FeedsKeep =
+    (n : ℕ) (def : ViewDef) (h : History) (notes : Notes) → IsCovered n def h notes
+    → IsCovered n def h (all_fed def.fold.width notes)
 
 -- an aggregate that shows other rows at or above the watermark
 abbrev pub ModesKeep : Type 0
-ModesKeep = (n : ℕ) (def : ViewDef) (only : Bool) (h : History) (notes : Notes) → IsCovered n def h notes → IsCovered n (set_only only def) h notes
+ModesKeep =
+    (n : ℕ) (def : ViewDef) (only : Bool) (h : History) (notes : Notes) → IsCovered n def h notes
+    → IsCovered n (set_only only def) h notes
 
 -- ---- what a note may ask for
 
 -- the hull of an allowed commit goes from a time to a time at or above it
 abbrev pub HullsAreOfTimes : Type 0
-HullsAreOfTimes = (t : ℕ) (h : History) (ops : List Op) (hull : Hull) → all_allowed (h ▸ Commit ops) ≡ true → hull_of_ops t ops (rows t h) ≡ Some hull → (min_time ≤ℤ hull.least) × (hull.least ≤ℤ hull.most) × (hull.most ≤ℤ max_time)
+HullsAreOfTimes =
+    (t : ℕ) (h : History) (ops : List Op) (hull : Hull) → all_allowed (h ▸ Commit ops) ≡ true
+    → hull_of_ops t ops (rows t h) ≡ Some hull
+    → (min_time ≤ℤ hull.least) × (hull.least ≤ℤ hull.most) × (hull.most ≤ℤ max_time)
 
 -- ---- what coverage means
 
@@ -91,53 +116,87 @@ pub record Tells (n : ℕ) (def : ViewDef) (h : History) (notes : Notes) : Type 
   -- what was refreshed is the last refresh
   pub refreshed : (b : ℤ) → is_bucket def.fold.width b ≡ true → notes.refreshed b ≡ last n h b
   -- the pending position of a bucket with a last refresh is the last touch above that
-  pub touched : (b : ℤ) (s : ℕ) → is_bucket def.fold.width b ≡ true → last n h b ≡ Some s → pending_position def.fold.width notes b ≡ above s (last_touch n def h b)
+  pub touched : (b : ℤ) (s : ℕ) → is_bucket def.fold.width b ≡ true → last n h b ≡ Some s
+      → pending_position def.fold.width notes b ≡ above s (last_touch n def h b)
   -- something is pending in a bucket without one
-  pub never : (b : ℤ) → is_bucket def.fold.width b ≡ true → in_span (whole_span def.fold.width) b ≡ true → last n h b ≡ None → is_some (notes.pending b) ≡ true
+  pub never :
+      (b : ℤ) → is_bucket def.fold.width b ≡ true → in_span (whole_span def.fold.width) b ≡ true → last n h b ≡ None
+      → is_some (notes.pending b) ≡ true
   -- exactly the buckets touched after their last refresh, or never refreshed, have a pending position
-  pub exact : (b : ℤ) → is_bucket def.fold.width b ≡ true → in_span (whole_span def.fold.width) b ≡ true → is_some (pending_position def.fold.width notes b) ≡ invalid n def h b
-  -- these are the buckets that were never refreshed or have something pending, and those that a noted hull meets after their last refresh
-  pub dirty : (b : ℤ) → is_bucket def.fold.width b ≡ true → in_span (whole_span def.fold.width) b ≡ true → ((is_none (notes.refreshed b) || is_some (notes.pending b)) || is_some (above_last (notes.refreshed b) (log_touch def.fold.width b notes.log))) ≡ invalid n def h b
+  pub exact : (b : ℤ) → is_bucket def.fold.width b ≡ true → in_span (whole_span def.fold.width) b ≡ true
+      → is_some (pending_position def.fold.width notes b) ≡ invalid n def h b
+  -- these are the buckets that were never refreshed or have something pending, and those that a noted hull meets
+  -- after their last refresh
+  pub dirty : (b : ℤ) → is_bucket def.fold.width b ≡ true → in_span (whole_span def.fold.width) b ≡ true
+      →
+      ((is_none (notes.refreshed b) || is_some (notes.pending b)) || is_some (above_last (notes.refreshed b) (log_touch def.fold.width b notes.log)))
+      ≡ invalid n def h b
   -- and those of them below the watermark are stale
-  pub stale : (b : ℤ) → is_bucket def.fold.width b ≡ true → in_span (whole_span def.fold.width) b ≡ true → (is_below b (watermark n def h) && is_some (pending_position def.fold.width notes b)) ≡ stale n def h b
+  pub stale : (b : ℤ) → is_bucket def.fold.width b ≡ true → in_span (whole_span def.fold.width) b ≡ true
+      → (is_below b (watermark n def h) && is_some (pending_position def.fold.width notes b)) ≡ stale n def h b
 
 -- notes that cover an aggregate of an allowed history tell all of this
 abbrev pub CoveredTells : Type 0
-CoveredTells = (n : ℕ) (def : ViewDef) (h : History) (notes : Notes) → all_allowed h ≡ true → is_some (view_of (roster h) n) ≡ true → IsCovered n def h notes → Tells n def h notes
+CoveredTells =
+    (n : ℕ) (def : ViewDef) (h : History) (notes : Notes) → all_allowed h ≡ true
+    → is_some (view_of (roster h) n) ≡ true → IsCovered n def h notes → Tells n def h notes
 
 -- what is pending after all that is logged was fed: exactly what was pending, or is noted after the last refresh
 abbrev pub FeedsTell : Type 0
-FeedsTell = (w : Width) (notes : Notes) (b : ℤ) → is_some (fed_at w notes b) ≡ (is_some (notes.pending b) || is_some (above_last (notes.refreshed b) (log_touch w b notes.log)))
+FeedsTell =
+    (w : Width) (notes : Notes) (b : ℤ)
+    → is_some (fed_at w notes b) ≡
+    (is_some (notes.pending b) || is_some (above_last (notes.refreshed b) (log_touch w b notes.log)))
 
 -- what notes that cover tell once all that is logged was fed
 pub record TellsFed (n : ℕ) (def : ViewDef) (h : History) (notes : Notes) : Type 0 where
   -- what is pending in a bucket with a last refresh is the last touch above that
-  pub touched : (b : ℤ) (s : ℕ) → is_bucket def.fold.width b ≡ true → last n h b ≡ Some s → fed_at def.fold.width notes b ≡ above s (last_touch n def h b)
-  -- the buckets that were never refreshed or have something pending are those touched after their last refresh, or never refreshed
-  pub dirty : (b : ℤ) → is_bucket def.fold.width b ≡ true → in_span (whole_span def.fold.width) b ≡ true → (is_none (notes.refreshed b) || is_some (fed_at def.fold.width notes b)) ≡ invalid n def h b
+  pub touched : (b : ℤ) (s : ℕ) → is_bucket def.fold.width b ≡ true → last n h b ≡ Some s
+      → fed_at def.fold.width notes b ≡ above s (last_touch n def h b)
+  -- the buckets that were never refreshed or have something pending are those touched after their last refresh, or
+  -- never refreshed
+  pub dirty : (b : ℤ) → is_bucket def.fold.width b ≡ true → in_span (whole_span def.fold.width) b ≡ true
+      → (is_none (notes.refreshed b) || is_some (fed_at def.fold.width notes b)) ≡ invalid n def h b
   -- and those of them below the watermark are stale
-  pub stale : (b : ℤ) → is_bucket def.fold.width b ≡ true → in_span (whole_span def.fold.width) b ≡ true → (is_below b (watermark n def h) && (is_none (notes.refreshed b) || is_some (fed_at def.fold.width notes b))) ≡ stale n def h b
+  pub stale : (b : ℤ) → is_bucket def.fold.width b ≡ true → in_span (whole_span def.fold.width) b ≡ true
+      → (is_below b (watermark n def h) && (is_none (notes.refreshed b) || is_some (fed_at def.fold.width notes b))) ≡
+      stale n def h b
 
 abbrev pub CoveredTellsFed : Type 0
-CoveredTellsFed = (n : ℕ) (def : ViewDef) (h : History) (notes : Notes) → all_allowed h ≡ true → is_some (view_of (roster h) n) ≡ true → IsCovered n def h notes → TellsFed n def h notes
+CoveredTellsFed =
+    (n : ℕ) (def : ViewDef) (h : History) (notes : Notes) → all_allowed h ≡ true
+    → is_some (view_of (roster h) n) ≡ true → IsCovered n def h notes → TellsFed n def h notes
 
--- after a finish, no bucket of its span has a pending position at or below the snapshot, whichever refreshes were finished before
+-- after a finish, no bucket of its span has a pending position at or below the snapshot, whichever refreshes were
+-- finished before
 abbrev pub FinishesClear : Type 0
-FinishesClear = (n : ℕ) (def : ViewDef) (h : History) (cut snap : ℕ) (span : Span) (b : ℤ) (notes : Notes) → IsCovered n def h notes → is_bucket def.fold.width b ≡ true → span_of_cut n h cut ≡ Some span → in_span span b ≡ true → above snap (pending_position def.fold.width (settled (span_of_cut n h cut) snap notes) b) ≡ pending_position def.fold.width (settled (span_of_cut n h cut) snap notes) b
+FinishesClear =
+    (n : ℕ) (def : ViewDef) (h : History) (cut snap : ℕ) (span : Span) (b : ℤ) (notes : Notes)
+    → IsCovered n def h notes → is_bucket def.fold.width b ≡ true → span_of_cut n h cut ≡ Some span
+    → in_span span b ≡ true
+    → above snap (pending_position def.fold.width (settled (span_of_cut n h cut) snap notes) b) ≡ pending_position
+    def.fold.width (settled (span_of_cut n h cut) snap notes) b
 
--- the buckets that are marked when an aggregate is made are those from the first on that end at or below the greatest number
+-- the buckets that are marked when an aggregate is made are those from the first on that end at or below the greatest
+-- number
 abbrev pub AllBucketsAre : Type 0
-AllBucketsAre = (w : Width) (b : ℤ) → IsWidth w → is_bucket w b ≡ true → in_span (whole_span w) b ≡ (int_le (first_of w) b && int_le (b +ℤ w.step) greatest)
+AllBucketsAre =
+    (w : Width) (b : ℤ) → IsWidth w → is_bucket w b ≡ true
+    → in_span (whole_span w) b ≡ (int_le (first_of w) b && int_le (b +ℤ w.step) greatest)
 
 -- ---- whole histories
 
 -- the notes of each aggregate of every allowed history cover it
 abbrev pub HistoriesCovered : Type 0
-HistoriesCovered = (n : ℕ) (def : ViewDef) (h : History) → all_allowed h ≡ true → view_of (roster h) n ≡ Some def → IsCovered n def h (notes_of n def h)
+HistoriesCovered =
+    (n : ℕ) (def : ViewDef) (h : History) → all_allowed h ≡ true → view_of (roster h) n ≡ Some def
+    → IsCovered n def h (notes_of n def h)
 
 -- so they tell what is pending
 abbrev pub HistoriesTell : Type 0
-HistoriesTell = (n : ℕ) (def : ViewDef) (h : History) → all_allowed h ≡ true → view_of (roster h) n ≡ Some def → Tells n def h (notes_of n def h)
+HistoriesTell =
+    (n : ℕ) (def : ViewDef) (h : History) → all_allowed h ≡ true → view_of (roster h) n ≡ Some def
+    → Tells n def h (notes_of n def h)
 
 -- a threshold as a number: where there is none, the least
 abbrev pub number_of : Option ℤ → ℤ
@@ -150,4 +209,7 @@ ThresholdsAre = (n : ℕ) (def : ViewDef) (h : History) → (notes_of n def h).t
 
 -- it is at or above the end of each span that was cut of any aggregate over the table
 abbrev pub ThresholdsReach : Type 0
-ThresholdsReach = (n v : ℕ) (def other : ViewDef) (h : History) (k : ℕ) (span : Span) → all_allowed h ≡ true → view_of (roster h) v ≡ Some other → other.table ≡ def.table → span_of_cut v h k ≡ Some span → span.hi ≤ℤ (notes_of n def h).threshold
+ThresholdsReach =
+    (n v : ℕ) (def other : ViewDef) (h : History) (k : ℕ) (span : Span) → all_allowed h ≡ true
+    → view_of (roster h) v ≡ Some other → other.table ≡ def.table → span_of_cut v h k ≡ Some span
+    → span.hi ≤ℤ (notes_of n def h).threshold

@@ -1,4 +1,5 @@
--- Notes of what is out of date: the log of a table, and what is pending and was refreshed of one aggregate over it, and what each event does to them.
+-- Notes of what is out of date: the log of a table, and what is pending and was refreshed of one aggregate over it,
+-- and what each event does to them.
 use Rattle.std.specs.Prelude.{◌≡◌, ℕ, suc, true, cond, ◌&&◌, ◌==◌, ◌-◌, List, [], ◌∷◌, ◌++◌, length, ℤ, int_lt, Option, Some, None}
 use Rattle.std.specs.Int.{int_max}
 use Rattle.ts_bucket.specs.Bucket.{is_bucket}
@@ -18,7 +19,8 @@ use Rattle.ts_model.specs.Rows.{rows}
 use Rattle.ts_model.specs.Effect.{hull_of_ops}
 use Rattle.ts_model.specs.Refreshes.{span_of_cut, is_covered, is_over}
 
--- the threshold and the log of a table, and two partial functions of the buckets of an aggregate over it: the position that is pending, and that of the last refresh
+-- the threshold and the log of a table, and two partial functions of the buckets of an aggregate over it: the
+-- position that is pending, and that of the last refresh
 pub record Notes : Type 0 where
   pub threshold : ℤ
   pub log : List Noted
@@ -33,20 +35,35 @@ no_notes = record { threshold = least; log = []; pending = λ b. None; refreshed
 
 -- an aggregate that was made by event number k has each of its buckets pending there, and none refreshed
 abbrev pub begun : Width → ℕ → Notes → Notes
-begun w k notes = record { threshold = notes.threshold; log = notes.log; pending = λ b. cond (in_span (whole_span w) b) (Some k) None; refreshed = λ b. None }
+begun w k notes =
+    record {
+      threshold = notes.threshold;
+      log = notes.log;
+      pending = λ b. cond (in_span (whole_span w) b) (Some k) None;
+      refreshed = λ b. None;
+    }
 
 -- the log after a commit with number k: its hull, if it has one, is logged exactly where it begins below the threshold
 abbrev pub logged : Option Hull → ℕ → ℤ → List Noted → List Noted
 logged None k threshold log = log
-logged (Some hull) k threshold log = cond (int_lt hull.least threshold) (log ++ (record { hull = hull; at = k } ∷ [])) log
+logged (Some hull) k threshold log =
+    cond (int_lt hull.least threshold) (log ++ (record { hull = hull; at = k } ∷ [])) log
 
 -- a commit with number k notes its hull
 abbrev pub noted : Option Hull → ℕ → Notes → Notes
-noted hull k notes = record { threshold = notes.threshold; log = logged hull k notes.threshold notes.log; pending = notes.pending; refreshed = notes.refreshed }
+noted hull k notes =
+    record {
+      threshold = notes.threshold;
+      log = logged hull k notes.threshold notes.log;
+      pending = notes.pending;
+      refreshed = notes.refreshed;
+    }
 
--- what is pending at b after a noted hull was fed: its position, where the hull meets the bucket and the bucket wasn't refreshed at or after it
+-- what is pending at b after a noted hull was fed: its position, where the hull meets the bucket and the bucket
+-- wasn't refreshed at or after it
 abbrev pub fed_one : Width → ℤ → Option ℕ → Noted → Option ℕ → Option ℕ
-fed_one w b refreshed entry pending = cond (meets w b entry.hull && is_before entry.at refreshed) (Some entry.at) pending
+fed_one w b refreshed entry pending =
+    cond (meets w b entry.hull && is_before entry.at refreshed) (Some entry.at) pending
 
 -- what is pending at b after these were fed, in order
 abbrev pub fed : Width → ℤ → Option ℕ → List Noted → Option ℕ → Option ℕ
@@ -59,13 +76,17 @@ fed_at w notes b = fed w b (notes.refreshed b) notes.log (notes.pending b)
 
 -- all that is logged is fed, and the log is empty
 abbrev pub all_fed : Width → Notes → Notes
-all_fed w notes = record { threshold = notes.threshold; log = []; pending = fed_at w notes; refreshed = notes.refreshed }
+all_fed w notes =
+    record { threshold = notes.threshold; log = []; pending = fed_at w notes; refreshed = notes.refreshed }
 
--- a cut of a span that ends at hi, of any aggregate over the table, raises the threshold, empties the log, and feeds its entries
+-- a cut of a span that ends at hi, of any aggregate over the table, raises the threshold, empties the log, and feeds
+-- its entries
 abbrev pub cut_to : Width → ℤ → Notes → Notes
-cut_to w hi notes = record { threshold = int_max notes.threshold hi; log = []; pending = fed_at w notes; refreshed = notes.refreshed }
+cut_to w hi notes =
+    record { threshold = int_max notes.threshold hi; log = []; pending = fed_at w notes; refreshed = notes.refreshed }
 
--- a finish with a snapshot settles the span of its cut, where that is a cut of the aggregate: what is pending up to the snapshot goes, and the last refresh is raised to it
+-- a finish with a snapshot settles the span of its cut, where that is a cut of the aggregate: what is pending up to
+-- the snapshot goes, and the last refresh is raised to it
 abbrev pub settled : Option Span → ℕ → Notes → Notes
 settled span snap notes = record {
   threshold = notes.threshold;
@@ -76,9 +97,11 @@ settled span snap notes = record {
 
 -- what an event after h does to the notes of aggregate n
 abbrev pub notes_after : ℕ → ViewDef → History → Event → Notes → Notes
-notes_after n def h (View made) notes = cond (length (roster h).views == n) (begun def.fold.width (suc (position h)) notes) notes
+notes_after n def h (View made) notes =
+    cond (length (roster h).views == n) (begun def.fold.width (suc (position h)) notes) notes
 notes_after n def h (Commit ops) notes = noted (hull_of_ops def.table ops (rows def.table h)) (suc (position h)) notes
-notes_after n def h (Cut v span) notes = cond (is_over def.table (view_of (roster h) v)) (cut_to def.fold.width span.hi notes) notes
+notes_after n def h (Cut v span) notes =
+    cond (is_over def.table (view_of (roster h) v)) (cut_to def.fold.width span.hi notes) notes
 notes_after n def h (Built cut snap) notes = settled (span_of_cut n h cut) snap notes
 notes_after n def h e notes = notes
 

@@ -25,12 +25,15 @@ module _ {B : Type 0} (state : B → State) (store : Shared B) where
     origin = (state store.opened.value).origin;
   }
 
-  -- a worker began where one pass stands, and left a state for which this was done. It made the events with these numbers. Another pass has seen all that the worker has, and where the worker found that the store stands still, no more
+  -- a worker began where one pass stands, and left a state for which this was done. It made the events with these
+  -- numbers. Another pass has seen all that the worker has, and where the worker found that the store stands still,
+  -- no more
   pub record Outcome (Did : State → State → Type 0) (start end : Ticket B) (made : List ℕ) : Type 0 where
     pub left : State
     pub did : Did (begun_at start) left
     pub begins : Begins left.history (history_of state store end)
-    pub stops : (e : Event) → left.failed ≡ Some e → (closed_of end ≡ Some e) × (history_of state store end ≡ left.history)
+    pub stops :
+        (e : Event) → left.failed ≡ Some e → (closed_of end ≡ Some e) × (history_of state store end ≡ left.history)
     pub makes : left.made ≡ made
 
   module _ {W : Type 0} (did : Bool → W → State → W → State → Type 0) where
@@ -39,7 +42,8 @@ module _ {B : Type 0} (state : B → State) (store : Shared B) where
     AllOutcomes start end [] [] made = made ≡ []
     AllOutcomes start end [] (new ∷ news) made = ⊥
     AllOutcomes start end (old ∷ olds) [] made = ⊥
-    AllOutcomes start end (old ∷ olds) (new ∷ news) made = Parted (Outcome (λ s t. did false old s new t) start end) (AllOutcomes start end olds news) made
+    AllOutcomes start end (old ∷ olds) (new ∷ news) made =
+        Parted (Outcome (λ s t. did false old s new t) start end) (AllOutcomes start end olds news) made
 
     -- workers were all at the store between two passes
     pub record Ran (start end : Ticket B) (olds news : List W) : Type 0 where

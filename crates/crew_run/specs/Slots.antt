@@ -59,7 +59,8 @@ module _ {W B : Type 0} where
   IsKnownTo whole slot = OfPass (Knows whole) slot.1
 
   -- a worker has done its work at a desk for its pass, and the desk was left
-  pub record Served (state : B → State) (store : Shared B) (did : Bool → W → State → W → State → Type 0) (old new : Slot W B) : Type 0 where
+  pub record Served (state : B → State) (store : Shared B) (did : Bool → W → State → W → State → Type 0)
+      (old new : Slot W B) : Type 0 where
     pub before : Ticket B
     pub after : Ticket B
     pub had : old.1 ≡ Some before
@@ -73,6 +74,9 @@ module _ {W B : Type 0} where
     pub made : left.made ≡ made_of after
 
   -- each worker has
-  pub record AllServed (state : B → State) (store : Shared B) (did : Bool → W → State → W → State → Type 0) (olds news : List (Slot W B)) : Type 0 where
+  pub record AllServed (state : B → State) (store : Shared B) (did : Bool → W → State → W → State → Type 0)
+      (olds news : List (Slot W B)) : Type 0 where
     pub as_many : length olds ≡ length news
-    pub each : (i : ℕ) (d : Slot W B) → i < length olds → Served state store did (slice_index_or olds i d) (slice_index_or news i d)
+    pub each :
+        (i : ℕ) (d : Slot W B) → i < length olds
+        → Served state store did (slice_index_or olds i d) (slice_index_or news i d)

@@ -11,7 +11,8 @@ use Rattle.engine_state.specs.Stands.{StateValue, StandsFor}
 
 -- how many rows an event appends and takes away, over all tables
 abbrev pub CountsAre : History → Event → ℕ → ℕ → Type 0
-CountsAre h (Commit ops) inserted removed = (inserted ≡ (committed ops h).inserted) × (removed ≡ (committed ops h).removed)
+CountsAre h (Commit ops) inserted removed =
+    (inserted ≡ (committed ops h).inserted) × (removed ≡ (committed ops h).removed)
 CountsAre h e inserted removed = (inserted ≡ 0) × (removed ≡ 0)
 
 -- an event may come next, with this job, after some history that the state stands for

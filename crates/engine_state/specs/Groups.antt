@@ -14,7 +14,8 @@ use Rattle.ts_model.specs.History.{History}
 use Rattle.ts_model.specs.Groups.{groups_at}
 use Rattle.ts_model.specs.Refreshes.{last}
 
--- the groups that the last refresh of a bucket has left: those that stood there at its snapshot, and none where there is none
+-- the groups that the last refresh of a bucket has left: those that stood there at its snapshot, and none where there
+-- is none
 abbrev pub groups_left : ℕ → ViewDef → History → ℤ → Option ℕ → List Group
 groups_left n def h b None = []
 groups_left n def h b (Some s) = groups_at n def h s b
@@ -41,8 +42,10 @@ pub record AreReplaced (spans : List Span) (put old new : List Group) : Type 0 w
   pub exact : (b : ℤ) → of_bucket b new ≡ cond (lies_in spans b) (of_bucket b put) (of_bucket b old)
   pub all : (test : Group → Bool) → list_all test put ≡ true → list_all test old ≡ true → list_all test new ≡ true
 
--- what a finish with a snapshot puts in: the groups of its job at the buckets that the snapshot isn't older than, which these spans hold
-pub record AreRenewed (n : ℕ) (def : ViewDef) (h : History) (snap : ℕ) (spans : List Span) (groups : List Group) (renewed : List Span) (put : List Group) : Type 0 where
+-- what a finish with a snapshot puts in: the groups of its job at the buckets that the snapshot isn't older than,
+-- which these spans hold
+pub record AreRenewed (n : ℕ) (def : ViewDef) (h : History) (snap : ℕ) (spans : List Span) (groups : List Group)
+    (renewed : List Span) (put : List Group) : Type 0 where
   pub spans_are : (b : ℤ) → is_bucket def.fold.width b ≡ true → lies_in renewed b ≡ is_renewed spans snap (last n h b) b
   pub groups_are : (b : ℤ) → lies_in renewed b ≡ true → of_bucket b put ≡ of_bucket b groups
   pub all : (test : Group → Bool) → list_all test groups ≡ true → list_all test put ≡ true

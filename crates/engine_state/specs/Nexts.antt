@@ -30,7 +30,9 @@ GoesTo s e job new = (h : History) → StandsFor h s → allowed h e ≡ true �
 
 -- the same of the finish with a job, where the job fits the history
 abbrev pub FinishesTo : StateValue → Job → StateValue → Type 0
-FinishesTo s job new = (h : History) → StandsFor h s → allowed h (Built job.cut job.snap) ≡ true → JobFits h job → StandsFor (h ▸ Built job.cut job.snap) new
+FinishesTo s job new =
+    (h : History) → StandsFor h s → allowed h (Built job.cut job.snap) ≡ true → JobFits h job
+    → StandsFor (h ▸ Built job.cut job.snap) new
 
 -- and the event appends and takes away so many rows
 abbrev pub Counts : StateValue → Event → ℕ → ℕ → Type 0
@@ -38,4 +40,5 @@ Counts s e inserted removed = (h : History) → StandsFor h s → allowed h e �
 
 -- whatever history a state stands for, a refresh of an aggregate with this window covers these buckets
 abbrev pub WindowIs : StateValue → ℕ → Option ℤ → Option ℤ → Window → Type 0
-WindowIs s view lo hi found = (h : History) → StandsFor h s → IfSome (view_of s.roster view) (λ def. found ≡ window view def h lo hi)
+WindowIs s view lo hi found =
+    (h : History) → StandsFor h s → IfSome (view_of s.roster view) (λ def. found ≡ window view def h lo hi)

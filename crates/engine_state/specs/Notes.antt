@@ -20,7 +20,13 @@ abbrev pub noted_in : List Entry → List Noted
 noted_in entries = map noted_of entries
 
 abbrev pub notes_in : TableLog → ViewLog → Notes
-notes_in table view = record { threshold = table.threshold; log = noted_in table.entries; pending = pending_at view; refreshed = last_at view }
+notes_in table view =
+    record {
+      threshold = table.threshold;
+      log = noted_in table.entries;
+      pending = pending_at view;
+      refreshed = last_at view;
+    }
 
 -- the hull goes from a time to a time
 pub record IsOfTimes (hull : Hull) : Type 0 where

@@ -28,7 +28,8 @@ use Rattle.engine_state.specs.Scans.{seen_rows, stored_rows}
 use Rattle.engine_state.specs.Tables.{TableStands, TableValue}
 use Rattle.engine_state.specs.Views.{ViewStands, ViewValue}
 
--- the state of hypertable number t of a history, seen at the history's position: its rows are those of the history, and as many stored rows are near these spans as were ever inserted
+-- the state of hypertable number t of a history, seen at the history's position: its rows are those of the history,
+-- and as many stored rows are near these spans as were ever inserted
 pub record IsTableOf (h : History) (t : ℕ) (position : ℕ) (table : TableValue) : Type 0 where
   pub hyper : Hyper
   pub hyper_is : hyper_of (roster h) t ≡ Some hyper
@@ -38,11 +39,13 @@ pub record IsTableOf (h : History) (t : ℕ) (position : ℕ) (table : TableValu
   pub stored_times : HaveTimes (stored_rows table)
   pub near : ChunksAreNear table.rows.interval (stored_rows table)
   pub rows_are : in_order (seen_rows position table) ≡ rows t h
-  pub reads_are : (spans : List Span) → rows_near table.rows.interval (stored_rows table) spans ≡ rows_near hyper.interval (inserted t h) spans
+  pub reads_are : (spans : List Span)
+      → rows_near table.rows.interval (stored_rows table) spans ≡ rows_near hyper.interval (inserted t h) spans
   pub count_is : length (stored_rows table) ≡ length (inserted t h)
 
 -- the definition and the state of aggregate number n of a history, and the state of its table
-pub record IsViewOf (h : History) (n : ℕ) (position : ℕ) (def : ViewDef) (view : ViewValue) (table : TableValue) : Type 0 where
+pub record IsViewOf (h : History) (n : ℕ) (position : ℕ) (def : ViewDef) (view : ViewValue)
+    (table : TableValue) : Type 0 where
   pub there : view_of (roster h) n ≡ Some def
   pub stands : ViewStands h n def table.log view
   pub table_is : IsTableOf h def.table position table
@@ -54,11 +57,16 @@ pub record IsRefreshOf (h : History) (cut : ℕ) (refresh : Refresh) : Type 0 wh
   pub span_is : span_of_cut refresh.view h cut ≡ Some refresh.span
   pub view_is : IsSome (view_of (roster h) refresh.view)
 
--- an answer shows the groups that an aggregate has of the buckets asked for, with those of the rows at or above its mark, and names the buckets below its mark that are out of date
-pub record IsShown (def : ViewDef) (view : ViewValue) (entries : List Entry) (starts : Span) (rows : List Row) (found : Answer) : Type 0 where
+-- an answer shows the groups that an aggregate has of the buckets asked for, with those of the rows at or above its
+-- mark, and names the buckets below its mark that are out of date
+pub record IsShown (def : ViewDef) (view : ViewValue) (entries : List Entry) (starts : Span) (rows : List Row)
+    (found : Answer) : Type 0 where
   pub rows_are : found.rows ≡ union_rows def (within starts view.groups) view.mark starts (in_order rows)
   pub stale_are : AreRanges def.fold.width starts (is_stale_with view.log entries view.mark) found.stale
 
--- the stored rows in chunks that meet a bucket asked for at or above a mark, and none where it shows materialised rows only
+-- the stored rows in chunks that meet a bucket asked for at or above a mark, and none where it shows materialised
+-- rows only
 abbrev pub view_reads : ViewDef → Option ℤ → Span → TableValue → ℕ
-view_reads def mark starts table = cond def.only 0 (rows_near table.rows.interval (stored_rows table) (map (bucket_span def.fold.width) (filter (λ b. not (is_below b mark)) (buckets_in def.fold.width starts))))
+view_reads def mark starts table =
+    cond def.only 0
+    (rows_near table.rows.interval (stored_rows table) (map (bucket_span def.fold.width) (filter (λ b. not (is_below b mark)) (buckets_in def.fold.width starts))))

@@ -32,7 +32,8 @@ TableAt h t info table = TableIs h t info.hyper table
 abbrev pub ViewAt : History → List (Option TableValue) → ℕ → ViewDef → ViewValue → Type 0
 ViewAt h tables n def view = ViewIs h n def (table_at tables def.table) view
 
--- a state stands for a history, which is an allowed one. (A field hides the word of its name in those after it, so two names come last.)
+-- a state stands for a history, which is an allowed one. (A field hides the word of its name in those after it, so
+-- two names come last.)
 pub record StandsFor (h : History) (s : StateValue) : Type 0 where
   pub allowed : all_allowed h ≡ true
   -- each table of the roster has the state of that number, and so has each aggregate

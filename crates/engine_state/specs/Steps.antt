@@ -31,7 +31,9 @@ rows_before pos table = in_order (visible_rows pos table.rows.versions)
 pub record TableGoes (ops : List Op) (pos t : ℕ) (old new : TableValue) : Type 0 where
   pub rows : Follows t ops pos old.rows new.rows
   pub threshold : new.log.threshold ≡ old.log.threshold
-  pub entries : noted_in new.log.entries ≡ logged (hull_of_ops t ops (rows_before pos old)) pos old.log.threshold (noted_in old.log.entries)
+  pub entries :
+      noted_in new.log.entries
+      ≡ logged (hull_of_ops t ops (rows_before pos old)) pos old.log.threshold (noted_in old.log.entries)
 
 -- the same of a table that may be no hypertable
 abbrev pub GoesIf : List Op → ℕ → ℕ → Option TableValue → Option TableValue → Type 0
@@ -106,7 +108,8 @@ abbrev pub last_settled : Span → ℕ → ViewLog → ℤ → Option ℕ
 last_settled span snap log b = cond (in_span span b) (later (last_at log b) (Some snap)) (last_at log b)
 
 -- the spans, the groups and the marks of an aggregate after a finish with a snapshot
-pub record ViewFinished (span : Span) (snap : ℕ) (top : Option ℤ) (renewed : List Span) (put : List Group) (old new : ViewValue) : Type 0 where
+pub record ViewFinished (span : Span) (snap : ℕ) (top : Option ℤ) (renewed : List Span) (put : List Group)
+    (old new : ViewValue) : Type 0 where
   pub table : new.table ≡ old.table
   pub width : new.log.width ≡ old.log.width
   pub pending : (b : ℤ) → pending_at new.log b ≡ pending_settled span snap old.log b

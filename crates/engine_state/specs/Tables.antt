@@ -18,7 +18,8 @@ pub record TableValue : Type 0 where
 abbrev pub table_at : List (Option TableValue) → ℕ → Option TableValue
 table_at tables t = option_and_then (λ o. o) (slice_get tables t)
 
--- it is that of hypertable number t: it holds the rows of the history at every position, in chunks of the table's interval
+-- it is that of hypertable number t: it holds the rows of the history at every position, in chunks of the table's
+-- interval
 pub record TableStands (h : History) (t : ℕ) (hyper : Hyper) (table : TableValue) : Type 0 where
   pub rows : Holds t h table.rows
   pub interval : table.rows.interval ≡ hyper.interval

@@ -10,7 +10,8 @@ use Rattle.coverage.specs.Coverage.{IsCovered}
 use Rattle.engine_state.specs.Groups.{GroupsStand}
 use Rattle.engine_state.specs.Notes.{notes_in}
 
--- what contracts see of it: the number of its table, what is pending and was refreshed, its materialised groups, and its watermark
+-- what contracts see of it: the number of its table, what is pending and was refreshed, its materialised groups, and
+-- its watermark
 pub record ViewValue : Type 0 where
   pub table : ℕ
   pub log : ViewLog

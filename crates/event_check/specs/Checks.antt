@@ -23,7 +23,8 @@ refusal_in (refuses r) = Some r
 refusal_in (returns a) = None
 refusal_in (makes e a) = None
 
--- why a store's call that makes this event is refused, if it is. One that commits or sets a mode never is, and one that cuts is refused by its window, which its event doesn't tell
+-- why a store's call that makes this event is refused, if it is. One that commits or sets a mode never is, and one
+-- that cuts is refused by its window, which its event doesn't tell
 abbrev pub call_refusal : History → Event → Option Refusal
 call_refusal h (Table def) = refusal_in (making_table def h)
 call_refusal h (Hyper t hyper) = refusal_in (making_hyper t hyper h)
@@ -67,7 +68,9 @@ refused code at mark = record { code = code; pos = at; mark = mark }
 
 -- a relation isn't made where its name is taken, or there are as many of its kind as there may be
 abbrev pub relation_refusal : Bool → ℕ → ℕ → Option Refusal
-relation_refusal taken many at = cond taken (Some (refused name_taken at 0)) (cond (nat_lt many most_relations) None (Some (refused too_many at (suc most_relations))))
+relation_refusal taken many at =
+    cond taken (Some (refused name_taken at 0))
+    (cond (nat_lt many most_relations) None (Some (refused too_many at (suc most_relations))))
 
 -- a table isn't made a hypertable where it is one
 abbrev pub hyper_refusal : Bool → ℕ → Option Refusal

@@ -14,7 +14,9 @@ BytesAreCounted = (e : Event) → length (spelling.event e) ≡ event_bytes e
 
 -- no event's bytes begin another's: where they do, it is the same event and nothing comes after
 abbrev pub NoneBeginsAnother : Type 0
-NoneBeginsAnother = (d e : Event) (more : List ℕ) → IsFormed d → IsFormed e → spelling.event e ≡ spelling.event d ++ more → (d ≡ e) × (more ≡ [])
+NoneBeginsAnother =
+    (d e : Event) (more : List ℕ) → IsFormed d → IsFormed e → spelling.event e ≡ spelling.event d ++ more
+    → (d ≡ e) × (more ≡ [])
 
 -- each sound event of an allowed history whose position has 64 bits has a spelling
 abbrev pub SoundAreFormed : Type 0

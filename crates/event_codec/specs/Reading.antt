@@ -1,4 +1,5 @@
--- Reading from left to right: what stands in front and the bytes after it; or, where nothing of the kind stands in front, the bytes after the longest front that begins one.
+-- Reading from left to right: what stands in front and the bytes after it; or, where nothing of the kind stands in
+-- front, the bytes after the longest front that begins one.
 use Rattle.std.specs.Prelude.{◌≡◌, ℕ, zero, suc, ◌+◌, ◌-◌, ◌*◌, ◌/◌, ◌%◌, ◌^◌, nat_lt, nat_le, ◌==◌, ℤ, pos, negsuc, ◌+ℤ◌, ◌-ℤ◌, ◌≤ℤ◌, int_le, unsigned_abs, Bool, true, false, ◌&&◌, if◌then◌else◌, List, [], ◌∷◌, Result, Ok, Err, Option, Some, None}
 use Rattle.ts_bucket.specs.WholeSpans.{least, greatest}
 use Rattle.ts_bucket.specs.Bucket.{max_step, max_time, min_time}
@@ -40,7 +41,8 @@ Gives (Err errors.Memory) read left = Unit {0}
 Gives (Err errors.Bad) read left = read ≡ Err left
 
 -- what a function of the code returned, seen so, is what reading gives
-abbrev pub Matches : {X Y A : Type 0} → (X → A × List ℕ) → (Y → List ℕ) → Result X Y → Result (A × List ℕ) (List ℕ) → Type 0
+abbrev pub Matches :
+    {X Y A : Type 0} → (X → A × List ℕ) → (Y → List ℕ) → Result X Y → Result (A × List ℕ) (List ℕ) → Type 0
 Matches view end (Ok x) read = read ≡ Ok (view x)
 Matches view end (Err y) read = read ≡ Err (end y)
 
@@ -127,7 +129,8 @@ put_low x = with_low x.0 x.1
 -- a number from lo to hi in so many bytes, the lowest first
 unfoldable pub number : ℕ → ℤ → ℤ → Reads ℤ
 number zero lo hi = gives lo
-number (suc k) lo hi = mapped put_low (pair (byte_where (is_low_byte lo hi)) (λ b. number k (least_above lo b) (most_below hi b)))
+number (suc k) lo hi =
+    mapped put_low (pair (byte_where (is_low_byte lo hi)) (λ b. number k (least_above lo b) (most_below hi b)))
 
 -- ---- numbers of the types
 
@@ -184,7 +187,9 @@ abbrev pub fun_of : ℕ → Option Fun
 fun_of = with_code fun_code (CountAll ∷ Count ∷ Sum ∷ Min ∷ Max ∷ Avg ∷ [])
 
 abbrev pub kind_of : ℕ → Option Kind
-kind_of = with_code kind_code (kinds.Table ∷ kinds.Hyper ∷ kinds.View ∷ kinds.Mode ∷ kinds.Commit ∷ kinds.Cut ∷ kinds.Built ∷ [])
+kind_of =
+    with_code kind_code
+    (kinds.Table ∷ kinds.Hyper ∷ kinds.View ∷ kinds.Mode ∷ kinds.Commit ∷ kinds.Cut ∷ kinds.Built ∷ [])
 
 abbrev pub op_kind_of : ℕ → Option OpKind
 op_kind_of = with_code op_code (op_kinds.Insert ∷ op_kinds.Delete ∷ [])
@@ -221,7 +226,8 @@ abbrev pub to_test : ℕ × (Cmp × ℤ) → Test
 to_test x = record { col = x.0; cmp = x.1.0; num = x.1.1 }
 
 unfoldable pub test_at : Reads Test
-test_at = mapped to_test (pair any_four (λ col. pair (coded cmp_of) (λ cmp. between (least_number cmp) (most_number cmp))))
+test_at =
+    mapped to_test (pair any_four (λ col. pair (coded cmp_of) (λ cmp. between (least_number cmp) (most_number cmp))))
 
 abbrev pub to_agg : Fun × ℕ → Agg
 to_agg x = record { fun = x.0; col = x.1 }
@@ -251,7 +257,9 @@ abbrev pub to_fold : Width × (List ℕ × (List Agg × List Test)) → Fold
 to_fold x = record { width = x.0; keys = x.1.0; aggs = x.1.1.0; tests = x.1.1.1 }
 
 unfoldable pub fold_at : Reads Fold
-fold_at = mapped to_fold (pair width_at (λ width. pair (few_of any_four) (λ keys. pair (few_of agg_at) (λ aggs. many_of test_at))))
+fold_at =
+    mapped to_fold
+    (pair width_at (λ width. pair (few_of any_four) (λ keys. pair (few_of agg_at) (λ aggs. many_of test_at))))
 
 -- ---- operations
 
@@ -286,7 +294,9 @@ abbrev pub to_view : List ℕ × (ℕ × (Fold × (List (List ℕ) × Bool))) �
 to_view x = record { name = x.0; table = x.1.0; fold = x.1.1.0; names = x.1.1.1.0; only = x.1.1.1.1 }
 
 unfoldable pub view_at : Reads ViewDef
-view_at = mapped to_view (pair name_at (λ name. pair any_four (λ table. pair fold_at (λ fold. pair (few_of name_at) (λ names. coded flag_of)))))
+view_at =
+    mapped to_view
+    (pair name_at (λ name. pair any_four (λ table. pair fold_at (λ fold. pair (few_of name_at) (λ names. coded flag_of)))))
 
 abbrev pub to_hyper_event : ℕ × Hyper → Event
 to_hyper_event x = events.Hyper x.0 x.1

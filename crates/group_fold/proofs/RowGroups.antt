@@ -42,6 +42,7 @@ no_bucket_rows fold b wide p (row ∷ rows) h =
           rw out (no_bucket_rows fold b wide p rows parts.1)
       | false ↦ λ k. rw (and-false (holds fold.width b row.at)) (no_bucket_rows fold b wide p rows k)
     ] h
+
 module _ (fold : Fold) (wide : IsWidth fold.width) where
   pub starts_are_buckets : (rows : List Row) → AllByRecursion (λ b. is_bucket fold.width b ≡ true) (occurring_buckets fold rows)
   starts_are_buckets rows =

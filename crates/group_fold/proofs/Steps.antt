@@ -114,6 +114,7 @@ untied_number a b e =
     let same : b ≡ a = (Decides-int_eq b a).0 t in
     let tied : is_eq (int_cmp a b) ≡ true = subst (λ x. is_eq (int_cmp a x) ≡ true) (sym same) (ap is_eq (tied_itself int_cmp_total a)) in
     cc)
+
 module _ (fold : Fold) (wide : IsWidth fold.width) (row : Row) (rows : List Row) where
   -- the rows of another bucket stay
   groups_in-other : (b : ℤ) → is_bucket fold.width b ≡ true → is_eq (int_cmp (bucket_of fold.width row.at) b) ≡ false → groups_in fold (row ∷ rows) b ≡ groups_in fold rows b

@@ -15,9 +15,11 @@ use Rattle.std.specs.List.Sorted.{IsPermutation}
 
 -- ---- what groups show
 
--- the groups of rows show the aggregation from scratch: those of a bucket show that of the bucket, and all in order show that of all buckets
+-- the groups of rows show the aggregation from scratch: those of a bucket show that of the bucket, and all in order
+-- show that of all buckets
 pub record ShowScratch (fold : Fold) (rows : List Row) (groups : List Group) : Type 0 where
-  pub of_bucket : (b : ℤ) → IsTrue (is_bucket fold.width b) → map (cells_of fold) (filter (λ g. int_eq g.start b) groups) ≡ scratch_of fold b rows
+  pub of_bucket : (b : ℤ) → IsTrue (is_bucket fold.width b)
+      → map (cells_of fold) (filter (λ g. int_eq g.start b) groups) ≡ scratch_of fold b rows
   pub of_all : map (cells_of fold) groups ≡ fold_rows fold rows
 
 -- these are the groups of the rows, in whatever order the rows come

@@ -51,7 +51,9 @@ pub record CanJoin (gs hs : List Group) : Type 0 where
 
 -- where two lists of groups are those of two lists of rows, these are the groups of both
 abbrev pub AreGroupsOfBoth : List Group → List Group → List Group → Type 0
-AreGroupsOfBoth gs hs both = (fold : Fold) (xs ys : List Row) → IsWidth fold.width → gs ≡ groups_of fold xs → hs ≡ groups_of fold ys → both ≡ groups_of fold (xs ++ ys)
+AreGroupsOfBoth gs hs both =
+    (fold : Fold) (xs ys : List Row) → IsWidth fold.width → gs ≡ groups_of fold xs → hs ≡ groups_of fold ys
+    → both ≡ groups_of fold (xs ++ ys)
 
 -- where the next group of two lists in order comes from
 abbrev pub next_of_lists : List Group → List Group → Next

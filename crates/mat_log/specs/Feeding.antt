@@ -9,7 +9,8 @@ use Rattle.ts_bucket.specs.WholeSpans.{IsWithin, is_below}
 use Rattle.inval_log.specs.declared.entries.Entry.{Entry}
 use Rattle.mat_log.specs.Logs.{LogValue, is_refreshed_after, pending_at, last_at}
 
--- what is pending at the bucket b, whose last refresh is r, after one entry: its position, where its hull meets the bucket and the bucket wasn't refreshed at or after it
+-- what is pending at the bucket b, whose last refresh is r, after one entry: its position, where its hull meets the
+-- bucket and the bucket wasn't refreshed at or after it
 abbrev pub pending_after : WidthValue → ℤ → Option ℕ → Entry → Option ℕ → Option ℕ
 pending_after w b r e v = cond (meets w b e.hull && is_before e.pos r) (Some e.pos) v
 
@@ -44,7 +45,8 @@ is_stale_with log entries mark b = is_below b mark && is_dirty_with log entries 
 abbrev pub is_changed_with : LogValue → List Entry → ℤ → Bool
 is_changed_with log entries b = is_some (last_at log b) && is_some (pending_with log entries b)
 
--- a refresh with a snapshot that is done again later has to make the bucket that starts at b anew: the bucket is dirty, or its last refresh is above the snapshot
+-- a refresh with a snapshot that is done again later has to make the bucket that starts at b anew: the bucket is
+-- dirty, or its last refresh is above the snapshot
 abbrev pub is_redone_with : LogValue → List Entry → ℕ → ℤ → Bool
 is_redone_with log entries snap b = is_dirty_with log entries b || is_refreshed_after log snap b
 

@@ -15,4 +15,5 @@ touch_at w (e ∷ es) t = later (cond (in_span (touched_span w e.hull) t) (Some 
 
 -- the latest of these positions where it is above the last refresh, and else what is pending
 abbrev pub pending_or_fresh : LogValue → List Entry → ℤ → Option ℕ
-pending_or_fresh log es t = combined_by Over (pending_at log t) (combined_by Above (last_at log t) (touch_at log.width es t))
+pending_or_fresh log es t =
+    combined_by Over (pending_at log t) (combined_by Above (last_at log t) (touch_at log.width es t))

@@ -32,11 +32,13 @@ replaced (s ∷ ss) new old = below s.lo old ++ (within s new ++ replaced ss new
 
 -- each bucket has its new groups where it starts in one of the spans, and its old ones elsewhere
 abbrev pub BucketsAreOfBoth : List SpanValue → List Group → List Group → List Group → Type 0
-BucketsAreOfBoth spans new old groups = (b : ℤ) → of_bucket b groups ≡ cond (lies_in spans b) (of_bucket b new) (of_bucket b old)
+BucketsAreOfBoth spans new old groups =
+    (b : ℤ) → of_bucket b groups ≡ cond (lies_in spans b) (of_bucket b new) (of_bucket b old)
 
 -- a test that all new groups pass and all old ones, all of these groups pass
 abbrev pub PassAsBoth : List Group → List Group → List Group → Type 0
-PassAsBoth new old groups = (test : Group → Bool) → list_all test new ≡ true → list_all test old ≡ true → list_all test groups ≡ true
+PassAsBoth new old groups =
+    (test : Group → Bool) → list_all test new ≡ true → list_all test old ≡ true → list_all test groups ≡ true
 
 -- each span starts at or above the end of the one before it
 abbrev pub SpansRise : List SpanValue → Type 0

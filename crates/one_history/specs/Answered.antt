@@ -7,7 +7,8 @@ use Rattle.ts_sessions.specs.Procedures.{Procedure}
 use Rattle.ts_sessions.specs.Gives.{Gives, numbers, printed}
 use Rattle.ts_sessions.specs.Script.{SessionLine}
 
--- what a line came to: its looks, each with its position where that is printed; its last printed look or event; its events, each with its number; and its end
+-- what a line came to: its looks, each with its position where that is printed; its last printed look or event; its
+-- events, each with its number; and its end
 pub record LineAnswer (A : Type 0) : Type 0 where
   pub looks : List (Option ℕ)
   pub last : ℕ
@@ -46,16 +47,20 @@ NeverFall from (p ∷ ps) to = (from ≤ p) × NeverFall p ps to
 
 -- the replies to lines by the places of their session, and its places after what a line came to
 module _ {P A : Type 0} (reply : P → List ℕ → ℕ → Procedure A) (next : A → P) where
-  -- over a whole history, which stopped at a position if it did, the lines of a session that had looked at `at` last come to these answers, one for each. Looks never fall from one line to the next
+  -- over a whole history, which stopped at a position if it did, the lines of a session that had looked at `at` last
+  -- come to these answers, one for each. Looks never fall from one line to the next
   abbrev pub Answered : History → Option ℕ → ℕ → P → List SessionLine → List (LineAnswer A) → Type 0
   Answered all stop at p [] [] = Unit {0}
   Answered all stop at p [] (a ∷ answers) = ⊥
   Answered all stop at p (line ∷ lines) [] = ⊥
   Answered all stop at p (line ∷ lines) (a ∷ answers) =
-      Gives all stop at [] (reply p line.text line.skip) a.looks a.last a.given a.end × Answered all stop a.last (next a.end) lines answers
+      Gives all stop at [] (reply p line.text line.skip) a.looks a.last a.given a.end
+      × Answered all stop a.last (next a.end) lines answers
 
-  -- lines that ended so are answered over a whole history from a state's position on, and the events between two states are those that they made
-  pub record IsAnswered (all : History) (stop : Option ℕ) (old new : State) (p : P) (lines : List SessionLine) (ys : List A) : Type 0 where
+  -- lines that ended so are answered over a whole history from a state's position on, and the events between two
+  -- states are those that they made
+  pub record IsAnswered (all : History) (stop : Option ℕ) (old new : State) (p : P) (lines : List SessionLine)
+      (ys : List A) : Type 0 where
     pub answers : List (LineAnswer A)
     pub answered : Answered all stop (position old.history) p lines answers
     pub ends : ends_of answers ≡ ys

@@ -1,4 +1,5 @@
--- What the calls promise by which sessions run over one store: three crews of workers one after the other, the close of the store, and a snapshot of the backend that it hands back.
+-- What the calls promise by which sessions run over one store: three crews of workers one after the other, the close
+-- of the store, and a snapshot of the backend that it hands back.
 use Rattle.std.specs.Prelude.{◌≡◌, ℕ, Bool, false, ◌||◌, List, [], ◌++◌, length, map, nat_lt, IsPermutation, IsTrue}
 use Rattle.std.specs.List.{list_any}
 use mathlib.Core.List.{IsPrefix}
@@ -28,9 +29,12 @@ module _ {W : Type 0} (session_of : W → SessionScript) (replies_of : W → Ses
       pub are : map session_of olds ≡ sessions
       pub sufficed : list_any ran_out news ≡ false
 
-    -- the sessions of `setup`, then `others` all at once, then those of `final` ran over the store, beside lines that were refused with a text. Then it was closed, and a snapshot of the backend was asked for
-    pub record RanOverStore (alone : Bool) (refusals : List ℕ) (setup others final : List SessionScript) (new : State) (text : List ℕ) (fault : Bool) : Type 0 where
-      -- the passes before the first crew, between them, and after the last, and the workers as each crew found and left them
+    -- the sessions of `setup`, then `others` all at once, then those of `final` ran over the store, beside lines that
+    -- were refused with a text. Then it was closed, and a snapshot of the backend was asked for
+    pub record RanOverStore (alone : Bool) (refusals : List ℕ) (setup others final : List SessionScript) (new : State)
+        (text : List ℕ) (fault : Bool) : Type 0 where
+      -- the passes before the first crew, between them, and after the last, and the workers as each crew found and
+      -- left them
       pub start : Ticket B
       pub middle : Ticket B
       pub later : Ticket B
@@ -51,10 +55,16 @@ module _ {W : Type 0} (session_of : W → SessionScript) (replies_of : W → Ses
       pub closed : State
       pub history : closed.history ≡ history_of state store last
       pub failed : closed.failed ≡ closed_of last
-      pub made : IsPermutation (made_of last) (positions_between (position (state store.opened.value).history) (position closed.history))
+      pub made :
+          IsPermutation (made_of last)
+          (positions_between (position (state store.opened.value).history) (position closed.history))
       -- and what the snapshot left
       pub is_alone : IsTrue alone
       pub looked : Looked alone closed (λ h. IsTrue (all_allowed h)) new
       -- the text of all replies
-      pub text_is : text ≡ refusals ++ all_texts (map replies_of setup_new) ++ all_texts (map replies_of others_new) ++ all_texts (map replies_of final_new)
-      pub fault_is : fault ≡ (nat_lt 0 (length refusals) || any_fault (map replies_of setup_new) || any_fault (map replies_of others_new) || any_fault (map replies_of final_new))
+      pub text_is :
+          text ≡ refusals ++ all_texts (map replies_of setup_new) ++ all_texts (map replies_of others_new)
+          ++ all_texts (map replies_of final_new)
+      pub fault_is :
+          fault ≡ (nat_lt 0 (length refusals) || any_fault (map replies_of setup_new)
+          || any_fault (map replies_of others_new) || any_fault (map replies_of final_new))

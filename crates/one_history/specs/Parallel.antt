@@ -42,11 +42,13 @@ pub record AreReplies (session : SessionScript) (replies : SessionReplies) (turn
 
 -- a session that had begun at its first line executed these lines from a state on, which left a state and its places
 abbrev pub SessionExecutedTo : Bool → SessionScript → State → SessionReplies → State → Places → Type 0
-SessionExecutedTo alone session s replies t q = ExecutedTo lines_in AreReplies step places_after HadBegun alone no_places session s replies t q
+SessionExecutedTo alone session s replies t q =
+    ExecutedTo lines_in AreReplies step places_after HadBegun alone no_places session s replies t q
 
 -- and left some places
 abbrev pub SessionExecuted : Bool → SessionScript → State → SessionReplies → State → Type 0
-SessionExecuted alone session s replies t = Executed lines_in AreReplies step places_after HadBegun alone no_places session s replies t
+SessionExecuted alone session s replies t =
+    Executed lines_in AreReplies step places_after HadBegun alone no_places session s replies t
 
 -- ---- several
 
@@ -59,13 +61,17 @@ all_texts (replies ∷ others) = replies.text ++ all_texts others
 abbrev pub any_fault : List SessionReplies → Bool
 any_fault sessions = list_any (λ replies. replies.fault) sessions
 
--- over a whole history, which stopped at a position if it did, sessions ran in a phase between two positions: their lines are answered there, and a reply is E24 only where the store had stopped, with that position
-pub record SessionsRan (all : History) (stop : Option ℕ) (from to : ℕ) (sessions : List SessionScript) (replies : List SessionReplies) : Type 0 where
+-- over a whole history, which stopped at a position if it did, sessions ran in a phase between two positions: their
+-- lines are answered there, and a reply is E24 only where the store had stopped, with that position
+pub record SessionsRan (all : History) (stop : Option ℕ) (from to : ℕ) (sessions : List SessionScript)
+    (replies : List SessionReplies) : Type 0 where
   pub phase : Phase lines_in AreReplies reply_to places_after all stop from to no_places sessions replies
   pub stops : RepliesStopAt stop phase.answers
 
--- over an opening history first the sessions of `setup` ran, then `others` all at once, then those of `final`, beside lines that were refused with a text. They left a state, the text of all replies, and whether one is a FAULT
-pub record RanInParallel (opening : History) (refusals : List ℕ) (setup others final : List SessionScript) (new : State) (text : List ℕ) (fault : Bool) : Type 0 where
+-- over an opening history first the sessions of `setup` ran, then `others` all at once, then those of `final`, beside
+-- lines that were refused with a text. They left a state, the text of all replies, and whether one is a FAULT
+pub record RanInParallel (opening : History) (refusals : List ℕ) (setup others final : List SessionScript)
+    (new : State) (text : List ℕ) (fault : Bool) : Type 0 where
   -- the positions at which `setup` ended, and at which `others` did
   pub first : ℕ
   pub second : ℕ

@@ -16,19 +16,22 @@ all_numbers (answers ∷ others) = numbers_of answers ++ all_numbers others
 -- sessions by their lines, and what they reply by what these ended with
 module _ {V W P A : Type 0} (lines_of : V → List SessionLine) (AreReplies : V → W → List A → Type 0) where
   -- a session executed its lines from a state on, which left a state and places, and replies with what they ended with
-  pub record ExecutedTo (does : P → List ℕ → ℕ → Procedure A) (next : A → P) (Fits : P → History → Type 0) (alone : Bool) (p : P) (session : V) (s : State) (replies : W) (t : State) (q : P) : Type 0 where
+  pub record ExecutedTo (does : P → List ℕ → ℕ → Procedure A) (next : A → P) (Fits : P → History → Type 0)
+      (alone : Bool) (p : P) (session : V) (s : State) (replies : W) (t : State) (q : P) : Type 0 where
     pub turns : List A
     pub walked : Walked does next Fits alone s p (lines_of session) turns t q
     pub replied : AreReplies session replies turns
 
   -- and left some places
-  pub record Executed (does : P → List ℕ → ℕ → Procedure A) (next : A → P) (Fits : P → History → Type 0) (alone : Bool) (p : P) (session : V) (s : State) (replies : W) (t : State) : Type 0 where
+  pub record Executed (does : P → List ℕ → ℕ → Procedure A) (next : A → P) (Fits : P → History → Type 0)
+      (alone : Bool) (p : P) (session : V) (s : State) (replies : W) (t : State) : Type 0 where
     pub places : P
     pub to : ExecutedTo does next Fits alone p session s replies t places
 
   module _ (reply : P → List ℕ → ℕ → Procedure A) (next : A → P) where
     -- the lines of one session are answered over a whole history from one position on, and up to another
-    pub record Explained (all : History) (stop : Option ℕ) (from to : ℕ) (p : P) (session : V) (replies : W) (answers : List (LineAnswer A)) : Type 0 where
+    pub record Explained (all : History) (stop : Option ℕ) (from to : ℕ) (p : P) (session : V) (replies : W)
+        (answers : List (LineAnswer A)) : Type 0 where
       pub answered : Answered reply next all stop from p (lines_of session) answers
       pub within : last_in from answers ≤ to
       pub replied : AreReplies session replies (ends_of answers)
@@ -43,8 +46,10 @@ module _ {V W P A : Type 0} (lines_of : V → List SessionLine) (AreReplies : V 
     AllExplained all stop from to p (session ∷ sessions) (replies ∷ more) (answers ∷ others) =
         Explained all stop from to p session replies answers × AllExplained all stop from to p sessions more others
 
-    -- a phase between two positions: sessions whose lines are answered from the one on and up to the other. The numbers of their events are all positions between, each once
-    pub record Phase (all : History) (stop : Option ℕ) (from to : ℕ) (p : P) (sessions : List V) (replies : List W) : Type 0 where
+    -- a phase between two positions: sessions whose lines are answered from the one on and up to the other. The
+    -- numbers of their events are all positions between, each once
+    pub record Phase (all : History) (stop : Option ℕ) (from to : ℕ) (p : P) (sessions : List V)
+        (replies : List W) : Type 0 where
       pub order : from ≤ to
       pub answers : List (List (LineAnswer A))
       pub explained : AllExplained all stop from to p sessions replies answers

@@ -6,7 +6,8 @@ use Rattle.ts_sessions.specs.Procedures.{Procedure}
 use Rattle.ts_sessions.specs.Script.{SessionLine}
 use Rattle.ts_sessions.specs.Walks.{By, Walks}
 
--- what lines do by the places of their session, what its places are after what a line came to, and which places go with a history
+-- what lines do by the places of their session, what its places are after what a line came to, and which places go
+-- with a history
 module _ {P A : Type 0} (does : P → List ℕ → ℕ → Procedure A) (next : A → P) (Fits : P → History → Type 0) where
   -- one line was walked from a state on, and left a state
   pub record WalkedOne (alone : Bool) (s : State) (p : P) (line : SessionLine) (y : A) (mid : State) : Type 0 where
@@ -15,9 +16,11 @@ module _ {P A : Type 0} (does : P → List ℕ → ℕ → Procedure A) (next : 
     pub failed : Bool
     pub walks : Walks alone failed s (does p line.text line.skip) mid y
 
-  -- the lines of a session with these places were walked in order from a state on, each to its end, and left a state and places
+  -- the lines of a session with these places were walked in order from a state on, each to its end, and left a state
+  -- and places
   abbrev pub Walked : Bool → State → P → List SessionLine → List A → State → P → Type 0
   Walked alone s p [] [] new q = (new ≡ s) × (q ≡ p)
   Walked alone s p [] (y ∷ ys) new q = ⊥
   Walked alone s p (line ∷ lines) [] new q = ⊥
-  Walked alone s p (line ∷ lines) (y ∷ ys) new q = By (WalkedOne alone s p line y) (λ mid. Walked alone mid (next y) lines ys new q)
+  Walked alone s p (line ∷ lines) (y ∷ ys) new q =
+      By (WalkedOne alone s p line y) (λ mid. Walked alone mid (next y) lines ys new q)

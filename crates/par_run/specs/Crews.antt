@@ -16,7 +16,8 @@ abbrev pub scripts_in : {T G J B : Type 0} → List (Slot (SessionWorker T G J) 
 scripts_in crew = map worker_script (workers_of crew)
 
 -- a worker for each session, before its first line
-pub record IsCrew {T G J B : Type 0} (shown : Shown T J) (sessions : List SessionScript) (crew : List (Slot (SessionWorker T G J) B)) : Type 0 where
+pub record IsCrew {T G J B : Type 0} (shown : Shown T J) (sessions : List SessionScript)
+    (crew : List (Slot (SessionWorker T G J) B)) : Type 0 where
   pub scripts : scripts_in crew ≡ sessions
   pub ready : All (IsReady shown) (workers_of crew)
 
@@ -49,8 +50,11 @@ module _ {B G T J : Type 0} where
   -- over an opening history they ran, and left a state, this text, and whether a reply is a FAULT
   abbrev pub CrewsRan : History → Crews B G T J → State → List ℕ → Bool → Type 0
   CrewsRan opening crews new text fault =
-      RanInParallel opening crews.refusals.items (scripts_in crews.setup.items) (scripts_in crews.at_once.items) (scripts_in crews.last.items) new text fault
+      RanInParallel opening crews.refusals.items (scripts_in crews.setup.items) (scripts_in crews.at_once.items)
+      (scripts_in crews.last.items) new text fault
 
 -- the same of the sorted lines of an input
 abbrev pub LinesRan : History → Sorted → State → List ℕ → Bool → Type 0
-LinesRan opening lines new text fault = RanInParallel opening lines.refusals (only setup lines.sessions) (at_once lines.sessions) (only final lines.sessions) new text fault
+LinesRan opening lines new text fault =
+    RanInParallel opening lines.refusals (only setup lines.sessions) (at_once lines.sessions)
+    (only final lines.sessions) new text fault

@@ -27,7 +27,8 @@ with_replies others replies = record { text = replies.text ++ others.text; fault
 
 -- and those of several
 abbrev pub with_all : List SessionReplies → SessionReplies → SessionReplies
-with_all sessions replies = record { text = replies.text ++ all_texts sessions; fault = replies.fault || any_fault sessions }
+with_all sessions replies =
+    record { text = replies.text ++ all_texts sessions; fault = replies.fault || any_fault sessions }
 
 -- the reply with which a step ended comes last
 abbrev pub Keeps : StepEnd → SessionReplies → SessionReplies → Type 0
@@ -36,7 +37,8 @@ Keeps (steps.DiskFault r) old new = new ≡ with_reply r old
 Keeps steps.NoMemory old new = ⊥
 
 -- whatever lines a session with a name had executed from a state on, it has executed one line more
-abbrev pub ExecutesNext : Bool → List ℕ → SessionLine → State → Places → SessionReplies → State → Places → SessionReplies → Type 0
+abbrev pub ExecutesNext :
+    Bool → List ℕ → SessionLine → State → Places → SessionReplies → State → Places → SessionReplies → Type 0
 ExecutesNext alone name line old p before new q after = (lines : List SessionLine) (s : State)
     → SessionExecutedTo alone (record { name = name; lines = lines }) s before old p
     → SessionExecutedTo alone (record { name = name; lines = lines ++ line ∷ [] }) s after new q

@@ -41,7 +41,8 @@ TakesIn v old new = (column : List (Option ℤ)) → old ≡ summary column → 
 
 -- what was the summary of a column is that of it and of a column after it, of which there is a summary too
 abbrev pub TakesInAll : Summary → Summary → Summary → Type 0
-TakesInAll other old new = (mine theirs : List (Option ℤ)) → old ≡ summary mine → other ≡ summary theirs → new ≡ summary (mine ++ theirs)
+TakesInAll other old new =
+    (mine theirs : List (Option ℤ)) → old ≡ summary mine → other ≡ summary theirs → new ≡ summary (mine ++ theirs)
 
 -- the sum of so many values, NULL where there are none
 abbrev pub sum_shown : ℕ → ℤ → Datum

@@ -19,9 +19,11 @@ use Rattle.ts_model.specs.Reads.{chunk_within, rows_near}
 use Rattle.span_fold.specs.Spans.{HaveTimes}
 use Rattle.realtime_union.specs.Live.{IsLiveSpan, all_times, union_rows}
 
--- the groups that an aggregate shows of a bucket: below its mark the materialised ones, and else those of the rows, or none where it shows materialised rows only
+-- the groups that an aggregate shows of a bucket: below its mark the materialised ones, and else those of the rows,
+-- or none where it shows materialised rows only
 abbrev pub groups_shown : ViewDef → List Group → Option ℤ → List Row → ℤ → List Group
-groups_shown def kept mark rows b = cond (is_below b mark) (filter (λ g. int_eq g.start b) kept) (cond def.only [] (groups_in def.fold rows b))
+groups_shown def kept mark rows b =
+    cond (is_below b mark) (filter (λ g. int_eq g.start b) kept) (cond def.only [] (groups_in def.fold rows b))
 
 -- materialised groups of buckets asked for: in order, and below the mark
 pub record AreKept (w : Width) (mark : Option ℤ) (starts : Span) (kept : List Group) : Type 0 where
@@ -30,18 +32,28 @@ pub record AreKept (w : Width) (mark : Option ℤ) (starts : Span) (kept : List 
 
 -- what is shown is, bucket by bucket of those asked for, what is shown of the bucket
 abbrev pub UnionsAreOfBuckets : Type 0
-UnionsAreOfBuckets = (def : ViewDef) (kept : List Group) (mark : Option ℤ) (starts : Span) (rows : List Row) → IsWidth def.fold.width → AreKept def.fold.width mark starts kept
-    → union_rows def kept mark starts rows ≡ flat_map (λ b. map (cells_of def.fold) (groups_shown def kept mark rows b)) (buckets_in def.fold.width starts)
+UnionsAreOfBuckets =
+    (def : ViewDef) (kept : List Group) (mark : Option ℤ) (starts : Span) (rows : List Row) → IsWidth def.fold.width
+    → AreKept def.fold.width mark starts kept
+    → union_rows def kept mark starts rows
+    ≡ flat_map (λ b. map (cells_of def.fold) (groups_shown def kept mark rows b)) (buckets_in def.fold.width starts)
 
 -- the chunks of rows lie at most the longest interval outside the range of times
 abbrev pub ChunksAreNear : ℤ → List Row → Type 0
-ChunksAreNear interval stored = list_all (chunk_within (min_time -ℤ max_interval) (max_time +ℤ max_interval) interval) stored ≡ true
+ChunksAreNear interval stored =
+    list_all (chunk_within (min_time -ℤ max_interval) (max_time +ℤ max_interval) interval) stored ≡ true
 
--- the rows in chunks that meet the live span are those in chunks that meet a live bucket, where the span asked for is one of numbers of 64 bits
+-- the rows in chunks that meet the live span are those in chunks that meet a live bucket, where the span asked for is
+-- one of numbers of 64 bits
 abbrev pub LiveReadsAreOfBuckets : Type 0
-LiveReadsAreOfBuckets = (w : Width) (mark : Option ℤ) (starts live : Span) (interval : ℤ) (stored : List Row) → IsWidth w → IsLiveSpan w mark starts live → ChunksAreNear interval stored
-    → rows_near interval stored (live ∷ []) ≡ rows_near interval stored (map (bucket_span w) (filter (λ b. not (is_below b mark)) (buckets_in w starts)))
+LiveReadsAreOfBuckets =
+    (w : Width) (mark : Option ℤ) (starts live : Span) (interval : ℤ) (stored : List Row) → IsWidth w
+    → IsLiveSpan w mark starts live → ChunksAreNear interval stored
+    → rows_near interval stored (live ∷ [])
+    ≡ rows_near interval stored (map (bucket_span w) (filter (λ b. not (is_below b mark)) (buckets_in w starts)))
 
 -- a scan of all times looks at all stored rows
 abbrev pub AllTimesReadAll : Type 0
-AllTimesReadAll = (interval : ℤ) (stored : List Row) → IsInterval interval → HaveTimes stored → rows_near interval stored (all_times ∷ []) ≡ length stored
+AllTimesReadAll =
+    (interval : ℤ) (stored : List Row) → IsInterval interval → HaveTimes stored
+    → rows_near interval stored (all_times ∷ []) ≡ length stored

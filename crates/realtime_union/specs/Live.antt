@@ -19,17 +19,20 @@ is_live w mark starts b = is_asked w starts b && not (is_below b mark)
 -- a span of whole buckets that holds those of the range of buckets that are live
 pub record IsLiveSpan (w : WidthValue) (mark : Option ℤ) (starts live : SpanValue) : Type 0 where
   pub whole : IsWholeSpan w live
-  pub exact : (b : ℤ) → is_bucket w b ≡ true → in_span live b ≡ (in_span (whole_span w) b && (in_span starts b && not (is_below b mark)))
+  pub exact : (b : ℤ) → is_bucket w b ≡ true
+      → in_span live b ≡ (in_span (whole_span w) b && (in_span starts b && not (is_below b mark)))
 
 -- the groups of the live buckets, or none where materialised rows only are shown
 abbrev pub live_groups : ViewDef → Option ℤ → SpanValue → List Row → List Group
-live_groups def mark starts rows = cond def.only [] (filter (λ g. is_live def.fold.width mark starts g.start) (groups_of def.fold rows))
+live_groups def mark starts rows =
+    cond def.only [] (filter (λ g. is_live def.fold.width mark starts g.start) (groups_of def.fold rows))
 
 -- what is shown: the materialised groups, and then the live ones
 abbrev pub union_rows : ViewDef → List Group → Option ℤ → SpanValue → List Row → List (List Datum)
 union_rows def kept mark starts rows = map (cells_of def.fold) (kept ++ live_groups def mark starts rows)
 
--- how many stored rows are looked at: those in chunks that meet the live span, and none where materialised rows only are shown
+-- how many stored rows are looked at: those in chunks that meet the live span, and none where materialised rows only
+-- are shown
 abbrev pub live_reads : ViewDef → ℤ → List Row → Span → ℕ
 live_reads def interval stored live = cond def.only 0 (rows_near interval stored (live ∷ []))
 

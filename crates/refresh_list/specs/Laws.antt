@@ -19,12 +19,18 @@ RefreshesBegin = RefreshesStand start []
 
 -- a cut is one more refresh
 abbrev pub CutsStand : Type 0
-CutsStand = (h : History) (v : ℕ) (span : Span) (rs : List Refresh) → RefreshesStand h rs → RefreshesStand (h ▸ Cut v span) (rs ++ (newly_cut (suc (position h)) v span ∷ []))
+CutsStand =
+    (h : History) (v : ℕ) (span : Span) (rs : List Refresh) → RefreshesStand h rs
+    → RefreshesStand (h ▸ Cut v span) (rs ++ (newly_cut (suc (position h)) v span ∷ []))
 
 -- a finish marks the refresh that it names
 abbrev pub FinishesStand : Type 0
-FinishesStand = (h : History) (cut snap : ℕ) (rs : List Refresh) → RefreshesStand h rs → RefreshesStand (h ▸ Built cut snap) (map (finished_at cut (suc (position h))) rs)
+FinishesStand =
+    (h : History) (cut snap : ℕ) (rs : List Refresh) → RefreshesStand h rs
+    → RefreshesStand (h ▸ Built cut snap) (map (finished_at cut (suc (position h))) rs)
 
 -- every other event leaves them as they are
 abbrev pub OthersStand : Type 0
-OthersStand = (h : History) (e : Event) (rs : List Refresh) → is_of_refresh e ≡ false → RefreshesStand h rs → RefreshesStand (h ▸ e) rs
+OthersStand =
+    (h : History) (e : Event) (rs : List Refresh) → is_of_refresh e ≡ false → RefreshesStand h rs
+    → RefreshesStand (h ▸ e) rs

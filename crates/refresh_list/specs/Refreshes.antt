@@ -60,7 +60,8 @@ finished_one k r = record r { finish = Some (unwrap_or r.finish k) }
 abbrev pub finished_at : ℕ → ℕ → Refresh → Refresh
 finished_at cut k r = cond (cut == r.cut) (finished_one k r) r
 
--- the refreshes are those of a history: what became of each, which wait, the span of each, and none is from after the history
+-- the refreshes are those of a history: what became of each, which wait, the span of each, and none is from after the
+-- history
 pub record RefreshesStand (h : History) (refreshes : List Refresh) : Type 0 where
   pub pending : (k : ℕ) → pending_in refreshes k ≡ pending h k
   pub waiting : waiting_in refreshes ≡ waiting h

@@ -28,7 +28,8 @@ stale_text min (span ∷ spans) = codes "stale " ++ span_text min span ++ codes 
 
 -- the head of an answer: its position, how many rows it has, and how many stale ranges
 abbrev pub answer_head : ℕ → ℕ → ℕ → List ℕ
-answer_head pos rows stale = codes "ANSWER @" ++ decimal pos ++ codes " rows " ++ decimal rows ++ codes " stale " ++ decimal stale ++ codes "\n"
+answer_head pos rows stale =
+    codes "ANSWER @" ++ decimal pos ++ codes " rows " ++ decimal rows ++ codes " stale " ++ decimal stale ++ codes "\n"
 
 -- an answer: its head, its rows, its stale ranges
 abbrev pub answer_text : Answer → ℕ → ℤ → List ℕ

@@ -39,7 +39,8 @@ table_text def = codes "TABLE " ++ def.name ++ columns_text def.cols
 abbrev pub hyper_text : HyperInfo → Option TableInfo → List ℕ
 hyper_text hyper None = []
 hyper_text hyper (Some info) =
-    (codes "HYPER " ++ info.def.name) ++ place_text info.def.cols hyper.at ++ (codes " " ++ signed_decimal hyper.interval)
+    (codes "HYPER " ++ info.def.name) ++ place_text info.def.cols hyper.at
+    ++ (codes " " ++ signed_decimal hyper.interval)
 
 -- an aggregate over a table
 abbrev pub view_text : ViewDef → Option TableInfo → List ℕ

@@ -71,4 +71,6 @@ number_text code = codes "E" ++ decimal (code / 10) ++ decimal (code % 10)
 
 -- a refusal as a line
 abbrev pub refusal_text : Refusal → List ℕ
-refusal_text r = codes "FAULT " ++ number_text r.code ++ codes " " ++ (entry_of r.code).word ++ tail_text (entry_of r.code).tail r ++ codes "\n"
+refusal_text r =
+    codes "FAULT " ++ number_text r.code ++ codes " " ++ (entry_of r.code).word ++ tail_text (entry_of r.code).tail r
+    ++ codes "\n"

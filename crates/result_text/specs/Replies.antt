@@ -9,7 +9,8 @@ use Rattle.result_text.specs.Spans.{span_end}
 
 -- a refresh by its cut, the event that finished it and its snapshot
 abbrev pub refresh_head : ℕ → ℕ → ℕ → List ℕ
-refresh_head cut pos snap = codes "REFRESH " ++ decimal cut ++ codes " @" ++ decimal pos ++ codes " snap " ++ decimal snap
+refresh_head cut pos snap =
+    codes "REFRESH " ++ decimal cut ++ codes " @" ++ decimal pos ++ codes " snap " ++ decimal snap
 
 -- what a reply says after the session's name
 abbrev pub said_text : Said → List ℕ
@@ -17,13 +18,16 @@ said_text (Table pos) = codes "TABLE @" ++ decimal pos ++ codes "\n"
 said_text (Hypertable pos) = codes "HYPERTABLE @" ++ decimal pos ++ codes "\n"
 said_text (View pos) = codes "VIEW @" ++ decimal pos ++ codes "\n"
 said_text (Mode pos) = codes "MODE @" ++ decimal pos ++ codes "\n"
-said_text (Commit done) = codes "COMMIT @" ++ decimal done.pos ++ codes " +" ++ decimal done.inserted ++ codes " -" ++ decimal done.removed ++ codes "\n"
+said_text (Commit done) =
+    codes "COMMIT @" ++ decimal done.pos ++ codes " +" ++ decimal done.inserted ++ codes " -" ++ decimal done.removed
+    ++ codes "\n"
 said_text Queued = codes "QUEUED\n"
 said_text (Refresh cut pos snap span min) = refresh_head cut pos snap ++ span_end min span
 said_text (Nothing pos) = codes "NOTHING @" ++ decimal pos ++ codes "\n"
 said_text (Cut cut span min) = (codes "CUT " ++ decimal cut) ++ span_end min span
 said_text (Snap cut snap) = codes "SNAP " ++ decimal cut ++ codes " @" ++ decimal snap ++ codes "\n"
-said_text (Finish cut pos snap) = codes "FINISH " ++ decimal cut ++ codes " @" ++ decimal pos ++ codes " snap " ++ decimal snap ++ codes "\n"
+said_text (Finish cut pos snap) =
+    codes "FINISH " ++ decimal cut ++ codes " @" ++ decimal pos ++ codes " snap " ++ decimal snap ++ codes "\n"
 said_text Begin = codes "BEGIN\n"
 said_text (BeginRead pos) = codes "BEGIN @" ++ decimal pos ++ codes "\n"
 said_text CommitEmpty = codes "COMMIT EMPTY\n"

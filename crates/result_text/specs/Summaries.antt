@@ -14,7 +14,9 @@ total_line n = codes "total " ++ signed_decimal n ++ codes "\n"
 
 -- the number, the events, the rows and the groups
 abbrev pub counts_text : Summary → List ℕ
-counts_text s = count_line (codes "DEMO ") s.number ++ count_line (codes "events ") s.events ++ count_line (codes "rows ") s.rows ++ count_line (codes "groups ") s.groups
+counts_text s =
+    count_line (codes "DEMO ") s.number ++ count_line (codes "events ") s.events ++ count_line (codes "rows ") s.rows
+    ++ count_line (codes "groups ") s.groups
 
 -- the total, the stale ranges and the reads
 abbrev pub results_text : Summary → List ℕ

@@ -33,7 +33,9 @@ is_commit (Built cut snap) = false
 
 -- a table without versions holds a table that isn't a hypertable, or is only now made one
 abbrev pub TablesBegin : Type 0
-TablesBegin = (t : ℕ) (h : History) (table : ChunksValue) → all_allowed h ≡ true → hyper_of (roster h) t ≡ None → table.versions ≡ [] → Holds t h table
+TablesBegin =
+    (t : ℕ) (h : History) (table : ChunksValue) → all_allowed h ≡ true → hyper_of (roster h) t ≡ None
+    → table.versions ≡ [] → Holds t h table
 
 -- a table that holds a history may be given the operations of the next commit at the next position
 pub record Asks (t : ℕ) (h : History) (ops : List Op) (table : ChunksValue) : Type 0 where
@@ -41,33 +43,46 @@ pub record Asks (t : ℕ) (h : History) (ops : List Op) (table : ChunksValue) : 
   pub times : HaveTimes (all_appended t ops)
 
 abbrev pub CommitsFit : Type 0
-CommitsFit = (t : ℕ) (h : History) (ops : List Op) (table : ChunksValue) → Holds t h table → all_allowed (h ▸ Commit ops) ≡ true → Asks t h ops table
+CommitsFit =
+    (t : ℕ) (h : History) (ops : List Op) (table : ChunksValue) → Holds t h table
+    → all_allowed (h ▸ Commit ops) ≡ true → Asks t h ops table
 
 -- what they make of it there holds the history with the commit
 abbrev pub CommitsAreHeld : Type 0
-CommitsAreHeld = (t : ℕ) (h : History) (ops : List Op) (old new : ChunksValue) → Holds t h old → Follows t ops (suc (position h)) old new → Holds t (h ▸ Commit ops) new
+CommitsAreHeld =
+    (t : ℕ) (h : History) (ops : List Op) (old new : ChunksValue) → Holds t h old
+    → Follows t ops (suc (position h)) old new → Holds t (h ▸ Commit ops) new
 
 -- and their effect is that of the commit
 abbrev pub EffectsAreOfCommits : Type 0
-EffectsAreOfCommits = (t : ℕ) (h : History) (ops : List Op) (table : ChunksValue) (effect : Effect) → Holds t h table → IsEffect t ops (rows_seen (suc (position h)) table) effect → IsEffect t ops (rows t h) effect
+EffectsAreOfCommits =
+    (t : ℕ) (h : History) (ops : List Op) (table : ChunksValue) (effect : Effect) → Holds t h table
+    → IsEffect t ops (rows_seen (suc (position h)) table) effect → IsEffect t ops (rows t h) effect
 
 -- a commit that names no operation on a table leaves it as it is
 abbrev pub UnnamedAreHeld : Type 0
-UnnamedAreHeld = (t : ℕ) (h : History) (ops : List Op) (table : ChunksValue) → Holds t h table → list_any (is_on t) ops ≡ false → Holds t (h ▸ Commit ops) table
+UnnamedAreHeld =
+    (t : ℕ) (h : History) (ops : List Op) (table : ChunksValue) → Holds t h table → list_any (is_on t) ops ≡ false
+    → Holds t (h ▸ Commit ops) table
 
 -- any other event leaves a table as it is
 abbrev pub OthersAreHeld : Type 0
-OthersAreHeld = (t : ℕ) (h : History) (e : Event) (table : ChunksValue) → Holds t h table → is_commit e ≡ false → Holds t (h ▸ e) table
+OthersAreHeld =
+    (t : ℕ) (h : History) (e : Event) (table : ChunksValue) → Holds t h table → is_commit e ≡ false
+    → Holds t (h ▸ e) table
 
 -- what a table that holds a history tells of it, at every position
 pub record Tells (t : ℕ) (h : History) (table : ChunksValue) : Type 0 where
   -- the visible rows of a span are the rows of the span there
-  pub rows_are : (q : ℕ) (s : SpanValue) → in_order (rows_of_span s (visible_rows q table.versions)) ≡ rows_of_span s (rows t (prefix h q))
+  pub rows_are : (q : ℕ) (s : SpanValue)
+      → in_order (rows_of_span s (visible_rows q table.versions)) ≡ rows_of_span s (rows t (prefix h q))
   -- as many stored rows are in chunks that meet these spans as inserted ones
-  pub read : (interval : ℤ) (spans : List Span) → rows_near interval (rows_of table.versions) spans ≡ rows_near interval (inserted t h) spans
+  pub read : (interval : ℤ) (spans : List Span)
+      → rows_near interval (rows_of table.versions) spans ≡ rows_near interval (inserted t h) spans
   -- the greatest visible time is that of the rows there, and the bucket that holds it is the last one with a row
   pub latest : (q : ℕ) → latest_at q table.versions ≡ latest_of (rows t (prefix h q))
-  pub last_bucket : (q : ℕ) (w : Width) → IsWidth w → option_map (λ time. bucket_of w time +ℤ w.step) (latest_at q table.versions) ≡ last_end w (rows t (prefix h q))
+  pub last_bucket : (q : ℕ) (w : Width) → IsWidth w
+      → option_map (λ time. bucket_of w time +ℤ w.step) (latest_at q table.versions) ≡ last_end w (rows t (prefix h q))
 
 abbrev pub HeldTablesTell : Type 0
 HeldTablesTell = (t : ℕ) (h : History) (table : ChunksValue) → Holds t h table → Tells t h table

@@ -42,7 +42,8 @@ abbrev pub is_on : ℕ → Op → Bool
 is_on t (Insert u new) = u == t
 is_on t (Delete u tests) = u == t
 
--- what operations on table t at position p make of its versions: earlier positions see what they saw, p and later ones see the
+-- what operations on table t at position p make of its versions: earlier positions see what they saw, p and later
+-- ones see the
 -- rows after the operations, and everything that was ever inserted is stored
 pub record Follows (t : ℕ) (ops : List Op) (p : ℕ) (old new : ChunksValue) : Type 0 where
   pub interval : new.interval ≡ old.interval

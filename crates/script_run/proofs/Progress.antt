@@ -217,7 +217,6 @@ end_ran false semantics h input rest left whole done fault = (whole, done, fault
 -- ---- a line that is too long
 
 module _ {P : Type 0} (semantics : Semantics P) (script_state : ScriptState P) (k : ℕ) (line : List ℕ) (long : LINE_LIMIT < length line) where
-
   pub refused_written : (next : ScriptState P) (w v : Option (List ℕ)) (was is : Bool) (read : ℕ) → read < 2 ^ 64 → next ≡ script_state → Appends w v (line_fault_text k (bare LINE_LONG)) → is ≡ true
       → LineWritten (executes semantics script_state k line) next w v was is read read
   refused_written next w v was is read small kept wrote refused =

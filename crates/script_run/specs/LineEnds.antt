@@ -16,7 +16,8 @@ pub record RepliesWith (text : List ℕ) (fault : Bool) (reply : ReplyMade) : Ty
   pub fault_is : reply.fault ≡ fault
 
 -- a line came to what it should come to, and the store goes on
-pub record LineAnswered {P : Type 0} (line_result : LineResult P) (reply : ReplyMade) (old new : State) (script_state : ScriptState P) (before after : ℕ) : Type 0 where
+pub record LineAnswered {P : Type 0} (line_result : LineResult P) (reply : ReplyMade) (old new : State)
+    (script_state : ScriptState P) (before after : ℕ) : Type 0 where
   pub replied : RepliesWith line_result.text line_result.fault reply
   pub reached : script_state ≡ line_result.script_state
   pub went : WentOn false old new
@@ -36,9 +37,11 @@ pub record LineBroken {P : Type 0} (line_result : LineResult P) (old new : State
 
 -- how a line ended that should come to this. Where there was no memory, the disk may have failed before
 abbrev pub LineExecuted : {P : Type 0} → StepEnd → LineResult P → State → State → ScriptState P → ℕ → ℕ → Type 0
-LineExecuted (Reply r) line_result old new script_state before after = LineAnswered line_result r old new script_state before after
+LineExecuted (Reply r) line_result old new script_state before after =
+    LineAnswered line_result r old new script_state before after
 LineExecuted (DiskFault r) line_result old new script_state before after = LineFailed line_result old new before after
-LineExecuted NoMemory line_result old new script_state before after = LineBroken line_result old new before after ⊎ LineFailed line_result old new before after
+LineExecuted NoMemory line_result old new script_state before after =
+    LineBroken line_result old new before after ⊎ LineFailed line_result old new before after
 
 -- a reply was made, unless there was no memory for it
 abbrev pub Replies : List ℕ → Bool → Result ReplyMade NoMemoryLeft → Type 0
@@ -51,7 +54,8 @@ ends_with (Ok r) = Reply r
 ends_with (Err e) = NoMemory
 
 -- a line that should come to this was executed, and its reply written whole
-pub record LineWritten {P : Type 0} (line_result : LineResult P) (script_state : ScriptState P) (old new : Option (List ℕ)) (was is : Bool) (before after : ℕ) : Type 0 where
+pub record LineWritten {P : Type 0} (line_result : LineResult P) (script_state : ScriptState P)
+    (old new : Option (List ℕ)) (was is : Bool) (before after : ℕ) : Type 0 where
   pub reached : script_state ≡ line_result.script_state
   pub wrote : Appends old new line_result.text
   pub refused : is ≡ (was || line_result.fault)

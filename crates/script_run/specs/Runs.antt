@@ -39,7 +39,8 @@ reads_of semantics h lines = reads_in semantics (opening_script_state h) 1 lines
 
 -- what a line comes to that follows these
 abbrev pub result_after : {P : Type 0} → Semantics P → History → List (List ℕ) → List ℕ → LineResult P
-result_after semantics h lines line = executes semantics (script_state_after semantics h lines) (suc (length lines)) line
+result_after semantics h lines line =
+    executes semantics (script_state_after semantics h lines) (suc (length lines)) line
 
 -- ---- what a run left
 
@@ -57,20 +58,23 @@ pub record ReadWhole (input : List ℕ) (rest : Option (List ℕ)) : Type 0 wher
   pub at_end : IsAtEnd rest
 
 -- the lines were executed to the last, and their replies written
-pub record Executed {P : Type 0} (semantics : Semantics P) (h : History) (lines : List (List ℕ)) (left : Left) : Type 0 where
+pub record Executed {P : Type 0} (semantics : Semantics P) (h : History) (lines : List (List ℕ))
+    (left : Left) : Type 0 where
   pub history : left.store.history ≡ history_of semantics h lines
   pub wrote : Appends left.written_before left.written (output_of semantics h lines)
   pub counted : left.read ≡ raised_by (reads_of semantics h lines) left.read_before
 
 -- some first lines were executed, and their replies written, and nothing was done of the others
-pub record StoppedBefore {P : Type 0} (semantics : Semantics P) (h : History) (lines : List (List ℕ)) (left : Left) : Type 0 where
+pub record StoppedBefore {P : Type 0} (semantics : Semantics P) (h : History) (lines : List (List ℕ))
+    (left : Left) : Type 0 where
   pub done : List (List ℕ)
   pub rest : List (List ℕ)
   pub split : lines ≡ done ++ rest
   pub executed_first : Executed semantics h done left
 
 -- the replies to some first lines were written, and the next line was executed, of whose reply a part was written
-pub record StoppedWriting {P : Type 0} (semantics : Semantics P) (h : History) (lines : List (List ℕ)) (left : Left) : Type 0 where
+pub record StoppedWriting {P : Type 0} (semantics : Semantics P) (h : History) (lines : List (List ℕ))
+    (left : Left) : Type 0 where
   pub done : List (List ℕ)
   pub line : List ℕ
   pub rest : List (List ℕ)
@@ -83,7 +87,8 @@ pub record StoppedWriting {P : Type 0} (semantics : Semantics P) (h : History) (
   pub counted : left.read ≡ raised_by (reads_of semantics h (done ++ line ∷ [])) left.read_before
 
 -- the replies to some first lines were written, and nothing of the next one's, at an event of which the disk failed
-pub record StoppedAtEvent {P : Type 0} (semantics : Semantics P) (h : History) (lines : List (List ℕ)) (left : Left) : Type 0 where
+pub record StoppedAtEvent {P : Type 0} (semantics : Semantics P) (h : History) (lines : List (List ℕ))
+    (left : Left) : Type 0 where
   pub done : List (List ℕ)
   pub line : List ℕ
   pub rest : List (List ℕ)
@@ -93,7 +98,8 @@ pub record StoppedAtEvent {P : Type 0} (semantics : Semantics P) (h : History) (
   pub counted : raised_by (reads_of semantics h done) left.read_before ≤ left.read
 
 -- the replies to some first lines were written, and nothing of the next one's, of which the first events may stand
-pub record StoppedWithin {P : Type 0} (semantics : Semantics P) (h : History) (lines : List (List ℕ)) (left : Left) : Type 0 where
+pub record StoppedWithin {P : Type 0} (semantics : Semantics P) (h : History) (lines : List (List ℕ))
+    (left : Left) : Type 0 where
   pub done : List (List ℕ)
   pub rest : List (List ℕ)
   pub split : lines ≡ done ++ rest
@@ -103,8 +109,12 @@ pub record StoppedWithin {P : Type 0} (semantics : Semantics P) (h : History) (l
 
 -- what a run that ended so over a history has read of an input, executed of its lines, and written of their replies
 abbrev pub Ran : {P : Type 0} → RunEnd → Semantics P → History → List ℕ → Option (List ℕ) → Left → Type 0
-Ran Done semantics h input rest left = ReadWhole input rest × Executed semantics h (executed input) left × (has_fault semantics h (executed input) ≡ false)
-Ran Refused semantics h input rest left = ReadWhole input rest × Executed semantics h (executed input) left × (has_fault semantics h (executed input) ≡ true)
+Ran Done semantics h input rest left =
+    ReadWhole input rest × Executed semantics h (executed input) left
+    × (has_fault semantics h (executed input) ≡ false)
+Ran Refused semantics h input rest left =
+    ReadWhole input rest × Executed semantics h (executed input) left
+    × (has_fault semantics h (executed input) ≡ true)
 Ran ReadFault semantics h input rest left = StoppedBefore semantics h (executed input) left
 Ran WriteFault semantics h input rest left = StoppedWriting semantics h (executed input) left
 Ran DiskFault semantics h input rest left = StoppedAtEvent semantics h (executed input) left

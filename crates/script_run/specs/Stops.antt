@@ -19,28 +19,36 @@ settled true steps.NoMemory = Err DiskFault
 settled false steps.NoMemory = Err NoMemory
 
 -- a line was executed, and a part of its reply written
-pub record ReplyCut {P : Type 0} (line_result : LineResult P) (script_state : ScriptState P) (old new : Option (List ℕ)) (before after : ℕ) : Type 0 where
+pub record ReplyCut {P : Type 0} (line_result : LineResult P) (script_state : ScriptState P)
+    (old new : Option (List ℕ)) (before after : ℕ) : Type 0 where
   pub reached : script_state ≡ line_result.script_state
   pub wrote : AppendsPart old new line_result.text
   pub counted : after ≡ raised_by line_result.reads before
 
 -- the disk failed at an event of a line, and nothing of its reply was written
-pub record EventFailed {P : Type 0} (line_result : LineResult P) (old new : State) (written_before written : Option (List ℕ)) (before after : ℕ) : Type 0 where
+pub record EventFailed {P : Type 0} (line_result : LineResult P) (old new : State)
+    (written_before written : Option (List ℕ)) (before after : ℕ) : Type 0 where
   pub failed : FailedBetween old.history line_result.script_state.history new
   pub wrote : written ≡ written_before
   pub counted : before ≤ after
 
 -- there was no memory for a line, and nothing of its reply was written
-pub record LineGivenUp {P : Type 0} (line_result : LineResult P) (old new : State) (written_before written : Option (List ℕ)) (before after : ℕ) : Type 0 where
+pub record LineGivenUp {P : Type 0} (line_result : LineResult P) (old new : State)
+    (written_before written : Option (List ℕ)) (before after : ℕ) : Type 0 where
   pub between : IsBetween old.history line_result.script_state.history new
   pub wrote : written ≡ written_before
   pub counted : before ≤ after
 
 -- what is done of a line that should come to this where the script stops at it
-abbrev pub LineCut : {P : Type 0} → Stop → LineResult P → State → State → ScriptState P → Option (List ℕ) → Option (List ℕ) → ℕ → ℕ → Type 0
-LineCut WriteFault line_result old new script_state written_before written before after = ReplyCut line_result script_state written_before written before after
-LineCut DiskFault line_result old new script_state written_before written before after = EventFailed line_result old new written_before written before after
-LineCut NoMemory line_result old new script_state written_before written before after = LineGivenUp line_result old new written_before written before after
+abbrev pub LineCut :
+    {P : Type 0} → Stop → LineResult P → State → State → ScriptState P → Option (List ℕ) → Option (List ℕ) → ℕ → ℕ
+    → Type 0
+LineCut WriteFault line_result old new script_state written_before written before after =
+    ReplyCut line_result script_state written_before written before after
+LineCut DiskFault line_result old new script_state written_before written before after =
+    EventFailed line_result old new written_before written before after
+LineCut NoMemory line_result old new script_state written_before written before after =
+    LineGivenUp line_result old new written_before written before after
 
 -- what is written of the refusal of a line where the script stops at it
 abbrev pub RefusalCut : Stop → Option (List ℕ) → Option (List ℕ) → List ℕ → Type 0

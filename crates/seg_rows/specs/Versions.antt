@@ -72,6 +72,7 @@ AsOften {X} xs ys = (test : X → Bool) → count_by test xs ≡ count_by test y
 abbrev pub GainsFirst : {X : Type 0} → List X → List X → List X → Type 0
 GainsFirst {X} items old new = (k : ℕ) × (new ≡ old ++ take k items)
 
--- a list has these items more, wherever they stand: every test passes as many of it as of the old list and of these items together
+-- a list has these items more, wherever they stand: every test passes as many of it as of the old list and of these
+-- items together
 abbrev pub HasMore : {X : Type 0} → List X → List X → List X → Type 0
 HasMore {X} items old new = (test : X → Bool) → count_by test new ≡ count_by test old + count_by test items

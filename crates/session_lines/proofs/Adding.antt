@@ -55,6 +55,7 @@ module _ (name : List ℕ) (line : SessionLine) where
     as_new few =
         let room : nat_lt (length s.sessions) most_sessions ≡ true = lt-ltb (length s.sessions) most_sessions few in
         ap (λ b. cond (appears_in name s.sessions || b) taken refused) room ∙ ap (λ b. cond b taken refused) (or-true (appears_in name s.sessions))
+
     -- and where there is none
     as_refused : appears_in name s.sessions ≡ false → most_sessions ≤ length s.sessions → sorts_as name line s ≡ refused
     as_refused absent many =

@@ -12,7 +12,8 @@ use Rattle.result_text.specs.Replies.{line_fault_text, reply_text}
 use Rattle.ts_sessions.specs.Script.{SessionLine, SessionScript, line_limit, most_sessions}
 use Rattle.ts_sessions.specs.Step.{bare}
 
--- an input, sorted: the refusals of lines that no session answers, in order, and the sessions in order of appearance. Sessions are numbered from 0 in that order
+-- an input, sorted: the refusals of lines that no session answers, in order, and the sessions in order of appearance.
+-- Sessions are numbered from 0 in that order
 pub record Sorted : Type 0 where
   pub refusals : List ℕ
   pub sessions : List SessionScript
@@ -26,7 +27,9 @@ refuses text s = record s { refusals = s.refusals ++ text }
 -- the line comes last in the session with its name; a session that is new comes last
 abbrev pub with_line : List ℕ → SessionLine → List SessionScript → List SessionScript
 with_line name line [] = record { name = name; lines = line ∷ [] } ∷ []
-with_line name line (script ∷ scripts) = cond (same_name script.name name) (record script { lines = script.lines ++ line ∷ [] } ∷ scripts) (script ∷ with_line name line scripts)
+with_line name line (script ∷ scripts) =
+    cond (same_name script.name name) (record script { lines = script.lines ++ line ∷ [] } ∷ scripts)
+    (script ∷ with_line name line scripts)
 
 -- a session with this name has appeared
 abbrev pub appears_in : List ℕ → List SessionScript → Bool
@@ -44,11 +47,14 @@ abbrev pub sorts_kind : ℕ → List ℕ → Sorted → LineKind → Sorted
 sorts_kind n line s Blank = s
 sorts_kind n line s NotAscii = refuses (line_fault_text n (bare NOT_ASCII)) s
 sorts_kind n line s NoSession = refuses (line_fault_text n (bare NO_SESSION)) s
-sorts_kind n line s (Stmt len skip end) = sorts_as (session_name line len skip) (record { text = take end line; skip = skip }) s
+sorts_kind n line s (Stmt len skip end) =
+    sorts_as (session_name line len skip) (record { text = take end line; skip = skip }) s
 
 -- a line, which has this number
 abbrev pub sorts : ℕ → List ℕ → Sorted → Sorted
-sorts n line s = cond (nat_lt line_limit (length line)) (refuses (line_fault_text n (bare LINE_LONG)) s) (sorts_kind n line s (line_kind line))
+sorts n line s =
+    cond (nat_lt line_limit (length line)) (refuses (line_fault_text n (bare LINE_LONG)) s)
+    (sorts_kind n line s (line_kind line))
 
 -- ---- all lines
 
@@ -75,6 +81,7 @@ final = 102 ∷ 105 ∷ 110 ∷ 97 ∷ 108 ∷ []
 abbrev pub only : List ℕ → List SessionScript → List SessionScript
 only name scripts = filter (λ script. same_name script.name name) scripts
 
--- those that run at once, each by a worker of its own: all but `setup`, which runs before them, and `final`, which runs after them
+-- those that run at once, each by a worker of its own: all but `setup`, which runs before them, and `final`, which
+-- runs after them
 abbrev pub at_once : List SessionScript → List SessionScript
 at_once scripts = filter (λ script. not (same_name script.name setup || same_name script.name final)) scripts

@@ -48,7 +48,10 @@ module _ {B : Type 0} (state : B → State) where
   -- what the last call left is what the pass has seen
   abbrev pub IsLast : AtDesk B → Option (Left B) → Type 0
   IsLast desk None = Unit {0}
-  IsLast desk (Some left) = (closed_of desk.pass ≡ (state left.backend.value).failed) × ((state left.backend.value).history ≡ history_of state desk.store desk.pass) × (left.stopped ≡ stop_of (state left.backend.value))
+  IsLast desk (Some left) =
+      (closed_of desk.pass ≡ (state left.backend.value).failed)
+      × ((state left.backend.value).history ≡ history_of state desk.store desk.pass)
+      × (left.stopped ≡ stop_of (state left.backend.value))
 
   pub record IsDesk (desk : AtDesk B) : Type 0 where
     pub of_store : IsPassOf desk.store desk.pass

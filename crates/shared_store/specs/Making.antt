@@ -6,7 +6,8 @@ use Rattle.shared_store.specs.declared.making.MadeStore.{MadeStore}
 use Rattle.shared_store.specs.declared.making.MadeStore.TheVariants.{Made, NoMemory}
 
 module _ {B : Type 0} where
-  -- the first pass of a store over the backend: it has all shares, has seen what the backend holds, and has made nothing
+  -- the first pass of a store over the backend: it has all shares, has seen what the backend holds, and has made
+  -- nothing
   pub record IsFirstPass (backend : B) (shares : ℕ) (store : Shared B) (pass : Ticket B) : Type 0 where
     pub of_store : IsPassOf store pass
     pub store_backend : store.opened.value ≡ backend

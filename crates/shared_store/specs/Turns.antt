@@ -20,7 +20,9 @@ module _ {B K : Type 0} (alone : Bool) (state : B → State) (kin : B → K) (st
     pub opened : held.value.opened ≡ store.opened
     pub kept : IsKept alone state kin held.value
     pub begins : Begins (history_of state store old) (state held.value.backend).history
-    pub stays : (e : Event) → closed_of old ≡ Some e → ((state held.value.backend).failed ≡ Some e) × ((state held.value.backend).history ≡ history_of state store old)
+    pub stays : (e : Event) → closed_of old ≡ Some e
+        → ((state held.value.backend).failed ≡ Some e) ×
+        ((state held.value.backend).history ≡ history_of state store old)
 
 module _ {B : Type 0} (state : B → State) (store : Shared B) where
   -- a turn of the pass may end: what is held goes on from what the turn found
@@ -30,7 +32,9 @@ module _ {B : Type 0} (state : B → State) (store : Shared B) where
     pub opened : held.value.opened ≡ store.opened
     pub turn : IsTurnOf pass held
     pub grown : IsPrefix (found_of pass) (events_in state held.value)
-    pub stays : StaysClosed (found_closed_of pass) (found_of pass) (state held.value.backend).failed (events_in state held.value)
+    pub stays :
+        StaysClosed (found_closed_of pass) (found_of pass) (state held.value.backend).failed
+        (events_in state held.value)
 
   -- a turn ended: the pass has seen what was given back, and made what the turn added
   pub record Ended (old new : Ticket B) (k : Wrapped B) : Type 0 where
@@ -38,4 +42,6 @@ module _ {B : Type 0} (state : B → State) (store : Shared B) where
     pub shares : shares_of new ≡ shares_of old
     pub seen : seen_of new ≡ events_in state k
     pub closed : closed_of new ≡ (state k.backend).failed
-    pub made : let start = position (state k.opened.value).history in made_of new ≡ made_of old ++ positions_added start (found_of old) (events_in state k)
+    pub made :
+        let start = position (state k.opened.value).history in
+        made_of new ≡ made_of old ++ positions_added start (found_of old) (events_in state k)

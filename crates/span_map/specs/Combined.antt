@@ -9,7 +9,8 @@ use Rattle.span_map.specs.declared.edges.Edge.{Edge}
 use Rattle.span_map.specs.declared.rules.Rule.{Rule}
 use Rattle.span_map.specs.declared.rules.Rule.TheVariants.{Over, Later, Above, NotBelow, Where}
 
--- what a rule makes of the values of two maps: the second one where it is there, the later one, the second one where it is above the first, or where it isn't below it, or where the first is there
+-- what a rule makes of the values of two maps: the second one where it is there, the later one, the second one where
+-- it is above the first, or where it isn't below it, or where the first is there
 abbrev pub combined_by : Rule → Option ℕ → Option ℕ → Option ℕ
 combined_by Over v None = v
 combined_by Over v (Some p) = Some p
@@ -44,4 +45,5 @@ with_last es e = cond (option_eq nat_eq e.value (last_value None es)) es (es ++ 
 
 -- at each number the value of the edges is what the rule makes of the values of two maps
 abbrev pub Combines : Rule → List Edge → List Edge → List Edge → Type 0
-Combines rule first second both = (t : ℤ) → value_from None both t ≡ combined_by rule (value_from None first t) (value_from None second t)
+Combines rule first second both =
+    (t : ℤ) → value_from None both t ≡ combined_by rule (value_from None first t) (value_from None second t)

@@ -7,7 +7,8 @@ use Rattle.ts_bucket.specs.Spans.{SpanValue, in_span}
 abbrev pub ChangesWithin : SpanValue → (Option ℕ → Option ℕ) → (ℤ → Option ℕ) → (ℤ → Option ℕ) → Type 0
 ChangesWithin s made_of old new = (t : ℤ) → new t ≡ cond (in_span s t) (made_of (old t)) (old t)
 
--- each new value is the position where the span has the number and the floor nothing or less there, and elsewhere it is the old one
+-- each new value is the position where the span has the number and the floor nothing or less there, and elsewhere it
+-- is the old one
 abbrev pub AssignsAbove : SpanValue → ℕ → (ℤ → Option ℕ) → (ℤ → Option ℕ) → (ℤ → Option ℕ) → Type 0
 AssignsAbove s pos floor old new = (t : ℤ) → new t ≡ cond (in_span s t && is_before pos (floor t)) (Some pos) (old t)
 

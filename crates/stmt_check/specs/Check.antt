@@ -35,7 +35,14 @@ no_table = record { def = record { name = []; cols = [] }; hyper = None }
 
 -- an aggregate without columns
 abbrev pub no_view : ViewDef
-no_view = record { name = []; table = 0; fold = record { width = record { step = nonneg 1; shift = nonneg 0 }; keys = []; aggs = []; tests = [] }; names = []; only = false }
+no_view =
+    record {
+      name = [];
+      table = 0;
+      fold = record { width = record { step = nonneg 1; shift = nonneg 0 }; keys = []; aggs = []; tests = [] };
+      names = [];
+      only = false;
+    }
 
 -- the table that was found
 abbrev pub table_at : Roster → Found → TableInfo
@@ -66,19 +73,24 @@ rows_query_refusal pos roster (found.View n) tests = starts_refusal pos (view_at
 abbrev pub refusal_of : ℕ → Roster → Stmt → Option Refusal
 refusal_of pos roster (stmts.Table name cols) = table_refusal pos roster name cols
 refusal_of pos roster (stmts.Hyper table col interval) =
-    plain_refusal pos (found_in roster table) ⊳ hyper_refusal pos (table_at roster (found_in roster table)).def.cols col interval
+    plain_refusal pos (found_in roster table)
+    ⊳ hyper_refusal pos (table_at roster (found_in roster table)).def.cols col interval
 refusal_of pos roster (stmts.View name only filled fold) =
     name_refusal pos roster name (length roster.views) ⊳ hypertable_refusal pos (found_in roster fold.table)
     ⊳ fold_refusal pos true (table_at roster (found_in roster fold.table)) fold
 refusal_of pos roster (stmts.Mode view only) = view_refusal pos (found_in roster view)
 refusal_of pos roster (stmts.Insert table cols rows) =
     hypertable_refusal pos (found_in roster table)
-    ⊳ insert_refusal pos (time_of (table_at roster (found_in roster table)).hyper) (table_at roster (found_in roster table)).def.cols cols rows
+    ⊳ insert_refusal pos (time_of (table_at roster (found_in roster table)).hyper)
+    (table_at roster (found_in roster table)).def.cols cols rows
 refusal_of pos roster (stmts.Delete table tests) =
     hypertable_refusal pos (found_in roster table) ⊳ tests_refusal pos (table_at roster (found_in roster table)) tests
-refusal_of pos roster (stmts.Drop table below) = hypertable_refusal pos (found_in roster table) ⊳ bound_refusal pos (Some below)
-refusal_of pos roster (stmts.Refresh view lo hi) = view_refusal pos (found_in roster view) ⊳ bound_refusal pos lo ⊳ bound_refusal pos hi
-refusal_of pos roster (stmts.Cut view lo hi) = view_refusal pos (found_in roster view) ⊳ bound_refusal pos lo ⊳ bound_refusal pos hi
+refusal_of pos roster (stmts.Drop table below) =
+    hypertable_refusal pos (found_in roster table) ⊳ bound_refusal pos (Some below)
+refusal_of pos roster (stmts.Refresh view lo hi) =
+    view_refusal pos (found_in roster view) ⊳ bound_refusal pos lo ⊳ bound_refusal pos hi
+refusal_of pos roster (stmts.Cut view lo hi) =
+    view_refusal pos (found_in roster view) ⊳ bound_refusal pos lo ⊳ bound_refusal pos hi
 refusal_of pos roster (stmts.Snap cut) = None
 refusal_of pos roster (stmts.Finish cut) = None
 refusal_of pos roster stmts.Begin = None
@@ -86,7 +98,8 @@ refusal_of pos roster stmts.BeginRead = None
 refusal_of pos roster stmts.Commit = None
 refusal_of pos roster stmts.Rollback = None
 refusal_of pos roster (stmts.Buckets fold) =
-    hypertable_refusal pos (found_in roster fold.table) ⊳ fold_refusal pos false (table_at roster (found_in roster fold.table)) fold
+    hypertable_refusal pos (found_in roster fold.table)
+    ⊳ fold_refusal pos false (table_at roster (found_in roster fold.table)) fold
 refusal_of pos roster (stmts.Rows table tests) =
     query_refusal pos (found_in roster table) ⊳ rows_query_refusal pos roster (found_in roster table) tests
 
@@ -117,11 +130,14 @@ action_of roster (stmts.View name only filled fold) =
     }) filled
 action_of roster (stmts.Mode view only) = actions.Mode (number_of (found_in roster view)) only
 action_of roster (stmts.Insert table cols rows) =
-    actions.Change (ops.Insert (number_of (found_in roster table)) (rows_into (table_at roster (found_in roster table)) cols rows))
+    actions.Change
+    (ops.Insert (number_of (found_in roster table)) (rows_into (table_at roster (found_in roster table)) cols rows))
 action_of roster (stmts.Delete table tests) =
-    actions.Change (ops.Delete (number_of (found_in roster table)) (tests_of (table_at roster (found_in roster table)) tests))
+    actions.Change
+    (ops.Delete (number_of (found_in roster table)) (tests_of (table_at roster (found_in roster table)) tests))
 action_of roster (stmts.Drop table below) =
-    actions.Change (ops.Delete (number_of (found_in roster table)) (drop_test (interval_of (table_at roster (found_in roster table)).hyper) below ∷ []))
+    actions.Change
+    (ops.Delete (number_of (found_in roster table)) (drop_test (interval_of (table_at roster (found_in roster table)).hyper) below ∷ []))
 action_of roster (stmts.Refresh view lo hi) = actions.Refresh (number_of (found_in roster view)) lo hi
 action_of roster (stmts.Cut view lo hi) = actions.Cut (number_of (found_in roster view)) lo hi
 action_of roster (stmts.Snap cut) = actions.Snap cut
@@ -131,7 +147,8 @@ action_of roster stmts.BeginRead = actions.BeginRead
 action_of roster stmts.Commit = actions.Commit
 action_of roster stmts.Rollback = actions.Rollback
 action_of roster (stmts.Buckets fold) =
-    actions.Ask (queries.Buckets (number_of (found_in roster fold.table)) (fold_of (table_at roster (found_in roster fold.table)) fold))
+    actions.Ask
+    (queries.Buckets (number_of (found_in roster fold.table)) (fold_of (table_at roster (found_in roster fold.table)) fold))
 action_of roster (stmts.Rows table tests) = actions.Ask (rows_query roster (found_in roster table) tests)
 
 -- a statement is resolved: what it asks for where nothing is refused, and else the first refusal
@@ -140,7 +157,8 @@ Resolves pos roster stmt result = Checks (refusal_of pos roster stmt) (action_of
 
 -- the check of a statement: the action where nothing is refused, and else the first refusal
 abbrev pub IsChecked : ℕ → Roster → Stmt → Checked → Type 0
-IsChecked pos roster stmt (checked.Ready action) = (refusal_of pos roster stmt ≡ None) × (action ≡ action_of roster stmt)
+IsChecked pos roster stmt (checked.Ready action) =
+    (refusal_of pos roster stmt ≡ None) × (action ≡ action_of roster stmt)
 IsChecked pos roster stmt (checked.Refused r) = refusal_of pos roster stmt ≡ Some r
 IsChecked pos roster stmt checked.NoMemory = ⊤
 

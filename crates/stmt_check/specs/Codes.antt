@@ -1,4 +1,5 @@
--- The numbers of refusals, and how many rows an INSERT may have. `name_taken` and `too_many` stand among the calls of a store.
+-- The numbers of refusals, and how many rows an INSERT may have. `name_taken` and `too_many` stand among the calls of
+-- a store.
 use Rattle.std.specs.Prelude.{ℕ}
 
 -- no relation has this name

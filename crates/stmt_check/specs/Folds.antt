@@ -77,23 +77,29 @@ argument_refusal pos info (Some col) = missing pos no_column (column_of info col
 abbrev pub columns_before : ℕ → ℕ → ℕ
 columns_before keys aggs = raised_by aggs (raised_by keys 1)
 
--- one aggregate after so many columns, whose name is taken where it has to differ: its function's word, which names it without AS, its argument, the word after AS
+-- one aggregate after so many columns, whose name is taken where it has to differ: its function's word, which names
+-- it without AS, its argument, the word after AS
 abbrev pub aggregate_refusal : ℕ → ℕ → TableInfo → ℕ → Bool → NamedAgg → Option Refusal
 aggregate_refusal pos count info others repeats a =
-    refused pos name_taken (is_none a.name && repeats) ⊳ marked pos too_many count (nat_le most_columns others) ⊳ argument_refusal pos info a.col
+    refused pos name_taken (is_none a.name && repeats) ⊳ marked pos too_many count (nat_le most_columns others)
+    ⊳ argument_refusal pos info a.col
     ⊳ refused pos name_taken (is_some a.name && repeats)
 
--- the aggregates from left to right, after a bucket, keys and the aggregates before; `distinct` where names have to differ
-abbrev pub aggregates_refusal : ℕ → Bool → ℕ → TableInfo → List ℕ → List (List ℕ) → List NamedAgg → List NamedAgg → Option Refusal
+-- the aggregates from left to right, after a bucket, keys and the aggregates before; `distinct` where names have to
+-- differ
+abbrev pub aggregates_refusal :
+    ℕ → Bool → ℕ → TableInfo → List ℕ → List (List ℕ) → List NamedAgg → List NamedAgg → Option Refusal
 aggregates_refusal pos distinct count info bucket keys before [] = None
 aggregates_refusal pos distinct count info bucket keys before (a ∷ left) =
-    aggregate_refusal pos count info (columns_before (length keys) (length before)) (distinct && is_taken bucket keys before (aggregate_name a)) a
+    aggregate_refusal pos count info (columns_before (length keys) (length before))
+    (distinct && is_taken bucket keys before (aggregate_name a)) a
     ⊳ aggregates_refusal pos distinct count info bucket keys (before ++ a ∷ []) left
 
 -- one key after so many columns, whose name is taken where it has to differ
 abbrev pub key_refusal : ℕ → ℕ → TableInfo → ℕ → Bool → List ℕ → Option Refusal
 key_refusal pos count info others repeats key =
-    refused pos name_taken repeats ⊳ missing pos no_column (column_of info key) ⊳ marked pos too_many count (nat_le most_columns others)
+    refused pos name_taken repeats ⊳ missing pos no_column (column_of info key)
+    ⊳ marked pos too_many count (nat_le most_columns others)
 
 -- the keys from left to right, after a bucket and the keys before
 abbrev pub keys_refusal : ℕ → Bool → ℕ → TableInfo → List ℕ → List (List ℕ) → List (List ℕ) → Option Refusal
@@ -146,7 +152,8 @@ width_refusal pos info f =
 abbrev pub width_of : NamedFold → Width
 width_of f = record { step = f.step; shift = f.shift }
 
--- the rest of a fold behind its head, whose column has this name, from left to right; `distinct` where output names have to differ
+-- the rest of a fold behind its head, whose column has this name, from left to right; `distinct` where output names
+-- have to differ
 abbrev pub rest_refusal : ℕ → Bool → List ℕ → TableInfo → NamedFold → Option Refusal
 rest_refusal pos distinct head info f =
     keys_refusal pos distinct (output_count f) info head [] f.keys
@@ -202,4 +209,5 @@ ChecksAggregate pos count info others repeats a result =
 -- the aggregates of a fold whose head has this name, or the first refusal of one
 abbrev pub ChecksAggregates : ℕ → Bool → List ℕ → TableInfo → NamedFold → Result (List Agg) Stop → Type 0
 ChecksAggregates pos distinct head info f result =
-    Checks (aggregates_refusal pos distinct (output_count f) info head f.keys [] f.aggs) (map (aggregate_of info) f.aggs) result
+    Checks (aggregates_refusal pos distinct (output_count f) info head f.keys [] f.aggs)
+    (map (aggregate_of info) f.aggs) result

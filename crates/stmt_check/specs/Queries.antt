@@ -38,7 +38,9 @@ is_bucket_column (Some n) = n == 0
 -- tests on an aggregate: each is on its bucket column, and bounds it
 abbrev pub starts_refusal : ℕ → ViewDef → List NamedTest → Option Refusal
 starts_refusal pos def [] = None
-starts_refusal pos def (t ∷ ts) = refused pos no_column (not (is_bucket_column (view_column_of def t.col) && bounds_start t.cmp)) ⊳ starts_refusal pos def ts
+starts_refusal pos def (t ∷ ts) =
+    refused pos no_column (not (is_bucket_column (view_column_of def t.col) && bounds_start t.cmp))
+    ⊳ starts_refusal pos def ts
 
 -- the least start that a test lets pass
 abbrev pub from_of : Cmp → ℤ → ℤ

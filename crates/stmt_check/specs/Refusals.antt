@@ -37,7 +37,8 @@ finds_nothing (found.View n) = false
 -- a relation to be made has a new name, and of its kind there are fewer than there may be
 abbrev pub name_refusal : ℕ → Roster → List ℕ → ℕ → Option Refusal
 name_refusal pos roster name there =
-    refused pos name_taken (not (finds_nothing (found_in roster name))) ⊳ marked pos too_many (suc most_relations) (nat_le most_relations there)
+    refused pos name_taken (not (finds_nothing (found_in roster name)))
+    ⊳ marked pos too_many (suc most_relations) (nat_le most_relations there)
 
 -- where a hypertable is needed: the name stands for nothing, or for something else
 abbrev pub hypertable_refusal : ℕ → Found → Option Refusal

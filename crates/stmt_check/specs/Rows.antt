@@ -29,7 +29,9 @@ rules_from at k (c ∷ cs) = rule_at at c k ∷ rules_from at (k + 1) cs
 
 -- the rule of the column with a name
 abbrev pub rule_of : ℕ → List Column → List ℕ → Rule
-rule_of at cols name = let place = unwrap_or (column_from name 0 cols) 0 in rule_at at (slice_index_or cols place blank_column) place
+rule_of at cols name =
+    let place = unwrap_or (column_from name 0 cols) 0 in
+    rule_at at (slice_index_or cols place blank_column) place
 
 -- the rule of each value of a row: values stand for the columns listed, or for all in declared order
 abbrev pub value_rules : ℕ → List Column → Option (List (List ℕ)) → List Rule
@@ -45,7 +47,8 @@ place_in (Some names) k c = place_from c.name 0 names
 abbrev pub list_refusal : ℕ → List Column → List (List ℕ) → List (List ℕ) → Option Refusal
 list_refusal pos cols before [] = None
 list_refusal pos cols before (n ∷ ns) =
-    refused pos name_taken (is_among n before) ⊳ missing pos no_column (column_from n 0 cols) ⊳ list_refusal pos cols (before ++ n ∷ []) ns
+    refused pos name_taken (is_among n before) ⊳ missing pos no_column (column_from n 0 cols)
+    ⊳ list_refusal pos cols (before ++ n ∷ []) ns
 
 -- the column list, where there is one
 abbrev pub list_refusal_of : ℕ → List Column → Option (List (List ℕ)) → Option Refusal
@@ -89,7 +92,8 @@ picked values (Some i) = slice_index_or values i None
 -- the places of the values of all columns but the time, in declared order
 abbrev pub other_places : ℕ → Option (List (List ℕ)) → ℕ → List Column → List (Option ℕ)
 other_places at names k [] = []
-other_places at names k (c ∷ cs) = if at == k then other_places at names (k + 1) cs else place_in names k c ∷ other_places at names (k + 1) cs
+other_places at names k (c ∷ cs) =
+    if at == k then other_places at names (k + 1) cs else place_in names k c ∷ other_places at names (k + 1) cs
 
 -- the place of the time
 abbrev pub time_place : ℕ → Option (List (List ℕ)) → ℕ → List Column → Option ℕ
@@ -124,6 +128,7 @@ abbrev pub inserted_rows : ℕ → List Column → Option (List (List ℕ)) → 
 inserted_rows at cols names rows = rows_of (shape_of at cols names (length rows)) rows
 
 -- the rows that an INSERT gives, or its first refusal
-abbrev pub ChecksRows : ℕ → ℕ → List Column → Option (List (List ℕ)) → List (List (Option ℤ)) → Result (List Row) Stop → Type 0
+abbrev pub ChecksRows :
+    ℕ → ℕ → List Column → Option (List (List ℕ)) → List (List (Option ℤ)) → Result (List Row) Stop → Type 0
 ChecksRows pos at cols names rows result =
     Checks (insert_refusal pos at cols names rows) (inserted_rows at cols names rows) result

@@ -1,4 +1,5 @@
--- What a statement that isn't refused asks for: an event that may come next, a window of an aggregate, or a query that can be asked.
+-- What a statement that isn't refused asks for: an event that may come next, a window of an aggregate, or a query
+-- that can be asked.
 use Rattle.std.specs.Prelude.{◌≡◌, ℕ, ◌+◌, ◌*◌, ◌<◌, ◌≤◌, ℤ, List, [], ◌∷◌, ◌++◌, length, sum_by, Option, None, IsTrue, IsSome, true}
 use Rattle.std.specs.List.{list_all}
 use Rattle.std.specs.Option.{ForSome}
@@ -62,7 +63,9 @@ IsSound h bytes (actions.Ask query) = IsTrue (can_ask (roster h) query)
 
 -- a statement of a text of at most 65,536 bytes that isn't refused at an allowed history asks for something sound there
 abbrev pub ActionsAreSound : Type 0
-ActionsAreSound = (h : History) (pos bytes : ℕ) (s : Stmt) → all_allowed h ≡ true → IsWritten bytes s → bytes ≤ longest_line → refusal_of pos (roster h) s ≡ None → IsSound h bytes (action_of (roster h) s)
+ActionsAreSound =
+    (h : History) (pos bytes : ℕ) (s : Stmt) → all_allowed h ≡ true → IsWritten bytes s → bytes ≤ longest_line
+    → refusal_of pos (roster h) s ≡ None → IsSound h bytes (action_of (roster h) s)
 
 -- the roster of an allowed history can be checked against
 abbrev pub RostersAreNumbered : Type 0
@@ -75,9 +78,13 @@ pub record IsQueue (h : History) (bytes : ℕ) (ops : List Op) : Type 0 where
   pub fits : IsTrue (list_all (op_fits (roster h)) ops)
   pub size : sum_by op_bytes ops ≤ 8 * bytes
 
--- a queue begins with nothing, takes an operation more, stays as a history grows, and can be committed while its texts have at most 2 ^ 26 bytes
+-- a queue begins with nothing, takes an operation more, stays as a history grows, and can be committed while its
+-- texts have at most 2 ^ 26 bytes
 pub record QueuesAreSound : Type 0 where
   pub begins : (h : History) → IsQueue h 0 []
-  pub grows : (h : History) (bytes more : ℕ) (ops : List Op) (op : Op) → IsQueue h bytes ops → IsOperation h more op → IsQueue h (bytes + more) (ops ++ op ∷ [])
-  pub stays : (g h : History) (bytes : ℕ) (ops : List Op) → Begins g h → bytes ≤ longest_input → IsQueue g bytes ops → IsQueue h bytes ops
-  pub commits : (h : History) (bytes : ℕ) (ops : List Op) → IsQueue h bytes ops → 0 < length ops → bytes ≤ longest_input → MayCome h (events.Commit ops)
+  pub grows : (h : History) (bytes more : ℕ) (ops : List Op) (op : Op) → IsQueue h bytes ops → IsOperation h more op
+      → IsQueue h (bytes + more) (ops ++ op ∷ [])
+  pub stays : (g h : History) (bytes : ℕ) (ops : List Op) → Begins g h → bytes ≤ longest_input → IsQueue g bytes ops
+      → IsQueue h bytes ops
+  pub commits : (h : History) (bytes : ℕ) (ops : List Op) → IsQueue h bytes ops → 0 < length ops → bytes ≤ longest_input
+      → MayCome h (events.Commit ops)

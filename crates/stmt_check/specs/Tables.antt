@@ -26,11 +26,13 @@ is_column name cols = list_any (λ c. same_name c.name name) cols
 abbrev pub columns_refusal : ℕ → ℕ → List Column → List Column → Option Refusal
 columns_refusal pos count before [] = None
 columns_refusal pos count before (c ∷ cs) =
-    refused pos name_taken (is_column c.name before) ⊳ marked pos too_many count (nat_le most_columns (length before)) ⊳ columns_refusal pos count (before ++ c ∷ []) cs
+    refused pos name_taken (is_column c.name before) ⊳ marked pos too_many count (nat_le most_columns (length before))
+    ⊳ columns_refusal pos count (before ++ c ∷ []) cs
 
 -- CREATE TABLE
 abbrev pub table_refusal : ℕ → Roster → List ℕ → List Column → Option Refusal
-table_refusal pos roster name cols = name_refusal pos roster name (length roster.tables) ⊳ columns_refusal pos (length cols) [] cols
+table_refusal pos roster name cols =
+    name_refusal pos roster name (length roster.tables) ⊳ columns_refusal pos (length cols) [] cols
 
 -- an interval is from 1 to 2 ^ 50
 abbrev pub is_interval : ℤ → Bool
@@ -38,7 +40,8 @@ is_interval n = int_le (nonneg 1) n && int_le n max_interval
 
 -- the column and the interval of create_hypertable
 abbrev pub hyper_refusal : ℕ → List Column → List ℕ → ℤ → Option Refusal
-hyper_refusal pos cols col interval = missing pos no_column (column_from col 0 cols) ⊳ refused pos bad_width (not (is_interval interval))
+hyper_refusal pos cols col interval =
+    missing pos no_column (column_from col 0 cols) ⊳ refused pos bad_width (not (is_interval interval))
 
 -- the declared place of the time column, or the refusal of create_hypertable
 abbrev pub ChecksHyper : ℕ → List Column → List ℕ → ℤ → Result ℕ Stop → Type 0

@@ -28,32 +28,47 @@ size-tail (stops p) = omega arith
 size-tail (t then s) = omega arith
 
 pub forward-gives : {A : Type 0} (a : A) → Forward (gives a)
-forward-gives a = record { goes = λ s b left e. let k = left_is a b s left e in subst (λ (r : Stream). size r ≤ size s) k (omega arith) }
+forward-gives a =
+    record {
+      goes = λ s b left e. let k = left_is a b s left e in subst (λ (r : Stream). size r ≤ size s) k (omega arith);
+    }
 
-go_on_goes : {A B : Type 0} (n : ℕ) (r : Result (A × Stream) Fault) (q : A → Parser B) (b : B) (left : Stream) → ((a : A) (s : Stream) → r ≡ Ok (a, s) → size s ≤ n) → ((a : A) → Forward (q a)) → go_on r q ≡ Ok (b, left) → size left ≤ n
+go_on_goes : {A B : Type 0} (n : ℕ) (r : Result (A × Stream) Fault) (q : A → Parser B) (b : B) (left : Stream)
+    → ((a : A) (s : Stream) → r ≡ Ok (a, s) → size s ≤ n) → ((a : A) → Forward (q a)) → go_on r q ≡ Ok (b, left)
+    → size left ≤ n
 go_on_goes n (Ok x) q b left h f e = omega (arith, h x.0 x.1 refl, (f x.0).goes x.1 b left e)
 go_on_goes n (Err d) q b left h f e = absurd cc
 
-pub forward-bind : {A B : Type 0} {p : Parser A} {q : A → Parser B} → Forward p → ((a : A) → Forward (q a)) → Forward (bind p q)
+pub forward-bind :
+    {A B : Type 0} {p : Parser A} {q : A → Parser B} → Forward p → ((a : A) → Forward (q a)) → Forward (bind p q)
 unfolding bind
-forward-bind {p = p} {q = q} f g = record { goes = λ s b left e. go_on_goes (size s) (p s) q b left (λ a r h. f.goes s a r h) g e }
+forward-bind {p = p} {q = q} f g =
+    record { goes = λ s b left e. go_on_goes (size s) (p s) q b left (λ a r h. f.goes s a r h) g e }
 
-cond_goes : {A : Type 0} (t : Bool) (x y : Result (A × Stream) Fault) (n : ℕ) (a : A) (left : Stream) → (x ≡ Ok (a, left) → size left ≤ n) → (y ≡ Ok (a, left) → size left ≤ n) → cond t x y ≡ Ok (a, left) → size left ≤ n
+cond_goes : {A : Type 0} (t : Bool) (x y : Result (A × Stream) Fault) (n : ℕ) (a : A) (left : Stream)
+    → (x ≡ Ok (a, left) → size left ≤ n) → (y ≡ Ok (a, left) → size left ≤ n) → cond t x y ≡ Ok (a, left)
+    → size left ≤ n
 cond_goes true x y n a left f g e = f e
 cond_goes false x y n a left f g e = g e
 
-pub forward-takes : {A : Type 0} (when : Seen → Bool) {p q : Parser A} → Forward p → Forward q → Forward (takes when p q)
+pub forward-takes :
+    {A : Type 0} (when : Seen → Bool) {p q : Parser A} → Forward p → Forward q → Forward (takes when p q)
 unfolding takes
 forward-takes when {p = p} {q = q} f g = record {
   goes = λ s a left e.
       cond_goes (heads when s) (p (tail s)) (q s) (size s) a left (λ h. omega (arith, f.goes (tail s) a left h, size-tail s)) (g.goes s a left) e;
 }
 
-pub forward-choose : {A : Type 0} (when : Seen → Bool) {p q : Parser A} → Forward p → Forward q → Forward (choose when p q)
+pub forward-choose :
+    {A : Type 0} (when : Seen → Bool) {p q : Parser A} → Forward p → Forward q → Forward (choose when p q)
 unfolding choose
-forward-choose when {p = p} {q = q} f g = record { goes = λ s a left e. cond_goes (heads when s) (p s) (q s) (size s) a left (f.goes s a left) (g.goes s a left) e }
+forward-choose when {p = p} {q = q} f g =
+    record {
+      goes = λ s a left e. cond_goes (heads when s) (p s) (q s) (size s) a left (f.goes s a left) (g.goes s a left) e;
+    }
 
-said_goes : {A : Type 0} (s : Stream) (o : Option A) (a : A) (left : Stream) → said s o ≡ Ok (a, left) → size left ≤ size s
+said_goes :
+    {A : Type 0} (s : Stream) (o : Option A) (a : A) (left : Stream) → said s o ≡ Ok (a, left) → size left ≤ size s
 said_goes s None a left e = absurd cc
 said_goes s (Some b) a left e = let k = left_is b a (tail s) left e in subst (λ (r : Stream). size r ≤ size s) k (size-tail s)
 
@@ -70,7 +85,8 @@ forward-wanted when = record {
       (λ h. absurd cc) e;
 }
 
-fitting_goes : (s : Stream) (o : Option (Option _)) (a : _) (left : Stream) → fitting s o ≡ Ok (a, left) → size left ≤ size s
+fitting_goes :
+    (s : Stream) (o : Option (Option _)) (a : _) (left : Stream) → fitting s o ≡ Ok (a, left) → size left ≤ size s
 fitting_goes s None a left e = absurd cc
 fitting_goes s (Some None) a left e = absurd cc
 fitting_goes s (Some (Some z)) a left e = let k = left_is z a (tail s) left e in subst (λ (r : Stream). size r ≤ size s) k (size-tail s)
@@ -79,11 +95,14 @@ pub forward-number : Forward number
 unfolding number
 forward-number = record { goes = λ s a left e. fitting_goes s (option_and_then number_of (seen_ahead s)) a left e }
 
-forward-repeat : {A : Type 0} (n : ℕ) (when : Seen → Bool) (p : Parser A) (front : List A) → Forward p → Forward (repeat n when p front)
+forward-repeat : {A : Type 0} (n : ℕ) (when : Seen → Bool) (p : Parser A) (front : List A) → Forward p
+    → Forward (repeat n when p front)
 forward-repeat zero when p front f = forward-gives front
-forward-repeat (suc n) when p front f = forward-takes when (forward-bind f (λ a. forward-repeat n when p (front ++ a ∷ []) f)) (forward-gives front)
+forward-repeat (suc n) when p front f =
+    forward-takes when (forward-bind f (λ a. forward-repeat n when p (front ++ a ∷ []) f)) (forward-gives front)
 
-pub forward-more : {A : Type 0} (when : Seen → Bool) (p : Parser A) (front : List A) → Forward p → Forward (more when p front)
+pub forward-more :
+    {A : Type 0} (when : Seen → Bool) (p : Parser A) (front : List A) → Forward p → Forward (more when p front)
 unfolding more
 forward-more when p front f = record { goes = λ s a left e. (forward-repeat (size s) when p front f).goes s a left e }
 
@@ -102,11 +121,15 @@ forward-value = forward-takes _ (forward-gives None) (forward-bind forward-numbe
 
 pub forward-row : Forward row
 unfolding row
-forward-row = forward-bind (forward-wanted _) (λ _. forward-bind (forward-listed _ value forward-value) (λ vs. forward-bind (forward-wanted _) (λ _. forward-gives vs)))
+forward-row =
+    forward-bind (forward-wanted _)
+    (λ _. forward-bind (forward-listed _ value forward-value) (λ vs. forward-bind (forward-wanted _) (λ _. forward-gives vs)))
 
 pub forward-column : Forward column
 unfolding column not_null
-forward-column = forward-bind forward-name (λ c. forward-bind (forward-wanted _) (λ _. forward-bind (forward-takes _ (forward-bind (forward-wanted _) (λ _. forward-gives true)) (forward-gives false)) (λ must. forward-gives _)))
+forward-column =
+    forward-bind forward-name
+    (λ c. forward-bind (forward-wanted _) (λ _. forward-bind (forward-takes _ (forward-bind (forward-wanted _) (λ _. forward-gives true)) (forward-gives false)) (λ must. forward-gives _)))
 
 pub forward-test : Forward any_test
 unfolding any_test null_test number_test

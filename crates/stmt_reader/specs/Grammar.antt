@@ -202,7 +202,8 @@ grouping first keys = do
   wanted (is_item 0 first)
   items_from 1 keys
 
--- the rest of a fold behind its head, whose own word this is: { , c } , agg { , agg } FROM n [WHERE tests] GROUP BY item { , item }
+-- the rest of a fold behind its head, whose own word this is: { , c } , agg { , agg } FROM n [WHERE tests] GROUP BY
+-- item { , item }
 abbrev pub fold_behind : List ℕ → Head → Rule NamedFold
 fold_behind own h = do
   list ← select_list
@@ -274,7 +275,10 @@ mode = optional (mark marks.Comma >> setting) true
 
 -- [WITH DATA | WITH NO DATA]
 abbrev pub filling : Rule Bool
-filling = optional (keyword kw.With >> either (keyword kw.No >> keyword kw.Data >> means false) (keyword kw.Data >> means true)) true
+filling =
+    optional
+    (keyword kw.With >> either (keyword kw.No >> keyword kw.Data >> means false) (keyword kw.Data >> means true))
+    true
 
 -- ( timescaledb . continuous [= true] [, setting] )
 abbrev pub options : Rule Bool

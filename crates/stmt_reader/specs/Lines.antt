@@ -27,7 +27,9 @@ session_len bytes = prefix_len continues_session bytes
 -- a session name of 1 to 16 bytes and a colon stand in front
 abbrev pub has_session : List ℕ → Bool
 has_session [] = false
-has_session (b ∷ bytes) = begins_session b && nat_le (session_len (b ∷ bytes)) 16 && begins_with 58 (drop (session_len (b ∷ bytes)) (b ∷ bytes))
+has_session (b ∷ bytes) =
+    begins_session b && nat_le (session_len (b ∷ bytes)) 16
+    && begins_with 58 (drop (session_len (b ∷ bytes)) (b ∷ bytes))
 
 -- a line whose text before the comment is this one, of which so many bytes in front are blank
 abbrev pub of_text : List ℕ → ℕ → LineKind
@@ -38,8 +40,10 @@ of_text text blanks =
     then (let n = session_len (drop blanks text) in Stmt n (blanks + n + 1) (length text))
     else NoSession
 
--- what a line is: blank; with a byte outside ASCII before its comment; without a session name; or a statement of a session, with
--- the length of the session name, how many bytes stand up to the colon and with it, and how many stand before the comment
+-- what a line is: blank; with a byte outside ASCII before its comment; without a session name; or a statement of a
+-- session, with
+-- the length of the session name, how many bytes stand up to the colon and with it, and how many stand before the
+-- comment
 abbrev pub line_kind : List ℕ → LineKind
 line_kind line = let text = take (comment_at line) line in of_text text (blank_len text)
 
@@ -47,7 +51,8 @@ line_kind line = let text = take (comment_at line) line in of_text text (blank_l
 abbrev pub session_name : List ℕ → ℕ → ℕ → List ℕ
 session_name line len skip = take len (drop (skip - suc len) line)
 
--- the places of a line with a statement: the name, which is a good one, stands directly before the colon, the colon before the statement, and the statement before the comment
+-- the places of a line with a statement: the name, which is a good one, stands directly before the colon, the colon
+-- before the statement, and the statement before the comment
 pub record IsStatementLine (line : List ℕ) (len skip end : ℕ) : Type 0 where
   pub named : IsTrue (is_name (session_name line len skip))
   pub colon : suc len ≤ skip

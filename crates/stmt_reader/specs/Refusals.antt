@@ -30,7 +30,9 @@ IsSaid L s a = (ts : List Placed) × (p : ℕ) × (s ≡ onto ts (ends p)) × L 
 
 -- a token stands there, and the tokens up to it begin nothing that the rule has
 abbrev pub NothingAt : {A : Type 0} → Rule A → Stream → ℕ → Type 0
-NothingAt L s p = (ts : List Placed) × (t : Placed) × (left : Stream) × (s ≡ onto ts (t then left)) × (t.at ≡ p) × (Begins L (plain ts ++ t.token ∷ []) → ⊥)
+NothingAt L s p =
+    (ts : List Placed) × (t : Placed) × (left : Stream) × (s ≡ onto ts (t then left)) × (t.at ≡ p)
+    × (Begins L (plain ts ++ t.token ∷ []) → ⊥)
 
 -- the end comes there, and the tokens aren't whole
 abbrev pub IncompleteAt : {A : Type 0} → Rule A → Stream → ℕ → Type 0
@@ -42,7 +44,9 @@ abbrev pub Refuses : {A : Type 0} → Rule A → Stream → Fault → Type 0
 Refuses L s (NoToken p) = (ts : List Placed) × (s ≡ onto ts (stops p))
 Refuses L s (Syntax p) = NothingAt L s p ⊎ IncompleteAt L s p
 -- a number stands there that isn't an i64
-Refuses L s (BadNumber p) = (ts : List Placed) × (t : Placed) × (left : Stream) × (s ≡ onto ts (t then left)) × (t.at ≡ p) × (is_fit t.token ≡ false)
+Refuses L s (BadNumber p) =
+    (ts : List Placed) × (t : Placed) × (left : Stream) × (s ≡ onto ts (t then left)) × (t.at ≡ p)
+    × (is_fit t.token ≡ false)
 
 -- ---- which comes first
 
@@ -64,7 +68,8 @@ Comes (Syntax p) g = Unit {0}
 abbrev pub First : {A : Type 0} → Rule A → Stream → Fault → Type 0
 First L s f = Refuses L s f × ((g : Fault) → Refuses L s g → (fault_place f ≤ fault_place g) × Comes f g)
 
--- what the grammar says of what reading gives: what the tokens say, where nothing is wrong, or the first thing that is wrong
+-- what the grammar says of what reading gives: what the tokens say, where nothing is wrong, or the first thing that
+-- is wrong
 abbrev pub Verdict : {A : Type 0} → Rule A → Stream → Result (A × Stream) Fault → Type 0
 Verdict L s (Ok x) = IsSaid L s x.0 × ((g : Fault) → Refuses L s g → ⊥)
 Verdict L s (Err f) = First L s f
@@ -86,9 +91,14 @@ IsSame (Err f) (Err g) = f ≡ g
 
 -- what reading gives of each text is what the grammar says of it, and nothing else is
 pub record ReadsByTheGrammar : Type 0 where
-  pub gives : (text : List ℕ) (skip : ℕ) → skip ≤ length text → Verdict statement (stream text skip) (reading (stream text skip))
-  pub only : (text : List ℕ) (skip : ℕ) (r : Result (Statement × Stream) Fault) → skip ≤ length text → Verdict statement (stream text skip) r → IsSame r (reading (stream text skip))
+  pub gives :
+      (text : List ℕ) (skip : ℕ) → skip ≤ length text
+      → Verdict statement (stream text skip) (reading (stream text skip))
+  pub only : (text : List ℕ) (skip : ℕ) (r : Result (Statement × Stream) Fault) → skip ≤ length text
+      → Verdict statement (stream text skip) r → IsSame r (reading (stream text skip))
 
 -- tokens whose numbers are i64 are one statement at most
 abbrev pub OneReading : Type 0
-OneReading = (ts : List Token) (a b : Statement) → AllByRecursion (λ t. is_fit t ≡ true) ts → statement ts a → statement ts b → a ≡ b
+OneReading =
+    (ts : List Token) (a b : Statement) → AllByRecursion (λ t. is_fit t ≡ true) ts → statement ts a → statement ts b
+    → a ≡ b

@@ -10,7 +10,8 @@ pub record Placed : Type 0 where
   pub token : Token
 
 infixr 20 ◌then◌
--- the tokens of a text from some point on. They end at the end of the statement, or stop at a place at which no token begins.
+-- the tokens of a text from some point on. They end at the end of the statement, or stop at a place at which no token
+-- begins.
 pub data Stream : Type 0 where
   ends : ℕ → Stream
   stops : ℕ → Stream

@@ -116,7 +116,8 @@ is_return (b ∷ c ∷ bytes) = false
 abbrev pub blank_len : List ℕ → ℕ
 blank_len bytes = let n = prefix_len is_space bytes in if is_return (drop n bytes) then n + 1 else n
 
--- what comes after blanks: a token with its first byte and the byte after it, counted from 0; the end; or a byte at which
+-- what comes after blanks: a token with its first byte and the byte after it, counted from 0; the end; or a byte at
+-- which
 -- no token begins
 pub data Next : Type 0 where
   token : Token → ℕ → ℕ → Next
@@ -148,7 +149,8 @@ abbrev pub shown : ℕ → Next → TokenAt
 shown skip ended = at.End (skip + 1)
 shown skip (nothing begin) = at.NoToken (begin + 1)
 shown skip (token (word w) begin end) = at.Token kinds.Word begin end
-shown skip (token (number z) begin end) = if is_i64 z then at.Token (kinds.Number z) begin end else at.BadNumber (begin + 1)
+shown skip (token (number z) begin end) =
+    if is_i64 z then at.Token (kinds.Number z) begin end else at.BadNumber (begin + 1)
 shown skip (token (quoted w) begin end) = at.Token kinds.Quoted begin end
 shown skip (token (mark m) begin end) = at.Token kinds.Mark begin end
 

@@ -55,7 +55,8 @@ pub record AreWholeRows (rows : List (List (Option ℤ))) : Type 0 where
   pub some : 0 < length rows
   pub each : AllByRecursion IsWholeRow rows
 
--- at least one column of a table, one row and one value of an INSERT, and one aggregate of a fold; tests and aggregates are whole
+-- at least one column of a table, one row and one value of an INSERT, and one aggregate of a fold; tests and
+-- aggregates are whole
 abbrev pub IsWhole : Stmt → Type 0
 IsWhole (stmt.Table name cols) = 0 < length cols
 IsWhole (stmt.Hyper table col interval) = Unit {0}
@@ -109,7 +110,9 @@ agg_size a = 6 + argument_size a.col + alias_size a.name
 
 -- time_bucket ( num , c ) AS x { , c } , agg { , agg } FROM n WHERE tests GROUP BY
 abbrev pub fold_size : NamedFold → ℕ
-fold_size f = 26 + length f.at + alias_size f.name + sum_by name_size f.keys + sum_by agg_size f.aggs + length f.table + sum_by test_size f.tests
+fold_size f =
+    26 + length f.at + alias_size f.name + sum_by name_size f.keys + sum_by agg_size f.aggs + length f.table + sum_by
+    test_size f.tests
 
 -- ( c { , c } ), where there is one
 abbrev pub list_size : Option (List (List ℕ)) → ℕ
@@ -155,7 +158,11 @@ OfStatement P (reads.Syntax p) = Unit {0}
 OfStatement P (reads.BadNumber p) = Unit {0}
 OfStatement P reads.NoMemory = Unit {0}
 
--- each statement that the grammar has of a text is whole, and no longer than the text; and it is proper where reading gives it
+-- each statement that the grammar has of a text is whole, and no longer than the text; and it is proper where reading
+-- gives it
 pub record StatementsAreWritten : Type 0 where
-  pub shaped : (text : List ℕ) (skip : ℕ) (s : Stmt) → skip ≤ length text → IsSaid statement (stream text skip) s → IsShaped (length text) s
-  pub read : (text : List ℕ) (skip : ℕ) (s : Stmt) (left : Stream) → skip ≤ length text → reading (stream text skip) ≡ Ok (s, left) → IsWritten (length text) s
+  pub shaped : (text : List ℕ) (skip : ℕ) (s : Stmt) → skip ≤ length text → IsSaid statement (stream text skip) s
+      → IsShaped (length text) s
+  pub read :
+      (text : List ℕ) (skip : ℕ) (s : Stmt) (left : Stream) → skip ≤ length text
+      → reading (stream text skip) ≡ Ok (s, left) → IsWritten (length text) s

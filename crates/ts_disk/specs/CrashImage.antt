@@ -1,4 +1,5 @@
--- What a crash may leave of a file: between two syncs each written range, and the part past the old end, may hold any bytes, the length may be any number from the old to the new one, and bytes outside stay.
+-- What a crash may leave of a file: between two syncs each written range, and the part past the old end, may hold any
+-- bytes, the length may be any number from the old to the new one, and bytes outside stay.
 use Rattle.std.specs.Prelude.{◌≡◌, ◌⊎◌, ℕ, ◌+◌, ◌<◌, ◌≤◌, Bool, false, ◌&&◌, nat_lt, nat_le, max, List, [], ◌++◌, length, take, drop, slice_index}
 use Rattle.std.specs.List.{list_any}
 use Rattle.ts_disk.specs.declared.acts.Piece.{Piece}
@@ -37,7 +38,8 @@ pub record Elapses (before now : ℕ) (past since : ℕ → List ℕ → Type 0)
   pub keeps : (t : ℕ) (c : List ℕ) → t ≤ before → past t c → since t c
 
 -- a crash at any moment since old leaves a file that has P
-pub record LeavesOnly {D : Type 0} (moment : D → ℕ) (left_since : D → ℕ → List ℕ → Type 0) (old new : D) (P : List ℕ → Type 0) : Type 0 where
+pub record LeavesOnly {D : Type 0} (moment : D → ℕ) (left_since : D → ℕ → List ℕ → Type 0) (old new : D)
+    (P : List ℕ → Type 0) : Type 0 where
   pub later : moment old ≤ moment new
   pub each : (c : List ℕ) → left_since new (moment old) c → P c
   -- for a run that began earlier
@@ -65,4 +67,5 @@ covers i piece = nat_le piece.at i && nat_lt i (piece.at + length piece.bytes)
 pub record IsImage (state : State) (c : List ℕ) : Type 0 where
   pub no_shorter : length state.synced ≤ length c
   pub no_longer : length c ≤ length state.now
-  pub outside : (i : ℕ) → i < length state.synced → list_any (covers i) state.writes ≡ false → slice_index c i ≡ slice_index state.synced i
+  pub outside : (i : ℕ) → i < length state.synced → list_any (covers i) state.writes ≡ false
+      → slice_index c i ≡ slice_index state.synced i

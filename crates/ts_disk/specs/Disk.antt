@@ -25,7 +25,8 @@ Writes None at piece result new = new ≡ None
 Writes (Some file) at piece result new = MatchResult result (λ _. new ≡ Some (written file at piece)) (λ _. IsSome new)
 
 -- the bytes, the moment, and what a crash may leave or might have left, stay as they were
-pub record Keeps {D : Type 0} (bytes : D → Option (List ℕ)) (may_leave : D → List ℕ → Type 0) (moment : D → ℕ) (left_since : D → ℕ → List ℕ → Type 0) (old new : D) : Type 0 where
+pub record Keeps {D : Type 0} (bytes : D → Option (List ℕ)) (may_leave : D → List ℕ → Type 0) (moment : D → ℕ)
+    (left_since : D → ℕ → List ℕ → Type 0) (old new : D) : Type 0 where
   pub same : bytes new ≡ bytes old
   pub at_moment : moment new ≡ moment old
   pub leaves : (c : List ℕ) → may_leave new c → may_leave old c

@@ -7,7 +7,8 @@ use Rattle.ts_disk.specs.declared.fail_disks.Kind.TheVariants.{Len, Read, Write,
 use Rattle.ts_disk.specs.declared.fail_disks.Plan.{Plan}
 use Rattle.ts_disk.specs.declared.fail_disks.Plan.TheVariants.{Once, After}
 
--- the disk that it holds, which calls fail, how many calls of those that are counted there were, and how many calls failed
+-- the disk that it holds, which calls fail, how many calls of those that are counted there were, and how many calls
+-- failed
 pub record Failing : Type 0 where
   pub disk : Recorded
   pub plan : Plan
@@ -63,7 +64,8 @@ abbrev pub fails_at : Failing → Kind → Bool
 fails_at disk call = is_failing disk.plan call (made_after disk.plan call disk.made)
 
 -- a call that fails leaves the disk that is held as it was, and each other is that disk's own call
-pub record Runs {T E : Type 0} (call : Kind) (own : Recorded → Result T E → Recorded → Type 0) (old : Failing) (result : Result T E) (new : Failing) : Type 0 where
+pub record Runs {T E : Type 0} (call : Kind) (own : Recorded → Result T E → Recorded → Type 0) (old : Failing)
+    (result : Result T E) (new : Failing) : Type 0 where
   pub fails : fails_at old call ≡ true → IsErr result × (new.disk ≡ old.disk)
   pub passes : fails_at old call ≡ false → own old.disk result new.disk
   pub plan : new.plan ≡ old.plan

@@ -12,14 +12,19 @@ use Rattle.ts_disk.specs.declared.acts.Piece.{Piece}
 
 -- ---- lists
 
-pub length-written : (file : List ℕ) (at : ℕ) (piece : List ℕ) → length (written file at piece) ≡ min at (length file) + length piece + (length file - (at + length piece))
-length-written file at piece = omega (arith, length-append (take at file ++ piece) (drop (at + length piece) file), length-append (take at file) piece, length-take at file, length-drop (at + length piece) file)
+pub length-written : (file : List ℕ) (at : ℕ) (piece : List ℕ)
+    → length (written file at piece) ≡ min at (length file) + length piece + (length file - (at + length piece))
+length-written file at piece =
+    omega
+    (arith, length-append (take at file ++ piece) (drop (at + length piece) file), length-append (take at file) piece, length-take at file, length-drop (at + length piece) file)
 
 pub length-written-le : (file : List ℕ) (at : ℕ) (piece : List ℕ) → length file ≤ length (written file at piece)
 length-written-le file at piece = omega (arith, length-written file at piece)
 
 -- bytes outside of a write stay
-pub get_or-written : (file : List ℕ) (at : ℕ) (piece : List ℕ) (i : ℕ) → i < length file → (i < at) ⊎ (at + length piece ≤ i) → get_or (written file at piece) i 0 ≡ get_or file i 0
+pub get_or-written :
+    (file : List ℕ) (at : ℕ) (piece : List ℕ) (i : ℕ) → i < length file → (i < at) ⊎ (at + length piece ≤ i)
+    → get_or (written file at piece) i 0 ≡ get_or file i 0
 get_or-written file at piece i in_file (inl low) =
     let front = take at file in
     let short : i < length front = omega (arith, length-take at file) in
@@ -29,7 +34,8 @@ get_or-written file at piece i in_file (inl low) =
     ∙ get_or-take at file i 0 low
 get_or-written file at piece i in_file (inr high) =
     let front = take at file ++ piece in
-    let size : length front ≡ at + length piece = omega (arith, length-append (take at file) piece, length-take at file) in
+    let size : length front ≡ at + length piece =
+    omega (arith, length-append (take at file) piece, length-take at file) in
     let place : (at + length piece) + (i - (at + length piece)) ≡ i = omega arith in
     get_or-append_right front (drop (at + length piece) file) (at + length piece) i 0 size high
     ∙ get_or-drop (at + length piece) file (i - (at + length piece)) 0
@@ -39,8 +45,10 @@ get_or-written file at piece i in_file (inr high) =
 pub apart : (i : ℕ) (piece : Piece) → covers i piece ≡ false → (i < piece.at) ⊎ (piece.at + length piece.bytes ≤ i)
 apart i piece none = grind (arith, nat_tests)
 
-pub covered-push : (i : ℕ) (pieces : List Piece) (piece : Piece) → list_any (covers i) (pieces ++ piece ∷ []) ≡ false → (list_any (covers i) pieces ≡ false) × (covers i piece ≡ false)
-covered-push i pieces piece none = none_of (list_any (covers i) pieces) (covers i piece) (sym (list_any-append (covers i) pieces (piece ∷ [])) ∙ none)
+pub covered-push : (i : ℕ) (pieces : List Piece) (piece : Piece) → list_any (covers i) (pieces ++ piece ∷ []) ≡ false
+    → (list_any (covers i) pieces ≡ false) × (covers i piece ≡ false)
+covered-push i pieces piece none =
+    none_of (list_any (covers i) pieces) (covers i piece) (sym (list_any-append (covers i) pieces (piece ∷ [])) ∙ none)
   where
     none_of : (a b : Bool) → (a || (b || false)) ≡ false → (a ≡ false) × (b ≡ false)
     none_of false false is = (refl, refl)
@@ -62,7 +70,8 @@ shows-after s (Write piece) shows = record {
 }
 shows-after s Sync shows = shows-at_rest s.now
 
-pub shows-state : (s : State) (acts : List Act) → IsImage s s.now → IsImage (state_after s acts) (state_after s acts).now
+pub shows-state :
+    (s : State) (acts : List Act) → IsImage s s.now → IsImage (state_after s acts) (state_after s acts).now
 shows-state s [] shows = shows
 shows-state s (act ∷ acts) shows = shows-state (after s act) acts (shows-after s act shows)
 
@@ -79,8 +88,12 @@ counts_now disk t c le image = record {
   when = length disk.acts;
   from = le;
   past = omega arith;
-  image = subst (λ (acts : List Act). IsImage (state_after (at_rest disk.first) acts) c) (sym (all_acts disk.acts (length disk.acts) (omega arith))) image;
+  image =
+      subst (λ (acts : List Act). IsImage (state_after (at_rest disk.first) acts) c)
+      (sym (all_acts disk.acts (length disk.acts) (omega arith))) image;
 }
 
 pub only_now : (disk : Recorded) (c : List ℕ) → WasImage disk (moment disk) c → leaves disk c
-only_now disk c was = subst (λ (acts : List Act). IsImage (state_after (at_rest disk.first) acts) c) (all_acts disk.acts was.when was.from) was.image
+only_now disk c was =
+    subst (λ (acts : List Act). IsImage (state_after (at_rest disk.first) acts) c)
+    (all_acts disk.acts was.when was.from) was.image

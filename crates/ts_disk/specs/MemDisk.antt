@@ -14,7 +14,8 @@ pub record Recorded : Type 0 where
 
 -- the state after one act
 abbrev pub after : State → Act → State
-after s (Write piece) = record { synced = s.synced; writes = s.writes ++ piece ∷ []; now = written s.now piece.at piece.bytes }
+after s (Write piece) =
+    record { synced = s.synced; writes = s.writes ++ piece ∷ []; now = written s.now piece.at piece.bytes }
 after s Sync = at_rest s.now
 
 abbrev pub state_after : State → List Act → State
@@ -54,7 +55,9 @@ pub record WasImage (disk : Recorded) (t : ℕ) (c : List ℕ) : Type 0 where
 
 -- a call that succeeded did this, and one that failed is counted and did nothing
 abbrev pub Does : {T E : Type 0} → Act → Recorded → Result T E → Recorded → Type 0
-Does act old result new = MatchResult result (λ _. new ≡ record old { acts = old.acts ++ act ∷ [] }) (λ _. new ≡ record old { faults = one_more old.faults })
+Does act old result new =
+    MatchResult result (λ _. new ≡ record old { acts = old.acts ++ act ∷ [] })
+    (λ _. new ≡ record old { faults = one_more old.faults })
 
 -- a call that succeeded did nothing, and one that failed is counted
 abbrev pub Asks : {T E : Type 0} → Recorded → Result T E → Recorded → Type 0

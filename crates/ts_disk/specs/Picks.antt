@@ -20,7 +20,8 @@ none_kept pick i (piece ∷ pieces) = not (is_kept pick i) && none_kept pick (i 
 abbrev pub half : List ℕ → List ℕ
 half bytes = take ((length bytes + 1) / 2) bytes
 
--- what is kept of a write after which these follow: the first half, where that is picked and it is the last that is kept
+-- what is kept of a write after which these follow: the first half, where that is picked and it is the last that is
+-- kept
 abbrev pub kept_part : ℕ → ℕ → List ℕ → List Piece → List ℕ
 kept_part pick i bytes pieces = if bit pick 63 && none_kept pick (i + 1) pieces then half bytes else bytes
 
@@ -31,7 +32,9 @@ patched file at bytes = written (file ++ replicate (at - length file) 0) at byte
 -- a file with those of these writes that are kept, which are numbered from i on
 abbrev pub picked_from : ℕ → ℕ → List ℕ → List Piece → List ℕ
 picked_from pick i file [] = file
-picked_from pick i file (piece ∷ pieces) = picked_from pick (i + 1) (if is_kept pick i then patched file piece.at (kept_part pick i piece.bytes pieces) else file) pieces
+picked_from pick i file (piece ∷ pieces) =
+    picked_from pick (i + 1)
+    (if is_kept pick i then patched file piece.at (kept_part pick i piece.bytes pieces) else file) pieces
 
 -- the image that is picked
 abbrev pub picked : ℕ → State → List ℕ

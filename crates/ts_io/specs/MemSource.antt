@@ -5,7 +5,8 @@ use Rattle.ts_io.specs.Schedule.{is_listed}
 use Rattle.ts_io.specs.declared.sources.Got.{Got}
 use Rattle.ts_io.specs.declared.sources.Got.TheVariants.{Bytes, Failed}
 
--- the bytes left, whether the end was told, the most that a call gives, the numbers of the calls that fail, and how many calls there were and how many failed
+-- the bytes left, whether the end was told, the most that a call gives, the numbers of the calls that fail, and how
+-- many calls there were and how many failed
 pub record Supply : Type 0 where
   pub left : List ℕ
   pub ended : Bool
@@ -20,6 +21,9 @@ source_of bytes most fails = record { left = bytes; ended = false; most = most; 
 
 -- a read into this much room: a listed call fails and is counted, every other gives as much as may be
 abbrev pub Supplies : Supply → ℕ → Got → Supply → Type 0
-Supplies old room (Bytes n) new = (is_listed old.fails (one_more old.calls) ≡ false) × (n ≡ min old.most (min room (length old.left)))
+Supplies old room (Bytes n) new =
+    (is_listed old.fails (one_more old.calls) ≡ false) × (n ≡ min old.most (min room (length old.left)))
     × (new ≡ record old { left = drop n old.left; ended = (n == 0) && nat_lt 0 room; calls = one_more old.calls })
-Supplies old room Failed new = (is_listed old.fails (one_more old.calls) ≡ true) × (new ≡ record old { calls = one_more old.calls; faults = one_more old.faults })
+Supplies old room Failed new =
+    (is_listed old.fails (one_more old.calls) ≡ true)
+    × (new ≡ record old { calls = one_more old.calls; faults = one_more old.faults })

@@ -4,9 +4,11 @@ use Rattle.std.specs.Io.KnownBytes.{Consumes, IsAtEnd, Keeps}
 use Rattle.ts_io.specs.declared.sources.Got.{Got}
 use Rattle.ts_io.specs.declared.sources.Got.TheVariants.{Bytes, Failed}
 
--- a read of n bytes took the first n that were left and put them in front; it took none only without room or at the end; one that failed took nothing
+-- a read of n bytes took the first n that were left and put them in front; it took none only without room or at the
+-- end; one that failed took nothing
 abbrev pub Gives : Option (List ℕ) → Option (List ℕ) → Got → List ℕ → Type 0
-Gives old new (Bytes n) into = (n ≤ length into) × Consumes old new (take n into) × (n ≡ 0 → 0 < length into → IsAtEnd new)
+Gives old new (Bytes n) into =
+    (n ≤ length into) × Consumes old new (take n into) × (n ≡ 0 → 0 < length into → IsAtEnd new)
 Gives old new Failed into = Keeps old new
 
 -- the read failed

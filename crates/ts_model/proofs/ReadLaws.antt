@@ -64,6 +64,7 @@ meet_parts a b e =
 
 pub meet_from : (a b : Span) → Meet a b → spans_meet a b ≡ true
 meet_from a b m = and_from _ _ (and_from _ _ (and_from _ _ (lt-int_lt a.lo b.hi m.before) (lt-int_lt b.lo a.hi m.after)) (lt-int_lt a.lo a.hi m.some_a)) (lt-int_lt b.lo b.hi m.some_b)
+
 module _ (w : Width) (width : IsWidth w) (range : Span) (whole : IsWholeRange w range) (first : first_of w ≤ℤ range.lo) (chunk : Span) where
   -- a chunk that meets a bucket of a range meets the range
   bucket_within : (b : ℤ) → is_asked w range b ≡ true → Meet chunk (bucket_span w b) → Meet chunk range
@@ -99,6 +100,7 @@ module _ (w : Width) (width : IsWidth w) (range : Span) (whole : IsWholeRange w 
       gives b
       (and_from _ _ (in_span-from_ends range b from_range (omega (arith, ints))) (and_from _ _ (is_bucket-bucket_of w t width) from_first))
       (record { before = omega (arith, ints); after = omega (arith, ints); some_a = some_chunk; some_b = omega (arith, ints) })
+
   -- a chunk meets some bucket of a range exactly where it meets the range
   pub meets_some_bucket : list_any (spans_meet chunk) (map (bucket_span w) (buckets_in w range)) ≡ list_any (spans_meet chunk) (range ∷ [])
   meets_some_bucket =

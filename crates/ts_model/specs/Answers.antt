@@ -48,7 +48,8 @@ abbrev pub left_by : ℕ → ViewDef → History → ℤ → Option ℕ → List
 left_by n def h b None = []
 left_by n def h b (Some s) = scratch_at n def h s b
 
--- what an aggregate shows of a bucket: where it is stale, what its last refresh has left; else the aggregation from scratch, but nothing at or above the watermark where it shows materialised rows only
+-- what an aggregate shows of a bucket: where it is stale, what its last refresh has left; else the aggregation from
+-- scratch, but nothing at or above the watermark where it shows materialised rows only
 abbrev pub shown : ℕ → ViewDef → History → ℤ → List (List Datum)
 shown n def h b =
     cond (stale n def h b) (left_by n def h b (last n h b))
@@ -58,7 +59,8 @@ shown n def h b =
 -- ranges of buckets, with one more bucket directly before them
 abbrev pub with_bucket : Width → ℤ → List Span → List Span
 with_bucket w b [] = record { lo = b; hi = b +ℤ w.step } ∷ []
-with_bucket w b (s ∷ ss) = cond (int_eq (b +ℤ w.step) s.lo) (record { lo = b; hi = s.hi } ∷ ss) (record { lo = b; hi = b +ℤ w.step } ∷ s ∷ ss)
+with_bucket w b (s ∷ ss) =
+    cond (int_eq (b +ℤ w.step) s.lo) (record { lo = b; hi = s.hi } ∷ ss) (record { lo = b; hi = b +ℤ w.step } ∷ s ∷ ss)
 
 -- the buckets that pass a test, as ranges: buckets that follow one another are in one range
 abbrev pub ranges : Width → (ℤ → Bool) → List ℤ → List Span
@@ -96,10 +98,13 @@ answer (Aggregate n starts) h = answer_of_view n h starts (view_of (roster h) n)
 
 -- the keys, the aggregates and the tests of a fold are on the first n columns
 abbrev pub columns_are_there : ℕ → Fold → Bool
-columns_are_there n fold = list_all (λ k. nat_lt k n) fold.keys && list_all (λ agg. nat_lt agg.col n) fold.aggs && list_all (λ t. nat_lt t.col n) fold.tests
+columns_are_there n fold =
+    list_all (λ k. nat_lt k n) fold.keys && list_all (λ agg. nat_lt agg.col n) fold.aggs
+    && list_all (λ t. nat_lt t.col n) fold.tests
 
 -- the hypertable or the aggregate of a query is there, and so are the columns that it names
 abbrev pub can_ask : Roster → Query → Bool
-can_ask r (Rows t tests) = of_table (λ def hyper. list_all (λ test. nat_lt test.col (length def.cols)) tests) (table_of r t)
+can_ask r (Rows t tests) =
+    of_table (λ def hyper. list_all (λ test. nat_lt test.col (length def.cols)) tests) (table_of r t)
 can_ask r (Buckets t fold) = of_table (λ def hyper. columns_are_there (length def.cols) fold) (table_of r t)
 can_ask r (Aggregate n starts) = is_some (view_of r n)

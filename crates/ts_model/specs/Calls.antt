@@ -82,7 +82,8 @@ making_view def h = new_relation h (is_taken (roster h) def.name) (length (roste
 
 -- a table is made a hypertable unless it is one
 abbrev pub making_hyper : ℕ → HyperInfo → History → Act ℕ
-making_hyper t hyper h = cond (is_some (hyper_of (roster h) t)) (refuses (refusal name_taken h 0)) (numbered h (Hyper t hyper))
+making_hyper t hyper h =
+    cond (is_some (hyper_of (roster h) t)) (refuses (refusal name_taken h 0)) (numbered h (Hyper t hyper))
 
 abbrev pub setting_mode : ℕ → Bool → History → Act ℕ
 setting_mode n only h = numbered h (Mode n only)
@@ -122,7 +123,8 @@ finishing cut snap h = finish_of cut snap h (pending h cut)
 
 -- ---- what a call answers and leaves
 
--- what a call that does this at the history that it found answers, and the state that it leaves. An event is refused as E24 exactly where the store stands still
+-- what a call that does this at the history that it found answers, and the state that it leaves. An event is refused
+-- as E24 exactly where the store stands still
 abbrev pub Answered : {A : Type 0} → Act A → State → Outcome A → State → Type 0
 Answered (refuses r) found (Done a) new = ⊥
 Answered (refuses r) found (Refused q) new = (q ≡ r) × Keeps found new
@@ -133,12 +135,14 @@ Answered (returns a) found (Refused q) new = ⊥
 Answered (returns a) found DiskFault new = ⊥
 Answered (returns a) found NoMemory new = Keeps found new
 Answered (makes e a) found (Done b) new = (b ≡ a) × Makes e found new
-Answered (makes e a) found (Refused q) new = IsTrue (stands_still found) × (q ≡ refusal stopped found.history 0) × Keeps found new
+Answered (makes e a) found (Refused q) new =
+    IsTrue (stands_still found) × (q ≡ refusal stopped found.history 0) × Keeps found new
 Answered (makes e a) found DiskFault new = Fails e found new
 Answered (makes e a) found NoMemory new = Keeps found new
 
 -- a call that does this at whatever history it finds
-pub record Called {A : Type 0} (alone : Bool) (old : State) (act : History → Act A) (outcome : Outcome A) (new : State) : Type 0 where
+pub record Called {A : Type 0} (alone : Bool) (old : State) (act : History → Act A) (outcome : Outcome A)
+    (new : State) : Type 0 where
   pub found : State
   pub finds : Found alone old found
   pub answered : Answered (act found.history) found outcome new

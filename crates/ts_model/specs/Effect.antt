@@ -47,7 +47,8 @@ abbrev pub sum_below : ℕ → (ℕ → ℕ) → ℕ
 sum_below zero f = zero
 sum_below (suc n) f = sum_below n f + f n
 
--- how many rows these operations append over the first n tables, and how many they take away from tables with these rows
+-- how many rows these operations append over the first n tables, and how many they take away from tables with these
+-- rows
 abbrev pub appended_count : ℕ → List Op → ℕ
 appended_count n ops = sum_below n (λ t. length (all_appended t ops))
 

@@ -24,17 +24,23 @@ abbrev pub tests_fit_fields : List Test → Bool
 tests_fit_fields tests = fits_four (length tests) && list_all (λ t. fits_four t.col) tests
 
 abbrev pub fold_fits_fields : Fold → Bool
-fold_fits_fields fold = fits_byte (length fold.keys) && list_all fits_four fold.keys && fits_byte (length fold.aggs) && list_all (λ agg. fits_four agg.col) fold.aggs && tests_fit_fields fold.tests
+fold_fits_fields fold =
+    fits_byte (length fold.keys) && list_all fits_four fold.keys && fits_byte (length fold.aggs)
+    && list_all (λ agg. fits_four agg.col) fold.aggs && tests_fit_fields fold.tests
 
 abbrev pub op_fits_fields : Op → Bool
-op_fits_fields (Insert t new) = fits_four t && fits_four (length new) && list_all (λ row. fits_byte (length row.vals)) new
+op_fits_fields (Insert t new) =
+    fits_four t && fits_four (length new) && list_all (λ row. fits_byte (length row.vals)) new
 op_fits_fields (Delete t tests) = fits_four t && tests_fit_fields tests
 
 -- each count and each number of an event fits its field. The numbers of a finish are positions
 abbrev pub fits_fields : Event → Bool
-fits_fields (Table def) = name_fits_fields def.name && fits_byte (length def.cols) && list_all (λ c. name_fits_fields c.name) def.cols
+fits_fields (Table def) =
+    name_fits_fields def.name && fits_byte (length def.cols) && list_all (λ c. name_fits_fields c.name) def.cols
 fits_fields (Hyper t hyper) = fits_four t && fits_four hyper.at
-fits_fields (View def) = name_fits_fields def.name && fits_four def.table && fold_fits_fields def.fold && fits_byte (length def.names) && list_all name_fits_fields def.names
+fits_fields (View def) =
+    name_fits_fields def.name && fits_four def.table && fold_fits_fields def.fold && fits_byte (length def.names)
+    && list_all name_fits_fields def.names
 fits_fields (Mode v only) = fits_four v
 fits_fields (Commit ops) = fits_four (length ops) && list_all op_fits_fields ops
 fits_fields (Cut v span) = fits_four v

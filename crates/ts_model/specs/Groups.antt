@@ -68,7 +68,8 @@ RowsFit fold rows = AllByRecursion (RowFits fold) rows
 
 -- ---- what stood in a bucket
 
--- what stood in a bucket at position s of a history, as groups. The aggregate's number is named, though rows alone don't need it: a saved image will tell by aggregate what stood
+-- what stood in a bucket at position s of a history, as groups. The aggregate's number is named, though rows alone
+-- don't need it: a saved image will tell by aggregate what stood
 abbrev pub groups_at : ℕ → ViewDef → History → ℕ → ℤ → List Group
 groups_at n def h s b = groups_in def.fold (rows_at def.table h s) b
 

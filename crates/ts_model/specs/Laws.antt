@@ -45,36 +45,58 @@ use Rattle.ts_model.specs.Jobs.{rows_of_spans, Fits, job_rows}
 
 -- a bucket that no commit touched after a position has the rows that it had there
 abbrev pub UntouchedKeepsRows : Type 0
-UntouchedKeepsRows = (n : ℕ) (def : ViewDef) (h : History) (b : ℤ) (s : ℕ) → touched n def h b s ≡ false → bucket_rows def.fold b (rows def.table h) ≡ bucket_rows def.fold b (rows_at def.table h s)
+UntouchedKeepsRows =
+    (n : ℕ) (def : ViewDef) (h : History) (b : ℤ) (s : ℕ) → touched n def h b s ≡ false
+    → bucket_rows def.fold b (rows def.table h) ≡ bucket_rows def.fold b (rows_at def.table h s)
 
 -- so it has the groups that it had there
 abbrev pub UntouchedKeepsGroups : Type 0
-UntouchedKeepsGroups = (n : ℕ) (def : ViewDef) (h : History) (b : ℤ) (s : ℕ) → touched n def h b s ≡ false → groups_in def.fold (rows def.table h) b ≡ groups_at n def h s b
+UntouchedKeepsGroups =
+    (n : ℕ) (def : ViewDef) (h : History) (b : ℤ) (s : ℕ) → touched n def h b s ≡ false
+    → groups_in def.fold (rows def.table h) b ≡ groups_at n def h s b
 
 -- and the aggregation
 abbrev pub UntouchedKeeps : Type 0
-UntouchedKeeps = (n : ℕ) (def : ViewDef) (h : History) (b : ℤ) (s : ℕ) → touched n def h b s ≡ false → scratch def h b ≡ scratch_at n def h s b
+UntouchedKeeps =
+    (n : ℕ) (def : ViewDef) (h : History) (b : ℤ) (s : ℕ) → touched n def h b s ≡ false
+    → scratch def h b ≡ scratch_at n def h s b
 
--- the same between two positions: a bucket that no commit touched between them had the same rows and the same groups at both
+-- the same between two positions: a bucket that no commit touched between them had the same rows and the same groups
+-- at both
 pub record UntouchedBetween : Type 0 where
-  pub rows : (n : ℕ) (def : ViewDef) (h : History) (b : ℤ) (r s : ℕ) → r ≤ s → is_above r (last_touch_at n def h s b) ≡ false → bucket_rows def.fold b (rows_at def.table h s) ≡ bucket_rows def.fold b (rows_at def.table h r)
-  pub groups : (n : ℕ) (def : ViewDef) (h : History) (b : ℤ) (r s : ℕ) → r ≤ s → is_above r (last_touch_at n def h s b) ≡ false → groups_at n def h s b ≡ groups_at n def h r b
+  pub rows :
+      (n : ℕ) (def : ViewDef) (h : History) (b : ℤ) (r s : ℕ) → r ≤ s → is_above r (last_touch_at n def h s b) ≡ false
+      → bucket_rows def.fold b (rows_at def.table h s) ≡ bucket_rows def.fold b (rows_at def.table h r)
+  pub groups :
+      (n : ℕ) (def : ViewDef) (h : History) (b : ℤ) (r s : ℕ) → r ≤ s → is_above r (last_touch_at n def h s b) ≡ false
+      → groups_at n def h s b ≡ groups_at n def h r b
 
 -- the rows of spans have the groups of all rows in each bucket that starts in one of the spans, and none in another
 pub record SpansKeepGroups : Type 0 where
-  pub inside : (fold : Fold) (spans : List Span) (rows : List Row) (b : ℤ) → IsWidth fold.width → is_bucket fold.width b ≡ true → lies_in spans b ≡ true → groups_in fold (rows_of_spans fold spans rows) b ≡ groups_in fold rows b
-  pub outside : (fold : Fold) (spans : List Span) (rows : List Row) (b : ℤ) → IsWidth fold.width → is_bucket fold.width b ≡ true → lies_in spans b ≡ false → groups_in fold (rows_of_spans fold spans rows) b ≡ []
+  pub inside :
+      (fold : Fold) (spans : List Span) (rows : List Row) (b : ℤ) → IsWidth fold.width → is_bucket fold.width b ≡ true
+      → lies_in spans b ≡ true → groups_in fold (rows_of_spans fold spans rows) b ≡ groups_in fold rows b
+  pub outside :
+      (fold : Fold) (spans : List Span) (rows : List Row) (b : ℤ) → IsWidth fold.width → is_bucket fold.width b ≡ true
+      → lies_in spans b ≡ false → groups_in fold (rows_of_spans fold spans rows) b ≡ []
 
 -- a bucket at or above the watermark that has a last refresh had no result row at that refresh's snapshot
 abbrev pub NothingAboveWatermark : Type 0
-NothingAboveWatermark = (n : ℕ) (def : ViewDef) (h : History) (b : ℤ) (s : ℕ) → all_allowed h ≡ true → view_of (roster h) n ≡ Some def → is_bucket def.fold.width b ≡ true → last n h b ≡ Some s → is_below b (watermark n def h) ≡ false → scratch_at n def h s b ≡ []
+NothingAboveWatermark =
+    (n : ℕ) (def : ViewDef) (h : History) (b : ℤ) (s : ℕ) → all_allowed h ≡ true → view_of (roster h) n ≡ Some def
+    → is_bucket def.fold.width b ≡ true → last n h b ≡ Some s → is_below b (watermark n def h) ≡ false
+    → scratch_at n def h s b ≡ []
 
 -- what is below the watermark, or below the threshold of a table, stays below it
 abbrev pub WatermarkNeverFalls : Type 0
-WatermarkNeverFalls = (n : ℕ) (def : ViewDef) (g h : History) (b : ℤ) → Begins g h → is_below b (watermark n def g) ≡ true → is_below b (watermark n def h) ≡ true
+WatermarkNeverFalls =
+    (n : ℕ) (def : ViewDef) (g h : History) (b : ℤ) → Begins g h → is_below b (watermark n def g) ≡ true
+    → is_below b (watermark n def h) ≡ true
 
 abbrev pub ThresholdNeverFalls : Type 0
-ThresholdNeverFalls = (t : ℕ) (g h : History) (b : ℤ) → Begins g h → is_below b (threshold t g) ≡ true → is_below b (threshold t h) ≡ true
+ThresholdNeverFalls =
+    (t : ℕ) (g h : History) (b : ℤ) → Begins g h → is_below b (threshold t g) ≡ true
+    → is_below b (threshold t h) ≡ true
 
 -- what makes a table a hypertable stays
 abbrev pub KeepsHyper : Option Hyper → Option Hyper → Type 0
@@ -126,32 +148,43 @@ RostersAreSound = (h : History) → all_allowed h ≡ true → IsSoundRoster (ro
 
 -- the width of an aggregate of an allowed history keeps its bounds
 abbrev pub WidthsAreSound : Type 0
-WidthsAreSound = (h : History) (n : ℕ) (def : ViewDef) → all_allowed h ≡ true → view_of (roster h) n ≡ Some def → IsWidth def.fold.width
+WidthsAreSound =
+    (h : History) (n : ℕ) (def : ViewDef) → all_allowed h ≡ true → view_of (roster h) n ≡ Some def
+    → IsWidth def.fold.width
 
 -- a row fits a table of a roster, which is a hypertable
 abbrev pub fits_table : Roster → ℕ → Row → Bool
 fits_table r t row = of_table (λ def hyper. row_fits def hyper row) (table_of r t)
 
--- each row that was ever inserted into a table of an allowed history fits the table, and so does each that it has at a position
+-- each row that was ever inserted into a table of an allowed history fits the table, and so does each that it has at
+-- a position
 pub record RowsFitTables : Type 0 where
   pub inserted : (t : ℕ) (h : History) → all_allowed h ≡ true → list_all (fits_table (roster h) t) (inserted t h) ≡ true
-  pub rows : (t : ℕ) (h : History) (s : ℕ) → all_allowed h ≡ true → list_all (fits_table (roster h) t) (rows_at t h s) ≡ true
+  pub rows :
+      (t : ℕ) (h : History) (s : ℕ) → all_allowed h ≡ true → list_all (fits_table (roster h) t) (rows_at t h s) ≡ true
 
 -- so each has a time
 pub record RowsAreTimes : Type 0 where
   pub inserted : (t : ℕ) (h : History) → all_allowed h ≡ true → list_all (λ row. is_time row.at) (inserted t h) ≡ true
-  pub rows : (t : ℕ) (h : History) (s : ℕ) → all_allowed h ≡ true → list_all (λ row. is_time row.at) (rows_at t h s) ≡ true
+  pub rows :
+      (t : ℕ) (h : History) (s : ℕ) → all_allowed h ≡ true → list_all (λ row. is_time row.at) (rows_at t h s) ≡ true
 
 -- and the columns of each fold that may be asked of the table, which the fold of each of its aggregates may
 pub record RowsHaveColumns : Type 0 where
-  pub inserted : (t : ℕ) (fold : Fold) (h : History) → all_allowed h ≡ true → can_ask (roster h) (Buckets t fold) ≡ true → RowsFit fold (inserted t h)
-  pub rows : (t : ℕ) (fold : Fold) (h : History) (s : ℕ) → all_allowed h ≡ true → can_ask (roster h) (Buckets t fold) ≡ true → RowsFit fold (rows_at t h s)
-  pub views : (n : ℕ) (def : ViewDef) (h : History) → all_allowed h ≡ true → view_of (roster h) n ≡ Some def → can_ask (roster h) (Buckets def.table def.fold) ≡ true
+  pub inserted : (t : ℕ) (fold : Fold) (h : History) → all_allowed h ≡ true → can_ask (roster h) (Buckets t fold) ≡ true
+      → RowsFit fold (inserted t h)
+  pub rows :
+      (t : ℕ) (fold : Fold) (h : History) (s : ℕ) → all_allowed h ≡ true → can_ask (roster h) (Buckets t fold) ≡ true
+      → RowsFit fold (rows_at t h s)
+  pub views : (n : ℕ) (def : ViewDef) (h : History) → all_allowed h ≡ true → view_of (roster h) n ≡ Some def
+      → can_ask (roster h) (Buckets def.table def.fold) ≡ true
 
 -- a watermark of an allowed history, and where a window without an end ends, are ends of buckets that hold a time
 pub record MarksAreEnds : Type 0 where
-  pub marks : (n : ℕ) (def : ViewDef) (h : History) → all_allowed h ≡ true → view_of (roster h) n ≡ Some def → IfSome (watermark n def h) (IsMark def.fold.width)
-  pub ends : (n : ℕ) (def : ViewDef) (h : History) → all_allowed h ≡ true → view_of (roster h) n ≡ Some def → IfSome (greater (watermark n def h) (last_end def.fold.width (rows def.table h))) (IsMark def.fold.width)
+  pub marks : (n : ℕ) (def : ViewDef) (h : History) → all_allowed h ≡ true → view_of (roster h) n ≡ Some def
+      → IfSome (watermark n def h) (IsMark def.fold.width)
+  pub ends : (n : ℕ) (def : ViewDef) (h : History) → all_allowed h ≡ true → view_of (roster h) n ≡ Some def
+      → IfSome (greater (watermark n def h) (last_end def.fold.width (rows def.table h))) (IsMark def.fold.width)
 
 -- an event whose parts are there and in range stays so as a history grows
 abbrev pub SoundStays : Type 0
@@ -163,7 +196,11 @@ AnswersStay = (query : Query) (g h : History) → Begins g h → answer query (p
 
 -- a job that fits a history fits every history that begins with it, and its groups are made of the same rows
 abbrev pub FitsStays : Type 0
-FitsStays = (n : ℕ) (def : ViewDef) (g h : History) (cut snap : ℕ) (span : Span) (spans : List Span) (groups : List Group) (top : Option ℤ) → Begins g h → Fits n def g cut snap span spans groups top → Fits n def h cut snap span spans groups top × (job_rows def h snap spans ≡ job_rows def g snap spans)
+FitsStays =
+    (n : ℕ) (def : ViewDef) (g h : History) (cut snap : ℕ) (span : Span) (spans : List Span) (groups : List Group)
+    (top : Option ℤ)
+    → Begins g h → Fits n def g cut snap span spans groups top
+    → Fits n def h cut snap span spans groups top × (job_rows def h snap spans ≡ job_rows def g snap spans)
 
 -- the event that a call makes, if it makes one, is allowed
 abbrev pub MakesAllowed : {A : Type 0} → History → Act A → Type 0
@@ -174,16 +211,22 @@ MakesAllowed h (makes e a) = allowed h e ≡ true
 -- each call makes allowed events only, where what it is given is sound
 pub record CallsMakeAllowed : Type 0 where
   pub tables : (def : TableDef) (h : History) → sound h (Table def) ≡ true → MakesAllowed h (making_table def h)
-  pub hypers : (t : ℕ) (hyper : Hyper) (h : History) → sound h (HyperMade t hyper) ≡ true → MakesAllowed h (making_hyper t hyper h)
+  pub hypers :
+      (t : ℕ) (hyper : Hyper) (h : History) → sound h (HyperMade t hyper) ≡ true
+      → MakesAllowed h (making_hyper t hyper h)
   pub views : (def : ViewDef) (h : History) → sound h (View def) ≡ true → MakesAllowed h (making_view def h)
-  pub modes : (n : ℕ) (only : Bool) (h : History) → sound h (Mode n only) ≡ true → MakesAllowed h (setting_mode n only h)
+  pub modes :
+      (n : ℕ) (only : Bool) (h : History) → sound h (Mode n only) ≡ true → MakesAllowed h (setting_mode n only h)
   pub commits : (ops : List Op) (h : History) → sound h (Commit ops) ≡ true → MakesAllowed h (committing ops h)
-  pub cuts : (n : ℕ) (lo hi : Option ℤ) (h : History) → all_allowed h ≡ true → ForSome hi (λ t. IsTrue (is_time t)) → MakesAllowed h (cutting n lo hi h)
+  pub cuts : (n : ℕ) (lo hi : Option ℤ) (h : History) → all_allowed h ≡ true → ForSome hi (λ t. IsTrue (is_time t))
+      → MakesAllowed h (cutting n lo hi h)
   pub finishes : (cut snap : ℕ) (h : History) → sound h (Built cut snap) ≡ true → MakesAllowed h (finishing cut snap h)
 
 -- the ranges of the buckets in a span are the maximal ranges of those that pass
 abbrev pub RangesAreMaximal : Type 0
-RangesAreMaximal = (w : Width) (starts : Span) (test : ℤ → Bool) → IsWidth w → AreRanges w starts test (ranges w test (buckets_in w starts))
+RangesAreMaximal =
+    (w : Width) (starts : Span) (test : ℤ → Bool) → IsWidth w
+    → AreRanges w starts test (ranges w test (buckets_in w starts))
 
 -- no item is greater than a later one
 abbrev pub InOrder : {K : Type 0} → (K → K → Ordering) → List K → Type 0
@@ -205,10 +248,13 @@ pub record IsOnce {K : Type 0} (cmp : K → K → Ordering) (keys found : List K
 abbrev pub RowsStandInOrder : Type 0
 RowsStandInOrder = (t : ℕ) (h : History) → InOrder row_cmp (rows t h)
 
--- the result rows of a bucket come one for each list of keys that occurs, in order, and the buckets of a query once each, in order
+-- the result rows of a bucket come one for each list of keys that occurs, in order, and the buckets of a query once
+-- each, in order
 pub record ResultsComeInOrder : Type 0 where
   pub keys : (fold : Fold) (group : List Row) → IsOnce values_cmp (map (keys_of fold.keys) group) (key_lists fold group)
-  pub buckets : (fold : Fold) (rows : List Row) → IsOnce int_cmp (map (λ row. bucket_of fold.width row.at) (filter (λ row. passes_all row fold.tests) rows)) (occurring_buckets fold rows)
+  pub buckets : (fold : Fold) (rows : List Row)
+      → IsOnce int_cmp (map (λ row. bucket_of fold.width row.at) (filter (λ row. passes_all row fold.tests) rows))
+      (occurring_buckets fold rows)
 
 -- a value of 64 bits
 abbrev pub IsWord : ℤ → Type 0
@@ -216,19 +262,28 @@ IsWord v = (least ≤ℤ v) × (v ≤ℤ greatest)
 
 -- the sum of fewer than 2 ^ 62 values of 64 bits lies within 2 ^ 125 of 0, and so fits 128 bits
 abbrev pub SumsFit : Type 0
-SumsFit = (vs : List ℤ) → AllByRecursion IsWord vs → length vs < 2 ^ 62 → (neg_ℤ (pos (2 ^ 125)) ≤ℤ sum_of vs) × (sum_of vs ≤ℤ pos (2 ^ 125))
+SumsFit =
+    (vs : List ℤ) → AllByRecursion IsWord vs → length vs < 2 ^ 62
+    → (neg_ℤ (pos (2 ^ 125)) ≤ℤ sum_of vs) × (sum_of vs ≤ℤ pos (2 ^ 125))
 
 -- rows put in their places come in as often as they are given, and none is lost: as many pass each test
 abbrev pub InsertsKeepAll : Type 0
-InsertsKeepAll = (test : Row → Bool) (new rows : List Row) → count_by test (with_rows new rows) ≡ count_by test new + count_by test rows
+InsertsKeepAll =
+    (test : Row → Bool) (new rows : List Row)
+    → count_by test (with_rows new rows) ≡ count_by test new + count_by test rows
 
 -- a span clipped to bounds between which all chunks lie is near the same rows
 abbrev pub ClippingKeepsNear : Type 0
-ClippingKeepsNear = (low high interval : ℤ) (stored : List Row) (span : Span) → list_all (chunk_within low high interval) stored ≡ true → rows_near interval stored (clipped low high span ∷ []) ≡ rows_near interval stored (span ∷ [])
+ClippingKeepsNear =
+    (low high interval : ℤ) (stored : List Row) (span : Span)
+    → list_all (chunk_within low high interval) stored ≡ true
+    → rows_near interval stored (clipped low high span ∷ []) ≡ rows_near interval stored (span ∷ [])
 
 -- the chunks of all rows that were ever inserted lie at most the longest interval outside the range of times
 abbrev pub ChunksAreWithin : Type 0
-ChunksAreWithin = (t : ℕ) (hyper : Hyper) (h : History) → all_allowed h ≡ true → hyper_of (roster h) t ≡ Some hyper → list_all (chunk_within (min_time -ℤ max_interval) (max_time +ℤ max_interval) hyper.interval) (inserted t h) ≡ true
+ChunksAreWithin =
+    (t : ℕ) (hyper : Hyper) (h : History) → all_allowed h ≡ true → hyper_of (roster h) t ≡ Some hyper
+    → list_all (chunk_within (min_time -ℤ max_interval) (max_time +ℤ max_interval) hyper.interval) (inserted t h) ≡ true
 
 -- each count and each number of a sound event of an allowed history fits its field in a journal
 abbrev pub CountsFit : Type 0

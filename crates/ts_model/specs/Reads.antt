@@ -37,7 +37,8 @@ clipped low high span = record { lo = int_max low span.lo; hi = int_min high spa
 
 -- the chunk of a row lies between two bounds
 abbrev pub chunk_within : ℤ → ℤ → ℤ → Row → Bool
-chunk_within low high interval row = int_le low (chunk_of interval row.at).lo && int_le (chunk_of interval row.at).hi high
+chunk_within low high interval row =
+    int_le low (chunk_of interval row.at).lo && int_le (chunk_of interval row.at).hi high
 
 -- how many of these rows are in chunks that meet one of these spans, each row once
 abbrev pub rows_near : ℤ → List Row → List Span → ℕ
@@ -52,10 +53,13 @@ rows_near_in (Some hyper) stored spans = rows_near hyper.interval stored spans
 abbrev pub live_buckets : ℕ → ViewDef → History → Span → List ℤ
 live_buckets n def h starts = filter (λ b. not (is_below b (watermark n def h))) (buckets_in def.fold.width starts)
 
--- the reads of an aggregate: the rows in chunks that meet a bucket asked for at or above the watermark, and none where it shows materialised rows only
+-- the reads of an aggregate: the rows in chunks that meet a bucket asked for at or above the watermark, and none
+-- where it shows materialised rows only
 abbrev pub reads_of_view : ℕ → History → Span → Option ViewDef → ℕ
 reads_of_view n h starts None = 0
-reads_of_view n h starts (Some def) = cond def.only 0 (rows_near_in (hyper_of (roster h) def.table) (inserted def.table h) (map (bucket_span def.fold.width) (live_buckets n def h starts)))
+reads_of_view n h starts (Some def) =
+    cond def.only 0
+    (rows_near_in (hyper_of (roster h) def.table) (inserted def.table h) (map (bucket_span def.fold.width) (live_buckets n def h starts)))
 
 -- the reads of a query; one on a hypertable reads all its rows
 abbrev pub reads : Query → History → ℕ
@@ -67,11 +71,14 @@ reads (Aggregate n starts) h = reads_of_view n h starts (view_of (roster h) n)
 abbrev pub dirty_ranges : ℕ → ViewDef → History → Span → List Span
 dirty_ranges n def h span = ranges def.fold.width (invalid n def h) (buckets_in def.fold.width span)
 
--- the reads of a snapshot for a refresh: for each range of invalid buckets of its span, the rows in chunks that meet the range
+-- the reads of a snapshot for a refresh: for each range of invalid buckets of its span, the rows in chunks that meet
+-- the range
 abbrev pub reads_of_snapshot : ℕ → History → Option ViewDef → Option Span → ℕ
 reads_of_snapshot n h None span = 0
 reads_of_snapshot n h (Some def) None = 0
-reads_of_snapshot n h (Some def) (Some span) = sum_by (λ range. rows_near_in (hyper_of (roster h) def.table) (inserted def.table h) (range ∷ [])) (dirty_ranges n def h span)
+reads_of_snapshot n h (Some def) (Some span) =
+    sum_by (λ range. rows_near_in (hyper_of (roster h) def.table) (inserted def.table h) (range ∷ []))
+    (dirty_ranges n def h span)
 
 -- the same, for the refresh with a number, which is that of its cut
 abbrev pub job_reads_of : History → ℕ → Pending → ℕ

@@ -24,19 +24,26 @@ use Rattle.ts_model.specs.Laws.{Rises}
 
 -- the span of a cut of an allowed history is one of whole buckets of its aggregate, from the first on
 abbrev pub CutsFit : Type 0
-CutsFit = (n : ℕ) (def : ViewDef) (h : History) (k : ℕ) (span : Span) → all_allowed h ≡ true → view_of (roster h) n ≡ Some def → span_of_cut n h k ≡ Some span → span_fits span (Some def) ≡ true
+CutsFit =
+    (n : ℕ) (def : ViewDef) (h : History) (k : ℕ) (span : Span) → all_allowed h ≡ true
+    → view_of (roster h) n ≡ Some def → span_of_cut n h k ≡ Some span → span_fits span (Some def) ≡ true
 
 -- a bucket of the span of a cut was cut, and so was one with a last refresh, by a cut at or before that one's snapshot
 pub record BucketsWereCut : Type 0 where
-  pub spans : (n : ℕ) (h : History) (k s : ℕ) (span : Span) (b : ℤ) → span_of_cut n h k ≡ Some span → in_span span b ≡ true → k ≤ s → was_cut n h b s ≡ true
-  pub lasts : (n : ℕ) (h : History) (b : ℤ) (s : ℕ) → all_allowed h ≡ true → last n h b ≡ Some s → was_cut n h b s ≡ true
+  pub spans :
+      (n : ℕ) (h : History) (k s : ℕ) (span : Span) (b : ℤ) → span_of_cut n h k ≡ Some span → in_span span b ≡ true
+      → k ≤ s → was_cut n h b s ≡ true
+  pub lasts :
+      (n : ℕ) (h : History) (b : ℤ) (s : ℕ) → all_allowed h ≡ true → last n h b ≡ Some s → was_cut n h b s ≡ true
 
--- a bucket was refreshed at its last refresh, and its last refresh is at or after each snapshot at which it was refreshed
+-- a bucket was refreshed at its last refresh, and its last refresh is at or after each snapshot at which it was
+-- refreshed
 pub record LastsAreLast : Type 0 where
   pub refreshed : (n : ℕ) (h : History) (b : ℤ) (s : ℕ) → last n h b ≡ Some s → was_refreshed n h b s ≡ true
   pub latest : (n : ℕ) (h : History) (b : ℤ) (r : ℕ) → was_refreshed n h b r ≡ true → is_before r (last n h b) ≡ false
 
--- the refresh that waits with a number, where one does: its aggregate is what pending says, and its span that of its cut
+-- the refresh that waits with a number, where one does: its aggregate is what pending says, and its span that of its
+-- cut
 abbrev pub waiting_over : ℕ → ℕ → Option Span → List WaitingRefresh
 waiting_over k n None = []
 waiting_over k n (Some span) = record { cut = k; view = n; span = span } ∷ []
@@ -53,13 +60,23 @@ pub record WaitingIsPending : Type 0 where
 
 -- a finish of a job that fits raises the watermark to the job's top
 abbrev pub FinishesMark : Type 0
-FinishesMark = (n : ℕ) (def : ViewDef) (h : History) (cut snap : ℕ) (span : Span) (spans : List Span) (groups : List Group) (top : Option ℤ) → all_allowed h ≡ true → view_of (roster h) n ≡ Some def → Fits n def h cut snap span spans groups top → watermark n def (h ▸ Built cut snap) ≡ greater (watermark n def h) top
+FinishesMark =
+    (n : ℕ) (def : ViewDef) (h : History) (cut snap : ℕ) (span : Span) (spans : List Span) (groups : List Group)
+    (top : Option ℤ)
+    → all_allowed h ≡ true → view_of (roster h) n ≡ Some def → Fits n def h cut snap span spans groups top
+    → watermark n def (h ▸ Built cut snap) ≡ greater (watermark n def h) top
 
 -- whether an aggregate shows materialised rows only plays no part in what is stale, nor in what stood in a bucket
 pub record ModePlaysNoPart : Type 0 where
-  pub marks : (n : ℕ) (def : ViewDef) (only : Bool) (h : History) → watermark n (set_only only def) h ≡ watermark n def h
-  pub touches : (n : ℕ) (def : ViewDef) (only : Bool) (h : History) (b : ℤ) → last_touch n (set_only only def) h b ≡ last_touch n def h b
-  pub invalid : (n : ℕ) (def : ViewDef) (only : Bool) (h : History) (b : ℤ) → invalid n (set_only only def) h b ≡ invalid n def h b
-  pub stale : (n : ℕ) (def : ViewDef) (only : Bool) (h : History) (b : ℤ) → stale n (set_only only def) h b ≡ stale n def h b
+  pub marks :
+      (n : ℕ) (def : ViewDef) (only : Bool) (h : History) → watermark n (set_only only def) h ≡ watermark n def h
+  pub touches : (n : ℕ) (def : ViewDef) (only : Bool) (h : History) (b : ℤ)
+      → last_touch n (set_only only def) h b ≡ last_touch n def h b
+  pub invalid :
+      (n : ℕ) (def : ViewDef) (only : Bool) (h : History) (b : ℤ)
+      → invalid n (set_only only def) h b ≡ invalid n def h b
+  pub stale :
+      (n : ℕ) (def : ViewDef) (only : Bool) (h : History) (b : ℤ) → stale n (set_only only def) h b ≡ stale n def h b
   pub cells : (def : ViewDef) (only : Bool) (h : History) (b : ℤ) → scratch (set_only only def) h b ≡ scratch def h b
-  pub groups : (n : ℕ) (def : ViewDef) (only : Bool) (h : History) (s : ℕ) (b : ℤ) → groups_at n (set_only only def) h s b ≡ groups_at n def h s b
+  pub groups : (n : ℕ) (def : ViewDef) (only : Bool) (h : History) (s : ℕ) (b : ℤ)
+      → groups_at n (set_only only def) h s b ≡ groups_at n def h s b

@@ -1,4 +1,5 @@
--- Refreshes of an aggregate: what was last refreshed, what commits touched since, how far the watermark has come, and what is stale.
+-- Refreshes of an aggregate: what was last refreshed, what commits touched since, how far the watermark has come, and
+-- what is stale.
 use Rattle.std.specs.Prelude.{ℕ, suc, Bool, true, false, ◌&&◌, ◌||◌, cond, nat_le, ◌==◌, List, [], ◌∷◌, ℤ, ◌+ℤ◌, Option, Some, None}
 use Rattle.ts_num.specs.Aggregates.{greater}
 use Rattle.ts_bucket.specs.Bucket.{bucket_of}
@@ -57,10 +58,12 @@ is_met w b (Some hull) = meets w b hull
 abbrev pub touches : ViewDef → List Op → History → ℤ → Bool
 touches def ops h b = is_met def.fold.width b (hull_of_ops def.table ops (rows def.table h))
 
--- the last touch of a bucket: the greatest number of a commit that touches it. The aggregate's number is named, though commits alone don't need it: a saved image will tell by aggregate what was touched
+-- the last touch of a bucket: the greatest number of a commit that touches it. The aggregate's number is named,
+-- though commits alone don't need it: a saved image will tell by aggregate what was touched
 abbrev pub last_touch : ℕ → ViewDef → History → ℤ → Option ℕ
 last_touch n def start b = None
-last_touch n def (h ▸ Commit ops) b = later (last_touch n def h b) (cond (touches def ops h b) (Some (suc (position h))) None)
+last_touch n def (h ▸ Commit ops) b =
+    later (last_touch n def h b) (cond (touches def ops h b) (Some (suc (position h))) None)
 last_touch n def (h ▸ e) b = last_touch n def h b
 
 -- the last touch of a bucket at position s of a history
@@ -74,7 +77,10 @@ touched n def h b s = is_above s (last_touch n def h b)
 -- the greatest end of a bucket that starts in the span and holds a row which passes every test
 abbrev pub top_in : Fold → Span → List Row → Option ℤ
 top_in fold span [] = None
-top_in fold span (row ∷ rows) = greater (cond (in_span span (bucket_of fold.width row.at) && passes_all row fold.tests) (Some (bucket_of fold.width row.at +ℤ fold.width.step)) None) (top_in fold span rows)
+top_in fold span (row ∷ rows) =
+    greater
+    (cond (in_span span (bucket_of fold.width row.at) && passes_all row fold.tests) (Some (bucket_of fold.width row.at +ℤ fold.width.step)) None)
+    (top_in fold span rows)
 
 -- that end at position s of a history
 abbrev pub top_at : ViewDef → History → ℕ → Span → Option ℤ
@@ -85,7 +91,8 @@ abbrev pub top_of : ViewDef → History → ℕ → Option Span → Option ℤ
 top_of def h s None = None
 top_of def h s (Some span) = top_at def h s span
 
--- the watermark: the greatest end of a bucket that some finished refresh covers and that had a result row at its snapshot
+-- the watermark: the greatest end of a bucket that some finished refresh covers and that had a result row at its
+-- snapshot
 abbrev pub watermark : ℕ → ViewDef → History → Option ℤ
 watermark n def start = None
 watermark n def (h ▸ Built cut snap) = greater (watermark n def h) (top_of def h snap (span_of_cut n h cut))

@@ -59,7 +59,8 @@ scratch def h b = scratch_of def.fold b (rows def.table h)
 
 -- the buckets that hold a row which passes every test, each once, in order
 abbrev pub occurring_buckets : Fold → List Row → List ℤ
-occurring_buckets fold rows = once int_cmp (map (λ row. bucket_of fold.width row.at) (filter (λ row. passes_all row fold.tests) rows))
+occurring_buckets fold rows =
+    once int_cmp (map (λ row. bucket_of fold.width row.at) (filter (λ row. passes_all row fold.tests) rows))
 
 -- the result rows of all buckets over the rows of a table, in order
 abbrev pub fold_rows : Fold → List Row → List (List Datum)

@@ -61,7 +61,8 @@ agg_fits n agg = nat_lt agg.col n && (not (is_count_all agg.fun) || agg.col == 0
 
 -- keys, aggregates and tests are on the first n columns
 abbrev pub fold_fits : ℕ → Fold → Bool
-fold_fits n fold = list_all (λ k. nat_lt k n) fold.keys && list_all (agg_fits n) fold.aggs && list_all (test_fits n) fold.tests
+fold_fits n fold =
+    list_all (λ k. nat_lt k n) fold.keys && list_all (agg_fits n) fold.aggs && list_all (test_fits n) fold.tests
 
 -- how many columns an aggregate puts out: the bucket, the keys and the aggregates
 abbrev pub output_count : Fold → ℕ
@@ -101,20 +102,28 @@ columns_fit cols = nat_lt 0 (length cols) && nat_le (length cols) most_columns &
 -- an interval from 1 to 2 ^ 50, and a time column that is there
 abbrev pub hyper_fits : HyperInfo → Option TableInfo → Bool
 hyper_fits hyper None = false
-hyper_fits hyper (Some info) = nat_lt hyper.at (length info.def.cols) && int_lt (pos 0) hyper.interval && int_le hyper.interval max_interval
+hyper_fits hyper (Some info) =
+    nat_lt hyper.at (length info.def.cols) && int_lt (pos 0) hyper.interval && int_le hyper.interval max_interval
 
--- an aggregate over the columns of a hypertable: a width, at least one function, at most 16 output columns, and as many different names
+-- an aggregate over the columns of a hypertable: a width, at least one function, at most 16 output columns, and as
+-- many different names
 abbrev pub view_fits : ViewDef → TableDef → HyperInfo → Bool
-view_fits def table hyper = is_name def.name && is_width def.fold.width && fold_fits (length table.cols) def.fold && nat_lt 0 (length def.fold.aggs) && nat_le (output_count def.fold) most_columns && length def.names == output_count def.fold && are_names def.names
+view_fits def table hyper =
+    is_name def.name && is_width def.fold.width && fold_fits (length table.cols) def.fold
+    && nat_lt 0 (length def.fold.aggs) && nat_le (output_count def.fold) most_columns
+    && length def.names == output_count def.fold && are_names def.names
 
 -- a span of whole buckets from the first on that isn't empty, with bounds of 64 bits
 abbrev pub span_fits : Span → Option ViewDef → Bool
 span_fits span None = false
-span_fits span (Some def) = is_bucket def.fold.width span.lo && is_bucket def.fold.width span.hi && int_lt span.lo span.hi && int_le (first_of def.fold.width) span.lo && is_word span.lo && is_word span.hi
+span_fits span (Some def) =
+    is_bucket def.fold.width span.lo && is_bucket def.fold.width span.hi && int_lt span.lo span.hi
+    && int_le (first_of def.fold.width) span.lo && is_word span.lo && is_word span.hi
 
 -- a finish names a refresh that was cut, and a snapshot at or after its cut and the base, and not after the history
 abbrev pub finish_fits : History → ℕ → ℕ → Bool
-finish_fits h cut snap = is_known (pending h cut) && nat_le cut snap && nat_le (base_position h) snap && nat_le snap (position h)
+finish_fits h cut snap =
+    is_known (pending h cut) && nat_le cut snap && nat_le (base_position h) snap && nat_le snap (position h)
 
 -- ---- sound events
 

@@ -31,7 +31,8 @@ stands_still s = is_some s.failed
 abbrev pub stop_of : State → Option ℕ
 stop_of s = cond (stands_still s) (Some (position s.history)) None
 
--- what a call finds, where a state was seen before: others may have gone on meanwhile, unless the store is alone or stood still
+-- what a call finds, where a state was seen before: others may have gone on meanwhile, unless the store is alone or
+-- stood still
 pub record Found (alone : Bool) (old found : State) : Type 0 where
   pub alone_found : IsTrue alone → found ≡ old
   pub begins : Begins old.history found.history

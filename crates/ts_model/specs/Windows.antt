@@ -28,7 +28,9 @@ abbrev pub window_up_to : Width → Option ℤ → Option ℤ → Window
 window_up_to w lo None = Nothing
 window_up_to w lo (Some hi) = whole_or Nothing (inscribed w lo hi)
 
--- the buckets that a refresh with this window covers: the whole buckets in it, where a missing start is that of the first bucket, and a missing end is the greater of the watermark and the end of the bucket of the greatest time
+-- the buckets that a refresh with this window covers: the whole buckets in it, where a missing start is that of the
+-- first bucket, and a missing end is the greater of the watermark and the end of the bucket of the greatest time
 abbrev pub window : ℕ → ViewDef → History → Option ℤ → Option ℤ → Window
 window n def h lo (Some hi) = whole_or NoBucket (inscribed def.fold.width lo hi)
-window n def h lo None = window_up_to def.fold.width lo (greater (watermark n def h) (last_end def.fold.width (rows def.table h)))
+window n def h lo None =
+    window_up_to def.fold.width lo (greater (watermark n def h) (last_end def.fold.width (rows def.table h)))

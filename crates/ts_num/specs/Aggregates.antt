@@ -56,4 +56,5 @@ aggregate Count column = Int (pos (length (values column)))
 aggregate Sum column = unless_empty (values column) (Int (sum_of (values column)))
 aggregate Min column = shown_or_null (least_of (values column))
 aggregate Max column = shown_or_null (greatest_of (values column))
-aggregate Avg column = unless_empty (values column) (Ratio (lowest_terms (sum_of (values column)) (length (values column))))
+aggregate Avg column =
+    unless_empty (values column) (Ratio (lowest_terms (sum_of (values column)) (length (values column))))

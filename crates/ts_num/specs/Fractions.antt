@@ -21,8 +21,11 @@ greatest_common (suc k) a b = cond (divides_both (suc k) a b) (suc k) (greatest_
 
 -- n / d in lowest terms: both parts divided by their greatest common divisor
 abbrev pub lowest_terms : ℤ → ℕ → Frac
-lowest_terms n d = let common = greatest_common d (unsigned_abs n) d in record { num = int_div n (pos common); den = d / common }
+lowest_terms n d =
+    let common = greatest_common d (unsigned_abs n) d in
+    record { num = int_div n (pos common); den = d / common }
 
 -- over a positive count, `lowest_terms` is the one fraction in lowest terms with that value
 abbrev pub LowestTermsLaw : Type 0
-LowestTermsLaw = (n : ℤ) (d : ℕ) → 0 < d → IsLowest n d (lowest_terms n d) × ((f : Frac) → IsLowest n d f → f ≡ lowest_terms n d)
+LowestTermsLaw =
+    (n : ℤ) (d : ℕ) → 0 < d → IsLowest n d (lowest_terms n d) × ((f : Frac) → IsLowest n d f → f ≡ lowest_terms n d)

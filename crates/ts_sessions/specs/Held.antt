@@ -65,7 +65,8 @@ pub record GoesOn (old new : State) : Type 0 where
   pub begins : Begins old.history new.history
   pub still : IsTrue (stands_still old) → IsTrue (stands_still new)
 
--- the snapshot of a read block stands for what was seen when the block began, and the queue of a write block can be committed
+-- the snapshot of a read block stands for what was seen when the block began, and the queue of a write block can be
+-- committed
 abbrev pub HoldsBlock : {T : Type 0} → (T → History → Type 0) → Open T → History → Type 0
 HoldsBlock stands Nothing h = ⊤
 HoldsBlock stands (Write queue) h = IsQueue h queue.bytes queue.ops × (queue.bytes ≤ most_queued)
@@ -85,7 +86,8 @@ is_lost s c = is_finished (pending s.history c) || stands_still s
 abbrev pub IsJobOf : {T J : Type 0} → Shown T J → ℕ → ℕ → History → J → Type 0
 IsJobOf shown c at h job = shown.fits job h × (shown.cut_of job ≡ c) × (shown.snap_of job ≡ at)
 
--- what is held of a snapshot goes with what was seen. A store may have taken its job: then the refresh can't be finished any more
+-- what is held of a snapshot goes with what was seen. A store may have taken its job: then the refresh can't be
+-- finished any more
 abbrev pub HoldsJob : {T J : Type 0} → Shown T J → State → ℕ → ℕ → Option J → Type 0
 HoldsJob shown s c at None = IsTrue (is_lost s c)
 HoldsJob shown s c at (Some job) = IsJobOf shown c at s.history job

@@ -60,7 +60,8 @@ finished_twice k (Waiting n) e = refl
 finished_twice k (Finished f) e = e
 finished_twice k Unknown e = e
 
-finished_further : (h : History) (x : Event) (k : ℕ) → is_finished (pending h k) ≡ true → is_finished (pending (h ▸ x) k) ≡ true
+finished_further :
+    (h : History) (x : Event) (k : ℕ) → is_finished (pending h k) ≡ true → is_finished (pending (h ▸ x) k) ≡ true
 finished_further h (Table def) k f = f
 finished_further h (Hyper t hyper) k f = f
 finished_further h (View def) k f = f
@@ -70,9 +71,12 @@ finished_further h (Cut v span) k f =
     let within : k ≤ position h = known_within h k (finished_known (pending h k) f) in
     let no : (k == suc (position h)) ≡ false = grind (arith, nat_tests) in
     rw no f
-finished_further h (Built cut snap) k f = elim (k == cut) as (λ t. is_finished (cond t (finished_by (suc (position h)) (pending h k)) (pending h k)) ≡ true) [ true ↦ finished_twice (suc (position h)) (pending h k) f | false ↦ f ]
+finished_further h (Built cut snap) k f =
+    elim (k == cut) as (λ t. is_finished (cond t (finished_by (suc (position h)) (pending h k)) (pending h k)) ≡ true)
+    [ true ↦ finished_twice (suc (position h)) (pending h k) f | false ↦ f ]
 
-finished_stays : {g h : History} (k : ℕ) → Begins g h → is_finished (pending g k) ≡ true → is_finished (pending h k) ≡ true
+finished_stays :
+    {g h : History} (k : ℕ) → Begins g h → is_finished (pending g k) ≡ true → is_finished (pending h k) ≡ true
 finished_stays k same f = f
 finished_stays k (further {h = h} {e = x} q) f = finished_further h x k (finished_stays k q f)
 
@@ -82,27 +86,44 @@ either false b true d f g e = refl
 either false b false d f g e = g e
 
 pub lost_stays : (g h : State) (c : ℕ) → GoesOn g h → IsTrue (is_lost g c) → IsTrue (is_lost h c)
-lost_stays g h c on l = either (is_finished (pending g.history c)) (stands_still g) (is_finished (pending h.history c)) (stands_still h) (finished_stays c on.begins) on.still l
+lost_stays g h c on l =
+    either (is_finished (pending g.history c)) (stands_still g) (is_finished (pending h.history c)) (stands_still h)
+    (finished_stays c on.begins) on.still l
 
 -- ---- what a session holds
 
-pub block_on : {T : Type 0} (stands : T → History → Type 0) (b : Open T) (g h : History) → Begins g h → HoldsBlock stands b g → HoldsBlock stands b h
+pub block_on :
+    {T : Type 0} (stands : T → History → Type 0) (b : Open T) (g h : History) → Begins g h → HoldsBlock stands b g
+    → HoldsBlock stands b h
 block_on stands Nothing g h on k = tt
 block_on stands (Write queue) g h on k = (queues_are_sound.stays g h queue.bytes queue.ops on k.1 k.0, k.1)
 block_on stands (Read at shot) g h on k =
     let same_there : prefix h at ≡ prefix g at = prefix_on at on k.1 in
     (subst (stands shot) (sym same_there) k.0, omega (arith, k.1, position_begins on), subst (λ x. IsTrue (all_allowed x)) (sym same_there) k.2)
 
-pub job_on : {T J : Type 0} (shown : Shown T J) (fits_on : (job : J) (g h : History) → Begins g h → shown.fits job g → shown.fits job h) (g h : State) (c at : ℕ) (job : Option J) → GoesOn g h → HoldsJob shown g c at job → HoldsJob shown h c at job
+pub job_on :
+    {T J : Type 0} (shown : Shown T J)
+    (fits_on : (job : J) (g h : History) → Begins g h → shown.fits job g → shown.fits job h) (g h : State)
+    (c at : ℕ) (job : Option J)
+    → GoesOn g h → HoldsJob shown g c at job → HoldsJob shown h c at job
 job_on shown fits_on g h c at None on k = lost_stays g h c on k
 job_on shown fits_on g h c at (Some job) on k = (fits_on job g.history h.history on.begins k.0, k.1, k.2)
 
-pub snapshots_on : {T J : Type 0} (shown : Shown T J) (fits_on : (job : J) (g h : History) → Begins g h → shown.fits job g → shown.fits job h) (g h : State) (entries : List (ℕ × Snapshot J)) → GoesOn g h → HoldsSnapshots shown g entries → HoldsSnapshots shown h entries
+pub snapshots_on :
+    {T J : Type 0} (shown : Shown T J)
+    (fits_on : (job : J) (g h : History) → Begins g h → shown.fits job g → shown.fits job h) (g h : State)
+    (entries : List (ℕ × Snapshot J))
+    → GoesOn g h → HoldsSnapshots shown g entries → HoldsSnapshots shown h entries
 snapshots_on shown fits_on g h [] on k = tt
-snapshots_on shown fits_on g h (e ∷ es) on k = (job_on shown fits_on g h e.0 e.1.at e.1.job on k.0, snapshots_on shown fits_on g h es on k.1)
+snapshots_on shown fits_on g h (e ∷ es) on k =
+    (job_on shown fits_on g h e.0 e.1.at e.1.job on k.0, snapshots_on shown fits_on g h es on k.1)
 
 -- what a session holds goes on going with what its store has seen
-pub holds_on : {T J : Type 0} (shown : Shown T J) (fits_on : (job : J) (g h : History) → Begins g h → shown.fits job g → shown.fits job h) (session : Session T J) (g h : State) → GoesOn g h → HoldsOf shown session g → HoldsOf shown session h
+pub holds_on :
+    {T J : Type 0} (shown : Shown T J)
+    (fits_on : (job : J) (g h : History) → Begins g h → shown.fits job g → shown.fits job h)
+    (session : Session T J) (g h : State)
+    → GoesOn g h → HoldsOf shown session g → HoldsOf shown session h
 holds_on shown fits_on session g h on k = record {
   block = block_on shown.stands session.block g.history h.history on.begins k.block;
   snapshots = snapshots_on shown fits_on g h session.held.entries on k.snapshots;

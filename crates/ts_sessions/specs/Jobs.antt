@@ -25,4 +25,5 @@ with_job c at job entries = insert_entry nat_cmp entries c (record { at = at; jo
 abbrev pub TakesJob : {J : Type 0} → ℕ → List (ℕ × Snapshot J) → Held J → List (ℕ × Snapshot J) → Type 0
 TakesJob c old Nothing new = (held_for c old ≡ None) × (new ≡ old)
 TakesJob c old (Lost at) new = (held_for c old ≡ Some (record { at = at; job = None })) × (new ≡ without_job c at old)
-TakesJob c old (Job at job) new = (held_for c old ≡ Some (record { at = at; job = Some job })) × (new ≡ without_job c at old)
+TakesJob c old (Job at job) new =
+    (held_for c old ≡ Some (record { at = at; job = Some job })) × (new ≡ without_job c at old)

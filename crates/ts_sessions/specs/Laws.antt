@@ -1,4 +1,5 @@
--- Laws of procedures, each in one sentence. They hold whatever a procedure ends with, and so for turns of any kind of place.
+-- Laws of procedures, each in one sentence. They hold whatever a procedure ends with, and so for turns of any kind of
+-- place.
 use Rattle.std.specs.Prelude.{◌≡◌, ℕ, ◌≤◌, max, Bool, false, ◌||◌, List, [], ◌++◌, Option}
 use Rattle.std.specs.List.{AllByRecursion}
 use Rattle.ts_model.specs.declared.events.Event.{Event}
@@ -11,23 +12,43 @@ use Rattle.ts_sessions.specs.Walks.{Walks}
 
 -- ---- one after the other
 
--- a procedure that was walked, and then the procedure that follows it, are the walk of both, also where the disk failed in the first
+-- a procedure that was walked, and then the procedure that follows it, are the walk of both, also where the disk
+-- failed in the first
 abbrev pub PutTogether : (A B : Type 0) → Type 0
-PutTogether A B = (alone failed failed_then : Bool) (old : State) (first : Procedure A) (mid : State) (a : A) (next : A → Procedure B) (new : State) (y : B) → Walks alone failed old first mid a → Walks alone failed_then mid (next a) new y → Walks alone (failed || failed_then) old (followed_by first next) new y
+PutTogether A B =
+    (alone failed failed_then : Bool) (old : State) (first : Procedure A) (mid : State) (a : A)
+    (next : A → Procedure B) (new : State) (y : B)
+    → Walks alone failed old first mid a → Walks alone failed_then mid (next a) new y
+    → Walks alone (failed || failed_then) old (followed_by first next) new y
 
 -- ---- over a whole history
 
--- what a procedure that is steady from a history on gives by looks from there on, it gives over each longer history, also over one whose store stopped later
+-- what a procedure that is steady from a history on gives by looks from there on, it gives over each longer history,
+-- also over one whose store stopped later
 abbrev pub GivesOverLonger : (A : Type 0) → Type 0
-GivesOverLonger A = (fresh : Bool) (base all longer : History) (stop later : Option ℕ) (at : ℕ) (so_far : List (ℕ × Event)) (procedure : Procedure A) (looks : List (Option ℕ)) (last : ℕ) (given : List (ℕ × Event)) (y : A) → Steady fresh base procedure → Begins base all → AllByRecursion (λ p. position base ≤ p) (printed looks) → Begins all longer → StopsLater stop later → Gives all stop at so_far procedure looks last given y → Gives longer later at so_far procedure looks last given y
+GivesOverLonger A =
+    (fresh : Bool) (base all longer : History) (stop later : Option ℕ) (at : ℕ) (so_far : List (ℕ × Event))
+    (procedure : Procedure A) (looks : List (Option ℕ)) (last : ℕ) (given : List (ℕ × Event)) (y : A)
+    → Steady fresh base procedure → Begins base all → AllByRecursion (λ p. position base ≤ p) (printed looks)
+    → Begins all longer → StopsLater stop later → Gives all stop at so_far procedure looks last given y
+    → Gives longer later at so_far procedure looks last given y
 
--- the last position of a procedure is its last printed look, or the number of its last event where that is later. So a look that isn't printed raises nothing
+-- the last position of a procedure is its last printed look, or the number of its last event where that is later. So
+-- a look that isn't printed raises nothing
 abbrev pub LastIsPrinted : (A : Type 0) → Type 0
-LastIsPrinted A = (all : History) (stop : Option ℕ) (at : ℕ) (procedure : Procedure A) (looks : List (Option ℕ)) (last : ℕ) (given : List (ℕ × Event)) (y : A) → Gives all stop at [] procedure looks last given y → last ≡ max (last_of at (printed looks)) (last_of at (numbers given))
+LastIsPrinted A =
+    (all : History) (stop : Option ℕ) (at : ℕ) (procedure : Procedure A) (looks : List (Option ℕ)) (last : ℕ)
+    (given : List (ℕ × Event)) (y : A)
+    → Gives all stop at [] procedure looks last given y
+    → last ≡ max (last_of at (printed looks)) (last_of at (numbers given))
 
--- the events that a procedure gives are those of the history with their numbers, in order between its first position and its last
+-- the events that a procedure gives are those of the history with their numbers, in order between its first position
+-- and its last
 abbrev pub GivesEvents : (A : Type 0) → Type 0
-GivesEvents A = (all : History) (stop : Option ℕ) (at : ℕ) (procedure : Procedure A) (looks : List (Option ℕ)) (last : ℕ) (given : List (ℕ × Event)) (y : A) → Gives all stop at [] procedure looks last given y → AreEvents all at given last
+GivesEvents A =
+    (all : History) (stop : Option ℕ) (at : ℕ) (procedure : Procedure A) (looks : List (Option ℕ)) (last : ℕ)
+    (given : List (ℕ × Event)) (y : A)
+    → Gives all stop at [] procedure looks last given y → AreEvents all at given last
 
 -- two readings of a procedure came to the same
 pub record SameReading {A : Type 0} (y z : A) (given given_too : List (ℕ × Event)) : Type 0 where
@@ -36,11 +57,18 @@ pub record SameReading {A : Type 0} (y z : A) (given given_too : List (ℕ × Ev
 
 -- what a procedure gives is determined by its printed looks, wherever its session had looked before
 abbrev pub PrintedLooksDetermine : (A : Type 0) → Type 0
-PrintedLooksDetermine A = (base all : History) (stop : Option ℕ) (at at_too : ℕ) (procedure : Procedure A) (looks looks_too : List (Option ℕ)) (last last_too : ℕ) (given given_too : List (ℕ × Event)) (y z : A) → Steady false base procedure → Begins base all → AllByRecursion (λ p. position base ≤ p) (printed looks) → StopsAtEnd all stop → printed looks_too ≡ printed looks → Gives all stop at [] procedure looks last given y → Gives all stop at_too [] procedure looks_too last_too given_too z → SameReading y z given given_too
+PrintedLooksDetermine A =
+    (base all : History) (stop : Option ℕ) (at at_too : ℕ) (procedure : Procedure A)
+    (looks looks_too : List (Option ℕ)) (last last_too : ℕ) (given given_too : List (ℕ × Event)) (y z : A)
+    → Steady false base procedure → Begins base all → AllByRecursion (λ p. position base ≤ p) (printed looks)
+    → StopsAtEnd all stop → printed looks_too ≡ printed looks → Gives all stop at [] procedure looks last given y
+    → Gives all stop at_too [] procedure looks_too last_too given_too z → SameReading y z given given_too
 
 -- ---- walks
 
--- what was walked is what the procedure gives over the history that was left, to a session that had looked at or before the beginning. Its printed looks are positions that the store had meanwhile, and its events those that were made
+-- what was walked is what the procedure gives over the history that was left, to a session that had looked at or
+-- before the beginning. Its printed looks are positions that the store had meanwhile, and its events those that were
+-- made
 pub record IsGiven {A : Type 0} (old new : State) (at : ℕ) (procedure : Procedure A) (y : A) : Type 0 where
   pub looks : List (Option ℕ)
   pub last : ℕ
@@ -52,4 +80,7 @@ pub record IsGiven {A : Type 0} (old new : State) (at : ℕ) (procedure : Proced
 
 -- what was walked from a steady procedure on, it gives over the history that was left
 abbrev pub WalksAreGiven : (A : Type 0) → Type 0
-WalksAreGiven A = (alone failed : Bool) (old : State) (at : ℕ) (procedure : Procedure A) (new : State) (y : A) → Steady false old.history procedure → at ≤ position old.history → Walks alone failed old procedure new y → IsGiven old new at procedure y
+WalksAreGiven A =
+    (alone failed : Bool) (old : State) (at : ℕ) (procedure : Procedure A) (new : State) (y : A)
+    → Steady false old.history procedure → at ≤ position old.history → Walks alone failed old procedure new y
+    → IsGiven old new at procedure y

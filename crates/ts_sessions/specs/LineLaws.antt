@@ -14,13 +14,23 @@ use Rattle.ts_sessions.specs.Walks.{Walks, history_after, ending}
 
 -- where the names of a statement that makes an event passed, it does later what it does with its names looked at then
 abbrev pub NamesStay : Type 0
-NamesStay = (p : Places) (bytes : ℕ) (stmt : Stmt) (g h : History) → Begins g h → all_allowed h ≡ true → makes_event (kind_of stmt) ≡ true → refusal_of (position g) (roster g) stmt ≡ None → acts p bytes h (action_of (roster g) stmt) ≡ named p bytes stmt h
+NamesStay =
+    (p : Places) (bytes : ℕ) (stmt : Stmt) (g h : History) → Begins g h → all_allowed h ≡ true
+    → makes_event (kind_of stmt) ≡ true → refusal_of (position g) (roster g) stmt ≡ None
+    → acts p bytes h (action_of (roster g) stmt) ≡ named p bytes stmt h
 
--- a step is what the reply to its line says: over a store that others change, where the history that it left is allowed, and over one that is alone
+-- a step is what the reply to its line says: over a store that others change, where the history that it left is
+-- allowed, and over one that is alone
 pub record StepsAreReplies : Type 0 where
-  pub walks : (alone failed : Bool) (old : State) (p : Places) (text : List ℕ) (skip : ℕ) (new : State) (y : Turn Places) → all_allowed new.history ≡ true → Walks alone failed old (step p text skip) new y → Walks alone failed old (reply_to p text skip) new y
-  pub history : (p : Places) (text : List ℕ) (skip : ℕ) (h : History) → history_after (reply_to p text skip) h ≡ history_after (step p text skip) h
-  pub end : (p : Places) (text : List ℕ) (skip : ℕ) (h : History) → ending (reply_to p text skip) h ≡ ending (step p text skip) h
+  pub walks :
+      (alone failed : Bool) (old : State) (p : Places) (text : List ℕ) (skip : ℕ) (new : State) (y : Turn Places)
+      → all_allowed new.history ≡ true → Walks alone failed old (step p text skip) new y
+      → Walks alone failed old (reply_to p text skip) new y
+  pub history : (p : Places) (text : List ℕ) (skip : ℕ) (h : History)
+      → history_after (reply_to p text skip) h ≡ history_after (step p text skip) h
+  pub end :
+      (p : Places) (text : List ℕ) (skip : ℕ) (h : History)
+      → ending (reply_to p text skip) h ≡ ending (step p text skip) h
 
 -- a read block began at or before a position
 abbrev pub ReadsWithin : Block → ℕ → Type 0
@@ -30,4 +40,6 @@ ReadsWithin (reading began) at = began ≤ at
 
 -- what the reply to a line says is steady from each history on at which the block of its session had begun
 abbrev pub RepliesAreSteady : Type 0
-RepliesAreSteady = (p : Places) (text : List ℕ) (skip : ℕ) (base : History) → ReadsWithin p.block (position base) → Steady false base (reply_to p text skip)
+RepliesAreSteady =
+    (p : Places) (text : List ℕ) (skip : ℕ) (base : History) → ReadsWithin p.block (position base)
+    → Steady false base (reply_to p text skip)

@@ -10,7 +10,8 @@ use Rattle.ts_sessions.specs.declared.blocks.Block.TheVariants.{Outside, Write, 
 use Rattle.result_text.specs.declared.replies.Said.{Said}
 use Rattle.result_text.specs.declared.replies.Said.TheVariants as said
 
--- the block that a session is in: none; a write block with the operations that wait for its end, and how many bytes the texts have that they came from; or a read block at a position
+-- the block that a session is in: none; a write block with the operations that wait for its end, and how many bytes
+-- the texts have that they came from; or a read block at a position
 pub data Block : Type 0 where
   none : Block
   writing : List Op → ℕ → Block

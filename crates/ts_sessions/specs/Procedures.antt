@@ -7,7 +7,8 @@ use Rattle.ts_model.specs.Calls.{Act, refuses, returns, makes, refusal, stopped}
 
 -- what a statement does, up to what it ends with
 pub data Procedure (A : Type 0) : Type 0 where
-  -- looks at the history, and goes on by what is there. The test says of which histories the reply prints the position; of any other what follows is the same at each longer history
+  -- looks at the history, and goes on by what is there. The test says of which histories the reply prints the
+  -- position; of any other what follows is the same at each longer history
   sees : (History → Bool) → (History → Procedure A) → Procedure A
   -- makes an event directly after the last look; what follows, and what follows where the store stands still
   adds : Event → Procedure A → Procedure A → Procedure A
@@ -28,7 +29,8 @@ followed_by (ends a) k = k a
 abbrev pub ending_as : {A B : Type 0} → (A → B) → Procedure A → Procedure B
 ending_as f procedure = followed_by procedure (λ a. ends (f a))
 
--- what a call comes to at the history that it found: a refusal, which is E24 where an event was to be made and the store stands still, or what it says
+-- what a call comes to at the history that it found: a refusal, which is E24 where an event was to be made and the
+-- store stands still, or what it says
 abbrev pub tries_at : {A : Type 0} → History → Act A → Procedure (Result A Refusal)
 tries_at h (refuses r) = ends (Err r)
 tries_at h (returns a) = ends (Ok a)

@@ -9,7 +9,8 @@ use Rattle.ts_sessions.specs.Procedures.{Procedure, ends}
 use Rattle.ts_sessions.specs.Places.{Places, Turn, refuses}
 use Rattle.ts_sessions.specs.Step.{block_refusal, kind_of, misread, named_here}
 
--- a statement that its session's block lets pass has one look at which its names are looked at, and its first event made
+-- a statement that its session's block lets pass has one look at which its names are looked at, and its first event
+-- made
 abbrev pub replies_in : Places → ℕ → Stmt → Option Refusal → Procedure (Turn Places)
 replies_in p bytes stmt (Some r) = ends (refuses p r)
 replies_in p bytes stmt None = named_here p bytes stmt

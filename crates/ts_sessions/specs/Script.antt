@@ -33,7 +33,8 @@ pub record SessionScript : Type 0 where
   pub name : List ℕ
   pub lines : List SessionLine
 
--- what lines mean: the places of the session with a number at its first line, and what a line does by its session's places. Sessions are numbered from 0 in order of appearance
+-- what lines mean: the places of the session with a number at its first line, and what a line does by its session's
+-- places. Sessions are numbered from 0 in order of appearance
 pub record Semantics (P : Type 0) : Type 0 where
   pub opening : ℕ → P
   pub does : P → List ℕ → ℕ → Procedure (Turn P)
@@ -47,7 +48,8 @@ pub record ScriptState (P : Type 0) : Type 0 where
   pub history : History
   pub sessions : List (List ℕ × P)
 
--- what a line came to: where the script is then, the text written, whether it is a FAULT, and how many stored rows were looked at
+-- what a line came to: where the script is then, the text written, whether it is a FAULT, and how many stored rows
+-- were looked at
 pub record LineResult (P : Type 0) : Type 0 where
   pub script_state : ScriptState P
   pub text : List ℕ
@@ -64,7 +66,8 @@ places_of name (entry ∷ sessions) = cond (same_name entry.0 name) (Some entry.
 -- the session with a name has these places now; one that is new comes last
 abbrev pub with_places : {P : Type 0} → List ℕ → P → List (List ℕ × P) → List (List ℕ × P)
 with_places name p [] = (name, p) ∷ []
-with_places name p (entry ∷ sessions) = cond (same_name entry.0 name) ((name, p) ∷ sessions) (entry ∷ with_places name p sessions)
+with_places name p (entry ∷ sessions) =
+    cond (same_name entry.0 name) ((name, p) ∷ sessions) (entry ∷ with_places name p sessions)
 
 -- ---- replies
 
@@ -109,7 +112,9 @@ takes_turn s name procedure = turned s name (history_after procedure s.history) 
 abbrev pub executes_as : {P : Type 0} → Semantics P → ScriptState P → List ℕ → List ℕ → ℕ → Option P → LineResult P
 executes_as semantics s name text skip (Some p) = takes_turn s name (semantics.does p text skip)
 executes_as semantics s name text skip None =
-    cond (nat_lt (length s.sessions) most_sessions) (takes_turn s name (semantics.does (semantics.opening (length s.sessions)) text skip)) (refused s (reply_text name (said.Fault (bare TOO_MANY_SESSIONS))))
+    cond (nat_lt (length s.sessions) most_sessions)
+    (takes_turn s name (semantics.does (semantics.opening (length s.sessions)) text skip))
+    (refused s (reply_text name (said.Fault (bare TOO_MANY_SESSIONS))))
 
 -- a line of this kind, which has this number
 abbrev pub executes_kind : {P : Type 0} → Semantics P → ScriptState P → ℕ → List ℕ → LineKind → LineResult P
@@ -117,33 +122,41 @@ executes_kind semantics s n line Blank = record { script_state = s; text = []; f
 executes_kind semantics s n line NotAscii = refused_line s n NOT_ASCII
 executes_kind semantics s n line NoSession = refused_line s n NO_SESSION
 executes_kind semantics s n line (Stmt len skip end) =
-    executes_as semantics s (session_name line len skip) (take end line) skip (places_of (session_name line len skip) s.sessions)
+    executes_as semantics s (session_name line len skip) (take end line) skip
+    (places_of (session_name line len skip) s.sessions)
 
 -- a line, which has this number
 abbrev pub executes : {P : Type 0} → Semantics P → ScriptState P → ℕ → List ℕ → LineResult P
-executes semantics s n line = cond (nat_lt line_limit (length line)) (refused_line s n LINE_LONG) (executes_kind semantics s n line (line_kind line))
+executes semantics s n line =
+    cond (nat_lt line_limit (length line)) (refused_line s n LINE_LONG)
+    (executes_kind semantics s n line (line_kind line))
 
 -- ---- a script: the lines from line n on, from a script state on
 
 -- what is written
 abbrev pub output : {P : Type 0} → Semantics P → ScriptState P → ℕ → List (List ℕ) → List ℕ
 output semantics s n [] = []
-output semantics s n (line ∷ lines) = (executes semantics s n line).text ++ output semantics (executes semantics s n line).script_state (suc n) lines
+output semantics s n (line ∷ lines) =
+    (executes semantics s n line).text ++ output semantics (executes semantics s n line).script_state (suc n) lines
 
 -- a reply is a FAULT
 abbrev pub is_refused : {P : Type 0} → Semantics P → ScriptState P → ℕ → List (List ℕ) → Bool
 is_refused semantics s n [] = false
-is_refused semantics s n (line ∷ lines) = (executes semantics s n line).fault || is_refused semantics (executes semantics s n line).script_state (suc n) lines
+is_refused semantics s n (line ∷ lines) =
+    (executes semantics s n line).fault
+    || is_refused semantics (executes semantics s n line).script_state (suc n) lines
 
 -- how many stored rows are looked at
 abbrev pub reads_in : {P : Type 0} → Semantics P → ScriptState P → ℕ → List (List ℕ) → ℕ
 reads_in semantics s n [] = 0
-reads_in semantics s n (line ∷ lines) = (executes semantics s n line).reads + reads_in semantics (executes semantics s n line).script_state (suc n) lines
+reads_in semantics s n (line ∷ lines) =
+    (executes semantics s n line).reads + reads_in semantics (executes semantics s n line).script_state (suc n) lines
 
 -- where the script comes to
 abbrev pub final_script_state : {P : Type 0} → Semantics P → ScriptState P → ℕ → List (List ℕ) → ScriptState P
 final_script_state semantics s n [] = s
-final_script_state semantics s n (line ∷ lines) = final_script_state semantics (executes semantics s n line).script_state (suc n) lines
+final_script_state semantics s n (line ∷ lines) =
+    final_script_state semantics (executes semantics s n line).script_state (suc n) lines
 
 -- the state of a script before its first line: a history, and no session
 abbrev pub opening_script_state : {P : Type 0} → History → ScriptState P

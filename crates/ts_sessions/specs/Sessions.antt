@@ -44,7 +44,8 @@ has_failed (tried.Refused r) = false
 has_failed (tried.Failed r) = true
 
 -- a call ended with the walk of its procedure, or broke off for want of memory
-abbrev pub Tries : {A : Type 0} → Bool → State → Procedure (Result A Refusal) → Result (Tried A) NoMemory → State → Type 0
+abbrev pub Tries :
+    {A : Type 0} → Bool → State → Procedure (Result A Refusal) → Result (Tried A) NoMemory → State → Type 0
 Tries alone old procedure (Ok t) new = Walks alone (has_failed t) old procedure new (came t)
 Tries alone old procedure (Err e) new = Breaks alone old procedure new
 
@@ -64,7 +65,8 @@ FitsSnapped shown c h (snapped.Taken at job) = IsJobOf shown c at h job
 FitsSnapped shown c h (snapped.Refused r) = ⊤
 
 -- a snapshot was taken for a refresh, or the refresh isn't pending; the rows that it read were counted
-pub record Snaps {J : Type 0} (alone : Bool) (old : State) (c : ℕ) (s : Snapped J) (new : State) (before after : ℕ) : Type 0 where
+pub record Snaps {J : Type 0} (alone : Bool) (old : State) (c : ℕ) (s : Snapped J) (new : State)
+    (before after : ℕ) : Type 0 where
   pub read : ℕ
   pub walks : Walks alone false old (takes_snapshot c) new (taken_as read s)
   pub counted : after ≡ raised_by (read_by read s) before
@@ -131,7 +133,9 @@ abbrev pub turn_of : {T J : Type 0} → Places → ℕ → Completion T J → Tu
 turn_of p read t = record { places = changed t.change p; said = t.said; reads = read }
 
 -- a statement ended with the walk of its procedure, or broke off for want of memory
-abbrev pub EndsAt : {T J : Type 0} → Bool → State → Procedure (Turn Places) → Places → ℕ → Result (Completion T J) NoMemory → State → Type 0
+abbrev pub EndsAt :
+    {T J : Type 0} → Bool → State → Procedure (Turn Places) → Places → ℕ → Result (Completion T J) NoMemory → State
+    → Type 0
 EndsAt alone old procedure p read (Ok t) new = Walks alone t.failed old procedure new (turn_of p read t)
 EndsAt alone old procedure p read (Err e) new = Breaks alone old procedure new
 
@@ -141,17 +145,22 @@ Counts (Ok a) read before after = after ≡ raised_by read before
 Counts (Err e) read before after = before ≤ after
 
 -- a statement ended so, and the rows that it read were counted
-pub record Ends {T J : Type 0} (alone : Bool) (old : State) (procedure : Procedure (Turn Places)) (p : Places) (result : Result (Completion T J) NoMemory) (new : State) (before after : ℕ) : Type 0 where
+pub record Ends {T J : Type 0} (alone : Bool) (old : State) (procedure : Procedure (Turn Places)) (p : Places)
+    (result : Result (Completion T J) NoMemory) (new : State) (before after : ℕ) : Type 0 where
   pub read : ℕ
   pub ends : EndsAt alone old procedure p read result new
   pub counted : Counts result read before after
 
 -- a statement of a session with these places did this over a store, and read no stored row
-abbrev pub Does : {B T J : Type 0} → Backend B T J → B → Procedure (Turn Places) → Places → Result (Completion T J) NoMemory → B → Type 0
+abbrev pub Does :
+    {B T J : Type 0} → Backend B T J → B → Procedure (Turn Places) → Places → Result (Completion T J) NoMemory → B
+    → Type 0
 Does b old procedure p result new = EndsAt b.alone (b.state old) procedure p 0 result (b.state new)
 
 -- the same of a statement that may read rows, which were counted
-abbrev pub DoesReading : {B T J : Type 0} → Backend B T J → B → Procedure (Turn Places) → Places → Result (Completion T J) NoMemory → B → ℕ → ℕ → Type 0
+abbrev pub DoesReading :
+    {B T J : Type 0} → Backend B T J → B → Procedure (Turn Places) → Places → Result (Completion T J) NoMemory → B → ℕ
+    → ℕ → Type 0
 DoesReading b old procedure p result new before after =
     Ends b.alone (b.state old) procedure p result (b.state new) before after
 
@@ -162,8 +171,10 @@ Completes said change failed (Err e) = ⊤
 
 -- ---- lines
 
--- the reply reports the walk of the line's procedure, whose disk failed or not: its text, the numbers of the events that were made, which it names, and the rows read
-pub record Reports {P : Type 0} (alone failed : Bool) (old : State) (procedure : Procedure (Turn P)) (name : List ℕ) (reply : ReplyMade) (new : State) (places : P) (before after : ℕ) : Type 0 where
+-- the reply reports the walk of the line's procedure, whose disk failed or not: its text, the numbers of the events
+-- that were made, which it names, and the rows read
+pub record Reports {P : Type 0} (alone failed : Bool) (old : State) (procedure : Procedure (Turn P)) (name : List ℕ)
+    (reply : ReplyMade) (new : State) (places : P) (before after : ℕ) : Type 0 where
   -- the lines of the reply, and how many rows were read
   pub said : List Said
   pub read : ℕ
@@ -174,11 +185,15 @@ pub record Reports {P : Type 0} (alone failed : Bool) (old : State) (procedure :
   pub made : new.made ≡ old.made ++ reply.events
   pub counted : after ≡ raised_by read before
 
--- a line of the session with a name did this procedure: its reply reports it whole, or with the place where the disk failed, or it broke off for want of memory
+-- a line of the session with a name did this procedure: its reply reports it whole, or with the place where the disk
+-- failed, or it broke off for want of memory
 abbrev pub Stepped : {P : Type 0} → Bool → State → Procedure (Turn P) → List ℕ → StepEnd → State → P → ℕ → ℕ → Type 0
-Stepped alone old procedure name (steps.Reply r) new places before after = Reports alone false old procedure name r new places before after
-Stepped alone old procedure name (steps.DiskFault r) new places before after = Reports alone true old procedure name r new places before after
-Stepped alone old procedure name steps.NoMemory new places before after = Breaks alone old procedure new × (before ≤ after)
+Stepped alone old procedure name (steps.Reply r) new places before after =
+    Reports alone false old procedure name r new places before after
+Stepped alone old procedure name (steps.DiskFault r) new places before after =
+    Reports alone true old procedure name r new places before after
+Stepped alone old procedure name steps.NoMemory new places before after =
+    Breaks alone old procedure new × (before ≤ after)
 
 -- a reply with the text of these lines, the numbers that they name, and whether one of them is a FAULT
 pub record IsReply (name : List ℕ) (said : List Said) (r : ReplyMade) : Type 0 where

@@ -15,7 +15,9 @@ use Rattle.ts_sessions.specs.declared.kinds.Kind.TheVariants as kinds
 
 -- what a statement of a text of so many bytes asks for is sound at each history at which nothing of it is refused
 abbrev pub AsksSoundly : ℕ → Stmt → Type 0
-AsksSoundly bytes stmt = (h : History) → IsTrue (all_allowed h) → refusal_of (position h) (roster h) stmt ≡ None → IsSound h bytes (action_of (roster h) stmt)
+AsksSoundly bytes stmt =
+    (h : History) → IsTrue (all_allowed h) → refusal_of (position h) (roster h) stmt ≡ None
+    → IsSound h bytes (action_of (roster h) stmt)
 
 -- a snapshot stands for some allowed history
 pub record StandsForAllowed {T : Type 0} (stands : T → History → Type 0) (shot : T) : Type 0 where

@@ -13,9 +13,12 @@ IsEnded (sees shown f) = ⊥
 IsEnded (adds e next stop) = ⊥
 IsEnded (ends a) = Unit {0}
 
--- a procedure from a history on: what isn't printed stays and comes last, and each event comes directly after a look that is printed, or after an event.
+-- a procedure from a history on: what isn't printed stays and comes last, and each event comes directly after a look
+-- that is printed, or after an event.
 -- fresh: so was the last step
 abbrev pub Steady : {A : Type 0} → Bool → History → Procedure A → Type 0
-Steady fresh base (sees shown f) = (h : History) → Begins base h → (shown h ≡ true → Steady true h (f h)) × (shown h ≡ false → SameLater shown f h × IsEnded (f h))
+Steady fresh base (sees shown f) =
+    (h : History) → Begins base h
+    → (shown h ≡ true → Steady true h (f h)) × (shown h ≡ false → SameLater shown f h × IsEnded (f h))
 Steady fresh base (adds e next stop) = (fresh ≡ true) × Steady true base next × Steady fresh base stop
 Steady fresh base (ends a) = Unit {0}

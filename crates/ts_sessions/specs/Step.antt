@@ -239,7 +239,12 @@ plan_of r q = record { query = q; min = asked_start r q }
 
 -- the answer by a plan at a history
 abbrev pub answers : Places → History → Plan → Turn Places
-answers p h plan = record { places = p; said = said.Answered (answer plan.query h) (position h) plan.min ∷ []; reads = reads_of plan.query h }
+answers p h plan =
+    record {
+      places = p;
+      said = said.Answered (answer plan.query h) (position h) plan.min ∷ [];
+      reads = reads_of plan.query h;
+    }
 
 -- ---- blocks
 
@@ -277,11 +282,14 @@ given_up (reading at) = said.End
 abbrev pub acts : Places → ℕ → History → Action → Procedure (Turn Places)
 acts p bytes h (actions.Table def) = ending_as (reported p said.Table) (tries_at h (making_table def h))
 acts p bytes h (actions.Hyper t hyper) = ending_as (reported p said.Hypertable) (tries_at h (making_hyper t hyper h))
-acts p bytes h (actions.View def filled) = followed_by (tries_at h (making_view def h)) (after_view p (length (roster h).views) def filled)
+acts p bytes h (actions.View def filled) =
+    followed_by (tries_at h (making_view def h)) (after_view p (length (roster h).views) def filled)
 acts p bytes h (actions.Mode n only) = ending_as (reported p said.Mode) (tries_at h (setting_mode n only h))
 acts p bytes h (actions.Change op) = changes p bytes h op p.block
-acts p bytes h (actions.Refresh n lo hi) = followed_by (tries_at h (cutting n lo hi h)) (after_cut p (least_start (view_of (roster h) n)))
-acts p bytes h (actions.Cut n lo hi) = ending_as (cut_turn p (least_start (view_of (roster h) n))) (tries_at h (cutting n lo hi h))
+acts p bytes h (actions.Refresh n lo hi) =
+    followed_by (tries_at h (cutting n lo hi h)) (after_cut p (least_start (view_of (roster h) n)))
+acts p bytes h (actions.Cut n lo hi) =
+    ending_as (cut_turn p (least_start (view_of (roster h) n))) (tries_at h (cutting n lo hi h))
 acts p bytes h (actions.Snap cut) = ends (snaps p h (refresh_meant p cut))
 acts p bytes h (actions.Finish cut) = finishes p h (refresh_meant p cut)
 acts p bytes h actions.Begin = ends (turns (enters (writing [] 0) p) said.Begin)
@@ -313,14 +321,18 @@ makes_event kinds.Defines = true
 makes_event kinds.Changes = true
 makes_event other = false
 
--- a statement that makes an event, whose names were looked at in a history, and refused or not: the event has a look of its own
+-- a statement that makes an event, whose names were looked at in a history, and refused or not: the event has a look
+-- of its own
 abbrev pub passed_first : Places → ℕ → History → Stmt → Option Refusal → Procedure (Turn Places)
 passed_first p bytes g stmt (Some r) = ends (refuses p r)
 passed_first p bytes g stmt None = looks (λ h. acts p bytes h (action_of (roster g) stmt))
 
--- a statement that makes an event, outside a block: its names are looked at first, and the reply prints where only if they are refused
+-- a statement that makes an event, outside a block: its names are looked at first, and the reply prints where only if
+-- they are refused
 abbrev pub named_first : Places → ℕ → Stmt → Procedure (Turn Places)
-named_first p bytes stmt = sees (λ h. is_some (refusal_of (position h) (roster h) stmt)) (λ h. passed_first p bytes h stmt (refusal_of (position h) (roster h) stmt))
+named_first p bytes stmt =
+    sees (λ h. is_some (refusal_of (position h) (roster h) stmt))
+    (λ h. passed_first p bytes h stmt (refusal_of (position h) (roster h) stmt))
 
 -- the reply to any other statement outside a block prints its look, unless it only begins a block
 abbrev pub begins : Kind → Bool
@@ -341,7 +353,9 @@ prints (reading at) kind r = false
 
 -- any other statement: its one look, and what it does there
 abbrev pub named_here : Places → ℕ → Stmt → Procedure (Turn Places)
-named_here p bytes stmt = sees (λ h. prints p.block (kind_of stmt) (refusal_of (position h) (roster h) stmt)) (λ h. named p bytes stmt (read_at p.block h))
+named_here p bytes stmt =
+    sees (λ h. prints p.block (kind_of stmt) (refusal_of (position h) (roster h) stmt))
+    (λ h. named p bytes stmt (read_at p.block h))
 
 -- a statement that its session's block lets pass, from a text of so many bytes
 abbrev pub performs_in : Places → ℕ → Stmt → Block → Procedure (Turn Places)
@@ -367,6 +381,7 @@ abbrev pub reads_as : Places → ℕ → Result (Stmt × Stream) Fault → Proce
 reads_as p bytes (Ok read) = passes_block p bytes read.0
 reads_as p bytes (Err f) = ends (refuses p (misread f))
 
--- a line of a session with these places: its text before the comment, in which a statement stands after the first `skip` bytes
+-- a line of a session with these places: its text before the comment, in which a statement stands after the first
+-- `skip` bytes
 abbrev pub step : Places → List ℕ → ℕ → Procedure (Turn Places)
 step p text skip = reads_as p (length text) (statement (stream text skip))

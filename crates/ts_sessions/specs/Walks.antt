@@ -17,14 +17,16 @@ pub record By (First Rest : State → Type 0) : Type 0 where
 -- a procedure that began at a state came to its end, with the state then and what it ended with.
 -- failed: the disk failed at one of its events, and from there on the store stood still
 abbrev pub Walks : {A : Type 0} → Bool → Bool → State → Procedure A → State → A → Type 0
-Walks alone failed old (sees shown f) new y = By (Sees alone old) (λ found. Walks alone failed found (f found.history) new y)
+Walks alone failed old (sees shown f) new y =
+    By (Sees alone old) (λ found. Walks alone failed found (f found.history) new y)
 Walks alone failed old (adds e next stop) new y =
     (IsTrue (stands_still old) × Walks alone failed old stop new y)
     ⊎ By (Makes e old) (λ mid. Walks alone failed mid next new y)
     ⊎ ((failed ≡ true) × By (Fails e old) (λ mid. Walks alone false mid stop new y))
 Walks alone failed old (ends a) new y = (failed ≡ false) × (new ≡ old) × (y ≡ a)
 
--- a procedure that broke off for want of memory, whether the disk had failed before or not: the events that it had made stand
+-- a procedure that broke off for want of memory, whether the disk had failed before or not: the events that it had
+-- made stand
 abbrev pub Breaks : {A : Type 0} → Bool → State → Procedure A → State → Type 0
 Breaks alone old (sees shown f) new = By (Sees alone old) (λ found. Breaks alone found (f found.history) new)
 Breaks alone old (adds e next stop) new =

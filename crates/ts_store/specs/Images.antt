@@ -7,7 +7,8 @@ use Rattle.txn_journal.specs.Frames.{magic}
 use Rattle.ts_store.specs.Stands.{Stands}
 
 -- a disk tells its bytes, and all of them are on it
-pub record IsDurable {D : Type 0} (bytes : D → Option (List ℕ)) (may_leave : D → List ℕ → Type 0) (disk : D) : Type 0 where
+pub record IsDurable {D : Type 0} (bytes : D → Option (List ℕ)) (may_leave : D → List ℕ → Type 0)
+    (disk : D) : Type 0 where
   pub file : List ℕ
   pub told : bytes disk ≡ Some file
   pub durable : Only file (may_leave disk)
@@ -37,7 +38,8 @@ latest h (Some e) = h ▸ e
 abbrev pub StandsForEither : History → History → List ℕ → Type 0
 StandsForEither g h file = Stands file g ⊎ Stands file h
 
--- a file stands for a history that begins with the opening one, and with which the one seen begins, or the one seen and the event at which the disk failed
+-- a file stands for a history that begins with the opening one, and with which the one seen begins, or the one seen
+-- and the event at which the disk failed
 pub record IsBetween (opening seen : History) (failed : Option Event) (file : List ℕ) : Type 0 where
   pub history : History
   pub stands : Stands file history

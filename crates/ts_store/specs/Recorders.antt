@@ -15,34 +15,66 @@ use Rattle.ts_store.specs.Stores.{StoreValue, Does, IsKept}
 
 -- the store that has this recorder
 abbrev pub store_of : {D : Type 0} → Recorder D → D → ℕ → Bool → StoreValue D
-store_of recorder begun opened armed = record { engine = recorder.engine; journal = recorder.journal; failed = recorder.failed; begun = begun; opened = opened; armed = armed }
+store_of recorder begun opened armed =
+    record {
+      engine = recorder.engine;
+      journal = recorder.journal;
+      failed = recorder.failed;
+      begun = begun;
+      opened = opened;
+      armed = armed;
+    }
 
-abbrev pub IsKeptIn : {D : Type 0} → (D → Option (List ℕ)) → (D → List ℕ → Type 0) → (D → ℕ) → (D → ℕ → List ℕ → Type 0) → (D → ℕ) → Recorder D → D → ℕ → Bool → Type 0
-IsKeptIn bytes may_leave moment left_since faults recorder begun opened armed = IsKept bytes may_leave moment left_since faults (store_of recorder begun opened armed)
+abbrev pub IsKeptIn :
+    {D : Type 0} → (D → Option (List ℕ)) → (D → List ℕ → Type 0) → (D → ℕ) → (D → ℕ → List ℕ → Type 0) → (D → ℕ)
+    → Recorder D → D → ℕ → Bool → Type 0
+IsKeptIn bytes may_leave moment left_since faults recorder begun opened armed =
+    IsKept bytes may_leave moment left_since faults (store_of recorder begun opened armed)
 
-abbrev pub DoesIn : {D A : Type 0} → (D → ℕ) → (D → ℕ) → (History → Act A) → D → ℕ → Bool → Recorder D → Outcome A → Recorder D → Type 0
-DoesIn faults moment act begun opened armed old outcome new = Does faults moment act (store_of old begun opened armed) outcome (store_of new begun opened armed)
+abbrev pub DoesIn :
+    {D A : Type 0} → (D → ℕ) → (D → ℕ) → (History → Act A) → D → ℕ → Bool → Recorder D → Outcome A → Recorder D
+    → Type 0
+DoesIn faults moment act begun opened armed old outcome new =
+    Does faults moment act (store_of old begun opened armed) outcome (store_of new begun opened armed)
 
 -- what is true of the store that has it stays so, whichever store it is
-abbrev pub StaysKept : {D : Type 0} → (D → Option (List ℕ)) → (D → List ℕ → Type 0) → (D → ℕ) → (D → ℕ → List ℕ → Type 0) → (D → ℕ) → Recorder D → Recorder D → Type 0
-StaysKept {D} bytes may_leave moment left_since faults old new = (begun : D) (opened : ℕ) (armed : Bool) → IsKeptIn bytes may_leave moment left_since faults old begun opened armed → IsKeptIn bytes may_leave moment left_since faults new begun opened armed
+abbrev pub StaysKept :
+    {D : Type 0} → (D → Option (List ℕ)) → (D → List ℕ → Type 0) → (D → ℕ) → (D → ℕ → List ℕ → Type 0) → (D → ℕ)
+    → Recorder D → Recorder D → Type 0
+StaysKept {D} bytes may_leave moment left_since faults old new =
+    (begun : D) (opened : ℕ) (armed : Bool) → IsKeptIn bytes may_leave moment left_since faults old begun opened armed
+    → IsKeptIn bytes may_leave moment left_since faults new begun opened armed
 
 -- a call does this, in whichever store it is
-abbrev pub DoesKept : {D A : Type 0} → (D → Option (List ℕ)) → (D → List ℕ → Type 0) → (D → ℕ) → (D → ℕ → List ℕ → Type 0) → (D → ℕ) → (History → Act A) → Recorder D → Outcome A → Recorder D → Type 0
-DoesKept {D} bytes may_leave moment left_since faults act old outcome new = (begun : D) (opened : ℕ) (armed : Bool) → IsKeptIn bytes may_leave moment left_since faults old begun opened armed → DoesIn faults moment act begun opened armed old outcome new
+abbrev pub DoesKept :
+    {D A : Type 0} → (D → Option (List ℕ)) → (D → List ℕ → Type 0) → (D → ℕ) → (D → ℕ → List ℕ → Type 0) → (D → ℕ)
+    → (History → Act A) → Recorder D → Outcome A → Recorder D → Type 0
+DoesKept {D} bytes may_leave moment left_since faults act old outcome new =
+    (begun : D) (opened : ℕ) (armed : Bool) → IsKeptIn bytes may_leave moment left_since faults old begun opened armed
+    → DoesIn faults moment act begun opened armed old outcome new
 
 -- a call is safe, in whichever store it is
-abbrev pub IsSafeIn : {D : Type 0} → (D → Option (List ℕ)) → (D → List ℕ → Type 0) → (D → ℕ) → (D → ℕ → List ℕ → Type 0) → Recorder D → Recorder D → Type 0
-IsSafeIn {D} bytes may_leave moment left_since old new = (begun : D) (opened : ℕ) (armed : Bool) → IsSafe bytes may_leave moment left_since (store_of old begun opened armed) (store_of new begun opened armed)
+abbrev pub IsSafeIn :
+    {D : Type 0} → (D → Option (List ℕ)) → (D → List ℕ → Type 0) → (D → ℕ) → (D → ℕ → List ℕ → Type 0) → Recorder D
+    → Recorder D → Type 0
+IsSafeIn {D} bytes may_leave moment left_since old new =
+    (begun : D) (opened : ℕ) (armed : Bool)
+    → IsSafe bytes may_leave moment left_since (store_of old begun opened armed) (store_of new begun opened armed)
 
 -- its journal didn't stop, and all of it is on the disk: the events of the history
 abbrev pub RestsIn : {D : Type 0} → (D → Option (List ℕ)) → (D → List ℕ → Type 0) → Recorder D → Type 0
-RestsIn bytes may_leave recorder = IsAtRest bytes may_leave recorder.journal (payloads_of (history_of recorder.engine.events))
+RestsIn bytes may_leave recorder =
+    IsAtRest bytes may_leave recorder.journal (payloads_of (history_of recorder.engine.events))
 
 -- what a header that is written leaves
-pub record ArmsSafely {D : Type 0} (bytes : D → Option (List ℕ)) (may_leave : D → List ℕ → Type 0) (moment : D → ℕ) (left_since : D → ℕ → List ℕ → Type 0) (answer : Append) (old new : Recorder D) : Type 0 where
+pub record ArmsSafely {D : Type 0} (bytes : D → Option (List ℕ)) (may_leave : D → List ℕ → Type 0) (moment : D → ℕ)
+    (left_since : D → ℕ → List ℕ → Type 0) (answer : Append) (old new : Recorder D) : Type 0 where
   pub done : RestsIn bytes may_leave old → IfDone answer (RestsIn bytes may_leave new)
   -- a crash at any moment leaves a file that stands for the history
-  pub any_moment : RestsIn bytes may_leave old → LeavesOnly moment left_since old.journal.disk new.journal.disk (λ file. Stands file (history_of old.engine.events))
+  pub any_moment : RestsIn bytes may_leave old
+      → LeavesOnly moment left_since old.journal.disk new.journal.disk
+      (λ file. Stands file (history_of old.engine.events))
   -- and since each earlier moment at which there was this history, it leaves one that begins with it
-  pub earlier : (t : ℕ) (h : History) → RestsIn bytes may_leave old → Begins h (history_of old.engine.events) → t ≤ moment old.journal.disk → BeginSince left_since old.journal.disk t h → BeginSince left_since new.journal.disk t h
+  pub earlier : (t : ℕ) (h : History) → RestsIn bytes may_leave old → Begins h (history_of old.engine.events)
+      → t ≤ moment old.journal.disk → BeginSince left_since old.journal.disk t h
+      → BeginSince left_since new.journal.disk t h

@@ -9,11 +9,15 @@ use Rattle.ts_store.specs.Images.{BeginSince, StandsForEither, latest}
 use Rattle.ts_store.specs.Stores.{StoreValue, Rests, seen}
 
 -- what a call that makes at most one event leaves
-pub record IsSafe {D : Type 0} (bytes : D → Option (List ℕ)) (may_leave : D → List ℕ → Type 0) (moment : D → ℕ) (left_since : D → ℕ → List ℕ → Type 0) (old new : StoreValue D) : Type 0 where
+pub record IsSafe {D : Type 0} (bytes : D → Option (List ℕ)) (may_leave : D → List ℕ → Type 0) (moment : D → ℕ)
+    (left_since : D → ℕ → List ℕ → Type 0) (old new : StoreValue D) : Type 0 where
   -- a crash at any moment leaves a file that stands for the history at entry, or for it with the one event
-  pub any_moment : Rests bytes may_leave old → LeavesOnly moment left_since old.journal.disk new.journal.disk (StandsForEither (seen old) (latest (seen new) new.failed))
+  pub any_moment : Rests bytes may_leave old
+      → LeavesOnly moment left_since old.journal.disk new.journal.disk
+      (StandsForEither (seen old) (latest (seen new) new.failed))
   -- and since each earlier moment at which there was this history, it leaves a history that begins with it
-  pub earlier : (t : ℕ) (h : History) → Rests bytes may_leave old → Begins h (seen old) → t ≤ moment old.journal.disk → BeginSince left_since old.journal.disk t h → BeginSince left_since new.journal.disk t h
+  pub earlier : (t : ℕ) (h : History) → Rests bytes may_leave old → Begins h (seen old) → t ≤ moment old.journal.disk
+      → BeginSince left_since old.journal.disk t h → BeginSince left_since new.journal.disk t h
   -- where the disk didn't fail, a crash afterwards leaves the new history and nothing else
   pub rests : Rests bytes may_leave old → new.failed ≡ None → Rests bytes may_leave new
   -- where no event was made and the disk didn't fail, nothing was written

@@ -41,7 +41,8 @@ pub record IsNextEvent (h : History) (payload : List ℕ) (e : Event) : Type 0 w
 abbrev pub IsNoEvent : History → List ℕ → Type 0
 IsNoEvent h payload = (e : Event) → IsNextEvent h payload e → ⊥
 
--- behind the events of this history and the open gate at this place stands a whole frame, of no event that may come next
+-- behind the events of this history and the open gate at this place stands a whole frame, of no event that may come
+-- next
 pub record IsWrong (file : List ℕ) (h : History) (at : ℕ) : Type 0 where
   pub payload : List ℕ
   pub gate : ℕ
@@ -51,7 +52,8 @@ pub record IsWrong (file : List ℕ) (h : History) (at : ℕ) : Type 0 where
   pub place : at ≡ length (front (payloads_of h))
   pub no_event : IsNoEvent h payload
 
--- a file is damaged at this place, behind the events of this history: it doesn't begin as a journal, too little follows an open gate, or no event that may come next
+-- a file is damaged at this place, behind the events of this history: it doesn't begin as a journal, too little
+-- follows an open gate, or no event that may come next
 pub record IsDamagedAfter (file : List ℕ) (h : History) (at : ℕ) : Type 0 where
   pub sound : IsSound h
   pub broken : IsDamaged file (payloads_of h) at ⊎ IsWrong file h at

@@ -43,7 +43,8 @@ IfReplayed (replayed.NoMemory disk) P = ⊤
 
 -- the journal is at rest with the events of the engine's history
 abbrev pub RestsReplayed : {D : Type 0} → (D → Option (List ℕ)) → (D → List ℕ → Type 0) → Replayed D → Type 0
-RestsReplayed bytes may_leave found = IfReplayed found (λ journal engine. IsAtRest bytes may_leave journal (payloads_of (history_of engine.events)))
+RestsReplayed bytes may_leave found =
+    IfReplayed found (λ journal engine. IsAtRest bytes may_leave journal (payloads_of (history_of engine.events)))
 
 -- the engine's history may stand in a journal
 abbrev pub SoundReplayed : {D : Type 0} → Replayed D → Type 0
@@ -81,7 +82,8 @@ IfReady (started.Damaged disk at) P = ⊤
 IfReady (started.DiskFault disk) P = ⊤
 IfReady (started.NoMemory disk) P = ⊤
 
--- a store at its start: it didn't fail, it wasn't armed, it keeps this disk in mind, and it was opened with its whole history
+-- a store at its start: it didn't fail, it wasn't armed, it keeps this disk in mind, and it was opened with its whole
+-- history
 pub record IsNew {D : Type 0} (disk : D) (store : StoreValue D) : Type 0 where
   pub begun : store.begun ≡ disk
   pub goes_on : store.failed ≡ None

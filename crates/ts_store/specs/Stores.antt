@@ -14,7 +14,8 @@ use Rattle.txn_journal.specs.declared.journals.Standing.TheVariants.{Bare, Ready
 use Rattle.ts_store.specs.Images.{IsDurable, IsBetween, StandsForEither, latest}
 use Rattle.ts_store.specs.Stands.{IsSound, payloads_of}
 
--- a store: its engine, its journal, the event at which the disk failed, the disk as it was at the start, how many events were read from it, and whether it was armed since
+-- a store: its engine, its journal, the event at which the disk failed, the disk as it was at the start, how many
+-- events were read from it, and whether it was armed since
 pub record StoreValue (D : Type 0) : Type 0 where
   pub engine : EngineValue
   pub journal : Logged D
@@ -25,7 +26,15 @@ pub record StoreValue (D : Type 0) : Type 0 where
 
 -- a store at its start, with an engine and the journal that its events were read from
 abbrev pub store_at_start : {D : Type 0} → EngineValue → Logged D → D → StoreValue D
-store_at_start engine journal begun = record { engine = engine; journal = journal; failed = None; begun = begun; opened = length engine.events; armed = false }
+store_at_start engine journal begun =
+    record {
+      engine = engine;
+      journal = journal;
+      failed = None;
+      begun = begun;
+      opened = length engine.events;
+      armed = false;
+    }
 
 -- what its owner knows a store by: the disk as it was at the start, and whether the store was armed since
 pub record Known (D : Type 0) : Type 0 where
@@ -77,7 +86,8 @@ abbrev pub Rests : {D : Type 0} → (D → Option (List ℕ)) → (D → List �
 Rests bytes may_leave s = IsAtRest bytes may_leave s.journal (payloads_of (seen s))
 
 -- what is true of each store. Where all was on the disk at the start, it tells of each image since then
-pub record IsKept {D : Type 0} (bytes : D → Option (List ℕ)) (may_leave : D → List ℕ → Type 0) (moment : D → ℕ) (left_since : D → ℕ → List ℕ → Type 0) (faults : D → ℕ) (s : StoreValue D) : Type 0 where
+pub record IsKept {D : Type 0} (bytes : D → Option (List ℕ)) (may_leave : D → List ℕ → Type 0) (moment : D → ℕ)
+    (left_since : D → ℕ → List ℕ → Type 0) (faults : D → ℕ) (s : StoreValue D) : Type 0 where
   pub sound : IsSound (seen s)
   pub from : s.opened ≤ length s.engine.events
   -- the count is a number of 64 bits, it hasn't fallen, and it rose where the store stands still
@@ -90,9 +100,13 @@ pub record IsKept {D : Type 0} (bytes : D → Option (List ℕ)) (may_leave : D 
   pub later : IsDurable bytes may_leave s.begun → moment s.begun ≤ moment s.journal.disk
   pub rests : IsDurable bytes may_leave s.begun → s.failed ≡ None → Rests bytes may_leave s
   -- what reads give
-  pub shown : IsDurable bytes may_leave s.begun → IsSomeAnd (bytes s.journal.disk) (StandsForEither (seen s) (latest (seen s) s.failed))
-  pub images : IsDurable bytes may_leave s.begun → (c : List ℕ) → left_since s.journal.disk (moment s.begun) c → IsBetween (opening s) (seen s) s.failed c
+  pub shown : IsDurable bytes may_leave s.begun
+      → IsSomeAnd (bytes s.journal.disk) (StandsForEither (seen s) (latest (seen s) s.failed))
+  pub images : IsDurable bytes may_leave s.begun → (c : List ℕ) → left_since s.journal.disk (moment s.begun) c
+      → IsBetween (opening s) (seen s) s.failed c
 
 -- a call that does this, on a store that nobody else changes
-abbrev pub Does : {D A : Type 0} → (D → ℕ) → (D → ℕ) → (History → Act A) → StoreValue D → Outcome A → StoreValue D → Type 0
-Does faults moment act old outcome new = Called true (state_of faults moment old) act outcome (state_of faults moment new)
+abbrev pub Does :
+    {D A : Type 0} → (D → ℕ) → (D → ℕ) → (History → Act A) → StoreValue D → Outcome A → StoreValue D → Type 0
+Does faults moment act old outcome new =
+    Called true (state_of faults moment old) act outcome (state_of faults moment new)

@@ -13,7 +13,8 @@ use Rattle.ts_top.specs.Logs.{text_of}
 use Rattle.ts_top.specs.Outcomes.{Outside, PrintedTo, RanTo, Untouched}
 use Rattle.ts_top.specs.Parallel.{ParTo}
 
--- the demonstration with a number has printed its summary, or a part of it; no reply to its script is a FAULT, and it has looked at as many stored rows as all others
+-- the demonstration with a number has printed its summary, or a part of it; no reply to its script is a FAULT, and it
+-- has looked at as many stored rows as all others
 pub record DemoShown (demo : ℕ) (Wrote : List ℕ → Type 0) (o : Outside) : Type 0 where
   pub wrote : Wrote (demo_summary demo)
   pub answered : is_refused_demo demo ≡ false
@@ -27,17 +28,21 @@ DemoTo demo WriteFault unprinted o = DemoShown demo (AppendsPart o.written_befor
 DemoTo demo NoMemory unprinted o = unprinted
 DemoTo demo other unprinted o = ⊥
 
--- what a call with this command has done. One that prints, and the demonstration, read no input and leave the disk as it was
+-- what a call with this command has done. One that prints, and the demonstration, read no input and leave the disk as
+-- it was
 abbrev pub Outcome : Command → Status → Type 0 → (List ℕ → Type 0) → Type 0 → Type 0 → Type 0 → Outside → Type 0
 Outcome Run status durable left unread unprinted kept o = RanTo status durable left (Untouched unread unprinted kept) o
 Outcome Par status durable left unread unprinted kept o = ParTo status durable left (Untouched unread unprinted kept) o
 Outcome (Demo demo) status durable left unread unprinted kept o = unread × kept × DemoTo demo status unprinted o
-Outcome (Print text) status durable left unread unprinted kept o = unread × kept × PrintedTo (text_of text) status unprinted o
+Outcome (Print text) status durable left unread unprinted kept o =
+    unread × kept × PrintedTo (text_of text) status unprinted o
 
 -- what a call with these words has done: where they ask for nothing, that is all
-abbrev pub OutcomeOf : Option Command → Status → Type 0 → (List ℕ → Type 0) → Type 0 → Type 0 → Type 0 → Outside → Type 0
+abbrev pub OutcomeOf :
+    Option Command → Status → Type 0 → (List ℕ → Type 0) → Type 0 → Type 0 → Type 0 → Outside → Type 0
 OutcomeOf None status durable left unread unprinted kept o = (status ≡ BadWords) × Untouched unread unprinted kept
-OutcomeOf (Some command) status durable left unread unprinted kept o = Outcome command status durable left unread unprinted kept o
+OutcomeOf (Some command) status durable left unread unprinted kept o =
+    Outcome command status durable left unread unprinted kept o
 
 -- P of a call that runs the lines of its input
 abbrev pub IfRuns : Option Command → Type 0 → Type 0
@@ -50,7 +55,8 @@ abbrev pub IfDemo : Option Command → Type 0 → Type 0
 IfDemo (Some (Demo demo)) P = P
 IfDemo other P = ⊤
 
--- the count of the sink's faults rises where the call tells of one, and else stays; but where the disk failed in a parallel run, its replies are printed all the same, and the sink may fail after that
+-- the count of the sink's faults rises where the call tells of one, and else stays; but where the disk failed in a
+-- parallel run, its replies are printed all the same, and the sink may fail after that
 abbrev pub CountedAfterDisk : Status → ℕ → ℕ → Type 0
 CountedAfterDisk DiskFault before now = (failed : Bool) × Counted before now failed
 CountedAfterDisk status before now = Counted before now (is_write_fault status)

@@ -19,7 +19,8 @@ is_digit byte = nat_le 48 byte && nat_le byte 57
 -- digits behind a number, each of which makes it ten times as much and adds itself: it stays below a million
 abbrev pub number_from : ℕ → List ℕ → Option ℕ
 number_from n [] = Some n
-number_from n (digit ∷ digits) = if is_digit digit && nat_lt n 100000 then number_from (10 * n + (digit - 48)) digits else None
+number_from n (digit ∷ digits) =
+    if is_digit digit && nat_lt n 100000 then number_from (10 * n + (digit - 48)) digits else None
 
 -- a number below a million, without zeros in front
 abbrev pub demo_number : List ℕ → Option ℕ

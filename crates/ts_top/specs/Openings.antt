@@ -6,7 +6,8 @@ use Rattle.ts_top.specs.declared.endings.Status.{Status}
 use Rattle.ts_top.specs.declared.endings.Status.TheVariants.{DiskFault, Damaged, NoMemory}
 use Rattle.ts_top.specs.Outcomes.{Holds}
 
--- the disk failed while the journal's header was written: it stands for the opening history as before, and so does what a crash might have left
+-- the disk failed while the journal's header was written: it stands for the opening history as before, and so does
+-- what a crash might have left
 pub record HeaderFailed (durable : Type 0) (left : List ℕ → Type 0) (before after : Option (List ℕ)) : Type 0 where
   pub opening : History
   pub stood : IfSome before (λ file. Stands file opening)

@@ -12,7 +12,8 @@ use Rattle.ts_top.specs.Scripts.{replies_of, reply_after, history_after, rows_re
 use Rattle.ts_top.specs.declared.endings.Status.{Status}
 use Rattle.ts_top.specs.declared.endings.Status.TheVariants.{Done, Refused, BadWords, ReadFault, WriteFault, DiskFault, Damaged, NoMemory, InputLong}
 
--- what stands outside of the call, before it and after it, where it is known: the bytes that the source has left, those that the sink has written, those that reads of the disk give; and how many stored rows were looked at
+-- what stands outside of the call, before it and after it, where it is known: the bytes that the source has left,
+-- those that the sink has written, those that reads of the disk give; and how many stored rows were looked at
 pub record Outside : Type 0 where
   pub input : Option (List ℕ)
   pub rest : Option (List ℕ)
@@ -46,21 +47,24 @@ HoldsBetween file from to = IsSomeAnd file (StandsBetween from to)
 -- ---- scripts, over a history. What is said of the journal holds where all of it was on the disk at first
 
 -- the lines were run to the last, and their replies written
-pub record RanWhole (durable : Type 0) (left : List ℕ → Type 0) (h : History) (lines : List (List ℕ)) (o : Outside) : Type 0 where
+pub record RanWhole (durable : Type 0) (left : List ℕ → Type 0) (h : History) (lines : List (List ℕ))
+    (o : Outside) : Type 0 where
   pub wrote : Appends o.written_before o.written (replies_of h lines)
   pub holds : durable → Holds o.file (history_after h lines)
   pub images : durable → ImagesUpTo left h (history_after h lines)
   pub counted : o.reads ≡ raised_by (rows_read h lines) 0
 
 -- some first lines were run, their replies written, and nothing done of the others
-pub record RanBefore (durable : Type 0) (left : List ℕ → Type 0) (h : History) (lines : List (List ℕ)) (o : Outside) : Type 0 where
+pub record RanBefore (durable : Type 0) (left : List ℕ → Type 0) (h : History) (lines : List (List ℕ))
+    (o : Outside) : Type 0 where
   pub done : List (List ℕ)
   pub rest : List (List ℕ)
   pub split : lines ≡ done ++ rest
   pub ran : RanWhole durable left h done o
 
 -- the replies to some first lines were written, and nothing of the next one's, of which the first events may stand
-pub record RanWithin (durable : Type 0) (left : List ℕ → Type 0) (h : History) (lines : List (List ℕ)) (o : Outside) : Type 0 where
+pub record RanWithin (durable : Type 0) (left : List ℕ → Type 0) (h : History) (lines : List (List ℕ))
+    (o : Outside) : Type 0 where
   pub done : List (List ℕ)
   pub rest : List (List ℕ)
   pub split : lines ≡ done ++ rest
@@ -70,7 +74,8 @@ pub record RanWithin (durable : Type 0) (left : List ℕ → Type 0) (h : Histor
   pub counted : raised_by (rows_read h done) 0 ≤ o.reads
 
 -- the replies to some first lines were written, and the next line was run, of whose reply a part was written
-pub record RanWriting (durable : Type 0) (left : List ℕ → Type 0) (h : History) (lines : List (List ℕ)) (o : Outside) : Type 0 where
+pub record RanWriting (durable : Type 0) (left : List ℕ → Type 0) (h : History) (lines : List (List ℕ))
+    (o : Outside) : Type 0 where
   pub done : List (List ℕ)
   pub line : List ℕ
   pub rest : List (List ℕ)
@@ -105,15 +110,22 @@ IsDamaged at o = IfSome o.file_before (λ file. IsDamagedAt file at)
 
 -- what a run that ended so has done
 abbrev pub RanTo : Status → Type 0 → (List ℕ → Type 0) → Type 0 → Outside → Type 0
-RanTo Done durable left untouched o = OverScript o (λ h input. ReadWhole input o.rest × (is_faulted h input ≡ false) × RanWhole durable left h (executed input) o)
-RanTo Refused durable left untouched o = OverScript o (λ h input. ReadWhole input o.rest × (is_faulted h input ≡ true) × RanWhole durable left h (executed input) o)
+RanTo Done durable left untouched o =
+    OverScript o
+    (λ h input. ReadWhole input o.rest × (is_faulted h input ≡ false) × RanWhole durable left h (executed input) o)
+RanTo Refused durable left untouched o =
+    OverScript o
+    (λ h input. ReadWhole input o.rest × (is_faulted h input ≡ true) × RanWhole durable left h (executed input) o)
 RanTo BadWords durable left untouched o = ⊥
 RanTo ReadFault durable left untouched o = OverScript o (λ h input. RanBefore durable left h (executed input) o)
 RanTo WriteFault durable left untouched o = OverScript o (λ h input. RanWriting durable left h (executed input) o)
-RanTo DiskFault durable left untouched o = untouched ⊎ OverScript o (λ h input. RanWithin durable left h (executed input) o)
+RanTo DiskFault durable left untouched o =
+    untouched ⊎ OverScript o (λ h input. RanWithin durable left h (executed input) o)
 RanTo (Damaged at) durable left untouched o = untouched × IsDamaged at o
-RanTo NoMemory durable left untouched o = untouched ⊎ OverScript o (λ h input. RanWithin durable left h (executed input) o)
-RanTo InputLong durable left untouched o = OverScript o (λ h input. (INPUT_LIMIT < length input) × RanWhole durable left h (executed input) o)
+RanTo NoMemory durable left untouched o =
+    untouched ⊎ OverScript o (λ h input. RanWithin durable left h (executed input) o)
+RanTo InputLong durable left untouched o =
+    OverScript o (λ h input. (INPUT_LIMIT < length input) × RanWhole durable left h (executed input) o)
 
 -- P where the source was read
 abbrev pub IfReading : Status → Type 0 → Type 0

@@ -5,7 +5,8 @@ use Rattle.turn_lock.specs.declared.making.MadeLock.TheVariants.{Made, NoMemory}
 use Rattle.turn_lock.specs.Pass.{Carried, Guarded, IsPassOf, IsIdle, shares_of, base_of, seen_of, closed_of, made_of}
 
 module _ {V B E : Type 0} (base : V → B) (events : V → List E) (closed : V → Option E) (value : V) (shares : ℕ) where
-  -- the first pass of a lock round the value: it has all shares and the value's base, has seen its events, and has made nothing
+  -- the first pass of a lock round the value: it has all shares and the value's base, has seen its events, and has
+  -- made nothing
   pub record IsFirstPass (lock : Guarded V) (pass : Carried V B E) : Type 0 where
     pub from_lock : IsPassOf lock pass
     pub idle : IsIdle pass

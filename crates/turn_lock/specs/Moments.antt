@@ -1,4 +1,5 @@
--- What the rule says of every moment, in sentences over the words, the slot and the views. A view without shares is what a joined pass left behind.
+-- What the rule says of every moment, in sentences over the words, the slot and the views. A view without shares is
+-- what a joined pass left behind.
 use Rattle.std.specs.Prelude.{◌≡◌, ℕ, ◌<◌, ◌≤◌, ◌⊎◌, ◌&&◌, cond, nat_lt, nat_le, Option, Some, List, slice_index}
 use mathlib.Core.Option.{some}
 use mathlib.Core.List.{IsPrefix}
@@ -44,14 +45,17 @@ module _ {V B E : Type 0} (base : V → B) (first : B → ℕ) (events : V → L
     -- together the shares are the number that the lock was made with
     pub shares : shares_in s.views ≡ key.shares
     -- of two seen lists one begins the other
-    pub seen : (i j : ℕ) (v w : Knows B E) → ViewAt s i v → ViewAt s j w → IsPrefix v.seen w.seen ⊎ IsPrefix w.seen v.seen
+    pub seen :
+        (i j : ℕ) (v w : Knows B E) → ViewAt s i v → ViewAt s j w → IsPrefix v.seen w.seen ⊎ IsPrefix w.seen v.seen
     -- no seen list ends above word 2
     pub below : (j : ℕ) (v : Knows B E) → ViewAt s j v → seen_end key v ≤ slice_index s.words 2
     -- where a view has seen the value closed, its list ends at word 2, and a value at home is closed by the same
     pub ends : (j : ℕ) (v : Knows B E) (e : E) → ViewAt s j v → v.shut ≡ Some e → seen_end key v ≡ slice_index s.words 2
-    pub closes : (j : ℕ) (v : Knows B E) (x : V) (e : E) → ViewAt s j v → v.shut ≡ Some e → AtHome s x → closed x ≡ Some e
+    pub closes :
+        (j : ℕ) (v : Knows B E) (x : V) (e : E) → ViewAt s j v → v.shut ≡ Some e → AtHome s x → closed x ≡ Some e
     -- the made lists share no position, and together are all positions above the opening position up to word 2
-    pub made : (p : ℕ) → times_made p s.views ≡ cond (nat_lt (opening_end key) p && nat_le p (slice_index s.words 2)) 1 0
+    pub made :
+        (p : ℕ) → times_made p s.views ≡ cond (nat_lt (opening_end key) p && nat_le p (slice_index s.words 2)) 1 0
     -- all views that are not spent have one base
     pub bases : (j : ℕ) (v : Knows B E) → ViewAt s j v → 0 < v.shares → v.base ≡ Some (base key.value.value)
     -- a value at home has that base and begins with every seen list

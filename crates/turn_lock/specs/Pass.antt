@@ -88,7 +88,9 @@ module _ {V B E : Type 0} where
 
   -- the pass holds the turn that `held` came from
   abbrev pub IsTurnOf : Carried V B E → Held V → Type 0
-  IsTurnOf pass held = (pass.knows.stage ≡ Turn held.ticket (found_of pass) (found_closed_of pass)) × (pass.taken ≡ (0, None) ∷ []) × (held.ticket + 1 < 2 ^ 64)
+  IsTurnOf pass held =
+      (pass.knows.stage ≡ Turn held.ticket (found_of pass) (found_closed_of pass)) × (pass.taken ≡ (0, None) ∷ [])
+      × (held.ticket + 1 < 2 ^ 64)
 
   -- but for its turn the pass is as it was: its lock, shares and base, and what it has seen and made
   pub record IsSamePass (old new : Carried V B E) : Type 0 where

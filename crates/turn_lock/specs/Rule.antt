@@ -1,4 +1,5 @@
--- The rule of the lock, which holds at every moment. Word 0 is the next ticket to draw, word 1 the ticket that is served, and word 2 the position at which the events end.
+-- The rule of the lock, which holds at every moment. Word 0 is the next ticket to draw, word 1 the ticket that is
+-- served, and word 2 the position at which the events end.
 -- Slot 0 has the value, and is out with the pass that has the turn.
 use Rattle.std.specs.Prelude.{◌≡◌, ℕ, ◌<◌, ◌≤◌, ◌^◌, Option, Some, None, List, [], ◌∷◌, length, sum_by}
 use mathlib.Core.Option.{none, some}
@@ -24,11 +25,14 @@ module _ {E : Type 0} where
   HasTurn (Waiting t) = ⊥
   HasTurn (Turn t xs c) = Unit {0}
 
-  -- the stage of the view j: its ticket has not been served before, was drawn, and is its own, and with the turn it is the one served, and what it found stands
-  abbrev pub InPlace : (next serving : ℕ) (holder : ℕ → ℕ) (log : List E) (shut : Option E) (away : Type 0) (j : ℕ) → Stage E → Type 0
+  -- the stage of the view j: its ticket has not been served before, was drawn, and is its own, and with the turn it
+  -- is the one served, and what it found stands
+  abbrev pub InPlace :
+      (next serving : ℕ) (holder : ℕ → ℕ) (log : List E) (shut : Option E) (away : Type 0) (j : ℕ) → Stage E → Type 0
   InPlace next serving holder log shut away j Idle = Unit {0}
   InPlace next serving holder log shut away j (Waiting t) = (serving ≤ t) × (t < next) × (holder t ≡ j)
-  InPlace next serving holder log shut away j (Turn t xs c) = (t ≡ serving) × (t < next) × (holder t ≡ j) × (xs ≡ log) × (c ≡ shut) × away
+  InPlace next serving holder log shut away j (Turn t xs c) =
+      (t ≡ serving) × (t < next) × (holder t ≡ j) × (xs ≡ log) × (c ≡ shut) × away
 
 module _ {B E : Type 0} where
   -- the view at the place j has the ticket n
@@ -86,11 +90,15 @@ module _ {V B E : Type 0} (base : V → B) (first : B → ℕ) (events : V → L
     pub homes : s.homes ≡ home ∷ []
     pub ahead : serving ≤ next
     pub queue : (n : ℕ) → serving ≤ n → n < next → Queues s.views (holder n) n
-    pub places : (j : ℕ) (v : Knows B E) → get_elem? s.views j ≡ some v → InPlace next serving holder log shut (home ≡ none) j v.stage
+    pub places :
+        (j : ℕ) (v : Knows B E) → get_elem? s.views j ≡ some v
+        → InPlace next serving holder log shut (home ≡ none) j v.stage
     pub fits : (j : ℕ) (v : Knows B E) → get_elem? s.views j ≡ some v → Fits (base key.value.value) log shut v
     pub stands : Stands base events closed (base key.value.value) log shut (Rules s.views (holder serving)) home
     pub newest : (v : Knows B E) × (get_elem? s.views last ≡ some v) × Newest log shut v
     pub shares : shares_in s.views ≡ key.shares
     pub few : key.shares < 2 ^ 32
     pub longer : length (events key.value.value) ≤ length log
-    pub made : (p : ℕ) → times_made p s.views ≡ times p (positions_between (end_of (first (base key.value.value)) (events key.value.value)) (end_of (first (base key.value.value)) log))
+    pub made : (p : ℕ)
+        → times_made p s.views ≡ times p
+        (positions_between (end_of (first (base key.value.value)) (events key.value.value)) (end_of (first (base key.value.value)) log))

@@ -15,11 +15,33 @@ shorter xs ys = cond (nat_lt (length xs) (length ys)) xs ys
 module _ {B E : Type 0} where
   -- the first pass: all shares, the base and the events of the value
   abbrev pub fresh : ℕ → B → List E → Option E → Knows B E
-  fresh n b xs c = record { stage = Idle; shares = n; base = Some b; seen = xs; shut = c; made = []; other_base = Some b; other_seen = []; other_shut = None }
+  fresh n b xs c =
+      record {
+        stage = Idle;
+        shares = n;
+        base = Some b;
+        seen = xs;
+        shut = c;
+        made = [];
+        other_base = Some b;
+        other_seen = [];
+        other_shut = None;
+      }
 
   -- what is left of a pass that was joined into another
   abbrev pub spent : Knows B E
-  spent = record { stage = Idle; shares = 0; base = None; seen = []; shut = None; made = []; other_base = None; other_seen = []; other_shut = None }
+  spent =
+      record {
+        stage = Idle;
+        shares = 0;
+        base = None;
+        seen = [];
+        shut = None;
+        made = [];
+        other_base = None;
+        other_seen = [];
+        other_shut = None;
+      }
 
   abbrev pub at_stage : Stage E → Knows B E → Knows B E
   at_stage g k = record k { stage = g }
@@ -30,17 +52,32 @@ module _ {B E : Type 0} where
 
   -- the seat has the turn by ticket t, and has taken the value out
   abbrev pub IsInTurn : {S : Type 0} → ℕ → Me (Option S) (Knows B E) → Type 0
-  IsInTurn t m = (m.0.stage ≡ Turn t (found_at m.0.stage) (found_closed_at m.0.stage)) × (m.1 ≡ (0, None) ∷ []) × (0 < m.0.shares) × (t + 1 < 2 ^ 64)
+  IsInTurn t m =
+      (m.0.stage ≡ Turn t (found_at m.0.stage) (found_closed_at m.0.stage)) × (m.1 ≡ (0, None) ∷ [])
+      × (0 < m.0.shares) × (t + 1 < 2 ^ 64)
 
   -- the pass has published the events xs, which a turn found as ys, over a base that ends at p
   abbrev pub published : ℕ → ℕ → List E → List E → Option E → Knows B E → Knows B E
-  published t p ys xs c k = record k { stage = Turn t xs c; seen = xs; shut = c; made = k.made ++ positions_between (end_of p ys) (end_of p xs) }
+  published t p ys xs c k =
+      record k
+      { stage = Turn t xs c; seen = xs; shut = c; made = k.made ++ positions_between (end_of p ys) (end_of p xs) }
 
   abbrev pub left_with : ℕ → Knows B E → Knows B E
   left_with n k = record k { shares = k.shares - n }
 
   abbrev pub given : ℕ → Knows B E → Knows B E
-  given n k = record { stage = Idle; shares = n; base = k.base; seen = k.seen; shut = k.shut; made = []; other_base = k.base; other_seen = []; other_shut = None }
+  given n k =
+      record {
+        stage = Idle;
+        shares = n;
+        base = k.base;
+        seen = k.seen;
+        shut = k.shut;
+        made = [];
+        other_base = k.base;
+        other_seen = [];
+        other_shut = None;
+      }
 
   -- what closed the value, if the one with the shorter list has seen it closed
   abbrev pub shorter_shut : Knows B E → Knows B E → Option E
@@ -52,18 +89,32 @@ module _ {B E : Type 0} where
 
   -- one view of two; it keeps the other's base and the shorter list, of which the next step tells
   abbrev pub joined : Knows B E → Knows B E → Knows B E
-  joined k l = record { stage = Idle; shares = k.shares + l.shares; base = k.base; seen = longer k.seen l.seen; shut = joined_shut k l; made = k.made ++ l.made; other_base = l.base; other_seen = shorter k.seen l.seen; other_shut = shorter_shut k l }
+  joined k l =
+      record {
+        stage = Idle;
+        shares = k.shares + l.shares;
+        base = k.base;
+        seen = longer k.seen l.seen;
+        shut = joined_shut k l;
+        made = k.made ++ l.made;
+        other_base = l.base;
+        other_seen = shorter k.seen l.seen;
+        other_shut = shorter_shut k l;
+      }
 
   -- a draw gives the ticket where the word was still the one expected
   abbrev pub Draws : {S : Type 0} → Step S → Me S (Knows B E) → ℕ → Me S (Knows B E) → Type 0
   Draws s m found n = (found ≡ s.first → n ≡ waiting_with s.first m) × (found ≢ s.first → n ≡ m)
 
-  -- a count tells that the shares fit a u32, that the two bases were one, that the shorter list begins the longer, and is as long and closed by the same where its value was closed
+  -- a count tells that the shares fit a u32, that the two bases were one, that the shorter list begins the longer,
+  -- and is as long and closed by the same where its value was closed
   pub record IsCounted (k : Knows B E) : Type 0 where
     pub fits : k.shares < 2 ^ 32
     pub one_base : k.other_base ≡ k.base
     pub begins : length k.other_seen ≤ length k.seen → IsPrefix k.other_seen k.seen
-    pub stays : (e : E) → k.other_shut ≡ Some e → length k.other_seen ≤ length k.seen → (k.seen ≡ k.other_seen) × (k.shut ≡ Some e)
+    pub stays :
+        (e : E) → k.other_shut ≡ Some e → length k.other_seen ≤ length k.seen
+        → (k.seen ≡ k.other_seen) × (k.shut ≡ Some e)
 
   abbrev pub Counts : {S : Type 0} → Step S → Me S (Knows B E) → ℕ → Me S (Knows B E) → Type 0
   Counts s m found n = (n ≡ m) × IsCounted m.0

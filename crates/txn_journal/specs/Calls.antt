@@ -14,14 +14,16 @@ pub record Logged (D : Type 0) : Type 0 where
   pub end : ℕ
   pub standing : Standing
 
--- a journal's file and its place: one without a header has at most nine bytes, and another holds the payloads up to the place
+-- a journal's file and its place: one without a header has at most nine bytes, and another holds the payloads up to
+-- the place
 abbrev pub LiesAs : Standing → List ℕ → ℕ → List (List ℕ) → Type 0
 LiesAs Bare file end payloads = (length file ≤ 9) × (file ≢ header) × (payloads ≡ [])
 LiesAs Ready file end payloads = Holds file payloads × (end ≡ length (front payloads))
 LiesAs Still file end payloads = ⊥
 
 -- a journal that didn't stop stands for these payloads, and all of it is on the disk
-pub record IsAtRest {D : Type 0} (bytes : D → Option (List ℕ)) (may_leave : D → List ℕ → Type 0) (journal : Logged D) (payloads : List (List ℕ)) : Type 0 where
+pub record IsAtRest {D : Type 0} (bytes : D → Option (List ℕ)) (may_leave : D → List ℕ → Type 0) (journal : Logged D)
+    (payloads : List (List ℕ)) : Type 0 where
   pub file : List ℕ
   pub told : bytes journal.disk ≡ Some file
   pub lies : LiesAs journal.standing file journal.end payloads
@@ -31,7 +33,8 @@ pub record IsAtRest {D : Type 0} (bytes : D → Option (List ℕ)) (may_leave : 
 abbrev pub BeginSince : {D : Type 0} → (D → ℕ → List ℕ → Type 0) → D → ℕ → List (List ℕ) → Type 0
 BeginSince left_since disk t payloads = (c : List ℕ) → left_since disk t c → StandsForMore payloads c
 
--- an answer, and how the journal stood before it and stands after it: `Stopped` comes exactly where it had stopped, and it stops by a fault
+-- an answer, and how the journal stood before it and stands after it: `Stopped` comes exactly where it had stopped,
+-- and it stops by a fault
 abbrev pub Ends : Append → Standing → Standing → Type 0
 Ends Done before now = (before ≢ Still) × (now ≡ Ready)
 Ends DiskFault before now = (before ≢ Still) × (now ≡ Still)

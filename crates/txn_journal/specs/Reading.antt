@@ -28,12 +28,15 @@ StartsAs StartsForeign file = (9 < length file) × (take 8 file ≢ magic)
 -- what stands at a gate: it is closed, or a whole frame of this length follows, or it is open and too little follows
 abbrev pub IsHead : Head → List ℕ → ℕ → Type 0
 IsHead Closed file at = slice_index file at ≢ 1
-IsHead (Frame n) file at = (slice_index file at ≡ 1) × (5 + n ≤ length (drop (at + 1) file)) × (n < 2 ^ 32) × (to_le_bytes w32 n ≡ take 4 (drop (at + 1) file))
+IsHead (Frame n) file at =
+    (slice_index file at ≡ 1) × (5 + n ≤ length (drop (at + 1) file)) × (n < 2 ^ 32)
+    × (to_le_bytes w32 n ≡ take 4 (drop (at + 1) file))
 IsHead Short file at = (slice_index file at ≡ 1) × IsShort (drop (at + 1) file)
 
 -- ---- a reader
 
--- its disk, how its file begins and how long it is, the place of the next gate, the payload that was read last, and whether the end was found
+-- its disk, how its file begins and how long it is, the place of the next gate, the payload that was read last, and
+-- whether the end was found
 pub record Progress (D : Type 0) : Type 0 where
   pub disk : D
   pub standing : Standing
@@ -44,24 +47,30 @@ pub record Progress (D : Type 0) : Type 0 where
 
 -- a reader that has read no payload, at the first gate
 abbrev pub at_start : {D : Type 0} → D → Standing → ℕ → Progress D
-at_start disk standing size = record { disk = disk; standing = standing; size = size; at = 8; payload = []; is_done = false }
+at_start disk standing size =
+    record { disk = disk; standing = standing; size = size; at = 8; payload = []; is_done = false }
 
 -- how far a file was read, with these payloads
 abbrev pub IsReadTo : Standing → List ℕ → ℕ → List (List ℕ) → Type 0
 IsReadTo Bare file at payloads = (length file ≤ 9) × (file ≢ header) × (payloads ≡ [])
-IsReadTo Ready file at payloads = (take at file ≡ front payloads) × (at ≡ length (front payloads)) × ((9 < length file) ⊎ (file ≡ header)) × AllFit payloads
+IsReadTo Ready file at payloads =
+    (take at file ≡ front payloads) × (at ≡ length (front payloads)) × ((9 < length file) ⊎ (file ≡ header))
+    × AllFit payloads
 IsReadTo Still file at payloads = ⊥
 
 -- the reader has read these payloads of this file, and where it found the end, there are no others
-pub record HasRead {D : Type 0} (bytes : D → Option (List ℕ)) (reader : Progress D) (file : List ℕ) (payloads : List (List ℕ)) : Type 0 where
+pub record HasRead {D : Type 0} (bytes : D → Option (List ℕ)) (reader : Progress D) (file : List ℕ)
+    (payloads : List (List ℕ)) : Type 0 where
   pub told : bytes reader.disk ≡ Some file
   pub size : reader.size ≡ length file
   pub read : IsReadTo reader.standing file reader.at payloads
   pub done : reader.is_done ≡ true → LiesAs reader.standing file reader.at payloads
 
 -- what one step of reading answers, behind these payloads
-abbrev pub Steps : {D : Type 0} → (D → Option (List ℕ)) → Next → List ℕ → List (List ℕ) → Progress D → Progress D → Type 0
-Steps bytes (Payload at) file payloads old new = (at ≡ length (front payloads)) × HasRead bytes new file (payloads ++ new.payload ∷ [])
+abbrev pub Steps :
+    {D : Type 0} → (D → Option (List ℕ)) → Next → List ℕ → List (List ℕ) → Progress D → Progress D → Type 0
+Steps bytes (Payload at) file payloads old new =
+    (at ≡ length (front payloads)) × HasRead bytes new file (payloads ++ new.payload ∷ [])
 Steps bytes End file payloads old new = StandsFor file payloads × HasRead bytes new file payloads
 Steps bytes (Damaged at) file payloads old new = IsDamaged file payloads at × HasRead bytes new file payloads
 Steps bytes DiskFault file payloads old new = HasRead bytes new file payloads
@@ -69,7 +78,8 @@ Steps bytes NoMemory file payloads old new = HasRead bytes new file payloads
 
 -- the place moves on by what a payload takes, and stays before the end of the file
 abbrev pub Moves : {D : Type 0} → Next → Progress D → Progress D → Type 0
-Moves (Payload at) old new = (at ≡ old.at) × (new.at ≡ old.at + 5 + length new.payload) × (new.at < new.size) × (new.size ≡ old.size)
+Moves (Payload at) old new =
+    (at ≡ old.at) × (new.at ≡ old.at + 5 + length new.payload) × (new.at < new.size) × (new.size ≡ old.size)
 Moves End old new = (new.at ≡ old.at) × (new.size ≡ old.size)
 Moves (Damaged at) old new = (at ≡ old.at) × (new.at ≡ old.at) × (new.size ≡ old.size)
 Moves DiskFault old new = (new.at ≡ old.at) × (new.size ≡ old.size)
@@ -108,8 +118,10 @@ IsSized StartsForeign size = ⊤
 -- what stands at a gate from which on so many bytes stand, by its first five
 abbrev pub JudgesHead : Head → List ℕ → ℕ → Type 0
 JudgesHead Closed head left = slice_index head 0 ≢ 1
-JudgesHead (Frame n) head left = (slice_index head 0 ≡ 1) × (5 + n < left) × (n < 2 ^ 32) × (to_le_bytes w32 n ≡ take 4 (drop 1 head))
-JudgesHead Short head left = (slice_index head 0 ≡ 1) × ((left < 5) ⊎ (left ≤ 5 + from_le_bytes w32 (take 4 (drop 1 head))))
+JudgesHead (Frame n) head left =
+    (slice_index head 0 ≡ 1) × (5 + n < left) × (n < 2 ^ 32) × (to_le_bytes w32 n ≡ take 4 (drop 1 head))
+JudgesHead Short head left =
+    (slice_index head 0 ≡ 1) × ((left < 5) ⊎ (left ≤ 5 + from_le_bytes w32 (take 4 (drop 1 head))))
 
 -- behind a frame there is a gate
 abbrev pub EndsWithin : Head → ℕ → ℕ → Type 0

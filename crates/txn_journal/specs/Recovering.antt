@@ -14,8 +14,10 @@ disk_of (NoMemory disk) = disk
 
 -- the payloads of the open frames with their places, or those before the least damaged place
 abbrev pub Recovers : {D : Type 0} → Recovered D → List ℕ → Type 0
-Recovers (Ready journal payloads) file = StandsFor file (payloads_of payloads) × (payloads ≡ placed 8 (payloads_of payloads))
-Recovers (Damaged disk payloads at) file = IsDamaged file (payloads_of payloads) at × (payloads ≡ placed 8 (payloads_of payloads))
+Recovers (Ready journal payloads) file =
+    StandsFor file (payloads_of payloads) × (payloads ≡ placed 8 (payloads_of payloads))
+Recovers (Damaged disk payloads at) file =
+    IsDamaged file (payloads_of payloads) at × (payloads ≡ placed 8 (payloads_of payloads))
 Recovers (DiskFault disk) file = ⊤
 Recovers (NoMemory disk) file = ⊤
 

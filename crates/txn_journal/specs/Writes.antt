@@ -4,12 +4,14 @@ use Rattle.ts_disk.specs.CrashImage.{Only}
 use Rattle.txn_journal.specs.Frames.{Holds, front}
 
 -- a disk has these bytes, and all of them are on it
-pub record IsWritten {D : Type 0} (bytes : D → Option (List ℕ)) (may_leave : D → List ℕ → Type 0) (disk : D) (file : List ℕ) : Type 0 where
+pub record IsWritten {D : Type 0} (bytes : D → Option (List ℕ)) (may_leave : D → List ℕ → Type 0) (disk : D)
+    (file : List ℕ) : Type 0 where
   pub told : bytes disk ≡ Some file
   pub durable : Only file (may_leave disk)
 
 -- a disk holds these payloads up to the gate at this place, and all of it is on the disk
-pub record Rests {D : Type 0} (bytes : D → Option (List ℕ)) (may_leave : D → List ℕ → Type 0) (disk : D) (end : ℕ) (payloads : List (List ℕ)) : Type 0 where
+pub record Rests {D : Type 0} (bytes : D → Option (List ℕ)) (may_leave : D → List ℕ → Type 0) (disk : D) (end : ℕ)
+    (payloads : List (List ℕ)) : Type 0 where
   pub file : List ℕ
   pub written : IsWritten bytes may_leave disk file
   pub holds : Holds file payloads
