@@ -3,17 +3,14 @@
 ghost use Rattle.std.specs.Prelude.{◌≡◌, pos as nonneg, length, IfOk};
 ghost use Rattle.stmt_check.specs.Check.{IsNumbered};
 
+use crate::texts::name;
 use std::alloc::Global;
 use std::test::Fail;
 use stmt_check::{Action, Checked, check};
 use stmt_reader::{ReadStmt, Stmt, read_stmt};
 use ts_bucket::width;
 use ts_model::{Fold, Hyper, Op, Roster, TableDef, TableInfo, ViewDef};
-use ts_schema::{Cmp, Column, Name, Seq, Test};
-
-fn name(alloc: Global, text: &[u8]) -> Result<Name, Fail> {
-    Ok(Name::read(alloc, text)?.ok_or("no name")?)
-}
+use ts_schema::{Cmp, Column, Seq, Test};
 
 fn column(alloc: Global, text: &[u8], must: bool) -> Result<Column, Fail> {
     Ok(Column {
@@ -312,20 +309,28 @@ fn a_thousand_rows_are_inserted_and_not_one_more(rt: HostRuntime) -> Result<(), 
     Ok(())
 }
 
+/// The test of a statement that deletes rows of the hypertable by one test.
+fn only_test(checked: &Checked) -> Option<Test> {
+    match checked {
+        Checked::Ready(Action::Change(Op::Delete { table: 0, tests })) if tests.len() == 1 => {
+            Some(*tests.get(0))
+        }
+        _ => None,
+    }
+}
+
 #[test]
 fn chunks_are_dropped_below_a_whole_chunk(rt: HostRuntime) -> Result<(), Fail> {
     let roster = roster(rt.alloc())?;
     for (below, start) in [(250, 200), (200, 200), (-1, -100), (0, 0)] {
         let table = name(rt.alloc(), b"m")?;
-        let stmt = Stmt::Drop { table, below };
-        let mut tests = Seq::new(rt.alloc());
-        tests.push(Test {
+        let checked = check(rt.alloc(), &Stmt::Drop { table, below }, &roster, 3);
+        let wanted = Test {
             col: 0,
             cmp: Cmp::Lt,
             num: start,
-        })?;
-        let wanted = Checked::Ready(Action::Change(Op::Delete { table: 0, tests }));
-        assert!(rt; check(rt.alloc(), &stmt, &roster, 3) == wanted, "{below}");
+        };
+        assert_eq!(rt; only_test(&checked), Some(wanted), "{below}");
     }
     Ok(())
 }

@@ -1,22 +1,19 @@
+use crate::texts::name;
 use std::alloc::Global;
 use std::test::Fail;
 use ts_bucket::Span;
 use ts_model::*;
 use ts_num::Fun;
-use ts_schema::{Cmp, Column, Name, Row, Seq, SharedSlice, Test};
-
-fn name(alloc: Global, text: &str) -> Result<Name, Fail> {
-    Ok(Name::read(alloc, text.as_bytes())?.ok_or("a name")?)
-}
+use ts_schema::{Cmp, Column, Row, Seq, SharedSlice, Test};
 
 fn table(alloc: Global) -> Result<TableDef, Fail> {
     let mut cols = Seq::new(alloc);
     cols.push(Column {
-        name: name(alloc, "time")?,
+        name: name(alloc, b"time")?,
         must: true,
     })?;
     Ok(TableDef {
-        name: name(alloc, "m")?,
+        name: name(alloc, b"m")?,
         cols,
     })
 }
@@ -50,9 +47,9 @@ fn tests(alloc: Global) -> Result<Seq<Test>, Fail> {
 
 fn view(alloc: Global) -> Result<ViewDef, Fail> {
     let mut names = Seq::new(alloc);
-    names.push(name(alloc, "b")?)?;
+    names.push(name(alloc, b"b")?)?;
     Ok(ViewDef {
-        name: name(alloc, "c")?,
+        name: name(alloc, b"c")?,
         table: 3,
         fold: fold(alloc)?,
         names,

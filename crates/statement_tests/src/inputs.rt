@@ -52,14 +52,19 @@ fn an_input_may_have_67108864_bytes(rt: HostRuntime) -> Result<(), Fail> {
 }
 
 #[test]
-fn a_text_is_written_whole_or_up_to_the_failed_write(rt: HostRuntime) -> Result<(), Fail> {
+fn a_text_is_written_whole(rt: HostRuntime) {
     for most in 1..8 {
         let mut sink = MemSink::new(rt.alloc(), most, Vec::new(rt.alloc()));
         let end = write_whole(&mut sink, TEXT);
         assert_eq!(rt; end, Ok(()), "at most {most} bytes");
         assert_eq!(rt; sink.bytes(), TEXT);
         assert_eq!(rt; sink.faults(), 0);
+    }
+}
 
+#[test]
+fn a_text_is_written_up_to_the_failed_write(rt: HostRuntime) -> Result<(), Fail> {
+    for most in 1..8 {
         let fails = [2].to_vec(rt.alloc())?;
         let mut sink = MemSink::new(rt.alloc(), most, fails);
         let end = write_whole(&mut sink, TEXT);

@@ -1,16 +1,13 @@
 //! A roster of one plain table, one hypertable and one aggregate.
 ghost use Rattle.std.specs.Prelude.{◌≡◌, length, IfOk};
 
+use crate::texts::name;
 use std::alloc::Global;
 use std::test::Fail;
 use ts_bucket::width;
 use ts_catalog::{Found, column, find, view_column};
 use ts_model::{Fold, Hyper, Roster, TableDef, TableInfo, ViewDef};
-use ts_schema::{Column, Name, Seq};
-
-fn name(alloc: Global, text: &[u8]) -> Result<Name, Fail> {
-    Ok(Name::read(alloc, text)?.ok_or("no name")?)
-}
+use ts_schema::{Column, Seq};
 
 fn table(alloc: Global, text: &[u8], hyper: Option<Hyper>) -> Result<TableInfo, Fail>
     ensures { IfOk result (λ t. length t.def.cols ≡ 3) }
