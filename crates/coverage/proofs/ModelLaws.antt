@@ -1,5 +1,5 @@
 -- Laws of histories that coverage needs: where cuts are, when an aggregate is there, and that nothing is from later.
-use Rattle.std.proofs.Common.{◌≡◌, ℕ, suc, Bool, true, false, ◌&&◌, ◌||◌, cond, nat_le, ◌==◌, ℤ, Option, Some, None, refl, sym, ap, ◌∙◌, subst, arith}
+use Rattle.std.proofs.Common.{◌≡◌, ℕ, suc, Bool, true, false, ◌&&◌, ◌||◌, cond, nat_le, ◌==◌, List, [], ◌∷◌, ℤ, Option, Some, None, refl, sym, ap, ◌∙◌, subst, arith}
 use Rattle.std.proofs.lemmas.Bool.{true≢false, and_parts, or_from, eqb-true}
 use Rattle.ts_bucket.specs.Positions.{later, is_above}
 use Rattle.ts_bucket.specs.Spans.{in_span}
@@ -8,20 +8,26 @@ use Rattle.ts_bucket.proofs.PositionLaws.{is_above-later, is_above-greater, is_a
 use Rattle.ts_model.specs.declared.events.Event.{Event}
 use Rattle.ts_model.specs.declared.events.Event.TheVariants.{Commit, Cut, Built}
 use Rattle.ts_model.specs.declared.views.ViewDef.{ViewDef}
-use Rattle.ts_model.specs.History.{History, start, ◌▸◌, position}
+use Rattle.ts_model.specs.History.{History, start, resumed, ◌▸◌, position}
 use Rattle.ts_model.specs.Roster.{roster, view_of}
-use Rattle.ts_model.specs.Refreshes.{span_of_cut, is_covered, was_cut, last, touches, last_touch}
+use Rattle.ts_model.specs.Refreshes.{span_of_cut, is_covered, was_cut, last, is_by, waits_over, touches, last_touch}
 use Rattle.ts_model.specs.Allowed.{allowed, all_allowed}
 use Rattle.ts_model.specs.Sound.{span_fits, sound}
 use Rattle.ts_model.specs.Laws.{KeepsView}
 use Rattle.ts_model.proofs.RosterLaws.{relations_further}
-use Rattle.coverage.specs.Laws.{IsOf}
+use Rattle.std.specs.List.{list_all}
+use Rattle.ts_model.specs.declared.refreshes.Waiting.{Waiting as WaitingRefresh}
+use Rattle.ts_model.specs.declared.rosters.Roster.{Roster}
+use Rattle.ts_model.specs.Saved.{pos_in, is_dirty}
+use Rattle.ts_model.specs.Valid.{is_number, image_roster}
+use Rattle.ts_model.proofs.ValidLaws.{valid_is, among_at, span_within, absent_kept}
 
 -- ---- nothing is from later
 
 -- the last touch is not after the history
 pub touched_past : (n : ℕ) (def : ViewDef) (h : History) (b : ℤ) → is_above (position h) (last_touch n def h b) ≡ false
 touched_past n def start b = refl
+touched_past n def (resumed i) b = elim (is_dirty n i b) as (λ t. is_above i.pos (cond t (Some i.pos) None) ≡ false) [ true ↦ is_above-at i.pos i.pos (omega arith) | false ↦ refl ]
 touched_past n def (h ▸ Commit ops) b =
     is_above-later (suc (position h)) (last_touch n def h b) (cond (touches def ops h b) (Some (suc (position h))) None)
     ∙ or_from _ _ (is_above-greater (position h) (suc (position h)) (last_touch n def h b) (omega arith) (touched_past n def h b))
@@ -43,12 +49,12 @@ pub other_cut : (here mine : Bool) (span : Span) (o : Option Span) → mine ≡ 
 other_cut true mine span o e = ap (λ t. cond t (Some span) o) e
 other_cut false mine span o e = refl
 
-pub no_cut : (before mine inside from : Bool) → mine ≡ false → (before || (mine && inside && from)) ≡ before
-no_cut true mine inside from e = refl
-no_cut false mine inside from e = ap (λ t. t && inside && from) e
+pub no_cut : (before mine inside late : Bool) → mine ≡ false → (before || (mine && inside && late)) ≡ before
+no_cut true mine inside late e = refl
+no_cut false mine inside late e = ap (λ t. t && inside && late) e
 
 pub cut_view : (h : History) (v : ℕ) (span : Span) → allowed h (Cut v span) ≡ true → span_fits span (view_of (roster h) v) ≡ true
-cut_view h v span e = (and_parts (span_fits span (view_of (roster h) v)) _ (and_parts (sound h (Cut v span)) true e).0).0
+cut_view h v span e = (and_parts (span_fits span (view_of (roster h) v)) _ (and_parts (sound h (Cut v span)) _ e).0).0
 
 -- it was never cut
 never_here : (n : ℕ) (h : History) (v : ℕ) (span : Span) → allowed h (Cut v span) ≡ true → view_of (roster h) n ≡ None → (v == n) ≡ false
@@ -62,13 +68,30 @@ never_here n h v span ok none = by_view (v == n) refl
 
 pub never_cut : (n : ℕ) (h : History) (k : ℕ) → all_allowed h ≡ true → view_of (roster h) n ≡ None → span_of_cut n h k ≡ None
 never_cut n start k ok none = refl
+never_cut n (resumed i) k ok none = by_span (span_of_cut n (resumed i) k) refl
+  where
+    by_span : (o : Option Span) → span_of_cut n (resumed i) k ≡ o → o ≡ None
+    by_span None e = refl
+    by_span (Some span) e = absurd (true≢false (sym (among_at i n k span ok (span_within i n k span e).1).fits ∙ ap (span_fits span) none))
 never_cut n (h ▸ Cut v span) k ok none =
     let parts = and_parts (all_allowed h) (allowed h (Cut v span)) ok in
     other_cut (k == suc (position h)) (v == n) span (span_of_cut n h k) (never_here n h v span parts.1 none) ∙ never_cut n h k parts.0 none
 never_cut n (h ▸ x) k ok none = never_cut n h k (and_parts (all_allowed h) _ ok).0 (absent_before h x n none)
 
+never_waits : (r : Roster) (p n : ℕ) (b : ℤ) (s : ℕ) (ws : List WaitingRefresh) → list_all (λ (w : WaitingRefresh). is_number p w.cut && span_fits w.span (view_of r w.view)) ws ≡ true → view_of r n ≡ None → waits_over n b s ws ≡ false
+never_waits r p n b s [] e none = refl
+never_waits r p n b s (w ∷ ws) e none =
+    let parts = and_parts (is_number p w.cut && span_fits w.span (view_of r w.view)) (list_all (λ (w : WaitingRefresh). is_number p w.cut && span_fits w.span (view_of r w.view)) ws) e in
+    let fits = and_parts (is_number p w.cut) (span_fits w.span (view_of r w.view)) parts.0 in
+    or_from _ _ (other (w.view == n) refl fits.1) (never_waits r p n b s ws parts.1 none)
+  where
+    other : (t : Bool) → (w.view == n) ≡ t → span_fits w.span (view_of r w.view) ≡ true → (t && in_span w.span b && nat_le w.cut s) ≡ false
+    other true e fits = absurd (true≢false (sym fits ∙ ap (span_fits w.span) (ap (view_of r) (eqb-true w.view n e) ∙ none)))
+    other false e fits = refl
+
 pub never_was_cut : (n : ℕ) (h : History) (b : ℤ) (s : ℕ) → all_allowed h ≡ true → view_of (roster h) n ≡ None → was_cut n h b s ≡ false
 never_was_cut n start b s ok none = refl
+never_was_cut n (resumed i) b s ok none = or_from _ _ (ap (λ v. is_by s (pos_in v.lasts b)) (absent_kept n i ok none)) (never_waits (image_roster i) i.pos n b s i.waiting (and_parts (list_all (λ (w : WaitingRefresh). is_number i.pos w.cut && span_fits w.span (view_of (image_roster i) w.view)) i.waiting) _ (valid_is i ok).waiting).0 none)
 never_was_cut n (h ▸ Cut v span) b s ok none =
     let parts = and_parts (all_allowed h) (allowed h (Cut v span)) ok in
     no_cut (was_cut n h b s) (v == n) (in_span span b) (nat_le (suc (position h)) s) (never_here n h v span parts.1 none) ∙ never_was_cut n h b s parts.0 none
@@ -77,23 +100,8 @@ never_was_cut n (h ▸ x) b s ok none = never_was_cut n h b s (and_parts (all_al
 -- and never refreshed
 pub never_refreshed : (n : ℕ) (h : History) (b : ℤ) → all_allowed h ≡ true → view_of (roster h) n ≡ None → last n h b ≡ None
 never_refreshed n start b ok none = refl
+never_refreshed n (resumed i) b ok none = ap (λ v. pos_in v.lasts b) (absent_kept n i ok none)
 never_refreshed n (h ▸ Built cut snap) b ok none =
     ap (λ p. later p (cond (is_covered b (span_of_cut n h cut)) (Some snap) None)) (never_refreshed n h b (and_parts (all_allowed h) _ ok).0 none)
     ∙ ap (λ o. cond (is_covered b o) (Some snap) None) (never_cut n h cut (and_parts (all_allowed h) _ ok).0 none)
 never_refreshed n (h ▸ x) b ok none = never_refreshed n h b (and_parts (all_allowed h) _ ok).0 (absent_before h x n none)
-
--- ---- an aggregate that is there
-
-of_before : (def : ViewDef) (was now : Option ViewDef) → ((d : ViewDef) → was ≡ Some d → KeepsView d now) → IsOf def now → IsOf def was
-of_before def None now keeps e = tt
-of_before def (Some d) now keeps e =
-    let kept = keeps d refl in
-    let P : Option ViewDef → Type 0 = λ o. IsOf def o in
-    subst P kept.there e
-
--- what has the table and the grouping of an aggregate after an event had them before it
-pub is_of_before : (def : ViewDef) (h : History) (e : Event) (n : ℕ) → IsOf def (view_of (roster (h ▸ e)) n) → IsOf def (view_of (roster h) n)
-is_of_before def h e n i = of_before def (view_of (roster h) n) (view_of (roster (h ▸ e)) n) ((relations_further (roster h) e).views n) i
-
-pub is_of_itself : (def : ViewDef) (o : Option ViewDef) → o ≡ Some def → IsOf def o
-is_of_itself def o e = let P : Option ViewDef → Type 0 = λ x. IsOf def x in subst P (sym e) (refl, refl)

@@ -97,7 +97,7 @@ raised_from : (a b c : ℤ) → c ≤ℤ a → c ≤ℤ int_max a b
 raised_from a b c l = grind (arith, ints)
 
 -- a bucket of a span that ends where a bucket does ends at or below the end of the span
-bucket_ends : (w : Width) (span : Span) (b : ℤ) → EndsWhole w span → is_bucket w b ≡ true → in_span span b ≡ true → (b +ℤ w.step) ≤ℤ span.hi
+pub bucket_ends : (w : Width) (span : Span) (b : ℤ) → EndsWhole w span → is_bucket w b ≡ true → in_span span b ≡ true → (b +ℤ w.step) ≤ℤ span.hi
 bucket_ends w span b whole bucket inside = buckets_apart w b span.hi whole.width bucket whole.ends (in_span-ends span b inside).1
 
 reached : (w : Width) (b threshold hi : ℤ) → (b +ℤ w.step) ≤ℤ hi → (b +ℤ w.step) ≤ℤ int_max threshold hi

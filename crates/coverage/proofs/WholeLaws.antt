@@ -17,18 +17,20 @@ use Rattle.ts_bucket.specs.WholeSpans.{greatest, least}
 use Rattle.ts_model.specs.declared.events.Event.TheVariants.{View, Commit, Cut, Built}
 use Rattle.ts_model.specs.declared.views.Fold.{Fold}
 use Rattle.ts_model.specs.declared.views.ViewDef.{ViewDef}
-use Rattle.ts_model.specs.History.{History, start, ◌▸◌, position}
-use Rattle.ts_model.specs.Roster.{roster, view_of}
+use Rattle.ts_model.specs.History.{History, start, resumed, ◌▸◌, position}
+use Rattle.ts_model.specs.Roster.{IsOf, roster, view_of}
 use Rattle.ts_model.specs.Refreshes.{is_over, threshold}
 use Rattle.ts_model.specs.Allowed.{allowed, all_allowed}
 use Rattle.ts_model.specs.Limits.{is_word}
 use Rattle.ts_model.proofs.SoundLaws.{view_width}
 use Rattle.ts_model.proofs.CutLaws.{cuts_fit, span_was_cut}
 use Rattle.ts_model.specs.Sound.{span_fits}
-use Rattle.coverage.specs.Notes.{Notes, no_notes, begun, cut_to, notes_after, notes_of}
+use Rattle.coverage.specs.Notes.{Notes, number_of, no_notes, begun, cut_to, notes_after, notes_of}
 use Rattle.coverage.specs.Coverage.{IsCovered}
-use Rattle.coverage.specs.Laws.{EndsWhole, IsOf, EventsKeep, HistoriesCovered, HistoriesTell, number_of, ThresholdsAre, ThresholdsReach, AllBucketsAre}
-use Rattle.coverage.proofs.ModelLaws.{cut_view, is_of_before, is_of_itself}
+use Rattle.coverage.specs.Laws.{EndsWhole, EventsKeep, HistoriesCovered, HistoriesTell, ThresholdsAre, ThresholdsReach, AllBucketsAre}
+use Rattle.coverage.proofs.ModelLaws.{cut_view}
+use Rattle.ts_model.proofs.RosterLaws.{is_of_before, is_of_itself}
+use Rattle.coverage.proofs.ImageLaws.{image_covered}
 use Rattle.coverage.proofs.StepLaws.{commits_keep, cuts_keep, finishes_keep, quiet_keeps, beginnings_cover}
 use Rattle.coverage.proofs.TellLaws.{covered_tells}
 use Rattle.ts_schema.proofs.Cases.{int_lt-true}
@@ -112,6 +114,7 @@ start_covered n def = record {
 
 covered_so_far : (n : ℕ) (def : ViewDef) (h : History) → all_allowed h ≡ true → IsOf def (view_of (roster h) n) → IsCovered n def h (notes_of n def h)
 covered_so_far n def start ok i = start_covered n def
+covered_so_far n def (resumed image) ok i = image_covered n def image ok i
 covered_so_far n def (h ▸ e) ok i =
     let before = is_of_before def h e n i in
     events_keep n def h e (notes_of n def h) ok before (covered_so_far n def h (and_parts (all_allowed h) _ ok).0 before)
@@ -132,6 +135,7 @@ number_raised (Some x) false hi = refl
 
 pub thresholds_are : ThresholdsAre
 thresholds_are n def start = refl
+thresholds_are n def (resumed i) = refl
 thresholds_are n def (h ▸ View made) =
     elim (length (roster h).views == n) as (λ t. (cond t (begun def.fold.width (suc (position h)) (notes_of n def h)) (notes_of n def h)).threshold ≡ number_of (threshold def.table h)) [ true ↦ thresholds_are n def h | false ↦ thresholds_are n def h ]
 thresholds_are n def (h ▸ Cut v span) =

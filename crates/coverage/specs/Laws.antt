@@ -14,12 +14,12 @@ use Rattle.ts_model.specs.declared.events.Event.TheVariants.{View, Commit, Cut, 
 use Rattle.ts_model.specs.declared.events.Op.{Op}
 use Rattle.ts_model.specs.declared.views.ViewDef.{ViewDef}
 use Rattle.ts_model.specs.History.{History, ◌▸◌, position}
-use Rattle.ts_model.specs.Roster.{roster, view_of, set_only}
+use Rattle.ts_model.specs.Roster.{IsOf, roster, view_of, set_only}
 use Rattle.ts_model.specs.Rows.{rows}
 use Rattle.ts_model.specs.Effect.{hull_of_ops}
 use Rattle.ts_model.specs.Refreshes.{span_of_cut, last, last_touch, watermark, invalid, stale, threshold}
 use Rattle.ts_model.specs.Allowed.{all_allowed}
-use Rattle.coverage.specs.Notes.{Notes, begun, noted, fed_at, all_fed, cut_to, settled, notes_after, notes_of, AreSame}
+use Rattle.coverage.specs.Notes.{Notes, number_of, begun, noted, fed_at, all_fed, cut_to, settled, notes_after, notes_of, AreSame}
 use Rattle.coverage.specs.Coverage.{is_upto, pending_position, IsCovered}
 
 -- ---- one step for each kind of event
@@ -69,11 +69,6 @@ BeginningsCover =
     (n : ℕ) (def : ViewDef) (h : History) (made : ViewDef) (notes : Notes) → all_allowed h ≡ true
     → view_of (roster h) n ≡ None → is_upto (position h) notes.log ≡ true
     → IsCovered n def (h ▸ View made) (begun def.fold.width (suc (position h)) notes)
-
--- an aggregate of which nothing but the mode may have changed, where it is there
-abbrev pub IsOf : ViewDef → Option ViewDef → Type 0
-IsOf def None = Unit {0}
-IsOf def (Some found) = (found.table ≡ def.table) × (found.fold ≡ def.fold)
 
 -- any allowed event
 abbrev pub EventsKeep : Type 0
@@ -197,11 +192,6 @@ abbrev pub HistoriesTell : Type 0
 HistoriesTell =
     (n : ℕ) (def : ViewDef) (h : History) → all_allowed h ≡ true → view_of (roster h) n ≡ Some def
     → Tells n def h (notes_of n def h)
-
--- a threshold as a number: where there is none, the least
-abbrev pub number_of : Option ℤ → ℤ
-number_of None = least
-number_of (Some hi) = int_max least hi
 
 -- the noted threshold is that of the table
 abbrev pub ThresholdsAre : Type 0

@@ -1,6 +1,6 @@
 -- Notes of what is out of date: the log of a table, and what is pending and was refreshed of one aggregate over it,
 -- and what each event does to them.
-use Rattle.std.specs.Prelude.{◌≡◌, ℕ, suc, true, cond, ◌&&◌, ◌==◌, ◌-◌, List, [], ◌∷◌, ◌++◌, length, ℤ, int_lt, Option, Some, None}
+use Rattle.std.specs.Prelude.{◌≡◌, ℕ, suc, true, cond, ◌&&◌, ◌==◌, ◌-◌, List, [], ◌∷◌, ◌++◌, length, ℤ, int_lt, Option, Some, None, is_none}
 use Rattle.std.specs.Int.{int_max}
 use Rattle.ts_bucket.specs.Bucket.{is_bucket}
 use Rattle.ts_bucket.specs.Positions.{later, above, is_before}
@@ -13,11 +13,13 @@ use Rattle.ts_bucket.specs.declared.widths.Width.{Width}
 use Rattle.ts_model.specs.declared.events.Event.{Event}
 use Rattle.ts_model.specs.declared.events.Event.TheVariants.{View, Commit, Cut, Built}
 use Rattle.ts_model.specs.declared.views.ViewDef.{ViewDef}
-use Rattle.ts_model.specs.History.{History, start, ◌▸◌, position}
+use Rattle.ts_model.specs.History.{History, start, resumed, ◌▸◌, position}
 use Rattle.ts_model.specs.Roster.{roster, view_of}
 use Rattle.ts_model.specs.Rows.{rows}
 use Rattle.ts_model.specs.Effect.{hull_of_ops}
-use Rattle.ts_model.specs.Refreshes.{span_of_cut, is_covered, is_over}
+use Rattle.ts_model.specs.Refreshes.{span_of_cut, is_covered, is_over, threshold}
+use Rattle.ts_model.specs.Saved.{is_dirty, saved_last}
+use Rattle.ts_model.specs.declared.images.Image.{Image}
 
 -- the threshold and the log of a table, and two partial functions of the buckets of an aggregate over it: the
 -- position that is pending, and that of the last refresh
@@ -30,6 +32,25 @@ pub record Notes : Type 0 where
 -- before there is anything to note, the threshold is below every time
 abbrev pub no_notes : Notes
 no_notes = record { threshold = least; log = []; pending = λ b. None; refreshed = λ b. None }
+
+-- a threshold as a number: where there is none, the least
+abbrev pub number_of : Option ℤ → ℤ
+number_of None = least
+number_of (Some hi) = int_max least hi
+
+-- by an image, its position is pending in a bucket that it names dirty, and 0 in one that was never refreshed
+abbrev pub pending_from : ℕ → Width → Image → ℤ → Option ℕ
+pending_from n w i b =
+    cond (is_dirty n i b) (Some i.pos) (cond (in_span (whole_span w) b && is_none (saved_last n i b)) (Some 0) None)
+
+-- the notes that an image gives of aggregate n
+abbrev pub notes_from : ℕ → ViewDef → Image → Notes
+notes_from n def i = record {
+  threshold = number_of (threshold def.table (resumed i));
+  log = [];
+  pending = pending_from n def.fold.width i;
+  refreshed = saved_last n i;
+}
 
 -- ---- what events do
 
@@ -108,6 +129,7 @@ notes_after n def h e notes = notes
 -- the notes of aggregate n, event by event
 abbrev pub notes_of : ℕ → ViewDef → History → Notes
 notes_of n def start = no_notes
+notes_of n def (resumed i) = notes_from n def i
 notes_of n def (h ▸ e) = notes_after n def h e (notes_of n def h)
 
 -- the same log, and the same of every bucket

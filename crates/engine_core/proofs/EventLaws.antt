@@ -4,7 +4,7 @@ use Rattle.std.specs.Prelude.{IfSome, get_or, is_some, nat_lt, option_map}
 use Rattle.std.proofs.lemmas.Bool.{eqb-true, ltb-false, ltb-true}
 use Rattle.std.proofs.lemmas.Option.{slice_get_past, slice_get_read}
 use Rattle.ts_model.specs.declared.events.Event.{Event}
-use Rattle.ts_model.specs.History.{History, start, ◌▸◌, ◌▸▸◌, position, base_position, event_at}
+use Rattle.ts_model.specs.History.{History, start, resumed, ◌▸◌, ◌▸▸◌, position, base_position, event_at}
 use Rattle.ts_model.proofs.HistoryLaws.{position_followed, base_begins, begins_followed}
 use Rattle.engine_core.specs.Histories.{history_of}
 
@@ -17,6 +17,7 @@ base_of events = sym (base_begins (begins_followed start events))
 -- no event has a number above the position
 event_above : (h : History) (k : ℕ) → position h < k → event_at h k ≡ None
 event_above start k l = refl
+event_above (resumed i) k l = refl
 event_above (h ▸ e) k l =
     elim (k == suc (position h)) as (λ t. (k == suc (position h)) ≡ t → cond t (Some e) (event_at h k) ≡ None) [
       | true ↦ λ same. let is : k ≡ suc (position h) = eqb-true k (suc (position h)) same in absurd (omega arith)
@@ -57,6 +58,7 @@ event_numbered events k i is = ap (λ n. event_at (history_of events) n) (let e 
 -- no event has the number 0
 event_none : (h : History) → event_at h 0 ≡ None
 event_none start = refl
+event_none (resumed i) = refl
 event_none (h ▸ e) =
     elim (0 == suc (position h)) as (λ t. (0 == suc (position h)) ≡ t → cond t (Some e) (event_at h 0) ≡ None) [
       | true ↦ λ same. let is : 0 ≡ suc (position h) = eqb-true 0 (suc (position h)) same in absurd (omega arith)

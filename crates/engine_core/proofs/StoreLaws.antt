@@ -1,6 +1,6 @@
 -- What a call of a store that is alone does.
 use Rattle.std.proofs.Common.{◌≡◌, true, List, [], ◌∷◌, ◌++◌, Some, None, sym, refl, ap, ◌∙◌, subst, arith}
-use Rattle.std.proofs.lemmas.Bool.{true≢false}
+use Rattle.std.proofs.lemmas.Bool.{true≢false, cond-true}
 use Rattle.ts_model.specs.declared.events.Event.{Event}
 use Rattle.ts_model.specs.declared.outcomes.Committed.{Committed}
 use Rattle.ts_model.specs.declared.outcomes.Outcome.{Outcome}
@@ -8,8 +8,10 @@ use Rattle.ts_model.specs.declared.outcomes.Outcome.TheVariants.{Done, DiskFault
 use Rattle.ts_model.specs.declared.outcomes.Refusal.{Refusal}
 use Rattle.ts_model.specs.History.{History, start, ◌▸◌, same}
 use Rattle.ts_model.specs.States.{State, Found, Keeps, Makes}
-use Rattle.ts_model.specs.Calls.{Act, makes, making, refuses, returns, Answered, Called, Looked}
+use Rattle.ts_model.specs.Calls.{Act, history_full, refusal, makes, making, refuses, returns, Answered, Called, Looked}
+use Rattle.ts_model.specs.Timely.{has_room}
 use Rattle.ts_model.proofs.HistoryLaws.{followed_push}
+use Rattle.engine_core.proofs.ActLaws.{room_where_free}
 use Rattle.event_check.specs.Checks.{call_refusal}
 use Rattle.engine_core.specs.Acts.{unless, making_event, with_answer, outcome_as}
 use Rattle.engine_core.specs.Effects.{effect_of}
@@ -50,7 +52,7 @@ pub does_made : (old new : List Event) (e : Event) (effect : Committed) → call
 does_made old new e effect free with told =
     let h = history_of old in
     let new_is : history_of new ≡ (history_of old ▸ e) = ap history_of with ∙ history_push old e in
-    let act_is : making_event e (history_of old) ≡ makes e (effect_of (history_of old) e) = ap (λ o. unless o (making (history_of old) e (effect_of (history_of old) e))) free in
+    let act_is : making_event e (history_of old) ≡ makes e (effect_of (history_of old) e) = ap (λ o. unless o (making (history_of old) e (effect_of (history_of old) e))) free ∙ cond-true (has_room (history_of old)) (makes e (effect_of (history_of old) e)) (refuses (refusal history_full (history_of old) 0)) (room_where_free (history_of old) e free) in
     let made : Answered (makes e (effect_of (history_of old) e)) (state_of (history_of old)) (Done effect) (state_of (history_of new)) =
     (told, subst (λ g. Makes e (state_of (history_of old)) (state_of g)) (sym new_is) (makes_event (history_of old) e)) in
     called_where_seen (making_event e) h (Done effect) (state_of (history_of new)) (subst (λ a. Answered a (state_of (history_of old)) (Done effect) (state_of (history_of new))) (sym act_is) made)

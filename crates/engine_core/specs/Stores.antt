@@ -2,7 +2,7 @@
 use Rattle.std.specs.Prelude.{ℕ, suc, true, List, [], ◌∷◌, ◌++◌, None}
 use Rattle.ts_model.specs.declared.outcomes.Outcome.{Outcome}
 use Rattle.ts_model.specs.declared.events.Event.{Event}
-use Rattle.ts_model.specs.History.{History, start, ◌▸◌, position}
+use Rattle.ts_model.specs.History.{History, start, resumed, ◌▸◌, position}
 use Rattle.ts_model.specs.States.{Origin, State}
 use Rattle.ts_model.specs.Calls.{Act, Called}
 use Rattle.engine_core.specs.Histories.{history_of}
@@ -14,6 +14,7 @@ nothing_before = record { faults = 0; opening = start; moment = 0 }
 -- the numbers of the events of a history, in order
 abbrev pub numbers_of : History → List ℕ
 numbers_of start = []
+numbers_of (resumed i) = []
 numbers_of (h ▸ e) = numbers_of h ++ (suc (position h) ∷ [])
 
 -- it has made each event of its history, and it never fails

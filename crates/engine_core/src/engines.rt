@@ -1,5 +1,5 @@
 //! The engine.
-ghost use Rattle.std.specs.Prelude.{◌≡◌, ◌<◌, ◌∷◌, ◌++◌, [], length, option_copied, IfErr, IfOk, IfSome, IsSome, IsTrue, OnErr, OnOk, Some};
+ghost use Rattle.std.specs.Prelude.{◌≡◌, ◌≤◌, ◌<◌, ◌∷◌, ◌++◌, [], length, option_copied, IfErr, IfOk, IfSome, IsSome, IsTrue, OnErr, OnOk, Some};
 ghost use Rattle.std.specs.Option.{ForSome};
 ghost use Rattle.std.specs.Thread.{IsSync};
 ghost use Rattle.ts_bucket.specs.Bucket.{is_time};
@@ -123,7 +123,7 @@ impl Engine {
     }
 
     /// Whether an event is allowed next, and else why not. It is refused as the call of a store that
-    /// makes such an event is, as `E07`, `E21` or `E19`, and else with the number 0.
+    /// makes such an event is, as `E07`, `E21`, `E19` or `E30`, and else with the number 0.
     pub fn check(&self, event: &Event) -> Result<(), Refusal>
         ensures allowed { IfOk result (λ _. IsTrue (allowed (history_of self.now.events) event.now)) }
         ensures refused { IfErr result (λ refusal.
@@ -142,6 +142,7 @@ impl Engine {
         requires job { JobIsFor (history_of self.old.events) event job }
         ensures events { self.new.events ≡ self.old.events }
         ensures room { OnOk result (0 < self.new.room) }
+        ensures kept { self.old.room ≤ self.new.room }
         ensures event { IfOk result (λ prepared. prepared.event ≡ event) }
         ensures prepared { IfOk result (λ prepared. IsPreparedFor (history_of self.old.events) prepared) }
     {

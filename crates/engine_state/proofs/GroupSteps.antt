@@ -23,12 +23,12 @@ use Rattle.ts_model.specs.declared.events.Event.{Event}
 use Rattle.ts_model.specs.declared.events.Event.TheVariants.{Table, Hyper, View, Mode, Commit, Cut, Built}
 use Rattle.ts_model.specs.declared.views.Fold.{Fold}
 use Rattle.ts_model.specs.declared.views.ViewDef.{ViewDef}
-use Rattle.ts_model.specs.History.{History, ◌▸◌, position, prefix}
+use Rattle.ts_model.specs.History.{History, ◌▸◌, position, base_position, prefix}
 use Rattle.ts_model.specs.Roster.{roster, view_of, set_only}
 use Rattle.ts_model.specs.Rows.{rows, rows_at}
 use Rattle.ts_model.specs.Allowed.{all_allowed}
 use Rattle.ts_model.specs.Scratch.{bucket_rows, occurring_buckets}
-use Rattle.ts_model.specs.Groups.{groups_at, groups_in, groups_of, bucket_groups, group_at}
+use Rattle.ts_model.specs.Groups.{stood, groups_at, groups_in, groups_of, bucket_groups, group_at}
 use Rattle.ts_model.specs.Refreshes.{last, span_of_cut, is_covered, last_touch_at}
 use Rattle.ts_model.specs.Jobs.{Fits, job_rows, rows_of_spans}
 use Rattle.ts_model.specs.Windows.{last_end}
@@ -36,7 +36,8 @@ use Rattle.ts_model.proofs.HistoryLaws.{prefix_further, prefix_prefix}
 use Rattle.ts_model.proofs.RefreshLaws.{last_bounded, is_below-greater}
 use Rattle.ts_model.proofs.ModeLaws.{mode_plays_no_part}
 use Rattle.ts_model.proofs.CutLaws.{last_latest}
-use Rattle.ts_model.proofs.UntouchedLaws.{untouched_groups}
+use Rattle.ts_model.proofs.UntouchedLaws.{untouched_between}
+use Rattle.ts_model.proofs.GroupLaws.{groups_at_is}
 use Rattle.ts_model.proofs.OrderLaws.{results_come_in_order}
 use Rattle.group_fold.proofs.Scratches.{groups_of_bucket}
 use Rattle.coverage.proofs.ModelLaws.{never_refreshed}
@@ -48,7 +49,7 @@ use Rattle.ts_model.proofs.FinishLaws.{covers_part}
 -- ---- one event further
 
 groups_at_further : (n : ℕ) (def : ViewDef) (h : History) (e : Event) (s : ℕ) (b : ℤ) → s ≤ position h → groups_at n def (h ▸ e) s b ≡ groups_at n def h s b
-groups_at_further n def h e s b l = ap (λ g. groups_in def.fold (rows def.table g) b) (prefix_further h e s l)
+groups_at_further n def h e s b l = ap (λ g. stood n def g s b) (prefix_further h e s l)
 
 left_further : (n : ℕ) (def : ViewDef) (h : History) (e : Event) (b : ℤ) (o : Option ℕ) → ((s : ℕ) → o ≡ Some s → s ≤ position h) → groups_left n def (h ▸ e) b o ≡ groups_left n def h b o
 left_further n def h e b None bounded = refl
@@ -139,10 +140,11 @@ bucket_rows-spans fold spans b xs width bucket lies =
             let here : b ≡ bucket_of fold.width row.at = holds-one fold.width b row.at width bucket is_h in
             absurd (true≢false (sym (and_from _ _ (subst (λ c. lies_in spans c ≡ true) here lies) is_p) ∙ e))
 
-job_groups : (n : ℕ) (def : ViewDef) (h : History) (snap : ℕ) (spans : List Span) (b : ℤ) → IsWidth def.fold.width → is_bucket def.fold.width b ≡ true → lies_in spans b ≡ true → of_bucket b (groups_of def.fold (job_rows def h snap spans)) ≡ groups_at n def h snap b
-job_groups n def h snap spans b width bucket lies =
+job_groups : (n : ℕ) (def : ViewDef) (h : History) (snap : ℕ) (spans : List Span) (b : ℤ) → base_position h ≤ snap → IsWidth def.fold.width → is_bucket def.fold.width b ≡ true → lies_in spans b ≡ true → of_bucket b (groups_of def.fold (job_rows def h snap spans)) ≡ groups_at n def h snap b
+job_groups n def h snap spans b from_base width bucket lies =
     groups_of_bucket def.fold width (job_rows def h snap spans) b bucket
     ∙ ap (bucket_groups def.fold b) (bucket_rows-spans def.fold spans b (rows_at def.table h snap) width bucket lies)
+    ∙ sym (groups_at_is n def h snap b from_base)
 
 -- ---- all groups of a job are of buckets below its top
 
@@ -234,7 +236,7 @@ module _ (n : ℕ) (def : ViewDef) (h : History) (cut snap : ℕ) (span : Span) 
   untouched_since b r (Some s) before not_touched upto =
       let from : r ≤ s = ltb-false s r before in
       let to : s ≤ snap = ltb-false snap s upto in
-      sym (untouched_groups n def (prefix h snap) b s (is_above-greater r s (last_touch_at n def h snap b) from not_touched) ∙ ap (λ g. groups_in def.fold (rows def.table g) b) (prefix_prefix h s snap to))
+      sym (untouched_between.groups n def h b s snap to (is_above-greater r s (last_touch_at n def h snap b) from not_touched))
 
   kept_same : (b : ℤ) → is_bucket def.fold.width b ≡ true → in_span span b ≡ true → lies_in spans b ≡ false → is_above snap (last n h b) ≡ false → groups_left n def h b (last n h b) ≡ groups_at n def h snap b
   kept_same b bucket inside out upto =
@@ -284,7 +286,7 @@ module _ (n : ℕ) (def : ViewDef) (h : History) (cut snap : ℕ) (span : Span) 
         where
           by_case : (lies inside above : Bool) → lies_in spans b ≡ lies → in_span span b ≡ inside → is_above snap (last n h b) ≡ above → lies_in renewed b ≡ (lies && not above) → cond (lies && not above) (of_bucket b put) (of_bucket b old) ≡ cond (inside && not above) (groups_at n def h snap b) (groups_left n def h b (last n h b))
           by_case true true true l i u t = old_at b bucket
-          by_case true true false l i u t = renews.groups_are b t ∙ ap (of_bucket b) f.groups_are ∙ job_groups n def h snap spans b width bucket l
+          by_case true true false l i u t = renews.groups_are b t ∙ ap (of_bucket b) f.groups_are ∙ job_groups n def h snap spans b f.above_base width bucket l
           by_case true false above l i u t = absurd (true≢false (sym (covers_part def.fold.width span spans b f.whole l) ∙ i))
           by_case false true true l i u t = old_at b bucket
           by_case false true false l i u t = old_at b bucket ∙ kept_same b bucket i l u

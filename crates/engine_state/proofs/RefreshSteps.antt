@@ -173,7 +173,7 @@ state_of_finish h cut snap n s new def span spans groups top old_view new_view r
       views = subst (Each (ViewAt (h ▸ Built cut snap) new.tables) (roster h).views) (sym views)
           (subst (λ ts. Each (ViewAt (h ▸ Built cut snap) ts) (roster h).views (set s.views n new_view)) (sym tables)
           (each_set_at (ViewAt h s.tables) (ViewAt (h ▸ Built cut snap) s.tables) n (roster h).views s.views new_view
-          (λ m d view differs x. view_is_unfinished m d h cut snap (table_at s.tables d.table) view before (cut_of_no_other n m h cut span f.cut_is differs) x)
+          (λ m d view differs x. view_is_unfinished m d h cut snap (table_at s.tables d.table) view before (cut_of_no_other n m h cut span before f.cut_is differs) x)
           (λ d is. this before d is) st.views));
       refreshes = subst (RefreshesStand (h ▸ Built cut snap)) (sym (refreshes ∙ ap (λ p. map (finished_at cut (suc p)) s.refreshes) st.position)) (finishes_stand h cut snap s.refreshes st.refreshes);
     }

@@ -22,7 +22,7 @@ use Rattle.mat_log.specs.Feeding.{is_dirty_with, is_redone_with}
 use Rattle.mat_log.specs.Logs.{is_refreshed_after}
 use Rattle.ts_model.specs.declared.views.Fold.{Fold}
 use Rattle.ts_model.specs.declared.views.ViewDef.{ViewDef}
-use Rattle.ts_model.specs.History.{History, start, ◌▸◌, base_position, position, prefix}
+use Rattle.ts_model.specs.History.{History, start, resumed, ◌▸◌, base_position, position, prefix}
 use Rattle.ts_model.specs.declared.events.Event.{Event}
 use Rattle.ts_model.specs.declared.events.Event.TheVariants.{Table, Hyper, View, Mode, Commit, Cut, Built}
 use Rattle.ts_model.specs.Roster.{roster, hyper_of, view_of}
@@ -35,7 +35,7 @@ use Rattle.ts_model.specs.Allowed.{all_allowed, allowed}
 use Rattle.ts_model.specs.Answers.{ranges}
 use Rattle.ts_model.specs.Limits.{is_word}
 use Rattle.ts_model.specs.Sound.{finish_fits, sound, span_fits}
-use Rattle.ts_model.specs.Timely.{timely}
+use Rattle.ts_model.specs.Timely.{has_room, timely}
 use Rattle.ts_model.specs.Pending.{is_known, is_waiting, pending}
 use Rattle.ts_model.specs.declared.refreshes.Pending.TheVariants.{Waiting}
 use Rattle.refresh_list.specs.declared.refreshes.Refresh.{Refresh as Listed}
@@ -147,6 +147,7 @@ made_in_order fold xs ys job wide same made =
 -- no earlier position has a later touch
 pub untouched_before : (n : ℕ) (def : ViewDef) (h : History) (b : ℤ) (r s : ℕ) → is_above r (last_touch n def h b) ≡ false → is_above r (last_touch_at n def h s b) ≡ false
 untouched_before n def start b r s e = e
+untouched_before n def (resumed i) b r s e = e
 untouched_before n def (h ▸ x) b r s e =
     elim (nat_lt (position h) s) as (λ t. is_above r (last_touch n def (cond t (h ▸ x) (prefix h s)) b) ≡ false) [ true ↦ e | false ↦ untouched_before n def h b r s (before x e) ]
   where
@@ -349,7 +350,7 @@ job_read h cut p refresh def view table r v =
 
 -- its refresh waits
 pub finish_waits : (h : History) (s : StateValue) (cut snap : ℕ) → StandsFor h s → allowed h (Built cut snap) ≡ true → is_waiting (pending_in s.refreshes cut) ≡ true
-finish_waits h s cut snap st next = ap is_waiting (st.refreshes.pending cut) ∙ (and_parts (sound h (Built cut snap)) (timely h (Built cut snap)) next).1
+finish_waits h s cut snap st next = ap is_waiting (st.refreshes.pending cut) ∙ (and_parts (is_waiting (pending h cut)) (has_room h) (and_parts (sound h (Built cut snap)) (timely h (Built cut snap)) next).1).0
 
 -- a job of the rows that its snapshot saw is a job of it
 pub job_then : (h : History) (cut snap p : ℕ) (refresh : Refresh) (def : ViewDef) (view : ViewValue) (table : TableValue) (job : Job) → all_allowed h ≡ true → allowed h (Built cut snap) ≡ true → IsRefreshOf h cut refresh → IsViewOf h refresh.view p def view table → refresh.snap ≡ snap

@@ -4,6 +4,7 @@ use Rattle.std.specs.Prelude.{is_none, unwrap_or}
 use Rattle.std.specs.List.{slice_get}
 use Rattle.std.specs.Option.{option_and_then}
 use Rattle.std.proofs.lemmas.Bool.{true≢false, and_parts}
+use Rattle.ts_model.specs.Timely.{has_room}
 use Rattle.ts_model.specs.declared.events.Event.{Event}
 use Rattle.ts_model.specs.declared.events.Event.TheVariants.{Table, Hyper, Mode, Commit}
 use Rattle.ts_model.specs.declared.events.Op.{Op}
@@ -115,7 +116,7 @@ hyper_none (Some hyper) e = absurd (true≢false (sym e))
 pub state_of_hyper : (h : History) (t : ℕ) (hyper : HyperInfo) (s new : StateValue) (table : TableValue) → all_allowed (h ▸ Hyper t hyper) ≡ true → StandsFor h s → table.rows.interval ≡ hyper.interval → table.rows.versions ≡ [] → table.log.entries ≡ [] → new.position ≡ suc s.position → new.roster ≡ roster_after s.roster (Hyper t hyper) → new.tables ≡ set s.tables t (Some table) → new.views ≡ s.views → new.refreshes ≡ s.refreshes → StandsFor (h ▸ Hyper t hyper) new
 state_of_hyper h t hyper s new table ok st interval versions entries end relations tables views refreshes =
     let before = all_before h (Hyper t hyper) ok in
-    let none : hyper_of (roster h) t ≡ None = hyper_none (hyper_of (roster h) t) (and_parts (sound h (Hyper t hyper)) _ (allowed_next h (Hyper t hyper) ok)).1 in
+    let none : hyper_of (roster h) t ≡ None = hyper_none (hyper_of (roster h) t) (and_parts (is_none (hyper_of (roster h) t)) (has_room h) (and_parts (sound h (Hyper t hyper)) _ (allowed_next h (Hyper t hyper) ok)).1).0 in
     let fresh = table_begins h t hyper table before none interval versions entries in
     let kept = λ (u : ℕ) (x : TableValue) (e : table_at s.tables u ≡ Some x). table_at-set s.tables t u table x (gone none) e in
     record {

@@ -20,6 +20,7 @@ use Rattle.ts_model.specs.Refreshes.{watermark}
 use Rattle.ts_model.specs.Windows.{last_end}
 use Rattle.ts_model.proofs.FitLaws.{rows_are_times}
 use Rattle.ts_model.proofs.HistoryLaws.{prefix_end}
+use Rattle.ts_model.proofs.RosterLaws.{is_of_itself}
 use Rattle.ts_model.proofs.MarkLaws.{watermark_ends}
 use Rattle.ts_model.proofs.SoundLaws.{view_width}
 use Rattle.row_versions.proofs.HistoryLaws.{held_tables_tell}
@@ -61,7 +62,7 @@ window_has h n s def view table st there own at =
     let width = view_width h n def st.allowed there in
     let now : prefix h s.position ≡ h = ap (prefix h) st.position ∙ prefix_end h (position h) (omega arith) in
     record {
-      mark_ends = if_there view.mark (IsMark def.fold.width) (subst (λ m. IfSome m (IsMark def.fold.width)) (sym own.stands.mark) (watermark_ends n def h width st.allowed));
+      mark_ends = if_there view.mark (IsMark def.fold.width) (subst (λ m. IfSome m (IsMark def.fold.width)) (sym own.stands.mark) (watermark_ends n def h width (is_of_itself def (view_of (roster h) n) there) st.allowed));
       latest_time = if_there _ _ (subst (λ o. IfSome o (λ t. IsTrue (is_time t))) (sym (tells.latest s.position)) (latest_is_time (rows view.table (prefix h s.position)) (rows_are_times.rows view.table h s.position st.allowed)));
       mark_is = own.stands.mark;
       end_is = tells.last_bucket s.position def.fold.width width ∙ ap (λ g. last_end def.fold.width (rows view.table g)) now ∙ ap (λ t. last_end def.fold.width (rows t h)) own.named;

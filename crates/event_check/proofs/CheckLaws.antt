@@ -10,29 +10,32 @@ use Rattle.ts_model.specs.declared.rosters.Roster.{Roster}
 use Rattle.ts_model.specs.History.{History, position, base_position}
 use Rattle.ts_model.specs.Roster.{roster, hyper_of, is_taken}
 use Rattle.ts_model.specs.Pending.{pending, is_waiting}
-use Rattle.ts_model.specs.Limits.{most_relations}
+use Rattle.ts_model.specs.Limits.{most_relations, last_position}
 use Rattle.ts_model.specs.Sound.{sound}
-use Rattle.ts_model.specs.Timely.{timely}
+use Rattle.ts_model.specs.Timely.{has_room, timely}
 use Rattle.ts_model.specs.Allowed.{allowed}
-use Rattle.ts_model.specs.Calls.{numbered, new_relation, refuses, refusal, finish_of, name_taken}
-use Rattle.event_check.specs.Checks.{refusal_in, call_refusal, event_refusal, no_number, IsAt, PendingIs, refused, relation_refusal, hyper_refusal, finish_refusal, refusal_by, sound_by}
+use Rattle.ts_model.specs.Calls.{making, makes, committed, numbered, new_relation, refuses, refusal, finish_of, history_full, name_taken}
+use Rattle.event_check.specs.Checks.{refusal_in, call_refusal, event_refusal, no_number, IsAt, PendingIs, refused, room_refusal, relation_refusal, hyper_refusal, finish_refusal, refusal_by, sound_by}
 
 -- ---- refusals of calls
+
+room_is : {A : Type 0} (h : History) (e : Event) (x : A) → room_refusal (position h) ≡ refusal_in (making h e x)
+room_is h e x = elim (has_room h) as (λ t. cond t None (Some (refused history_full (position h) 0)) ≡ refusal_in (cond t (makes e x) (refuses (refusal history_full h 0)))) [ true ↦ refl | false ↦ refl ]
 
 relation_is : (h : History) (taken : Bool) (many : ℕ) (e : Event) → relation_refusal taken many (position h) ≡ refusal_in (new_relation h taken many e)
 relation_is h true many e = refl
 relation_is h false many e =
-    elim (nat_lt many most_relations) as (λ t. cond t None (Some (refused 21 (position h) (suc most_relations))) ≡ refusal_in (cond t (numbered h e) (refuses (refusal 21 h (suc most_relations))))) [
-      | true ↦ refl
+    elim (nat_lt many most_relations) as (λ t. cond t (room_refusal (position h)) (Some (refused 21 (position h) (suc most_relations))) ≡ refusal_in (cond t (numbered h e) (refuses (refusal 21 h (suc most_relations))))) [
+      | true ↦ room_is h e (suc (position h))
       | false ↦ refl
     ]
 
 hyper_is : (h : History) (made : Bool) (e : Event) → hyper_refusal made (position h) ≡ refusal_in (cond made (refuses (refusal name_taken h 0)) (numbered h e))
 hyper_is h true e = refl
-hyper_is h false e = refl
+hyper_is h false e = room_is h e (suc (position h))
 
 finish_is : (h : History) (cut snap : ℕ) (p : Pending) → finish_refusal p (position h) ≡ refusal_in (finish_of cut snap h p)
-finish_is h cut snap (Waiting n) = refl
+finish_is h cut snap (Waiting n) = room_is h (Built cut snap) (suc (position h))
 finish_is h cut snap (Finished by) = refl
 finish_is h cut snap Unknown = refl
 
@@ -40,27 +43,30 @@ refusal_at : (h : History) (e : Event) (p : Pending) → PendingIs h e p → ref
 refusal_at h (Table def) p is = relation_is h (is_taken (roster h) def.name) (length (roster h).tables) (Table def)
 refusal_at h (Hyper t hyper) p is = hyper_is h (is_some (hyper_of (roster h) t)) (Hyper t hyper)
 refusal_at h (View def) p is = relation_is h (is_taken (roster h) def.name) (length (roster h).views) (View def)
-refusal_at h (Mode v only) p is = refl
-refusal_at h (Commit ops) p is = refl
-refusal_at h (Cut v span) p is = refl
+refusal_at h (Mode v only) p is = room_is h (Mode v only) (suc (position h))
+refusal_at h (Commit ops) p is = room_is h (Commit ops) (committed ops h)
+refusal_at h (Cut v span) p is = room_is h (Cut v span) (suc (position h))
 refusal_at h (Built cut snap) p is = ap (λ q. finish_refusal q (position h)) is ∙ finish_is h cut snap (pending h cut)
 
 -- ---- an event is timely exactly where no call refuses it
 
-relation_timely : (taken : Bool) (many at : ℕ) → is_none (relation_refusal taken many at) ≡ (not taken && nat_lt many most_relations)
+room_timely : (at : ℕ) → is_none (room_refusal at) ≡ nat_lt at last_position
+room_timely at = elim (nat_lt at last_position) as (λ t. is_none (cond t None (Some (refused history_full at 0))) ≡ t) [ true ↦ refl | false ↦ refl ]
+
+relation_timely : (taken : Bool) (many at : ℕ) → is_none (relation_refusal taken many at) ≡ ((not taken && nat_lt many most_relations) && nat_lt at last_position)
 relation_timely true many at = refl
 relation_timely false many at =
-    elim (nat_lt many most_relations) as (λ t. is_none (cond t None (Some (refused 21 at (suc most_relations)))) ≡ t) [
-      | true ↦ refl
+    elim (nat_lt many most_relations) as (λ t. is_none (cond t (room_refusal at) (Some (refused 21 at (suc most_relations)))) ≡ (t && nat_lt at last_position)) [
+      | true ↦ room_timely at
       | false ↦ refl
     ]
 
-hyper_timely : {X : Type 0} (o : Option X) (at : ℕ) → is_none (hyper_refusal (is_some o) at) ≡ is_none o
-hyper_timely None at = refl
+hyper_timely : {X : Type 0} (o : Option X) (at : ℕ) → is_none (hyper_refusal (is_some o) at) ≡ (is_none o && nat_lt at last_position)
+hyper_timely None at = room_timely at
 hyper_timely (Some x) at = refl
 
-finish_timely : (p : Pending) (at : ℕ) → is_none (finish_refusal p at) ≡ is_waiting p
-finish_timely (Waiting n) at = refl
+finish_timely : (p : Pending) (at : ℕ) → is_none (finish_refusal p at) ≡ (is_waiting p && nat_lt at last_position)
+finish_timely (Waiting n) at = room_timely at
 finish_timely (Finished by) at = refl
 finish_timely Unknown at = refl
 
@@ -68,10 +74,10 @@ timely_at : (h : History) (e : Event) (p : Pending) → PendingIs h e p → is_n
 timely_at h (Table def) p is = relation_timely (is_taken (roster h) def.name) (length (roster h).tables) (position h)
 timely_at h (Hyper t hyper) p is = hyper_timely (hyper_of (roster h) t) (position h)
 timely_at h (View def) p is = relation_timely (is_taken (roster h) def.name) (length (roster h).views) (position h)
-timely_at h (Mode v only) p is = refl
-timely_at h (Commit ops) p is = refl
-timely_at h (Cut v span) p is = refl
-timely_at h (Built cut snap) p is = finish_timely p (position h) ∙ ap is_waiting is
+timely_at h (Mode v only) p is = room_timely (position h)
+timely_at h (Commit ops) p is = room_timely (position h)
+timely_at h (Cut v span) p is = room_timely (position h)
+timely_at h (Built cut snap) p is = finish_timely p (position h) ∙ ap (λ q. is_waiting q && nat_lt (position h) last_position) is
 
 -- ---- sound events
 

@@ -9,11 +9,11 @@ use Rattle.ts_model.specs.declared.rosters.Roster.{Roster}
 use Rattle.ts_model.specs.History.{History, position, base_position}
 use Rattle.ts_model.specs.Roster.{roster, hyper_of, is_taken}
 use Rattle.ts_model.specs.Pending.{pending, is_known}
-use Rattle.ts_model.specs.Limits.{most_relations, bytes_limit}
+use Rattle.ts_model.specs.Limits.{most_relations, last_position, bytes_limit}
 use Rattle.ts_model.specs.Bytes.{event_bytes}
 use Rattle.ts_model.specs.Sound.{sound_in}
 use Rattle.ts_model.specs.Allowed.{allowed}
-use Rattle.ts_model.specs.Calls.{Act, refuses, returns, makes, making_table, making_hyper, making_view, finishing, refusal, name_taken, too_many, no_refresh}
+use Rattle.ts_model.specs.Calls.{Act, refuses, returns, makes, making_table, making_hyper, making_view, setting_mode, committing, numbered, finishing, history_full, refusal, name_taken, too_many, no_refresh}
 
 -- ---- why an event isn't allowed next
 
@@ -23,15 +23,15 @@ refusal_in (refuses r) = Some r
 refusal_in (returns a) = None
 refusal_in (makes e a) = None
 
--- why a store's call that makes this event is refused, if it is. One that commits or sets a mode never is, and one
--- that cuts is refused by its window, which its event doesn't tell
+-- why a store's call that makes this event is refused, if it is. One that cuts may be refused by its window too, which
+-- its event doesn't tell
 abbrev pub call_refusal : History → Event → Option Refusal
 call_refusal h (Table def) = refusal_in (making_table def h)
 call_refusal h (Hyper t hyper) = refusal_in (making_hyper t hyper h)
 call_refusal h (View def) = refusal_in (making_view def h)
-call_refusal h (Mode v only) = None
-call_refusal h (Commit ops) = None
-call_refusal h (Cut v span) = None
+call_refusal h (Mode v only) = refusal_in (setting_mode v only h)
+call_refusal h (Commit ops) = refusal_in (committing ops h)
+call_refusal h (Cut v span) = refusal_in (numbered h (Cut v span))
 call_refusal h (Built cut snap) = refusal_in (finishing cut snap h)
 
 -- the number of a refusal that has none
@@ -66,19 +66,23 @@ pub record IsAt (h : History) (e : Event) (r : Roster) (p : Pending) (at base : 
 abbrev pub refused : ℕ → ℕ → ℕ → Refusal
 refused code at mark = record { code = code; pos = at; mark = mark }
 
+-- no event is made where the history is at its end
+abbrev pub room_refusal : ℕ → Option Refusal
+room_refusal at = cond (nat_lt at last_position) None (Some (refused history_full at 0))
+
 -- a relation isn't made where its name is taken, or there are as many of its kind as there may be
 abbrev pub relation_refusal : Bool → ℕ → ℕ → Option Refusal
 relation_refusal taken many at =
     cond taken (Some (refused name_taken at 0))
-    (cond (nat_lt many most_relations) None (Some (refused too_many at (suc most_relations))))
+    (cond (nat_lt many most_relations) (room_refusal at) (Some (refused too_many at (suc most_relations))))
 
 -- a table isn't made a hypertable where it is one
 abbrev pub hyper_refusal : Bool → ℕ → Option Refusal
-hyper_refusal made at = cond made (Some (refused name_taken at 0)) None
+hyper_refusal made at = cond made (Some (refused name_taken at 0)) (room_refusal at)
 
 -- a refresh isn't finished where it doesn't wait
 abbrev pub finish_refusal : Pending → ℕ → Option Refusal
-finish_refusal (Waiting n) at = None
+finish_refusal (Waiting n) at = room_refusal at
 finish_refusal (Finished by) at = Some (refused no_refresh at by)
 finish_refusal Unknown at = Some (refused no_refresh at 0)
 
@@ -86,9 +90,9 @@ abbrev pub refusal_by : Roster → Pending → ℕ → Event → Option Refusal
 refusal_by r p at (Table def) = relation_refusal (is_taken r def.name) (length r.tables) at
 refusal_by r p at (Hyper t hyper) = hyper_refusal (is_some (hyper_of r t)) at
 refusal_by r p at (View def) = relation_refusal (is_taken r def.name) (length r.views) at
-refusal_by r p at (Mode v only) = None
-refusal_by r p at (Commit ops) = None
-refusal_by r p at (Cut v span) = None
+refusal_by r p at (Mode v only) = room_refusal at
+refusal_by r p at (Commit ops) = room_refusal at
+refusal_by r p at (Cut v span) = room_refusal at
 refusal_by r p at (Built cut snap) = finish_refusal p at
 
 abbrev pub fits_by : Roster → Pending → ℕ → ℕ → Event → Bool

@@ -26,7 +26,7 @@ fn starts_bucket(w: Width, b: i64) -> bool
 }
 
 /// Whether a refresh of an aggregate may be cut over this span.
-pub(crate) fn span_is_fit(span: Span, view: Option<&ViewDef>) -> bool
+pub fn span_is_fit(span: Span, view: Option<&ViewDef>) -> bool
     ensures { result ≡ span_fits span (option_copied view.entry) }
 {
     match view {

@@ -3,9 +3,11 @@ ghost use Rattle.std.specs.Prelude.{◌≡◌, ◌&&◌, cond, is_none, nat_le, 
 ghost use Rattle.ts_model.specs.History.{History};
 ghost use Rattle.ts_model.specs.Allowed.{allowed};
 ghost use Rattle.ts_model.specs.Pending.{is_known};
-ghost use Rattle.ts_model.specs.Sound.{columns_fit};
+ghost use Rattle.ts_model.specs.Sound.{columns_fit, sound_in};
+ghost use Rattle.ts_model.specs.Timely.{timely_in};
+ghost use Rattle.ts_model.specs.Valid.{may_follow};
 ghost use Rattle.ts_schema.specs.Names.{is_name};
-ghost use Rattle.event_check.specs.Checks.{IsAt, event_refusal, finish_refusal, fits_by, hyper_refusal, no_number, refusal_by, refused, relation_refusal, sound_by};
+ghost use Rattle.event_check.specs.Checks.{IsAt, event_refusal, finish_refusal, fits_by, hyper_refusal, no_number, refusal_by, refused, relation_refusal, room_refusal, sound_by};
 
 use crate::bytes::bytes_of;
 use crate::columns::{columns_are_fit, hyper_is_fit};
@@ -28,6 +30,12 @@ const NO_REFRESH: u8 = 19;
 /// There are as many as there may be.
 const TOO_MANY: u8 = 21;
 
+/// The history is at its end.
+const HISTORY_FULL: u8 = 30;
+
+/// No event comes after this position.
+const LAST_POSITION: u64 = 4_611_686_018_427_387_904;
+
 /// The most tables, and the most aggregates.
 const MOST_RELATIONS: usize = 64;
 
@@ -41,6 +49,17 @@ fn refused(code: u8, pos: u64, mark: u64) -> Refusal
     Refusal { code, pos, mark }
 }
 
+/// Why no event is made at a position.
+fn room_refusal(position: u64) -> Option<Refusal>
+    ensures { result ≡ room_refusal position }
+{
+    if position < LAST_POSITION {
+        None
+    } else {
+        Some(refused(HISTORY_FULL, position, 0))
+    }
+}
+
 /// Why a relation isn't made, where there are so many of its kind.
 fn relation_refusal(taken: bool, many: usize, position: u64) -> Option<Refusal>
     ensures { result ≡ relation_refusal taken many position }
@@ -48,7 +67,7 @@ fn relation_refusal(taken: bool, many: usize, position: u64) -> Option<Refusal>
     if taken {
         Some(refused(NAME_TAKEN, position, 0))
     } else if many < MOST_RELATIONS {
-        None
+        room_refusal(position)
     } else {
         Some(refused(TOO_MANY, position, 65))
     }
@@ -61,7 +80,7 @@ fn hyper_refusal(made: bool, position: u64) -> Option<Refusal>
     if made {
         Some(refused(NAME_TAKEN, position, 0))
     } else {
-        None
+        room_refusal(position)
     }
 }
 
@@ -70,7 +89,7 @@ fn finish_refusal(pending: Pending, position: u64) -> Option<Refusal>
     ensures { result ≡ finish_refusal pending position }
 {
     match pending {
-        Pending::Waiting(_) => None,
+        Pending::Waiting(_) => room_refusal(position),
         Pending::Finished(by) => Some(refused(NO_REFRESH, position, by)),
         Pending::Unknown => Some(refused(NO_REFRESH, position, 0)),
     }
@@ -90,9 +109,9 @@ fn call_refusal(roster: &Roster, pending: Pending, position: u64, event: &Event)
         Event::View(def) => {
             relation_refusal(is_named(roster, &def.name), roster.views.len(), position)
         }
-        Event::Mode { .. } => None,
-        Event::Commit(_) => None,
-        Event::Cut { .. } => None,
+        Event::Mode { .. } => room_refusal(position),
+        Event::Commit(_) => room_refusal(position),
+        Event::Cut { .. } => room_refusal(position),
         Event::Built { .. } => finish_refusal(pending, position),
     }
 }
@@ -130,6 +149,45 @@ fn is_fit(roster: &Roster, pending: Pending, position: u64, base: u64, event: &E
         Event::Cut { view, span } => span_is_fit(*span, view_in(roster, *view)),
         Event::Built { cut, snap } => finish_is_fit(pending, position, base, *cut, *snap),
     }
+}
+
+/// Whether what an event names is there, and all that it holds is in range. A finish names nothing of a
+/// roster.
+fn is_fit_in(roster: &Roster, event: &Event) -> bool
+    ensures { result ≡ sound_in roster.now event.now }
+{
+    match event {
+        Event::Table(def) => table_is_fit(def),
+        Event::Hyper { table, hyper } => hyper_is_fit(*hyper, table_in(roster, *table)),
+        Event::View(def) => view_is_fit_in(def, table_in(roster, def.table)),
+        Event::Mode { view, .. } => view_in(roster, *view).is_some(),
+        Event::Commit(ops) => ops_are_fit(roster, ops),
+        Event::Cut { view, span } => span_is_fit(*span, view_in(roster, *view)),
+        Event::Built { .. } => true,
+    }
+}
+
+/// Whether nothing of a roster stands in the way of an event.
+fn is_timely_in(roster: &Roster, event: &Event) -> bool
+    ensures { result ≡ timely_in roster.now event.now }
+{
+    match event {
+        Event::Table(def) => !is_named(roster, &def.name) && roster.tables.len() < MOST_RELATIONS,
+        Event::Hyper { table, .. } => hyper_in(roster, *table).is_none(),
+        Event::View(def) => !is_named(roster, &def.name) && roster.views.len() < MOST_RELATIONS,
+        Event::Mode { .. } => true,
+        Event::Commit(_) => true,
+        Event::Cut { .. } => true,
+        Event::Built { .. } => true,
+    }
+}
+
+/// Whether an event may come after a roster, whatever its bytes.
+pub fn may_follow(roster: &Roster, event: &Event) -> bool
+    ensures { result ≡ may_follow roster.now event.now }
+{
+    let fit = is_fit_in(roster, event);
+    fit && is_timely_in(roster, event)
 }
 
 /// Whether an event is fit and takes few enough bytes.

@@ -34,7 +34,7 @@ fn agg_is_fit(columns: usize, agg: &Agg) -> bool
 }
 
 /// Whether these keys are on the first columns.
-pub(crate) fn keys_are_fit(columns: usize, keys: &Seq<u32>) -> bool
+fn keys_are_fit(columns: usize, keys: &Seq<u32>) -> bool
     ensures { result ≡ list_all (λ k. nat_lt k columns) keys.now }
 {
     keys.items().iter().all(|key| (*key as usize) < columns)

@@ -10,12 +10,15 @@ mod events;
 mod folds;
 mod laws;
 mod operations;
-mod queries;
 mod relations;
+mod rosters;
 mod rows;
 mod windows;
 
 pub use bytes::bytes_of;
-pub use events::refusal_of;
-pub use queries::can_be_asked;
+pub use cuts::span_is_fit;
+pub use events::{may_follow, refusal_of};
+pub use operations::op_is_fit;
+pub use relations::{table_in, view_in};
+pub use rosters::after_event;
 pub use windows::window;

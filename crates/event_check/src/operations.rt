@@ -9,7 +9,8 @@ use crate::rows::rows_are_fit_in;
 use ts_model::{Op, Roster};
 use ts_schema::Seq;
 
-fn op_is_fit(roster: &Roster, op: &Op) -> bool
+/// Whether an operation is on a hypertable and fits it.
+pub fn op_is_fit(roster: &Roster, op: &Op) -> bool
     ensures { result ≡ op_fits roster.now op.now }
 {
     match op {

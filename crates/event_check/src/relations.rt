@@ -7,14 +7,14 @@ use ts_model::{Hyper, Roster, TableInfo, ViewDef};
 use ts_schema::{Name, Seq};
 
 /// The aggregate with this number.
-pub(crate) fn view_in(roster: &Roster, view: u32) -> Option<&ViewDef>
+pub fn view_in(roster: &Roster, view: u32) -> Option<&ViewDef>
     ensures { option_copied result ≡ view_of roster.now view }
 {
     roster.views.items().get(view as usize)
 }
 
 /// The table with this number.
-pub(crate) fn table_in(roster: &Roster, table: u32) -> Option<&TableInfo>
+pub fn table_in(roster: &Roster, table: u32) -> Option<&TableInfo>
     ensures { option_copied result ≡ table_of roster.now table }
 {
     roster.tables.items().get(table as usize)

@@ -104,7 +104,7 @@ impl Reader<'_> {
 
     /// An event, and nothing after it.
     #[tactic(auto, unfolding(crate::specs::Reading::whole_event))]
-    fn whole_event(&mut self) -> Result<Event, ReadError>
+    pub fn whole_event(&mut self) -> Result<Event, ReadError>
         ensures { Gives result (whole_event self.old) self.new }
     {
         let event = Event::read(self)?;

@@ -16,4 +16,8 @@ mod rows;
 mod tables;
 mod views;
 
+pub use errors::ReadError;
 pub use events::{Decoded, decode, encode, put_event_bytes};
+pub use fields::{Field, put_items, put_many};
+pub use numbers::{put_eight, put_four, put_signed};
+pub use reader::Reader;

@@ -17,7 +17,7 @@ use Rattle.ts_model.specs.declared.tables.Hyper.{Hyper as HyperInfo}
 use Rattle.ts_model.specs.declared.tables.TableDef.{TableDef}
 use Rattle.ts_model.specs.declared.tables.TableInfo.{TableInfo}
 use Rattle.ts_model.specs.declared.views.ViewDef.{ViewDef}
-use Rattle.ts_model.specs.History.{History, start, ◌▸◌, position, base_position, Begins, same, further}
+use Rattle.ts_model.specs.History.{History, start, resumed, ◌▸◌, position, base_position, Begins, same, further}
 use Rattle.ts_model.specs.Roster.{roster, table_of, view_of, of_hyper, of_table}
 use Rattle.ts_model.specs.Rows.{rows, rows_at}
 use Rattle.ts_model.specs.Refreshes.{span_of_cut, last_touch, last_touch_at, was_refreshed}
@@ -30,6 +30,7 @@ use Rattle.ts_model.specs.Pending.{finished_by, pending, is_known}
 use Rattle.ts_model.specs.Jobs.{rows_of_spans, job_rows}
 use Rattle.ts_model.specs.Laws.{KeepsHyper, KeepsTable, KeepsView, KeepsRelations, SoundStays, AnswersStay, FitsStays}
 use Rattle.ts_model.proofs.HistoryLaws.{position_begins, base_begins, prefix_begins, prefix_stays}
+use Rattle.ts_model.proofs.ValidLaws.{span_within}
 use Rattle.ts_model.proofs.RosterLaws.{relations_stay}
 
 -- ---- what an event names stays there
@@ -132,6 +133,7 @@ answers_stay query g h q = ap (answer query) (prefix_begins q)
 -- a cut is not after the history
 pub cut_bounded : (n : ℕ) (h : History) (k : ℕ) (span : Span) → span_of_cut n h k ≡ Some span → k ≤ position h
 cut_bounded n start k span e = absurd (cc)
+cut_bounded n (resumed i) k span e = (span_within i n k span e).0
 cut_bounded n (h ▸ Cut v made) k span e =
     elim ((k == suc (position h)) && (v == n)) as (λ t. ((k == suc (position h)) && (v == n)) ≡ t → cond t (Some made) (span_of_cut n h k) ≡ Some span → k ≤ suc (position h)) [
       | true ↦ λ here _.

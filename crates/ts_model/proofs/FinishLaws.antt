@@ -1,9 +1,9 @@
 -- A finish of a job that fits raises the watermark to the job's top.
-use Rattle.std.proofs.Common.{◌≡◌, ℕ, ◌≤◌, Bool, true, false, ◌&&◌, ◌||◌, cond, ◌==◌, List, [], ◌∷◌, ℤ, ◌+ℤ◌, ◌≤ℤ◌, int_le, int_lt, Option, Some, None, sym, refl, ap, ◌∙◌, subst, arith}
+use Rattle.std.proofs.Common.{◌≡◌, ℕ, ◌≤◌, Bool, true, false, ◌&&◌, ◌||◌, cond, nat_lt, ◌==◌, List, [], ◌∷◌, ℤ, ◌+ℤ◌, ◌≤ℤ◌, int_le, int_lt, Option, Some, None, sym, refl, ap, ◌∙◌, subst, arith}
 use Rattle.std.specs.Prelude.{IfSome}
 use Rattle.std.specs.Int.{int_max}
 use Rattle.std.specs.List.{list_all}
-use Rattle.std.proofs.lemmas.Bool.{true≢false, and_parts, and_from, or_parts, eqb-true}
+use Rattle.std.proofs.lemmas.Bool.{true≢false, and_parts, and_from, or_parts, eqb-true, lt-ltb}
 use Rattle.std.proofs.lemmas.Int.{ints, clamps}
 use Rattle.ts_num.specs.Aggregates.{greater}
 use Rattle.ts_num.proofs.EndLaws.{greater_assoc, greater_comm}
@@ -19,20 +19,28 @@ use Rattle.ts_schema.specs.Conditions.{passes_all}
 use Rattle.partial_agg.specs.declared.groups.Group.{Group}
 use Rattle.ts_model.specs.declared.events.Event.{Event}
 use Rattle.ts_model.specs.declared.events.Event.TheVariants.{Built}
+use Rattle.ts_model.specs.declared.images.Image.{Image}
 use Rattle.ts_model.specs.declared.views.Fold.{Fold}
 use Rattle.ts_model.specs.declared.views.ViewDef.{ViewDef}
-use Rattle.ts_model.specs.History.{History, start, ◌▸◌, position, prefix}
+use Rattle.ts_model.specs.History.{History, start, resumed, ◌▸◌, position, root, prefix}
+use Rattle.ts_model.specs.Roster.{IsOf, roster, view_of}
+use Rattle.ts_model.specs.Saved.{saved, saved_last, is_dirty}
 use Rattle.ts_model.specs.Rows.{rows, rows_at}
 use Rattle.ts_model.specs.Scratch.{bucket_rows}
-use Rattle.ts_model.specs.Refreshes.{span_of_cut, is_covered, was_refreshed, top_in, top_of, watermark}
+use Rattle.ts_model.specs.Refreshes.{span_of_cut, is_covered, was_refreshed, touched, top_in, top_of, watermark}
+use Rattle.ts_bucket.specs.Positions.{is_above}
+use Rattle.std.specs.Prelude.{is_some}
 use Rattle.ts_model.specs.Windows.{last_end}
 use Rattle.ts_model.specs.Allowed.{all_allowed, allowed}
 use Rattle.ts_model.specs.Jobs.{rows_of_spans, is_part_of, Fits}
 use Rattle.ts_bucket.specs.WholeSpans.{IsMark}
 use Rattle.ts_model.specs.RefreshLaws.{FinishesMark}
-use Rattle.ts_model.proofs.HistoryLaws.{prefix_prefix, prefix_further}
+use Rattle.ts_model.proofs.ValidLaws.{KeptFacts, kept_facts, lasts_below}
+use Rattle.ts_model.proofs.CutLaws.{pos_is}
+use Rattle.ts_model.proofs.RosterLaws.{is_of_before, is_of_itself}
+use Rattle.ts_model.proofs.HistoryLaws.{begins_prefix, root_begins, prefix_prefix, prefix_further}
 use Rattle.ts_model.proofs.SoundLaws.{view_width}
-use Rattle.ts_model.proofs.UntouchedLaws.{untouched_rows}
+use Rattle.ts_model.proofs.UntouchedLaws.{untouched_rows, touched_root}
 use Rattle.ts_model.proofs.RefreshLaws.{is_below-greater, none_above, built_bounds}
 use Rattle.ts_model.proofs.MarkLaws.{watermark_ends}
 use Rattle.ts_schema.proofs.Cases.{int_lt-true}
@@ -49,6 +57,7 @@ rows_further t h x r l = ap (rows t) (prefix_further h x r l)
 
 refreshed_bounded : (n : ℕ) (h : History) (b : ℤ) (r : ℕ) → all_allowed h ≡ true → was_refreshed n h b r ≡ true → r ≤ position h
 refreshed_bounded n start b r ok e = absurd (true≢false (sym e))
+refreshed_bounded n (resumed i) b r ok e = omega (arith, lasts_below n i ok b r (pos_is (saved_last n i b) r e))
 refreshed_bounded n (h ▸ Built cut snap) b r ok e =
     let parts = and_parts (all_allowed h) (allowed h (Built cut snap)) ok in
     let bound : snap ≤ position h = built_bounds h cut snap parts.1 in
@@ -73,20 +82,28 @@ none_built n def h cut snap b r width bucket ok e mark before =
           (ap (bucket_rows def.fold b) (rows_further def.table h (Built cut snap) snap (built_bounds h cut snap parts.1)) ∙ none_covered n def h b snap (span_of_cut n h cut) width bucket this.1 marks.1)
     ] refl e
 
-none_refreshed : (n : ℕ) (def : ViewDef) (h : History) (b : ℤ) (r : ℕ) → IsWidth def.fold.width → is_bucket def.fold.width b ≡ true → all_allowed h ≡ true → was_refreshed n h b r ≡ true → is_below b (watermark n def h) ≡ false → bucket_rows def.fold b (rows_at def.table h r) ≡ []
-none_refreshed n def start b r width bucket ok e mark = absurd (true≢false (sym e))
-none_refreshed n def (h ▸ Built cut snap) b r width bucket ok e mark = none_built n def h cut snap b r width bucket ok e mark (λ earlier below. none_refreshed n def h b r width bucket (and_parts (all_allowed h) _ ok).0 earlier below)
-none_refreshed n def (h ▸ x) b r width bucket ok e mark =
+-- an image keeps no row at or above the mark in a bucket that isn't dirty
+none_kept : (n : ℕ) (def : ViewDef) (i : Image) (b : ℤ) (r : ℕ) → IsWidth def.fold.width → is_bucket def.fold.width b ≡ true → KeptFacts def i (saved n i) → saved_last n i b ≡ Some r → touched n def (resumed i) b r ≡ false → is_below b (saved n i).mark ≡ false → bucket_rows def.fold b (rows def.table (resumed i)) ≡ []
+none_kept n def i b r width bucket facts e apart mark =
+    let below : nat_lt r i.pos ≡ true = lt-ltb r i.pos (facts.lasts b r e).below in
+    let clean : is_dirty n i b ≡ false = elim (is_dirty n i b) as (λ t. is_above r (cond t (Some i.pos) None) ≡ false → t ≡ false) [ true ↦ λ f. absurd (true≢false (sym below ∙ f)) | false ↦ λ _. refl ] apart in
+    facts.rows_below b width bucket (ap is_some e) clean mark
+
+none_refreshed : (n : ℕ) (def : ViewDef) (h : History) (b : ℤ) (r : ℕ) → IsWidth def.fold.width → is_bucket def.fold.width b ≡ true → IsOf def (view_of (roster h) n) → touched n def (root h) b r ≡ false → all_allowed h ≡ true → was_refreshed n h b r ≡ true → is_below b (watermark n def h) ≡ false → bucket_rows def.fold b (rows_at def.table h r) ≡ []
+none_refreshed n def start b r width bucket is apart ok e mark = absurd (true≢false (sym e))
+none_refreshed n def (resumed i) b r width bucket is apart ok e mark = none_kept n def i b r width bucket (kept_facts n def i ok is) (pos_is (saved_last n i b) r e) apart mark
+none_refreshed n def (h ▸ Built cut snap) b r width bucket is apart ok e mark = none_built n def h cut snap b r width bucket ok e mark (λ earlier below. none_refreshed n def h b r width bucket is apart (and_parts (all_allowed h) _ ok).0 earlier below)
+none_refreshed n def (h ▸ x) b r width bucket is apart ok e mark =
     let before = (and_parts (all_allowed h) _ ok).0 in
-    ap (bucket_rows def.fold b) (rows_further def.table h x r (refreshed_bounded n h b r before e)) ∙ none_refreshed n def h b r width bucket before e mark
+    ap (bucket_rows def.fold b) (rows_further def.table h x r (refreshed_bounded n h b r before e)) ∙ none_refreshed n def h b r width bucket (is_of_before def h x n is) apart before e mark
 
 -- so a bucket outside a fitting job's spans is below the watermark, or has no row at the job's snapshot
-outside_empty : (n : ℕ) (def : ViewDef) (h : History) (cut snap : ℕ) (span : Span) (spans : List Span) (groups : List Group) (top : Option ℤ) → all_allowed h ≡ true → IsWidth def.fold.width → Fits n def h cut snap span spans groups top → (b : ℤ) → is_bucket def.fold.width b ≡ true → in_span span b ≡ true → lies_in spans b ≡ false → is_below b (watermark n def h) ≡ false → bucket_rows def.fold b (rows_at def.table h snap) ≡ []
-outside_empty n def h cut snap span spans groups top ok width f b bucket inside apart mark =
+outside_empty : (n : ℕ) (def : ViewDef) (h : History) (cut snap : ℕ) (span : Span) (spans : List Span) (groups : List Group) (top : Option ℤ) → all_allowed h ≡ true → IsWidth def.fold.width → IsOf def (view_of (roster h) n) → Fits n def h cut snap span spans groups top → (b : ℤ) → is_bucket def.fold.width b ≡ true → in_span span b ≡ true → lies_in spans b ≡ false → is_below b (watermark n def h) ≡ false → bucket_rows def.fold b (rows_at def.table h snap) ≡ []
+outside_empty n def h cut snap span spans groups top ok width is f b bucket inside apart mark =
     let other = f.others b bucket inside apart in
     let r = other.0 in
     let untouched : bucket_rows def.fold b (rows def.table (prefix h snap)) ≡ bucket_rows def.fold b (rows_at def.table (prefix h snap) r) = untouched_rows n def (prefix h snap) b r other.3 in
-    untouched ∙ ap (λ g. bucket_rows def.fold b (rows def.table g)) (prefix_prefix h r snap other.1) ∙ none_refreshed n def h b r width bucket ok other.2 mark
+    untouched ∙ ap (λ g. bucket_rows def.fold b (rows def.table g)) (prefix_prefix h r snap other.1) ∙ none_refreshed n def h b r width bucket is (ap (λ g. touched n def g b r) (root_begins (begins_prefix h snap)) ∙ touched_root n def (prefix h snap) b r other.3) ok other.2 mark
 
 -- ---- the top of the spans and the top of the whole span, beside the watermark
 
@@ -175,4 +192,4 @@ finishes_mark n def h cut snap span spans groups top ok there f =
     let width = view_width h n def ok there in
     let mark = watermark n def h in
     ap (λ o. greater mark (top_of def h snap o)) f.cut_is
-    ∙ sym (ap (greater mark) f.top_is ∙ same_top def.fold span spans mark width (watermark_ends n def h width ok) f.whole (rows_at def.table h snap) (outside_empty n def h cut snap span spans groups top ok width f))
+    ∙ sym (ap (greater mark) f.top_is ∙ same_top def.fold span spans mark width (watermark_ends n def h width (is_of_itself def (view_of (roster h) n) there) ok) f.whole (rows_at def.table h snap) (outside_empty n def h cut snap span spans groups top ok width (is_of_itself def (view_of (roster h) n) there) f))

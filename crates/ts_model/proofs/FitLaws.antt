@@ -11,6 +11,7 @@ use Rattle.ts_schema.specs.declared.conditions.Test.{Test}
 use Rattle.ts_schema.specs.declared.rows.Row.{Row}
 use Rattle.ts_schema.specs.Rows.{row_cmp}
 use Rattle.ts_schema.specs.Conditions.{passes_all}
+use Rattle.ts_model.specs.declared.events.Event.{Event}
 use Rattle.ts_model.specs.declared.events.Event.TheVariants.{Commit}
 use Rattle.ts_model.specs.declared.events.Op.{Op}
 use Rattle.ts_model.specs.declared.events.Op.TheVariants.{Insert, Delete}
@@ -22,10 +23,12 @@ use Rattle.ts_model.specs.declared.tables.TableInfo.{TableInfo}
 use Rattle.ts_model.specs.declared.views.Agg.{Agg}
 use Rattle.ts_model.specs.declared.views.Fold.{Fold}
 use Rattle.ts_model.specs.declared.views.ViewDef.{ViewDef}
-use Rattle.ts_model.specs.History.{History, start, ◌▸◌, prefix}
+use Rattle.ts_model.specs.History.{History, start, resumed, ◌▸◌, prefix}
 use Rattle.ts_model.specs.Roster.{roster, table_of, of_hyper, of_table, view_of}
 use Rattle.ts_model.specs.Rows.{with_row, with_rows, after_op, after_ops, rows, rows_at}
 use Rattle.ts_model.specs.Effect.{appended_by, taken_by, all_appended, all_taken}
+use Rattle.ts_model.specs.Saved.{appended_over}
+use Rattle.ts_model.specs.Valid.{all_stand, hold_rows, image_roster}
 use Rattle.ts_model.specs.Groups.{RowFits, RowsFit}
 use Rattle.ts_model.specs.Answers.{columns_are_there, can_ask}
 use Rattle.ts_model.specs.Reads.{inserted}
@@ -33,6 +36,7 @@ use Rattle.ts_model.specs.Limits.{most_columns}
 use Rattle.ts_model.specs.Sound.{are_names, agg_fits, test_fits, fold_fits, output_count, values_fit, row_fits, rows_fit, op_fits, view_fits, sound}
 use Rattle.ts_model.specs.Allowed.{all_allowed, allowed}
 use Rattle.ts_model.specs.Laws.{KeepsRelations, fits_table, RowsFitTables, RowsAreTimes, RowsHaveColumns}
+use Rattle.ts_model.proofs.ValidLaws.{valid_is}
 use Rattle.ts_model.proofs.HistoryLaws.{begins_prefix}
 use Rattle.ts_model.proofs.RosterLaws.{relations_further, relations_stay}
 use Rattle.ts_model.proofs.AllowedLaws.{table_stays, allowed_begins}
@@ -91,6 +95,7 @@ module _ (p : Row → Bool) where
 
   pub rows_hold : (t : ℕ) (h : History) → list_all p (inserted t h) ≡ true → list_all p (rows t h) ≡ true
   rows_hold t start e = refl
+  rows_hold t (resumed i) e = all_placed (appended_over t i.rows) [] e refl
   rows_hold t (h ▸ Commit ops) e = let parts = all_parted (inserted t h) (all_appended t ops) e in (moved_hold t ops (rows t h) parts.1 (rows_hold t h parts.0)).1
   rows_hold t (h ▸ x) e = rows_hold t h e
 
@@ -127,14 +132,25 @@ appended_fit r t (op ∷ ops) fits =
     let parts = and_parts (op_fits r op) (list_all (op_fits r) ops) fits in
     all_joined (fits_table r t) (appended_by t op) (all_appended t ops) (op_rows_fit r t op parts.0) (appended_fit r t ops parts.1)
 
+-- the rows of an image fit their tables
+over_fit : (r : Roster) (low t : ℕ) (es : List Event) → hold_rows r low es ≡ true → list_all (fits_table r t) (appended_over t es) ≡ true
+over_fit r low t [] e = refl
+over_fit r low t (Commit (Insert u new ∷ []) ∷ es) e =
+    let rest = and_parts _ (hold_rows r (suc u) es) e in
+    let stand = and_parts _ (all_stand row_cmp new) rest.0 in
+    let fits = and_parts (nat_le low u) (op_fits r (Insert u new)) stand.0 in
+    all_joined (fits_table r t) (all_appended t (Insert u new ∷ [])) (appended_over t es) (appended_fit r t (Insert u new ∷ []) (and_from _ _ fits.1 refl)) (over_fit r (suc u) t es rest.1)
+over_fit r low t (x ∷ es) e = absurd (true≢false (sym e))
+
 commit_fits : (t : ℕ) (h : History) (ops : List Op) → allowed h (Commit ops) ≡ true → list_all (fits_table (roster h) t) (all_appended t ops) ≡ true
 commit_fits t h ops e =
-    let is_sound = and_parts (sound h (Commit ops)) true e in
+    let is_sound = and_parts (sound h (Commit ops)) _ e in
     let parts = and_parts (nat_lt 0 (length ops) && list_all (op_fits (roster h)) ops) _ is_sound.0 in
     appended_fit (roster h) t ops (and_parts (nat_lt 0 (length ops)) _ parts.0).1
 
 pub inserted_fit : (t : ℕ) (h : History) → all_allowed h ≡ true → list_all (fits_table (roster h) t) (inserted t h) ≡ true
 inserted_fit t start ok = refl
+inserted_fit t (resumed i) ok = over_fit (image_roster i) 0 t i.rows (valid_is i ok).rows
 inserted_fit t (h ▸ Commit ops) ok =
     let parts = and_parts (all_allowed h) (allowed h (Commit ops)) ok in
     all_joined (fits_table (roster h) t) (inserted t h) (all_appended t ops) (inserted_fit t h parts.0) (commit_fits t h ops parts.1)

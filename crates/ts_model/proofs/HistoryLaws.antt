@@ -2,12 +2,7 @@
 use Rattle.std.proofs.Common.{◌≡◌, ℕ, ◌+◌, ◌≤◌, true, false, cond, nat_lt, List, [], ◌∷◌, ◌++◌, length, sym, refl, ap, ◌∙◌, arith}
 use Rattle.std.proofs.lemmas.Bool.{lt-ltb, le-ltb, ltb-true, ltb-false, cond-true, cond-false}
 use Rattle.ts_model.specs.declared.events.Event.{Event}
-use Rattle.ts_model.specs.History.{History, start, ◌▸◌, ◌▸▸◌, position, root, base_position, prefix, events_of, Begins, same, further}
-
--- each history begins with the empty one
-pub begins_start : (h : History) → Begins start h
-begins_start start = same
-begins_start (h ▸ e) = further (begins_start h)
+use Rattle.ts_model.specs.History.{History, start, resumed, ◌▸◌, ◌▸▸◌, position, root, base_position, prefix, events_of, Begins, same, further}
 
 -- what begins with a history begins with whatever that begins with
 pub begins_trans : {f g h : History} → Begins f g → Begins g h → Begins f h
@@ -22,6 +17,7 @@ position_begins (further q) = omega (arith, position_begins q)
 -- a history at its own position, or a later one, is itself
 pub prefix_end : (h : History) (p : ℕ) → position h ≤ p → prefix h p ≡ h
 prefix_end start p l = refl
+prefix_end (resumed i) p l = refl
 prefix_end (h ▸ e) p l = cond-true _ (h ▸ e) (prefix h p) (lt-ltb (position h) p (omega arith))
 
 -- one more event changes no earlier position
@@ -43,21 +39,24 @@ prefix_stays {g} p (further {h} {e} q) l =
 -- a history begins with each of its prefixes
 pub begins_prefix : (h : History) (p : ℕ) → Begins (prefix h p) h
 begins_prefix start p = same
+begins_prefix (resumed i) p = same
 begins_prefix (h ▸ e) p =
     let P : History → Type 0 = λ g. Begins g (h ▸ e) in
     elim (nat_lt (position h) p) as (λ b. P (cond b (h ▸ e) (prefix h p))) [ true ↦ same | false ↦ further (begins_prefix h p) ]
 
-pub position_prefix : (h : History) (p : ℕ) → p ≤ position h → position (prefix h p) ≤ p
-position_prefix start p l = omega arith
-position_prefix (h ▸ e) p l =
+pub position_prefix : (h : History) (p : ℕ) → base_position h ≤ p → p ≤ position h → position (prefix h p) ≤ p
+position_prefix start p low l = omega arith
+position_prefix (resumed i) p low l = low
+position_prefix (h ▸ e) p low l =
     elim (nat_lt (position h) p) as (λ t. nat_lt (position h) p ≡ t → position (cond t (h ▸ e) (prefix h p)) ≤ p) [
       | true ↦ λ after. omega (arith, ltb-true (position h) p after)
-      | false ↦ λ before. position_prefix h p (ltb-false (position h) p before)
+      | false ↦ λ before. position_prefix h p low (ltb-false (position h) p before)
     ] refl
 
 -- a prefix of a prefix
 pub prefix_prefix : (h : History) (p s : ℕ) → p ≤ s → prefix (prefix h s) p ≡ prefix h p
 prefix_prefix start p s l = refl
+prefix_prefix (resumed i) p s l = refl
 prefix_prefix (h ▸ e) p s l =
     elim (nat_lt (position h) s) as (λ t. nat_lt (position h) s ≡ t → prefix (cond t (h ▸ e) (prefix h s)) p ≡ prefix (h ▸ e) p) [
       | true ↦ λ _. refl
@@ -68,6 +67,7 @@ prefix_prefix (h ▸ e) p s l =
 
 pub begins_root : (h : History) → Begins (root h) h
 begins_root start = same
+begins_root (resumed i) = same
 begins_root (h ▸ e) = further (begins_root h)
 
 -- a history begins where whatever it begins with begins
@@ -100,7 +100,12 @@ followed_push h es e = followed_append h es (e ∷ [])
 -- a history is its root followed by its events, and its position is that of its root and their number
 pub root_followed : (h : History) → root h ▸▸ events_of h ≡ h
 root_followed start = refl
+root_followed (resumed i) = refl
 root_followed (h ▸ e) = followed_push (root h) (events_of h) e ∙ ap (λ g. g ▸ e) (root_followed h)
 
 pub position_is : (h : History) → position h ≡ base_position h + length (events_of h)
 position_is h = ap position (sym (root_followed h)) ∙ position_followed (root h) (events_of h)
+
+-- the base of an earlier position is that of the history
+pub base_prefix : (h : History) (p : ℕ) → base_position (prefix h p) ≡ base_position h
+base_prefix h p = sym (base_begins (begins_prefix h p))

@@ -1,4 +1,5 @@
 pub mod WorkedRows
+pub mod ValidLaws
 pub mod HistoryLaws
 pub mod CallLaws
 pub mod GroupLaws
@@ -8,6 +9,7 @@ pub mod AllowedLaws
 pub mod SoundLaws
 pub mod FitLaws
 pub mod MarkLaws
+pub mod RowMarkLaws
 pub mod RefreshLaws
 pub mod MadeLaws
 pub mod RangeLaws

@@ -12,13 +12,13 @@ use Rattle.ts_bucket.specs.Windows.{IsInscribed, HasNoBucket, start_from, window
 use Rattle.ts_bucket.specs.declared.widths.Width.{Width}
 use Rattle.ts_bucket.proofs.WindowLaws.{inscribed_meets}
 use Rattle.ts_model.specs.declared.events.Event.{Event}
-use Rattle.ts_model.specs.declared.events.Event.TheVariants.{Table, Hyper, View, Built}
+use Rattle.ts_model.specs.declared.events.Event.TheVariants.{Table, Hyper, View, Mode, Commit, Cut, Built}
 use Rattle.ts_model.specs.declared.outcomes.Outcome.{Outcome}
 use Rattle.ts_model.specs.declared.outcomes.Outcome.TheVariants.{Done, Refused, DiskFault, NoMemory}
 use Rattle.ts_model.specs.declared.refreshes.Pending.{Pending}
 use Rattle.ts_model.specs.declared.refreshes.Pending.TheVariants.{Waiting, Finished, Unknown}
 use Rattle.ts_model.specs.declared.refreshes.Window.{Window}
-use Rattle.ts_model.specs.declared.refreshes.Window.TheVariants.{NoBucket, Nothing}
+use Rattle.ts_model.specs.declared.refreshes.Window.TheVariants.{Whole, NoBucket, Nothing}
 use Rattle.ts_model.specs.declared.views.ViewDef.{ViewDef}
 use Rattle.ts_model.specs.History.{History, position}
 use Rattle.ts_model.specs.Roster.{roster, hyper_of, view_of, is_taken}
@@ -26,27 +26,38 @@ use Rattle.ts_model.specs.Rows.{rows}
 use Rattle.ts_model.specs.Refreshes.{watermark}
 use Rattle.ts_model.specs.Allowed.{allowed, all_allowed}
 use Rattle.ts_model.specs.Limits.{most_relations, is_word}
+use Rattle.ts_model.specs.Timely.{timely_at, has_room}
+use Rattle.ts_model.specs.declared.outcomes.CutDone.TheVariants.{Cut as CutMade}
 use Rattle.ts_model.specs.Sound.{sound, span_fits}
 use Rattle.ts_model.specs.Pending.{is_waiting, pending}
 use Rattle.ts_model.specs.Windows.{whole_or, window_up_to, window, last_end}
-use Rattle.ts_model.specs.Calls.{name_taken, too_many, Act, refuses, returns, makes, refusal, new_relation, cut_over, cut_of_view, cutting, finish_of, Answered}
+use Rattle.ts_model.specs.Calls.{name_taken, too_many, history_full, making, numbered, committed, Act, refuses, returns, makes, refusal, new_relation, cut_over, cut_of_view, cutting, finish_of, Answered}
 use Rattle.ts_model.specs.States.{State}
-use Rattle.ts_model.specs.Laws.{MakesAllowed, CallsMakeAllowed}
+use Rattle.ts_model.specs.Laws.{SoundCut, MakesAllowed, CallsMakeAllowed}
 use Rattle.ts_bucket.specs.WholeSpans.{IsMark}
 use Rattle.ts_model.proofs.SoundLaws.{view_width}
+use Rattle.ts_model.proofs.RosterLaws.{is_of_itself}
 use Rattle.ts_model.proofs.MarkLaws.{window_ends}
 use Rattle.ts_schema.proofs.Cases.{le-int_le}
 
+-- an event that is made is allowed
+made_allowed : {A : Type 0} (h : History) (e : Event) (a : A) → sound h e ≡ true → timely_at h e ≡ true → MakesAllowed h (making h e a)
+made_allowed h e a is_sound is_timely =
+    elim (has_room h) as (λ t. has_room h ≡ t → MakesAllowed h (cond t (makes e a) (refuses (refusal history_full h 0)))) [
+      | true ↦ λ room. and_from _ _ is_sound (and_from _ _ is_timely room)
+      | false ↦ λ _. tt
+    ] refl
+
 -- a new relation is allowed where its name is free and there is room for it
-relation_allowed : (h : History) (taken : Bool) (many : ℕ) (e : Event) → (taken ≡ false → nat_lt many most_relations ≡ true → allowed h e ≡ true) → MakesAllowed h (new_relation h taken many e)
+relation_allowed : (h : History) (taken : Bool) (many : ℕ) (e : Event) → (taken ≡ false → nat_lt many most_relations ≡ true → MakesAllowed h (numbered h e)) → MakesAllowed h (new_relation h taken many e)
 relation_allowed h true many e ok = tt
 relation_allowed h false many e ok =
-    elim (nat_lt many most_relations) as (λ t. nat_lt many most_relations ≡ t → MakesAllowed h (cond t (makes e (suc (position h))) (refuses (refusal too_many h (suc most_relations))))) [
+    elim (nat_lt many most_relations) as (λ t. nat_lt many most_relations ≡ t → MakesAllowed h (cond t (numbered h e) (refuses (refusal too_many h (suc most_relations))))) [
       | true ↦ λ room. ok refl room
       | false ↦ λ _. tt
     ] refl
 
-hyper_allowed : (h : History) (e : Event) (was : Bool) → (was ≡ false → allowed h e ≡ true) → MakesAllowed h (cond was (refuses (refusal name_taken h 0)) (makes e (suc (position h))))
+hyper_allowed : (h : History) (e : Event) (was : Bool) → (was ≡ false → MakesAllowed h (numbered h e)) → MakesAllowed h (cond was (refuses (refusal name_taken h 0)) (numbered h e))
 hyper_allowed h e true ok = tt
 hyper_allowed h e false ok = ok refl
 
@@ -102,12 +113,12 @@ near_end w mark width end =
     omega (arith, ints)
 
 -- the whole buckets of a window are a span that may be cut
-nonempty_fits : (n : ℕ) (def : ViewDef) (h : History) (lo : Option ℤ) (hi : ℤ) (other : Window) → view_of (roster h) n ≡ Some def → IsWidth def.fold.width → IsNear hi → MakesAllowed h (cut_over n h other) → MakesAllowed h (cut_over n h (whole_or other (inscribed def.fold.width lo hi)))
+nonempty_fits : (n : ℕ) (def : ViewDef) (h : History) (lo : Option ℤ) (hi : ℤ) (other : Window) → view_of (roster h) n ≡ Some def → IsWidth def.fold.width → IsNear hi → SoundCut n h other → SoundCut n h (whole_or other (inscribed def.fold.width lo hi))
 nonempty_fits n def h lo hi other there width near ok =
     let w = def.fold.width in
     let a = window_start w lo in
     let z = bucket_of w hi in
-    elim (int_lt a z) as (λ t. int_lt a z ≡ t → MatchOption (cond t (Some (record { lo = a; hi = z })) None) (HasNoBucket w lo hi) (IsInscribed w lo hi) → MakesAllowed h (cut_over n h (whole_or other (cond t (Some (record { lo = a; hi = z })) None)))) [
+    elim (int_lt a z) as (λ t. int_lt a z ≡ t → MatchOption (cond t (Some (record { lo = a; hi = z })) None) (HasNoBucket w lo hi) (IsInscribed w lo hi) → SoundCut n h (whole_or other (cond t (Some (record { lo = a; hi = z })) None))) [
       | true ↦ λ below inside.
           let held = bucket_of_meets w hi width in
           let at_or_below : z ≤ℤ hi = held.at_or_below in
@@ -116,42 +127,49 @@ nonempty_fits n def h lo hi other there width near ok =
           let whole : (is_bucket w a && is_bucket w z) ≡ true = and_from _ _ inside.starts inside.ends in
           let fits : span_fits (record { lo = a; hi = z }) (Some def) ≡ true = and_from _ _ (and_from _ _ (and_from _ _ (and_from _ _ whole below) (starts_from_first w lo)) words.0) words.1 in
           let is_sound : span_fits (record { lo = a; hi = z }) (view_of (roster h) n) ≡ true = ap (span_fits (record { lo = a; hi = z })) there ∙ fits in
-          and_from _ _ (and_from _ _ is_sound refl) refl
+          and_from _ _ is_sound refl
       | false ↦ λ _ _. ok
     ] refl (inscribed_meets w lo hi width)
 
-up_to_fits : (n : ℕ) (def : ViewDef) (h : History) (lo : Option ℤ) (end : Option ℤ) → view_of (roster h) n ≡ Some def → IsWidth def.fold.width → IfSome end (IsMark def.fold.width) → MakesAllowed h (cut_over n h (window_up_to def.fold.width lo end))
+up_to_fits : (n : ℕ) (def : ViewDef) (h : History) (lo : Option ℤ) (end : Option ℤ) → view_of (roster h) n ≡ Some def → IsWidth def.fold.width → IfSome end (IsMark def.fold.width) → SoundCut n h (window_up_to def.fold.width lo end)
 up_to_fits n def h lo None there width ends = tt
 up_to_fits n def h lo (Some hi) there width ends = nonempty_fits n def h lo hi Nothing there width (near_end def.fold.width hi width ends) tt
 
-window_fits : (n : ℕ) (def : ViewDef) (h : History) (lo hi : Option ℤ) → all_allowed h ≡ true → view_of (roster h) n ≡ Some def → ForSome hi (λ t. IsTrue (is_time t)) → MakesAllowed h (cut_over n h (window n def h lo hi))
+window_fits : (n : ℕ) (def : ViewDef) (h : History) (lo hi : Option ℤ) → all_allowed h ≡ true → view_of (roster h) n ≡ Some def → ForSome hi (λ t. IsTrue (is_time t)) → SoundCut n h (window n def h lo hi)
 window_fits n def h lo (Some hi) ok there time = nonempty_fits n def h lo hi NoBucket there (view_width h n def ok there) (near_time hi (time hi refl)) tt
 window_fits n def h lo None ok there time =
     let width = view_width h n def ok there in
-    up_to_fits n def h lo (greater (watermark n def h) (last_end def.fold.width (rows def.table h))) there width (window_ends n def h width ok)
+    up_to_fits n def h lo (greater (watermark n def h) (last_end def.fold.width (rows def.table h))) there width (window_ends n def h width (is_of_itself def (view_of (roster h) n) there) ok)
+
+-- what a call does with a window whose cut is sound is allowed
+over_allowed : (n : ℕ) (h : History) (w : Window) → SoundCut n h w → MakesAllowed h (cut_over n h w)
+over_allowed n h (Whole span) e = made_allowed h (Cut n span) (CutMade (suc (position h)) span) e refl
+over_allowed n h NoBucket e = tt
+over_allowed n h Nothing e = tt
 
 cut_allowed : (n : ℕ) (lo hi : Option ℤ) (h : History) → all_allowed h ≡ true → ForSome hi (λ t. IsTrue (is_time t)) → MakesAllowed h (cutting n lo hi h)
 cut_allowed n lo hi h ok time = of_view (view_of (roster h) n) refl
   where
     of_view : (o : Option ViewDef) → view_of (roster h) n ≡ o → MakesAllowed h (cut_of_view n lo hi h o)
     of_view None there = tt
-    of_view (Some def) there = window_fits n def h lo hi ok there time
+    of_view (Some def) there = over_allowed n h (window n def h lo hi) (window_fits n def h lo hi ok there time)
 
 -- ---- finishes
 
 finish_allowed : (cut snap : ℕ) (h : History) (p : Pending) → pending h cut ≡ p → sound h (Built cut snap) ≡ true → MakesAllowed h (finish_of cut snap h p)
-finish_allowed cut snap h (Waiting n) is e = and_from _ _ e (ap is_waiting is)
+finish_allowed cut snap h (Waiting n) is e = made_allowed h (Built cut snap) (suc (position h)) e (ap is_waiting is)
 finish_allowed cut snap h (Finished f) is e = tt
 finish_allowed cut snap h Unknown is e = tt
 
 pub calls_make_allowed : CallsMakeAllowed
 calls_make_allowed = record {
-  tables = λ def h e. relation_allowed h (is_taken (roster h) def.name) (length (roster h).tables) (Table def) (λ free room. and_from _ _ e (and_from _ _ (not_from_false _ free) room));
-  hypers = λ t hyper h e. hyper_allowed h (Hyper t hyper) (is_some (hyper_of (roster h) t)) (λ free. and_from _ _ e (not_some (hyper_of (roster h) t) free));
-  views = λ def h e. relation_allowed h (is_taken (roster h) def.name) (length (roster h).views) (View def) (λ free room. and_from _ _ e (and_from _ _ (not_from_false _ free) room));
-  modes = λ n only h e. and_from _ _ e refl;
-  commits = λ ops h e. and_from _ _ e refl;
+  tables = λ def h e. relation_allowed h (is_taken (roster h) def.name) (length (roster h).tables) (Table def) (λ free room. made_allowed h (Table def) (suc (position h)) e (and_from _ _ (not_from_false _ free) room));
+  hypers = λ t hyper h e. hyper_allowed h (Hyper t hyper) (is_some (hyper_of (roster h) t)) (λ free. made_allowed h (Hyper t hyper) (suc (position h)) e (not_some (hyper_of (roster h) t) free));
+  views = λ def h e. relation_allowed h (is_taken (roster h) def.name) (length (roster h).views) (View def) (λ free room. made_allowed h (View def) (suc (position h)) e (and_from _ _ (not_from_false _ free) room));
+  modes = λ n only h e. made_allowed h (Mode n only) (suc (position h)) e refl;
+  commits = λ ops h e. made_allowed h (Commit ops) (committed ops h) e refl;
   cuts = cut_allowed;
+  windows = window_fits;
   finishes = λ cut snap h e. finish_allowed cut snap h (pending h cut) refl e;
 }
 

@@ -15,13 +15,16 @@ use Rattle.ts_schema.specs.Conditions.{passes_all}
 use Rattle.ts_model.specs.declared.events.Event.TheVariants.{Built}
 use Rattle.ts_model.specs.declared.views.Fold.{Fold}
 use Rattle.ts_model.specs.declared.views.ViewDef.{ViewDef}
-use Rattle.ts_model.specs.History.{History, start, ◌▸◌, position}
+use Rattle.ts_model.specs.History.{History, start, resumed, ◌▸◌, position}
+use Rattle.ts_model.specs.Roster.{IsOf, roster, view_of}
 use Rattle.ts_model.specs.Rows.{rows, rows_at}
 use Rattle.ts_model.specs.Refreshes.{span_of_cut, top_in, top_of, watermark}
 use Rattle.ts_model.specs.Windows.{last_end}
 use Rattle.ts_model.specs.Allowed.{all_allowed, allowed}
 use Rattle.ts_model.specs.Laws.{MarksAreEnds}
 use Rattle.ts_bucket.specs.WholeSpans.{IsMark}
+use Rattle.ts_model.proofs.ValidLaws.{kept_facts}
+use Rattle.ts_model.proofs.RosterLaws.{is_of_before, is_of_itself}
 use Rattle.ts_model.proofs.HistoryLaws.{prefix_end}
 use Rattle.ts_model.proofs.FitLaws.{rows_are_times}
 use Rattle.ts_model.proofs.SoundLaws.{view_width}
@@ -70,22 +73,23 @@ top_of_ends : (def : ViewDef) (h : History) (s : ℕ) (o : Option Span) → IsWi
 top_of_ends def h s None width ok = tt
 top_of_ends def h s (Some span) width ok = top_ends def.fold span (rows_at def.table h s) width (rows_are_times.rows def.table h s ok)
 
--- the watermark of whatever aggregate with a width
-pub watermark_ends : (n : ℕ) (def : ViewDef) (h : History) → IsWidth def.fold.width → all_allowed h ≡ true → IfSome (watermark n def h) (IsMark def.fold.width)
-watermark_ends n def start width ok = tt
-watermark_ends n def (h ▸ Built cut snap) width ok =
+-- the watermark of an aggregate whose mode may have changed
+pub watermark_ends : (n : ℕ) (def : ViewDef) (h : History) → IsWidth def.fold.width → IsOf def (view_of (roster h) n) → all_allowed h ≡ true → IfSome (watermark n def h) (IsMark def.fold.width)
+watermark_ends n def start width is ok = tt
+watermark_ends n def (resumed i) width is ok = (kept_facts n def i ok is).marked
+watermark_ends n def (h ▸ Built cut snap) width is ok =
     let before = (and_parts (all_allowed h) (allowed h (Built cut snap)) ok).0 in
-    greater_some (IsMark def.fold.width) (watermark n def h) (top_of def h snap (span_of_cut n h cut)) (watermark_ends n def h width before) (top_of_ends def h snap (span_of_cut n h cut) width before)
-watermark_ends n def (h ▸ x) width ok = watermark_ends n def h width (and_parts (all_allowed h) _ ok).0
+    greater_some (IsMark def.fold.width) (watermark n def h) (top_of def h snap (span_of_cut n h cut)) (watermark_ends n def h width is before) (top_of_ends def h snap (span_of_cut n h cut) width before)
+watermark_ends n def (h ▸ x) width is ok = watermark_ends n def h width (is_of_before def h x n is) (and_parts (all_allowed h) _ ok).0
 
 rows_times : (t : ℕ) (h : History) → all_allowed h ≡ true → list_all (λ row. is_time row.at) (rows t h) ≡ true
 rows_times t h ok = ap (λ g. list_all (λ row. is_time row.at) (rows t g)) (sym (prefix_end h (position h) (omega arith))) ∙ rows_are_times.rows t h (position h) ok
 
-pub window_ends : (n : ℕ) (def : ViewDef) (h : History) → IsWidth def.fold.width → all_allowed h ≡ true → IfSome (greater (watermark n def h) (last_end def.fold.width (rows def.table h))) (IsMark def.fold.width)
-window_ends n def h width ok = greater_some (IsMark def.fold.width) (watermark n def h) (last_end def.fold.width (rows def.table h)) (watermark_ends n def h width ok) (last_end_ends def.fold.width (rows def.table h) width (rows_times def.table h ok))
+pub window_ends : (n : ℕ) (def : ViewDef) (h : History) → IsWidth def.fold.width → IsOf def (view_of (roster h) n) → all_allowed h ≡ true → IfSome (greater (watermark n def h) (last_end def.fold.width (rows def.table h))) (IsMark def.fold.width)
+window_ends n def h width is ok = greater_some (IsMark def.fold.width) (watermark n def h) (last_end def.fold.width (rows def.table h)) (watermark_ends n def h width is ok) (last_end_ends def.fold.width (rows def.table h) width (rows_times def.table h ok))
 
 pub marks_are_ends : MarksAreEnds
 marks_are_ends = record {
-  marks = λ n def h ok there. watermark_ends n def h (view_width h n def ok there) ok;
-  ends = λ n def h ok there. window_ends n def h (view_width h n def ok there) ok;
+  marks = λ n def h ok there. watermark_ends n def h (view_width h n def ok there) (is_of_itself def (view_of (roster h) n) there) ok;
+  ends = λ n def h ok there. window_ends n def h (view_width h n def ok there) (is_of_itself def (view_of (roster h) n) there) ok;
 }

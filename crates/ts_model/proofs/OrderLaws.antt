@@ -16,8 +16,9 @@ use Rattle.ts_schema.specs.Conditions.{passes_all}
 use Rattle.ts_model.specs.declared.events.Event.TheVariants.{Table, Hyper, View, Mode, Commit, Cut, Built}
 use Rattle.ts_model.specs.declared.events.Op.{Op}
 use Rattle.ts_model.specs.declared.events.Op.TheVariants.{Insert, Delete}
-use Rattle.ts_model.specs.History.{start, ◌▸◌}
+use Rattle.ts_model.specs.History.{start, resumed, ◌▸◌}
 use Rattle.ts_model.specs.Rows.{with_row, with_rows, after_op, after_ops, rows}
+use Rattle.ts_model.specs.Saved.{appended_over}
 use Rattle.ts_model.specs.Scratch.{keys_of, once}
 use Rattle.ts_model.specs.Laws.{InOrder, Rises, IsOnce, RowsStandInOrder, ResultsComeInOrder}
 use Rattle.ts_schema.proofs.Cases.{or_swapped}
@@ -91,6 +92,7 @@ in_order-after_ops t (op ∷ ops) xs o = in_order-after_ops t ops (after_op t op
 
 pub rows_stand_in_order : RowsStandInOrder
 rows_stand_in_order t start = tt
+rows_stand_in_order t (resumed i) = in_order-with_rows (appended_over t i.rows) [] tt
 rows_stand_in_order t (h ▸ Table def) = rows_stand_in_order t h
 rows_stand_in_order t (h ▸ Hyper u hyper) = rows_stand_in_order t h
 rows_stand_in_order t (h ▸ View def) = rows_stand_in_order t h

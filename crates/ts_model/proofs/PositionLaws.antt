@@ -2,7 +2,7 @@
 use Rattle.std.proofs.Common.{refl}
 use Rattle.ts_model.specs.PositionLaws.{PositionsCount, AtPositions}
 use Rattle.ts_model.proofs.HistoryLaws.{root_followed, position_is, root_begins, prefix_stays}
-use Rattle.ts_model.proofs.GroupLaws.{scratch_at_is}
+use Rattle.ts_model.proofs.GroupLaws.{groups_at_is, scratch_at_is}
 
 pub positions_count : PositionsCount
 positions_count = record { followed = root_followed; counted = position_is; kept = λ g h q. root_begins q }
@@ -10,7 +10,7 @@ positions_count = record { followed = root_followed; counted = position_is; kept
 pub at_positions : AtPositions
 at_positions = record {
   rows = λ t h s. refl;
-  groups = λ n def h s b. refl;
+  groups = groups_at_is;
   cells = scratch_at_is;
   tops = λ def h s span. refl;
   touches = λ n def h s b. refl;

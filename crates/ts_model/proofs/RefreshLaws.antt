@@ -1,6 +1,7 @@
 -- Laws of refreshes: what was last refreshed stays as it was, nothing stood at or above the watermark, and watermark and threshold never fall.
-use Rattle.std.proofs.Common.{◌≡◌, ℕ, ◌<◌, ◌≤◌, max, Bool, true, false, ◌&&◌, ◌||◌, cond, nat_le, List, [], ◌∷◌, map, ℤ, ◌+ℤ◌, int_lt, Option, Some, None, ◌⊎◌, inl, inr, ⊎_elim, sym, refl, ap, ◌∙◌, subst, arith}
-use Rattle.std.proofs.lemmas.Bool.{true≢false, or_parts, or_left, and_left, and_right, and_parts, leb-true, cond-false, cases_Bool, cases_lt}
+use Rattle.std.proofs.Common.{◌≡◌, ℕ, ◌<◌, ◌≤◌, max, Bool, true, false, ◌&&◌, ◌||◌, cond, nat_lt, nat_le, List, [], ◌∷◌, map, ℤ, ◌+ℤ◌, int_lt, Option, Some, None, ◌⊎◌, inl, inr, ⊎_elim, sym, refl, ap, ◌∙◌, subst, arith}
+use Rattle.std.proofs.lemmas.Bool.{true≢false, or_parts, or_left, and_left, and_right, and_parts, leb-true, lt-ltb, cond-false, cases_Bool, cases_lt}
+use Rattle.std.specs.Prelude.{is_some}
 use Rattle.std.proofs.lemmas.Int.{ints}
 use Rattle.ts_num.specs.Aggregates.{greater}
 use Rattle.ts_bucket.specs.Bucket.{IsWidth, holds, is_bucket, bucket_of}
@@ -13,19 +14,23 @@ use Rattle.ts_schema.specs.declared.rows.Row.{Row}
 use Rattle.ts_schema.specs.Conditions.{passes_all}
 use Rattle.ts_model.specs.declared.events.Event.{Event}
 use Rattle.ts_model.specs.declared.events.Event.TheVariants.{Cut, Built}
+use Rattle.ts_model.specs.declared.images.Image.{Image}
 use Rattle.ts_model.specs.declared.views.ViewDef.{ViewDef}
 use Rattle.ts_model.specs.declared.views.Fold.{Fold}
-use Rattle.ts_model.specs.History.{History, start, ◌▸◌, position, Begins, same, further}
-use Rattle.ts_model.specs.Roster.{roster, view_of}
+use Rattle.ts_model.specs.History.{History, start, resumed, ◌▸◌, position, base_position, Begins, same, further}
+use Rattle.ts_model.specs.Saved.{saved, saved_last, is_dirty, saved_groups}
+use Rattle.ts_model.specs.Roster.{IsOf, roster, view_of}
 use Rattle.ts_model.specs.Rows.{rows, rows_at}
 use Rattle.ts_model.specs.Scratch.{bucket_rows, group_rows, scratch}
-use Rattle.ts_model.specs.Groups.{groups_in, cells_of, scratch_at}
+use Rattle.ts_model.specs.Groups.{bucket_groups, groups_in, cells_of, stood, scratch_at}
 use Rattle.ts_model.specs.Refreshes.{span_of_cut, last, is_covered, top_in, top_at, top_of, watermark, is_over, threshold}
 use Rattle.ts_bucket.specs.WholeSpans.{is_below}
 use Rattle.ts_model.specs.Allowed.{allowed, all_allowed}
 use Rattle.ts_model.specs.Sound.{finish_fits, sound}
 use Rattle.ts_model.specs.Laws.{NothingAboveWatermark, WatermarkNeverFalls, ThresholdNeverFalls}
-use Rattle.ts_model.proofs.HistoryLaws.{prefix_end, prefix_stays}
+use Rattle.ts_model.proofs.ValidLaws.{KeptFacts, kept_facts, lasts_below}
+use Rattle.ts_model.proofs.HistoryLaws.{base_below, prefix_end, prefix_stays}
+use Rattle.ts_model.proofs.RosterLaws.{is_of_before, is_of_itself}
 use Rattle.ts_model.proofs.GroupLaws.{scratch_at_is}
 use Rattle.ts_model.proofs.SoundLaws.{view_width}
 
@@ -33,11 +38,11 @@ use Rattle.ts_model.proofs.SoundLaws.{view_width}
 
 -- at its end, or later, a history has its own aggregation
 pub scratch_at_end : (n : ℕ) (def : ViewDef) (h : History) (s : ℕ) (b : ℤ) → position h ≤ s → scratch_at n def h s b ≡ scratch def h b
-scratch_at_end n def h s b l = scratch_at_is n def h s b ∙ ap (λ g. scratch def g b) (prefix_end h s l)
+scratch_at_end n def h s b l = scratch_at_is n def h s b (omega (arith, base_below h)) ∙ ap (λ g. scratch def g b) (prefix_end h s l)
 
 -- more events change no aggregation of an earlier position
 pub scratch_at_begins : (n : ℕ) (def : ViewDef) {g h : History} (s : ℕ) (b : ℤ) → Begins g h → s ≤ position g → scratch_at n def h s b ≡ scratch_at n def g s b
-scratch_at_begins n def s b q l = ap (λ k. map (cells_of def.fold) (groups_in def.fold (rows def.table k) b)) (prefix_stays s q l)
+scratch_at_begins n def s b q l = ap (λ k. map (cells_of def.fold) (stood n def k s b)) (prefix_stays s q l)
 
 pub scratch_at_further : (n : ℕ) (def : ViewDef) (h : History) (e : Event) (s : ℕ) (b : ℤ) → s ≤ position h → scratch_at n def (h ▸ e) s b ≡ scratch_at n def h s b
 scratch_at_further n def h e s b l = scratch_at_begins n def s b (further same) l
@@ -81,8 +86,8 @@ none_above fold span b (row ∷ xs) width bucket inside e =
     ∙ none_above fold span b xs width bucket inside parts.1
 
 -- a bucket of a span at or above the span's top at a position had no result row there
-pub none_at : (n : ℕ) (def : ViewDef) (h : History) (s : ℕ) (span : Span) (b : ℤ) → IsWidth def.fold.width → is_bucket def.fold.width b ≡ true → in_span span b ≡ true → is_below b (top_at def h s span) ≡ false → scratch_at n def h s b ≡ []
-none_at n def h s span b width bucket inside e = scratch_at_is n def h s b ∙ ap (group_rows def.fold b) (none_above def.fold span b (rows_at def.table h s) width bucket inside e)
+pub none_at : (n : ℕ) (def : ViewDef) (h : History) (s : ℕ) (span : Span) (b : ℤ) → base_position h ≤ s → IsWidth def.fold.width → is_bucket def.fold.width b ≡ true → in_span span b ≡ true → is_below b (top_at def h s span) ≡ false → scratch_at n def h s b ≡ []
+none_at n def h s span b from_base width bucket inside e = scratch_at_is n def h s b from_base ∙ ap (group_rows def.fold b) (none_above def.fold span b (rows_at def.table h s) width bucket inside e)
 
 -- ---- the last refresh
 
@@ -92,6 +97,13 @@ built_bounds h cut snap e =
     let is_sound = and_parts (finish_fits h cut snap) _ (and_parts (sound h (Built cut snap)) _ e).0 in
     leb-true snap (position h) (and_parts _ (nat_le snap (position h)) is_sound.0).1
 
+-- nor before the base
+pub built_from_base : (h : History) (cut snap : ℕ) → allowed h (Built cut snap) ≡ true → base_position h ≤ snap
+built_from_base h cut snap e =
+    let is_sound = and_parts (finish_fits h cut snap) _ (and_parts (sound h (Built cut snap)) _ e).0 in
+    let taken = and_parts _ (nat_le snap (position h)) is_sound.0 in
+    leb-true (base_position h) snap (and_parts _ (nat_le (base_position h) snap) taken.0).1
+
 pub covered_snap : (covered : Bool) (snap s : ℕ) → cond covered (Some snap) None ≡ Some s → (covered ≡ true) × (snap ≡ s)
 covered_snap true snap s e = (refl, cc)
 covered_snap false snap s e = absurd (cc)
@@ -99,6 +111,7 @@ covered_snap false snap s e = absurd (cc)
 -- the last refresh of a bucket is not after the history
 pub last_bounded : (n : ℕ) (h : History) (b : ℤ) (s : ℕ) → all_allowed h ≡ true → last n h b ≡ Some s → s ≤ position h
 last_bounded n start b s ok e = absurd (cc)
+last_bounded n (resumed i) b s ok e = omega (arith, lasts_below n i ok b s e)
 last_bounded n (h ▸ Built cut snap) b s ok e =
     ⊎_elim
     (λ before. omega (arith, last_bounded n h b s (and_parts _ _ ok).0 before))
@@ -106,9 +119,9 @@ last_bounded n (h ▸ Built cut snap) b s ok e =
     (later_is (last n h b) (cond (is_covered b (span_of_cut n h cut)) (Some snap) None) s e)
 last_bounded n (h ▸ x) b s ok e = omega (arith, last_bounded n h b s (and_parts _ _ ok).0 e)
 
-covering : (n : ℕ) (def : ViewDef) (h : History) (snap : ℕ) (b : ℤ) (o : Option Span) → IsWidth def.fold.width → is_bucket def.fold.width b ≡ true → is_covered b o ≡ true → is_below b (top_of def h snap o) ≡ false → scratch_at n def h snap b ≡ []
-covering n def h snap b None width bucket covered e = absurd (true≢false (sym covered))
-covering n def h snap b (Some span) width bucket covered e = none_at n def h snap span b width bucket covered e
+covering : (n : ℕ) (def : ViewDef) (h : History) (snap : ℕ) (b : ℤ) (o : Option Span) → base_position h ≤ snap → IsWidth def.fold.width → is_bucket def.fold.width b ≡ true → is_covered b o ≡ true → is_below b (top_of def h snap o) ≡ false → scratch_at n def h snap b ≡ []
+covering n def h snap b None from_base width bucket covered e = absurd (true≢false (sym covered))
+covering n def h snap b (Some span) from_base width bucket covered e = none_at n def h snap span b from_base width bucket covered e
 
 nothing_above_further : (n : ℕ) (def : ViewDef) (h : History) (x : Event) (b : ℤ) (s : ℕ) → all_allowed (h ▸ x) ≡ true → last n h b ≡ Some s → scratch_at n def h s b ≡ [] → scratch_at n def (h ▸ x) s b ≡ []
 nothing_above_further n def h x b s ok e before =
@@ -121,19 +134,31 @@ nothing_above_built n def h cut snap b s width bucket ok e mark before =
     (λ earlier. nothing_above_further n def h (Built cut snap) b s ok earlier (before earlier marks.0))
     (λ now.
     let this = covered_snap (is_covered b (span_of_cut n h cut)) snap s now in
-    let none : scratch_at n def h snap b ≡ [] = covering n def h snap b (span_of_cut n h cut) width bucket this.0 marks.1 in
+    let none : scratch_at n def h snap b ≡ [] = covering n def h snap b (span_of_cut n h cut) (built_from_base h cut snap (and_parts _ _ ok).1) width bucket this.0 marks.1 in
     let P : ℕ → Type 0 = λ k. scratch_at n def (h ▸ Built cut snap) k b ≡ [] in
     subst P this.1 (scratch_at_further n def h (Built cut snap) snap b (built_bounds h cut snap (and_parts _ _ ok).1) ∙ none))
     (later_is (last n h b) (cond (is_covered b (span_of_cut n h cut)) (Some snap) None) s e)
 
-nothing_above : (n : ℕ) (def : ViewDef) (h : History) (b : ℤ) (s : ℕ) → IsWidth def.fold.width → is_bucket def.fold.width b ≡ true → all_allowed h ≡ true → last n h b ≡ Some s → is_below b (watermark n def h) ≡ false → scratch_at n def h s b ≡ []
-nothing_above n def start b s width bucket ok e mark = refl
-nothing_above n def (h ▸ Built cut snap) b s width bucket ok e mark =
-    nothing_above_built n def h cut snap b s width bucket ok e mark (λ earlier below. nothing_above n def h b s width bucket (and_parts _ _ ok).0 earlier below)
-nothing_above n def (h ▸ x) b s width bucket ok e mark = nothing_above_further n def h x b s ok e (nothing_above n def h b s width bucket (and_parts _ _ ok).0 e mark)
+-- an image keeps nothing at or above the mark
+nothing_kept : (n : ℕ) (def : ViewDef) (i : Image) (b : ℤ) (s : ℕ) → IsWidth def.fold.width → is_bucket def.fold.width b ≡ true → KeptFacts def i (saved n i) → saved_last n i b ≡ Some s → is_below b (saved n i).mark ≡ false → scratch_at n def (resumed i) s b ≡ []
+nothing_kept n def i b s width bucket facts e mark =
+    let below : nat_lt s i.pos ≡ true = lt-ltb s i.pos (facts.lasts b s e).below in
+    elim (is_dirty n i b) as (λ t. is_dirty n i b ≡ t → map (cells_of def.fold) (cond (nat_lt s i.pos && t) (saved_groups n i b) (groups_in def.fold (rows def.table (resumed i)) b)) ≡ []) [
+      | true ↦ λ _. ap (λ c. map (cells_of def.fold) (cond (c && true) (saved_groups n i b) (groups_in def.fold (rows def.table (resumed i)) b))) below ∙ ap (map (cells_of def.fold)) (facts.groups_below b mark)
+      | false ↦ λ clean.
+          ap (λ c. map (cells_of def.fold) (cond c (saved_groups n i b) (groups_in def.fold (rows def.table (resumed i)) b))) (and_right (nat_lt s i.pos) false refl)
+          ∙ ap (λ xs. map (cells_of def.fold) (bucket_groups def.fold b xs)) (facts.rows_below b width bucket (ap is_some e) clean mark)
+    ] refl
+
+nothing_above : (n : ℕ) (def : ViewDef) (h : History) (b : ℤ) (s : ℕ) → IsWidth def.fold.width → is_bucket def.fold.width b ≡ true → IsOf def (view_of (roster h) n) → all_allowed h ≡ true → last n h b ≡ Some s → is_below b (watermark n def h) ≡ false → scratch_at n def h s b ≡ []
+nothing_above n def start b s width bucket is ok e mark = refl
+nothing_above n def (resumed i) b s width bucket is ok e mark = nothing_kept n def i b s width bucket (kept_facts n def i ok is) e mark
+nothing_above n def (h ▸ Built cut snap) b s width bucket is ok e mark =
+    nothing_above_built n def h cut snap b s width bucket ok e mark (λ earlier below. nothing_above n def h b s width bucket is (and_parts _ _ ok).0 earlier below)
+nothing_above n def (h ▸ x) b s width bucket is ok e mark = nothing_above_further n def h x b s ok e (nothing_above n def h b s width bucket (is_of_before def h x n is) (and_parts _ _ ok).0 e mark)
 
 pub nothing_above_watermark : NothingAboveWatermark
-nothing_above_watermark n def h b s ok there bucket e mark = nothing_above n def h b s (view_width h n def ok there) bucket ok e mark
+nothing_above_watermark n def h b s ok there bucket e mark = nothing_above n def h b s (view_width h n def ok there) bucket (is_of_itself def (view_of (roster h) n) there) ok e mark
 
 -- ---- watermark and threshold never fall
 

@@ -12,8 +12,8 @@ use Rattle.ts_model.specs.declared.rosters.Roster.{Roster}
 use Rattle.ts_model.specs.declared.tables.Hyper.{Hyper as HyperInfo}
 use Rattle.ts_model.specs.declared.tables.TableInfo.{TableInfo}
 use Rattle.ts_model.specs.declared.views.ViewDef.{ViewDef}
-use Rattle.ts_model.specs.History.{◌▸◌, same, further}
-use Rattle.ts_model.specs.Roster.{change_at, made_hyper, set_only, roster_after, roster, table_of, view_of, same_name}
+use Rattle.ts_model.specs.History.{History, ◌▸◌, same, further}
+use Rattle.ts_model.specs.Roster.{IsOf, change_at, made_hyper, set_only, roster_after, roster, table_of, view_of, same_name}
 use Rattle.ts_model.specs.Laws.{KeepsHyper, KeepsTable, KeepsView, KeepsRelations, RelationsStay}
 
 -- ---- lists that grow at the end, and lists with one item changed
@@ -160,3 +160,19 @@ relations_trans q r s a b = record {
 pub relations_stay : RelationsStay
 relations_stay g h same = relations_themselves (roster g)
 relations_stay g h (further {h = k} {e = e} q) = relations_trans (roster g) (roster k) (roster (k ▸ e)) (relations_stay g k q) (relations_further (roster k) e)
+
+-- ---- an aggregate whose mode may have changed
+
+of_before : (def : ViewDef) (was now : Option ViewDef) → ((d : ViewDef) → was ≡ Some d → KeepsView d now) → IsOf def now → IsOf def was
+of_before def None now keeps e = tt
+of_before def (Some d) now keeps e =
+    let kept = keeps d refl in
+    let P : Option ViewDef → Type 0 = λ o. IsOf def o in
+    subst P kept.there e
+
+-- what has the table and the grouping of an aggregate after an event had them before it
+pub is_of_before : (def : ViewDef) (h : History) (e : Event) (n : ℕ) → IsOf def (view_of (roster (h ▸ e)) n) → IsOf def (view_of (roster h) n)
+is_of_before def h e n i = of_before def (view_of (roster h) n) (view_of (roster (h ▸ e)) n) ((relations_further (roster h) e).views n) i
+
+pub is_of_itself : (def : ViewDef) (o : Option ViewDef) → o ≡ Some def → IsOf def o
+is_of_itself def o e = let P : Option ViewDef → Type 0 = λ x. IsOf def x in subst P (sym e) (refl, refl)

@@ -1,5 +1,5 @@
 -- The roster of an allowed history is sound: all that it holds is there and in range.
-use Rattle.std.proofs.Common.{◌≡◌, ℕ, zero, suc, ◌+◌, ◌<◌, ◌≤◌, Bool, true, nat_lt, nat_le, ◌==◌, List, [], ◌∷◌, ◌++◌, length, length-append, pos, int_lt, int_le, Option, Some, None, ◌⊎◌, inl, inr, ⊎_elim, sym, refl, ap, ◌∙◌, subst, arith}
+use Rattle.std.proofs.Common.{◌≡◌, ℕ, zero, suc, ◌+◌, ◌<◌, ◌≤◌, Bool, true, ◌&&◌, nat_lt, nat_le, ◌==◌, List, [], ◌∷◌, ◌++◌, length, length-append, pos, int_lt, int_le, Option, Some, None, ◌⊎◌, inl, inr, ⊎_elim, sym, refl, ap, ◌∙◌, subst, arith}
 use Rattle.std.specs.Prelude.{slice_get, unwrap_or}
 use Rattle.std.proofs.lemmas.Bool.{true≢false, and_parts, and_from, ltb-true}
 use Rattle.ts_bucket.specs.Bucket.{IsWidth, max_step, is_width}
@@ -12,13 +12,15 @@ use Rattle.ts_model.specs.declared.tables.Hyper.{Hyper as HyperInfo}
 use Rattle.ts_model.specs.declared.tables.TableDef.{TableDef}
 use Rattle.ts_model.specs.declared.tables.TableInfo.{TableInfo}
 use Rattle.ts_model.specs.declared.views.ViewDef.{ViewDef}
-use Rattle.ts_model.specs.History.{History, start, ◌▸◌}
-use Rattle.ts_model.specs.Roster.{no_relations, change_at, made_hyper, set_only, roster_after, roster, table_of, of_hyper, of_table, view_of}
+use Rattle.ts_model.specs.History.{History, start, resumed, ◌▸◌}
+use Rattle.ts_model.specs.Roster.{no_relations, change_at, made_hyper, set_only, roster_after, roster_over, roster, table_of, of_hyper, of_table, view_of}
 use Rattle.ts_model.specs.Limits.{most_relations, most_columns}
 use Rattle.ts_model.specs.Sound.{are_names, fold_fits, output_count, hyper_fits, view_fits, sound_in, sound_at, sound}
-use Rattle.ts_model.specs.Timely.{timely_in, timely}
+use Rattle.ts_model.specs.Timely.{has_room, timely_in, timely}
+use Rattle.ts_model.specs.Valid.{may_follow, make_views, make_relations}
 use Rattle.ts_model.specs.Allowed.{all_allowed, allowed}
 use Rattle.ts_model.specs.Laws.{is_hyper_sound, is_table_sound, IsSoundRoster, RostersAreSound, WidthsAreSound}
+use Rattle.ts_model.proofs.ValidLaws.{valid_is}
 use Rattle.ts_model.proofs.RosterLaws.{relations_further, length-change_at}
 use Rattle.ts_model.proofs.AllowedLaws.{sound_in_stays}
 use Rattle.ts_schema.proofs.Cases.{int_le-true, le-int_le, int_lt-true, lt-int_lt}
@@ -136,6 +138,37 @@ sound_after r (View def) fits next ok = after_view r def fits (and_parts _ (nat_
 sound_after r (Mode v only) fits next ok = after_mode r v only ok
 sound_after r e fits next ok = ok
 
+-- ---- many events
+
+views_sound : (r : Roster) (es : List Event) → make_views r es ≡ true → IsSoundRoster r → IsSoundRoster (roster_over r es)
+views_sound r [] e ok = ok
+views_sound r (View def ∷ es) e ok =
+    let parts = and_parts (may_follow r (View def)) (make_views (roster_after r (View def)) es) e in
+    let now = and_parts (sound_in r (View def)) (timely_in r (View def)) parts.0 in
+    views_sound (roster_after r (View def)) es parts.1 (sound_after r (View def) now.0 now.1 ok)
+views_sound r (x ∷ es) e ok = absurd (true≢false (sym e))
+
+pub relations_sound : (r : Roster) (es : List Event) → make_relations r es ≡ true → IsSoundRoster r → IsSoundRoster (roster_over r es)
+relations_sound r [] e ok = ok
+relations_sound r (Table def ∷ es) e ok =
+    let parts = and_parts (may_follow r (Table def)) (make_relations (roster_after r (Table def)) es) e in
+    let now = and_parts (sound_in r (Table def)) (timely_in r (Table def)) parts.0 in
+    relations_sound (roster_after r (Table def)) es parts.1 (sound_after r (Table def) now.0 now.1 ok)
+relations_sound r (Hyper t hyper ∷ es) e ok =
+    let parts = and_parts (suc t == length r.tables && may_follow r (Hyper t hyper)) (make_relations (roster_after r (Hyper t hyper)) es) e in
+    let now = and_parts (sound_in r (Hyper t hyper)) (timely_in r (Hyper t hyper)) (and_parts (suc t == length r.tables) (may_follow r (Hyper t hyper)) parts.0).1 in
+    relations_sound (roster_after r (Hyper t hyper)) es parts.1 (sound_after r (Hyper t hyper) now.0 now.1 ok)
+relations_sound r (View def ∷ es) e ok = views_sound r (View def ∷ es) e ok
+relations_sound r (x ∷ es) e ok = absurd (true≢false (sym e))
+
+no_relations_sound : IsSoundRoster no_relations
+no_relations_sound = record {
+  tables = λ t info e. absurd (cc);
+  views = λ n def e. absurd (cc);
+  few_tables = omega arith;
+  few_views = omega arith;
+}
+
 -- ---- histories
 
 -- an allowed event is sound and timely in the roster
@@ -150,15 +183,11 @@ sound_in_roster h (Built cut snap) s = refl
 
 pub timely_in_roster : (h : History) (e : Event) → timely h e ≡ true → timely_in (roster h) e ≡ true
 timely_in_roster h (Built cut snap) s = refl
-timely_in_roster h e s = s
+timely_in_roster h e s = (and_parts (timely_in (roster h) e) (has_room h) s).0
 
 pub rosters_are_sound : RostersAreSound
-rosters_are_sound start ok = record {
-  tables = λ t info e. absurd (cc);
-  views = λ n def e. absurd (cc);
-  few_tables = omega arith;
-  few_views = omega arith;
-}
+rosters_are_sound start ok = no_relations_sound
+rosters_are_sound (resumed i) ok = relations_sound no_relations i.roster (valid_is i ok).relations no_relations_sound
 rosters_are_sound (h ▸ e) ok =
     let parts = and_parts (all_allowed h) (allowed h e) ok in
     let now = and_parts (sound h e) (timely h e) parts.1 in

@@ -1,7 +1,7 @@
 -- A bucket that no commit touched after a position has the aggregation that it had there.
-use Rattle.std.proofs.Common.{◌≡◌, ℕ, suc, ◌<◌, ◌≤◌, Bool, true, false, ◌&&◌, ◌||◌, not, cond, nat_lt, ◌==◌, List, [], ◌∷◌, ◌++◌, filter, ℤ, Option, Some, None, sym, refl, ap, ◌∙◌, arith}
+use Rattle.std.proofs.Common.{◌≡◌, ℕ, suc, ◌<◌, ◌≤◌, Bool, true, false, ◌&&◌, ◌||◌, not, cond, nat_lt, ◌==◌, List, [], ◌∷◌, ◌++◌, filter, map, ℤ, Option, Some, None, sym, refl, ap, ◌∙◌, arith}
 use Rattle.std.specs.List.{list_any}
-use Rattle.std.proofs.lemmas.Bool.{true≢false, and_parts, and_from, or_parts, or_from, and_left, lt-ltb, ltb-false}
+use Rattle.std.proofs.lemmas.Bool.{true≢false, and_parts, and_from, or_parts, or_from, and_left, and_right, cond-false, lt-ltb, ltb-false}
 use Rattle.std.proofs.lemmas.Int.{ints}
 use Rattle.ts_bucket.specs.Bucket.{IsWidth, holds, is_bucket, bucket_of}
 use Rattle.ts_bucket.specs.Ranges.{lies_in}
@@ -11,24 +11,26 @@ use Rattle.ts_bucket.specs.Spans.{meets}
 use Rattle.ts_bucket.specs.Positions.{is_above}
 use Rattle.ts_bucket.specs.declared.spans.Hull.{Hull}
 use Rattle.ts_bucket.specs.declared.widths.Width.{Width}
-use Rattle.ts_bucket.proofs.PositionLaws.{is_above-later}
+use Rattle.ts_bucket.proofs.PositionLaws.{is_above-later, is_above-greater}
 use Rattle.ts_schema.specs.declared.rows.Row.{Row}
 use Rattle.ts_schema.specs.Conditions.{passes_all}
+use Rattle.ts_model.specs.declared.events.Event.{Event}
 use Rattle.ts_model.specs.declared.events.Event.TheVariants.{Commit}
 use Rattle.ts_model.specs.declared.events.Op.{Op}
 use Rattle.ts_model.specs.declared.events.Op.TheVariants.{Insert, Delete}
 use Rattle.ts_model.specs.declared.views.ViewDef.{ViewDef}
 use Rattle.ts_model.specs.declared.views.Fold.{Fold}
-use Rattle.ts_model.specs.History.{History, start, ◌▸◌, position, prefix}
+use Rattle.ts_model.specs.History.{History, start, resumed, ◌▸◌, position, root, prefix}
 use Rattle.ts_model.specs.Rows.{with_rows, after_op, after_ops, rows, rows_at}
 use Rattle.ts_model.specs.Effect.{appended_by, taken_by, all_appended, all_taken, hull_with, hull_of, hull_of_ops}
 use Rattle.ts_model.specs.Scratch.{bucket_rows, group_rows}
-use Rattle.ts_model.specs.Groups.{bucket_groups}
+use Rattle.ts_model.specs.Groups.{bucket_groups, groups_in, cells_of, stood, groups_at}
+use Rattle.ts_model.specs.Saved.{is_dirty, saved_groups}
 use Rattle.ts_model.specs.Refreshes.{is_met, touches, last_touch, last_touch_at, touched}
 use Rattle.ts_model.specs.Laws.{UntouchedKeepsRows, UntouchedKeepsGroups, UntouchedKeeps, UntouchedBetween, SpansKeepGroups}
 use Rattle.ts_model.specs.Jobs.{rows_of_spans}
 use Rattle.ts_model.proofs.HistoryLaws.{prefix_prefix}
-use Rattle.ts_model.proofs.GroupLaws.{scratch_at_is}
+use Rattle.ts_model.proofs.GroupLaws.{cells_are_scratch}
 use Rattle.ts_model.proofs.RowLaws.{filter-with_row_left}
 
 -- ---- what a test selects, where all rows that move fail it
@@ -116,25 +118,63 @@ untouched_commit n def h ops b s e before =
 
 pub untouched_rows : UntouchedKeepsRows
 untouched_rows n def start b s e = refl
+untouched_rows n def (resumed i) b s e = refl
 untouched_rows n def (h ▸ Commit ops) b s e = untouched_commit n def h ops b s e (λ f. untouched_rows n def h b s f)
 untouched_rows n def (h ▸ x) b s e = either_way (λ g. bucket_rows def.fold b (rows def.table g)) (nat_lt (position h) s) (h ▸ x) (prefix h s) (untouched_rows n def h b s e)
 
+-- what stood in a bucket that wasn't touched after a position are the groups of its rows
+pub stood_untouched : (n : ℕ) (def : ViewDef) (g : History) (s : ℕ) (b : ℤ) → touched n def g b s ≡ false → stood n def g s b ≡ groups_in def.fold (rows def.table g) b
+stood_untouched n def start s b e = refl
+stood_untouched n def (resumed i) s b e =
+    elim (is_dirty n i b) as (λ t. is_above s (cond t (Some i.pos) None) ≡ false → cond (nat_lt s i.pos && t) (saved_groups n i b) (groups_in def.fold (rows def.table (resumed i)) b) ≡ groups_in def.fold (rows def.table (resumed i)) b) [
+      | true ↦ λ f. cond-false _ (saved_groups n i b) (groups_in def.fold (rows def.table (resumed i)) b) (and_left (nat_lt s i.pos) true f)
+      | false ↦ λ _. cond-false _ (saved_groups n i b) (groups_in def.fold (rows def.table (resumed i)) b) (and_right (nat_lt s i.pos) false refl)
+    ] e
+stood_untouched n def (g ▸ x) s b e = refl
+
+-- what wasn't touched wasn't touched earlier
+pub touched_prefix : (n : ℕ) (def : ViewDef) (h : History) (b : ℤ) (s p : ℕ) → touched n def h b s ≡ false → touched n def (prefix h p) b s ≡ false
+touched_prefix n def start b s p e = e
+touched_prefix n def (resumed i) b s p e = e
+touched_prefix n def (h ▸ x) b s p e =
+    elim (nat_lt (position h) p) as (λ t. touched n def (cond t (h ▸ x) (prefix h p)) b s ≡ false) [
+      | true ↦ e
+      | false ↦ touched_prefix n def h b s p (before x e)
+    ]
+  where
+    before : (x : Event) → touched n def (h ▸ x) b s ≡ false → touched n def h b s ≡ false
+    before (Commit ops) f = (or_parts _ _ (sym (is_above-later s (last_touch n def h b) (cond (touches def ops h b) (Some (suc (position h))) None)) ∙ f)).0
+    before x f = f
+
+pub touched_root : (n : ℕ) (def : ViewDef) (h : History) (b : ℤ) (s : ℕ) → touched n def h b s ≡ false → touched n def (root h) b s ≡ false
+touched_root n def start b s e = e
+touched_root n def (resumed i) b s e = e
+touched_root n def (h ▸ x) b s e = touched_root n def h b s (before x e)
+  where
+    before : (x : Event) → touched n def (h ▸ x) b s ≡ false → touched n def h b s ≡ false
+    before (Commit ops) f = (or_parts _ _ (sym (is_above-later s (last_touch n def h b) (cond (touches def ops h b) (Some (suc (position h))) None)) ∙ f)).0
+    before x f = f
+
 pub untouched_groups : UntouchedKeepsGroups
-untouched_groups n def h b s e = ap (bucket_groups def.fold b) (untouched_rows n def h b s e)
+untouched_groups n def h b s e = ap (bucket_groups def.fold b) (untouched_rows n def h b s e) ∙ sym (stood_untouched n def (prefix h s) s b (touched_prefix n def h b s s e))
 
 pub untouched_keeps : UntouchedKeeps
-untouched_keeps n def h b s e = ap (group_rows def.fold b) (untouched_rows n def h b s e) ∙ sym (scratch_at_is n def h s b)
+untouched_keeps n def h b s e = sym (cells_are_scratch def.fold (rows def.table h) b) ∙ ap (map (cells_of def.fold)) (untouched_groups n def h b s e)
 
 -- ---- between two positions
 
 rows_between : (n : ℕ) (def : ViewDef) (h : History) (b : ℤ) (r s : ℕ) → r ≤ s → is_above r (last_touch_at n def h s b) ≡ false → bucket_rows def.fold b (rows_at def.table h s) ≡ bucket_rows def.fold b (rows_at def.table h r)
 rows_between n def h b r s l e = untouched_rows n def (prefix h s) b r e ∙ ap (λ g. bucket_rows def.fold b (rows def.table g)) (prefix_prefix h r s l)
 
+groups_between : (n : ℕ) (def : ViewDef) (h : History) (b : ℤ) (r s : ℕ) → r ≤ s → is_above r (last_touch_at n def h s b) ≡ false → groups_at n def h s b ≡ groups_at n def h r b
+groups_between n def h b r s l e =
+    let before : touched n def (prefix h r) b r ≡ false = ap (λ g. touched n def g b r) (sym (prefix_prefix h r s l)) ∙ touched_prefix n def (prefix h s) b r r e in
+    stood_untouched n def (prefix h s) s b (is_above-greater r s (last_touch_at n def h s b) l e)
+    ∙ ap (bucket_groups def.fold b) (rows_between n def h b r s l e)
+    ∙ sym (stood_untouched n def (prefix h r) r b before)
+
 pub untouched_between : UntouchedBetween
-untouched_between = record {
-  rows = rows_between;
-  groups = λ n def h b r s l e. ap (bucket_groups def.fold b) (rows_between n def h b r s l e);
-}
+untouched_between = record { rows = rows_between; groups = groups_between }
 
 -- ---- rows of spans
 

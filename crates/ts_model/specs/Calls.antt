@@ -22,6 +22,7 @@ use Rattle.ts_model.specs.Roster.{roster, hyper_of, view_of, is_taken}
 use Rattle.ts_model.specs.Rows.{rows}
 use Rattle.ts_model.specs.Effect.{appended_count, taken_count}
 use Rattle.ts_model.specs.Limits.{most_relations}
+use Rattle.ts_model.specs.Timely.{has_room}
 use Rattle.ts_model.specs.Pending.{pending}
 use Rattle.ts_model.specs.Windows.{window}
 use Rattle.ts_model.specs.States.{State, Found, Keeps, Makes, Fails, stands_still}
@@ -54,15 +55,20 @@ too_many = 21
 abbrev pub stopped : ℕ
 stopped = 24
 
+-- an event would be made, and the history is at its end
+abbrev pub history_full : ℕ
+history_full = 30
+
 -- ---- what each call does
 
 -- a refusal at a history, with a number that its reply prints
 abbrev pub refusal : ℕ → History → ℕ → Refusal
 refusal code h mark = record { code = code; pos = position h; mark = mark }
 
--- an event is made, with what is said of it. Each call makes its event through this word
+-- an event is made, with what is said of it, unless the history is at its end. Each call makes its event through this
+-- word
 abbrev pub making : {A : Type 0} → History → Event → A → Act A
-making h e a = makes e a
+making h e a = cond (has_room h) (makes e a) (refuses (refusal history_full h 0))
 
 -- an event, and its number
 abbrev pub numbered : History → Event → Act ℕ

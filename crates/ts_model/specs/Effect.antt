@@ -6,22 +6,13 @@ use Rattle.ts_schema.specs.declared.rows.Row.{Row}
 use Rattle.ts_schema.specs.Conditions.{passes_all}
 use Rattle.ts_model.specs.declared.events.Op.{Op}
 use Rattle.ts_model.specs.declared.events.Op.TheVariants.{Insert, Delete}
+pub use Rattle.ts_model.specs.Saved.{appended_by, all_appended}
 use Rattle.ts_model.specs.Rows.{after_op}
-
--- the rows that an operation appends to table t
-abbrev pub appended_by : ℕ → Op → List Row
-appended_by t (Insert u new) = cond (u == t) new []
-appended_by t (Delete u tests) = []
 
 -- the rows that an operation takes away from table t, which has these rows
 abbrev pub taken_by : ℕ → Op → List Row → List Row
 taken_by t (Insert u new) rows = []
 taken_by t (Delete u tests) rows = cond (u == t) (filter (λ row. passes_all row tests) rows) []
-
--- the rows that these operations append to table t
-abbrev pub all_appended : ℕ → List Op → List Row
-all_appended t [] = []
-all_appended t (op ∷ ops) = appended_by t op ++ all_appended t ops
 
 -- the rows that these operations take away from table t, each from the rows that it finds
 abbrev pub all_taken : ℕ → List Op → List Row → List Row

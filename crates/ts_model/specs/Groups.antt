@@ -1,5 +1,5 @@
 -- Groups: the rows of a bucket with the same keys, aggregated, and what they show.
-use Rattle.std.specs.Prelude.{ℕ, ◌≤◌, List, [], ◌∷◌, ◌++◌, map, flat_map, length, Option, ℤ, IsTrue}
+use Rattle.std.specs.Prelude.{ℕ, ◌&&◌, cond, nat_lt, ◌≤◌, List, [], ◌∷◌, ◌++◌, map, flat_map, length, Option, ℤ, IsTrue}
 use Rattle.std.specs.List.{AllByRecursion}
 use Rattle.ts_num.specs.Aggregates.{shown_or_null}
 use Rattle.ts_num.specs.declared.values.Datum.{Datum}
@@ -12,8 +12,9 @@ use Rattle.partial_agg.specs.Summaries.{Summary, summary, shown}
 use Rattle.ts_model.specs.declared.views.Agg.{Agg}
 use Rattle.ts_model.specs.declared.views.Fold.{Fold}
 use Rattle.ts_model.specs.declared.views.ViewDef.{ViewDef}
-use Rattle.ts_model.specs.History.{History}
-use Rattle.ts_model.specs.Rows.{rows_at}
+use Rattle.ts_model.specs.History.{History, start, resumed, ◌▸◌, prefix}
+use Rattle.ts_model.specs.Rows.{rows}
+use Rattle.ts_model.specs.Saved.{is_dirty, saved_groups}
 use Rattle.ts_model.specs.Scratch.{bucket_rows, key_lists, with_keys, occurring_buckets}
 
 -- ---- what rows are grouped into
@@ -68,10 +69,16 @@ RowsFit fold rows = AllByRecursion (RowFits fold) rows
 
 -- ---- what stood in a bucket
 
--- what stood in a bucket at position s of a history, as groups. The aggregate's number is named, though rows alone
--- don't need it: a saved image will tell by aggregate what stood
+-- what stood in a bucket at position s, as groups, where a history was last at that position or begins above it. Below
+-- an image, it is what the image has saved of a dirty bucket, and in another what stands there
+abbrev pub stood : ℕ → ViewDef → History → ℕ → ℤ → List Group
+stood n def (resumed i) s b =
+    cond (nat_lt s i.pos && is_dirty n i b) (saved_groups n i b) (groups_in def.fold (rows def.table (resumed i)) b)
+stood n def h s b = groups_in def.fold (rows def.table h) b
+
+-- what stood in a bucket at position s of a history
 abbrev pub groups_at : ℕ → ViewDef → History → ℕ → ℤ → List Group
-groups_at n def h s b = groups_in def.fold (rows_at def.table h s) b
+groups_at n def h s b = stood n def (prefix h s) s b
 
 -- what these groups show
 abbrev pub scratch_at : ℕ → ViewDef → History → ℕ → ℤ → List (List Datum)

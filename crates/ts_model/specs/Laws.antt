@@ -19,7 +19,7 @@ use Rattle.ts_bucket.specs.Positions.{is_above}
 use Rattle.ts_bucket.specs.declared.widths.Width.{Width}
 use Rattle.ts_bucket.specs.declared.spans.Span.{Span}
 use Rattle.ts_model.specs.declared.events.Event.{Event}
-use Rattle.ts_model.specs.declared.events.Event.TheVariants.{Table, Hyper as HyperMade, View, Mode, Commit, Built}
+use Rattle.ts_model.specs.declared.events.Event.TheVariants.{Table, Hyper as HyperMade, View, Mode, Commit, Cut, Built}
 use Rattle.ts_model.specs.declared.events.Op.{Op}
 use Rattle.ts_model.specs.declared.tables.TableDef.{TableDef}
 use Rattle.ts_model.specs.Calls.{Act, refuses, returns, makes, making_table, making_hyper, making_view, setting_mode, committing, cutting, finishing}
@@ -36,7 +36,9 @@ use Rattle.ts_model.specs.Refreshes.{last_touch_at, touched, last, watermark, th
 use Rattle.ts_model.specs.Roster.{no_relations, roster, table_of, hyper_of, of_table, view_of, table_named, view_named, set_only}
 use Rattle.ts_model.specs.Answers.{answer, buckets_in, can_ask, ranges}
 use Rattle.ts_model.specs.Reads.{clipped, chunk_within, inserted, rows_near}
-use Rattle.ts_model.specs.Windows.{last_end}
+use Rattle.ts_model.specs.declared.refreshes.Window.{Window}
+use Rattle.ts_model.specs.declared.refreshes.Window.TheVariants.{Whole, NoBucket, Nothing}
+use Rattle.ts_model.specs.Windows.{last_end, window}
 use Rattle.ts_model.specs.Allowed.{all_allowed, allowed}
 use Rattle.ts_model.specs.Fields.{fits_fields}
 use Rattle.ts_model.specs.Limits.{most_relations}
@@ -208,6 +210,12 @@ MakesAllowed h (refuses r) = Unit {0}
 MakesAllowed h (returns a) = Unit {0}
 MakesAllowed h (makes e a) = allowed h e ≡ true
 
+-- the cut of the whole buckets of a window is sound, also where the history is at its end
+abbrev pub SoundCut : ℕ → History → Window → Type 0
+SoundCut n h (Whole span) = sound h (Cut n span) ≡ true
+SoundCut n h NoBucket = Unit {0}
+SoundCut n h Nothing = Unit {0}
+
 -- each call makes allowed events only, where what it is given is sound
 pub record CallsMakeAllowed : Type 0 where
   pub tables : (def : TableDef) (h : History) → sound h (Table def) ≡ true → MakesAllowed h (making_table def h)
@@ -220,6 +228,8 @@ pub record CallsMakeAllowed : Type 0 where
   pub commits : (ops : List Op) (h : History) → sound h (Commit ops) ≡ true → MakesAllowed h (committing ops h)
   pub cuts : (n : ℕ) (lo hi : Option ℤ) (h : History) → all_allowed h ≡ true → ForSome hi (λ t. IsTrue (is_time t))
       → MakesAllowed h (cutting n lo hi h)
+  pub windows : (n : ℕ) (def : ViewDef) (h : History) (lo hi : Option ℤ) → all_allowed h ≡ true
+      → view_of (roster h) n ≡ Some def → ForSome hi (λ t. IsTrue (is_time t)) → SoundCut n h (window n def h lo hi)
   pub finishes : (cut snap : ℕ) (h : History) → sound h (Built cut snap) ≡ true → MakesAllowed h (finishing cut snap h)
 
 -- the ranges of the buckets in a span are the maximal ranges of those that pass

@@ -1,3 +1,4 @@
+pub mod Saved
 pub mod History
 pub mod Roster
 pub mod Rows
@@ -13,6 +14,7 @@ pub mod Bytes
 pub mod Fields
 pub mod Sound
 pub mod Timely
+pub mod Valid
 pub mod Allowed
 pub mod Jobs
 pub mod Reads

@@ -10,6 +10,10 @@ most_relations = 64
 abbrev pub most_columns : ℕ
 most_columns = 16
 
+-- no event comes after this position
+abbrev pub last_position : ℕ
+last_position = 2 ^ 62
+
 -- an event takes fewer bytes than this
 abbrev pub bytes_limit : ℕ
 bytes_limit = 2 ^ 32

@@ -1,19 +1,22 @@
 -- Pending refreshes: what became of each refresh, and which wait.
-use Rattle.std.specs.Prelude.{ℕ, suc, Bool, true, false, not, cond, ◌==◌, List, [], ◌∷◌, ◌++◌, filter}
+use Rattle.std.specs.Prelude.{ℕ, suc, Bool, true, false, not, cond, nat_le, ◌==◌, List, [], ◌∷◌, ◌++◌, filter}
 use Rattle.ts_model.specs.declared.events.Event.TheVariants.{Cut, Built}
 use Rattle.ts_model.specs.declared.refreshes.Pending.{Pending}
 use Rattle.ts_model.specs.declared.refreshes.Pending.TheVariants.{Waiting, Finished, Unknown}
 use Rattle.ts_model.specs.declared.refreshes.Waiting.{Waiting as WaitingRefresh}
-use Rattle.ts_model.specs.History.{History, start, ◌▸◌, position}
+use Rattle.ts_model.specs.History.{History, start, resumed, ◌▸◌, position}
+use Rattle.ts_model.specs.Saved.{pending_among}
 
 -- a refresh that waits is finished by event number k
 abbrev pub finished_by : ℕ → Pending → Pending
 finished_by k (Waiting n) = Finished k
 finished_by k p = p
 
--- what became of refresh number k: it waits from its cut until a Built names it
+-- what became of refresh number k: it waits from its cut until a Built names it. An image tells it of numbers up to
+-- its position
 abbrev pub pending : History → ℕ → Pending
 pending start k = Unknown
+pending (resumed i) k = cond (nat_le k i.pos) (pending_among i.waiting i.done k) Unknown
 pending (h ▸ Cut v span) k = cond (k == suc (position h)) (Waiting v) (pending h k)
 pending (h ▸ Built cut snap) k = cond (k == cut) (finished_by (suc (position h)) (pending h k)) (pending h k)
 pending (h ▸ e) k = pending h k
@@ -21,6 +24,7 @@ pending (h ▸ e) k = pending h k
 -- the refreshes that were cut and not finished, in rising order of their cuts
 abbrev pub waiting : History → List WaitingRefresh
 waiting start = []
+waiting (resumed i) = i.waiting
 waiting (h ▸ Cut v span) = waiting h ++ (record { cut = suc (position h); view = v; span = span } ∷ [])
 waiting (h ▸ Built cut snap) = filter (λ r. not (r.cut == cut)) (waiting h)
 waiting (h ▸ e) = waiting h

@@ -18,10 +18,10 @@ pub record PositionsCount : Type 0 where
 -- what is at a position of a history is what the history with that position has
 pub record AtPositions : Type 0 where
   pub rows : (t : ℕ) (h : History) (s : ℕ) → rows_at t h s ≡ rows t (prefix h s)
-  pub groups : (n : ℕ) (def : ViewDef) (h : History) (s : ℕ) (b : ℤ)
+  pub groups : (n : ℕ) (def : ViewDef) (h : History) (s : ℕ) (b : ℤ) → base_position h ≤ s
       → groups_at n def h s b ≡ groups_in def.fold (rows_at def.table h s) b
-  pub cells :
-      (n : ℕ) (def : ViewDef) (h : History) (s : ℕ) (b : ℤ) → scratch_at n def h s b ≡ scratch def (prefix h s) b
+  pub cells : (n : ℕ) (def : ViewDef) (h : History) (s : ℕ) (b : ℤ) → base_position h ≤ s
+      → scratch_at n def h s b ≡ scratch def (prefix h s) b
   pub tops : (def : ViewDef) (h : History) (s : ℕ) (span : Span)
       → top_at def h s span ≡ top_in def.fold span (rows_at def.table h s)
   pub touches :

@@ -11,9 +11,9 @@ use Rattle.ts_model.specs.declared.queries.Query.{Query}
 use Rattle.ts_model.specs.declared.queries.Query.TheVariants.{Rows, Buckets, Aggregate}
 use Rattle.ts_model.specs.declared.tables.Hyper.{Hyper as HyperInfo}
 use Rattle.ts_model.specs.declared.views.ViewDef.{ViewDef}
-use Rattle.ts_model.specs.History.{History, start, ◌▸◌}
+use Rattle.ts_model.specs.History.{History, start, resumed, ◌▸◌}
 use Rattle.ts_model.specs.Roster.{roster, hyper_of, view_of}
-use Rattle.ts_model.specs.Effect.{all_appended}
+use Rattle.ts_model.specs.Saved.{all_appended, appended_over}
 use Rattle.ts_model.specs.Refreshes.{watermark, invalid, span_of_cut}
 use Rattle.ts_bucket.specs.WholeSpans.{is_below}
 use Rattle.ts_model.specs.Answers.{buckets_in, ranges}
@@ -24,6 +24,7 @@ use Rattle.ts_model.specs.declared.refreshes.Pending.TheVariants.{Waiting}
 -- the rows that were ever inserted into table t, whether removed later or not
 abbrev pub inserted : ℕ → History → List Row
 inserted t start = []
+inserted t (resumed i) = appended_over t i.rows
 inserted t (h ▸ Commit ops) = inserted t h ++ all_appended t ops
 inserted t (h ▸ e) = inserted t h
 

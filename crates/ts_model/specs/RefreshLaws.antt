@@ -1,5 +1,5 @@
 -- Laws of refreshes, each in one sentence: cuts, last refreshes, pending ones, and marks.
-use Rattle.std.specs.Prelude.{◌≡◌, ℕ, ◌≤◌, Bool, true, false, ◌==◌, List, [], ◌∷◌, map, filter, ℤ, Option, Some, None}
+use Rattle.std.specs.Prelude.{◌≡◌, ◌≢◌, ◌⊎◌, IfSome, ℕ, ◌≤◌, Bool, true, false, ◌==◌, List, [], ◌∷◌, map, filter, ℤ, ◌+ℤ◌, Option, Some, None, is_some}
 use Rattle.std.specs.Ordering.{nat_cmp}
 use Rattle.ts_num.specs.Aggregates.{greater}
 use Rattle.ts_bucket.specs.Positions.{is_before}
@@ -11,7 +11,7 @@ use Rattle.ts_model.specs.declared.refreshes.Pending.{Pending}
 use Rattle.ts_model.specs.declared.refreshes.Pending.TheVariants.{Waiting, Finished, Unknown}
 use Rattle.ts_model.specs.declared.refreshes.Waiting.{Waiting as WaitingRefresh}
 use Rattle.ts_model.specs.declared.views.ViewDef.{ViewDef}
-use Rattle.ts_model.specs.History.{History, ◌▸◌}
+use Rattle.ts_model.specs.History.{History, Begins, ◌▸◌, prefix, root}
 use Rattle.ts_model.specs.Roster.{roster, view_of, set_only}
 use Rattle.ts_model.specs.Scratch.{scratch}
 use Rattle.ts_model.specs.Groups.{groups_at}
@@ -53,10 +53,19 @@ waiting_as h k (Waiting n) = waiting_over k n (span_of_cut n h k)
 waiting_as h k (Finished f) = []
 waiting_as h k Unknown = []
 
--- the refreshes that wait are, for each number, what pending says of it, and they come in rising order of their cuts
+-- there is a span of its cut
+abbrev pub has_span : History → ℕ → Pending → Bool
+has_span h k (Waiting n) = is_some (span_of_cut n h k)
+has_span h k (Finished f) = true
+has_span h k Unknown = true
+
+-- the refreshes that wait are, for each number, what pending says of it, they come in rising order of their cuts, and
+-- each has a span
 pub record WaitingIsPending : Type 0 where
-  pub exact : (h : History) (k : ℕ) → filter (λ r. r.cut == k) (waiting h) ≡ waiting_as h k (pending h k)
-  pub rising : (h : History) → Rises nat_cmp (map (λ (r : WaitingRefresh). r.cut) (waiting h))
+  pub exact : (h : History) (k : ℕ) → all_allowed h ≡ true
+      → filter (λ r. r.cut == k) (waiting h) ≡ waiting_as h k (pending h k)
+  pub rising : (h : History) → all_allowed h ≡ true → Rises nat_cmp (map (λ (r : WaitingRefresh). r.cut) (waiting h))
+  pub spans : (h : History) (k : ℕ) → has_span h k (pending h k) ≡ true
 
 -- a finish of a job that fits raises the watermark to the job's top
 abbrev pub FinishesMark : Type 0
@@ -65,6 +74,26 @@ FinishesMark =
     (top : Option ℤ)
     → all_allowed h ≡ true → view_of (roster h) n ≡ Some def → Fits n def h cut snap span spans groups top
     → watermark n def (h ▸ Built cut snap) ≡ greater (watermark n def h) top
+
+-- m is the end of a bucket that a finished refresh covers and that had a result row at its snapshot: before its finish
+-- stood this history
+pub record EndsARow (n : ℕ) (def : ViewDef) (h : History) (m : ℤ) : Type 0 where
+  pub before : History
+  pub cut : ℕ
+  pub snap : ℕ
+  pub span : Span
+  pub bucket : ℤ
+  pub finished : Begins (before ▸ Built cut snap) h
+  pub cut_over : span_of_cut n before cut ≡ Some span
+  pub covered : in_span span bucket ≡ true
+  pub had_row : scratch def (prefix before snap) bucket ≢ []
+  pub ends : bucket +ℤ def.fold.width.step ≡ m
+
+-- the watermark is the one with which the history begins, or the end of such a bucket
+abbrev pub MarksEndRows : Type 0
+MarksEndRows =
+    (n : ℕ) (def : ViewDef) (h : History) → all_allowed h ≡ true → view_of (roster h) n ≡ Some def
+    → IfSome (watermark n def h) (λ m. (watermark n def (root h) ≡ Some m) ⊎ EndsARow n def h m)
 
 -- whether an aggregate shows materialised rows only plays no part in what is stale, nor in what stood in a bucket
 pub record ModePlaysNoPart : Type 0 where

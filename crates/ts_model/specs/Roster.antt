@@ -1,5 +1,5 @@
 -- The roster of a history: the tables and aggregates that it has made.
-use Rattle.std.specs.Prelude.{ℕ, zero, suc, Bool, false, ◌||◌, List, [], ◌∷◌, ◌++◌, Option, Some, None, is_some, unwrap_or, slice_get, position as place, nat_eq, option_and_then}
+use Rattle.std.specs.Prelude.{◌≡◌, ℕ, zero, suc, Bool, false, ◌||◌, List, [], ◌∷◌, ◌++◌, Option, Some, None, is_some, unwrap_or, slice_get, position as place, nat_eq, option_and_then}
 use Rattle.std.specs.Cmp.Lexicographic.{pointwise}
 use Rattle.ts_model.specs.declared.events.Event.{Event}
 use Rattle.ts_model.specs.declared.events.Event.TheVariants.{Table, Hyper, View, Mode}
@@ -8,7 +8,7 @@ use Rattle.ts_model.specs.declared.tables.Hyper.{Hyper as HyperInfo}
 use Rattle.ts_model.specs.declared.tables.TableDef.{TableDef}
 use Rattle.ts_model.specs.declared.tables.TableInfo.{TableInfo}
 use Rattle.ts_model.specs.declared.views.ViewDef.{ViewDef}
-use Rattle.ts_model.specs.History.{History, start, ◌▸◌}
+use Rattle.ts_model.specs.History.{History, start, resumed, ◌▸◌}
 
 -- no table and no aggregate
 abbrev pub no_relations : Roster
@@ -36,9 +36,15 @@ roster_after r (View def) = record r { views = r.views ++ (def ∷ []) }
 roster_after r (Mode v only) = record r { views = change_at r.views v (set_only only) }
 roster_after r e = r
 
+-- the roster after these events
+abbrev pub roster_over : Roster → List Event → Roster
+roster_over r [] = r
+roster_over r (e ∷ es) = roster_over (roster_after r e) es
+
 -- the tables and aggregates of a history, each aggregate with its present mode
 abbrev pub roster : History → Roster
 roster start = no_relations
+roster (resumed i) = roster_over no_relations i.roster
 roster (h ▸ e) = roster_after (roster h) e
 
 -- table number t
@@ -61,6 +67,11 @@ of_table test (Some info) = of_hyper test info.def info.hyper
 -- aggregate number n
 abbrev pub view_of : Roster → ℕ → Option ViewDef
 view_of r n = slice_get r.views n
+
+-- an aggregate of which nothing but the mode may have changed, where it is there
+abbrev pub IsOf : ViewDef → Option ViewDef → Type 0
+IsOf def None = Unit {0}
+IsOf def (Some found) = (found.table ≡ def.table) × (found.fold ≡ def.fold)
 
 -- two names are the same text
 abbrev pub same_name : List ℕ → List ℕ → Bool

@@ -7,7 +7,8 @@ use Rattle.ts_schema.specs.Conditions.{passes_all}
 use Rattle.ts_model.specs.declared.events.Event.TheVariants.{Commit}
 use Rattle.ts_model.specs.declared.events.Op.{Op}
 use Rattle.ts_model.specs.declared.events.Op.TheVariants.{Insert, Delete}
-use Rattle.ts_model.specs.History.{History, start, ◌▸◌, prefix}
+use Rattle.ts_model.specs.History.{History, start, resumed, ◌▸◌, prefix}
+use Rattle.ts_model.specs.Saved.{appended_over}
 
 -- rows in order, with one more row in its place
 abbrev pub with_row : Row → List Row → List Row
@@ -36,6 +37,7 @@ after_ops t (op ∷ ops) rows = after_ops t ops (after_op t op rows)
 -- the rows of table t at a history, in row order
 abbrev pub rows : ℕ → History → List Row
 rows t start = []
+rows t (resumed i) = in_order (appended_over t i.rows)
 rows t (h ▸ Commit ops) = after_ops t ops (rows t h)
 rows t (h ▸ e) = rows t h
 

@@ -3,10 +3,10 @@ use Rattle.std.specs.Prelude.{Bool, true, ◌&&◌, not, nat_lt, length, is_none
 use Rattle.ts_model.specs.declared.events.Event.{Event}
 use Rattle.ts_model.specs.declared.events.Event.TheVariants.{Table, Hyper, View, Built}
 use Rattle.ts_model.specs.declared.rosters.Roster.{Roster}
-use Rattle.ts_model.specs.History.{History}
+use Rattle.ts_model.specs.History.{History, position}
 use Rattle.ts_model.specs.Roster.{roster, hyper_of, is_taken}
 use Rattle.ts_model.specs.Pending.{pending, is_waiting}
-use Rattle.ts_model.specs.Limits.{most_relations}
+use Rattle.ts_model.specs.Limits.{most_relations, last_position}
 
 -- the name of a new relation is free and there is room for one more of its kind, and a table to be made a hypertable
 -- isn't one
@@ -17,6 +17,13 @@ timely_in r (View def) = not (is_taken r def.name) && nat_lt (length r.views) mo
 timely_in r e = true
 
 -- the same at a history, where a finish names a refresh that waits
+abbrev pub timely_at : History → Event → Bool
+timely_at h (Built cut snap) = is_waiting (pending h cut)
+timely_at h e = timely_in (roster h) e
+
+-- there is room for one more event
+abbrev pub has_room : History → Bool
+has_room h = nat_lt (position h) last_position
+
 abbrev pub timely : History → Event → Bool
-timely h (Built cut snap) = is_waiting (pending h cut)
-timely h e = timely_in (roster h) e
+timely h e = timely_at h e && has_room h

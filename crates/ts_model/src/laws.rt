@@ -3,7 +3,7 @@ ghost use Rattle.std.specs.Prelude.{◌≡◌};
 ghost use Rattle.ts_model.specs.Laws.{AnswersStay, CallsMakeAllowed, ChunksAreWithin, ClippingKeepsNear, CountsFit, FitsStays, InsertsKeepAll, MarksAreEnds, NothingAboveWatermark, RangesAreMaximal, RelationsStay, ResultsComeInOrder, RostersAreSound, RowsAreTimes, RowsFitTables, RowsHaveColumns, RowsStandInOrder, SoundStays, SpansKeepGroups, SumsFit, ThresholdNeverFalls, UntouchedBetween, UntouchedKeeps, UntouchedKeepsGroups, UntouchedKeepsRows, WatermarkNeverFalls, WidthsAreSound};
 ghost use Rattle.ts_model.specs.Limits.{bytes_limit, most_columns, most_relations};
 ghost use Rattle.ts_model.specs.PositionLaws.{AtPositions, PositionsCount};
-ghost use Rattle.ts_model.specs.RefreshLaws.{BucketsWereCut, CutsFit, FinishesMark, LastsAreLast, ModePlaysNoPart, WaitingIsPending};
+ghost use Rattle.ts_model.specs.RefreshLaws.{BucketsWereCut, CutsFit, FinishesMark, LastsAreLast, MarksEndRows, ModePlaysNoPart, WaitingIsPending};
 
 /// A bucket that no commit touched after a position has the rows that it had there.
 pub fn untouched_buckets_keep_their_rows()
@@ -147,6 +147,12 @@ pub fn last_refreshes_are_last()
 /// The refreshes that wait are, for each number, what pending says of it.
 pub fn waiting_refreshes_are_pending()
     ensures { WaitingIsPending }
+{}
+
+/// A watermark is the one with which the history begins, or the end of a bucket that a finished refresh covers
+/// and that had a result row at its snapshot: not the end of a window.
+pub fn watermarks_end_rows()
+    ensures { MarksEndRows }
 {}
 
 /// A finish of a job that fits raises the watermark to the job's top.

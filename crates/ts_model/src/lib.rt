@@ -6,6 +6,7 @@
 mod backends;
 mod events;
 mod gates;
+mod images;
 pub mod laws;
 mod outcomes;
 mod queries;
@@ -19,6 +20,7 @@ mod views;
 pub use backends::Backend;
 pub use events::{Event, Op};
 pub use gates::{Gate, NoGate};
+pub use images::{Finished, Image, SavedGroup, SavedLast, SavedView, Sums};
 pub use outcomes::{Committed, CutDone, Outcome, Refusal};
 pub use queries::{Answer, Query};
 pub use refreshes::{Pending, Waiting, Window};

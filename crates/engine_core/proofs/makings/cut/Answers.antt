@@ -4,7 +4,6 @@ use Rattle.ts_model.specs.declared.outcomes.CutDone.TheVariants.{Cut as CutMade,
 use Rattle.ts_model.specs.declared.refreshes.Window.TheVariants.{NoBucket, Nothing, Whole}
 use Rattle.ts_model.specs.Calls.{cutting, refusal}
 use Rattle.ts_model.specs.History.{position}
-use Rattle.ts_model.proofs.MadeLaws.{calls_make_allowed}
 use Rattle.engine_core.specs.Acts.{making_event}
 use Rattle.engine_core.specs.Histories.{history_of}
 use Rattle.engine_core.specs.Stores.{Does}
@@ -15,9 +14,7 @@ use Rattle.engine_core.proofs.makings.cut.Goals as goal
 pub make-outcome-requires-clause-sound : goal.make-outcome-requires-clause-sound
 make-outcome-requires-clause-sound c =
     let h = history_of c.args.engine.now.events in
-    cut_sound c.args.view c.args.lo c.args.hi h c.in-Whole.span
-    (cut_by_window c.args.view c.args.lo c.args.hi h c.window.result (Whole c.in-Whole.span) c.requires.view c.window.ensures.window c.in-Whole.is)
-    (calls_make_allowed.cuts c.args.view c.args.lo c.args.hi h c.window.ensures.allowed c.requires.high)
+    cut_sound c.args.view c.args.lo c.args.hi h c.window.result c.in-Whole.span c.window.ensures.allowed c.requires.view c.window.ensures.window c.in-Whole.is c.requires.high
 
 pub returns-in-Nothing : goal.returns-in-Nothing
 returns-in-Nothing c =

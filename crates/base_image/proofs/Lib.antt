@@ -1,0 +1,9 @@
+pub mod Counts
+pub mod ListLaws
+pub mod Writable
+pub mod EachView
+pub mod Exact
+pub mod WideLaws
+pub mod PartLaws
+pub mod MakingLaws
+pub mod WritableLaws

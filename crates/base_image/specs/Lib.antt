@@ -1,0 +1,6 @@
+pub mod Spelling
+pub mod Formed
+pub mod Counting
+pub mod Reading
+pub mod Making
+pub mod Laws

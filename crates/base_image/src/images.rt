@@ -1,0 +1,149 @@
+//! Images: their bytes, and what bytes say.
+ghost use Rattle.std.specs.Prelude.{◌≡◌, ◌++◌, ◌∷◌, ◌==◌, ◌<◌, ◌^◌, true, length, IfOk, OnErr, OnOk};
+ghost use Rattle.ts_model.specs.Valid.{valid};
+ghost use Rattle.event_codec.specs.Growing.{Grows};
+ghost use Rattle.event_codec.specs.Reading.{Gives, byte_where};
+ghost use Rattle.event_codec.specs.Spelling.{many};
+ghost use Rattle.base_image.specs.Formed.{IsWritable};
+ghost use Rattle.base_image.specs.Reading.{image_at, roster_at, whole_image};
+ghost use Rattle.base_image.specs.Spelling as spelling;
+ghost use Rattle.base_image.specs.Spelling.{finished, framed, saved, waiting};
+
+use crate::parts::{put_many, read_many};
+use crate::relations::roster_of;
+use crate::shapes::Shape;
+use crate::views::read_views;
+use event_codec::{ReadError, Reader, put_eight};
+use std::alloc::Global;
+use ts_model::{Event, Image, Roster};
+use ts_schema::{NoMemory, Seq};
+
+/// The byte that images begin with, and no event.
+const IMAGE_KIND: u8 = 8;
+
+/// Appends the refreshes.
+#[tactic(auto, using(event_codec::proofs::GrowthLaws::grows_on, std::proofs::lemmas::List::append_assoc))]
+fn put_refreshes(image: &Image, out: &mut Vec<u8>) -> Result<(), NoMemory>
+    requires { IsWritable image.now }
+    ensures put { OnOk result (out.new.items ≡ out.old.items ++ (many waiting image.now.waiting ++ many finished image.now.done)) }
+    ensures grows { Grows out.old.items out.new.items }
+{
+    put_many(&image.waiting, out)?;
+    put_many(&image.done, out)
+}
+
+/// Appends the rows and what comes after them.
+#[tactic(auto, using(event_codec::proofs::GrowthLaws::grows_on, std::proofs::lemmas::List::append_assoc))]
+fn put_from_rows(image: &Image, out: &mut Vec<u8>) -> Result<(), NoMemory>
+    requires { IsWritable image.now }
+    ensures put { OnOk result (out.new.items ≡ out.old.items ++ (many framed image.now.rows
+        ++ (many saved image.now.views ++ (many waiting image.now.waiting ++ many finished image.now.done)))) }
+    ensures grows { Grows out.old.items out.new.items }
+{
+    put_many(&image.rows, out)?;
+    put_many(&image.views, out)?;
+    put_refreshes(image, out)
+}
+
+/// Appends an image.
+#[tactic(auto, using(event_codec::proofs::GrowthLaws::grows_by, event_codec::proofs::GrowthLaws::grows_on, std::proofs::lemmas::List::append_assoc))]
+fn put_whole(image: &Image, out: &mut Vec<u8>) -> Result<(), NoMemory>
+    requires { IsWritable image.now }
+    ensures put { OnOk result (out.new.items ≡ out.old.items ++ spelling.image image.now) }
+    ensures grows { Grows out.old.items out.new.items }
+{
+    out.push(IMAGE_KIND)?;
+    put_eight(out, image.pos)?;
+    put_many(&image.roster, out)?;
+    put_from_rows(image, out)
+}
+
+/// Reads the byte that images begin with.
+fn read_kind(reader: &mut Reader<'_>) -> Result<u8, ReadError>
+    ensures { Gives result (byte_where (λ b. b == 8) reader.old) reader.new }
+{
+    let [byte, rest @ ..] = reader.left() else {
+        return Err(ReadError::Bad);
+    };
+    if *byte != IMAGE_KIND {
+        return Err(ReadError::Bad);
+    }
+    reader.pass_to(rest);
+    Ok(*byte)
+}
+
+/// Reads the events that make a roster, and makes it.
+#[tactic(auto, unfolding(crate::specs::Reading::roster_at))]
+fn read_roster(reader: &mut Reader<'_>) -> Result<(Seq<Event>, Roster), ReadError>
+    ensures { Gives result (roster_at reader.old) reader.new }
+{
+    let events: Seq<Event> = read_many(Shape::none(), reader)?;
+    match roster_of(reader.alloc(), events.items())? {
+        Some(roster) => Ok((events, roster)),
+        None => Err(ReadError::Bad),
+    }
+}
+
+/// Reads an image.
+#[tactic(auto, unfolding(crate::specs::Reading::image_at))]
+fn read_image(reader: &mut Reader<'_>) -> Result<Image, ReadError>
+    ensures { Gives result (image_at reader.old) reader.new }
+{
+    let _kind = read_kind(reader)?;
+    let pos = reader.eight()?;
+    let (roster, made) = read_roster(reader)?;
+    let rows = read_many(Shape::none(), reader)?;
+    let views = read_views(made.views.items(), reader)?;
+    let waiting = read_many(Shape::none(), reader)?;
+    let done = read_many(Shape::none(), reader)?;
+    Ok(Image {
+        pos,
+        roster,
+        rows,
+        views,
+        waiting,
+        done,
+    })
+}
+
+/// Reads an image whose events make a roster, and nothing after it. It may still not be valid.
+#[tactic(auto, unfolding(crate::specs::Reading::whole_image))]
+pub fn read_whole(reader: &mut Reader<'_>) -> Result<Image, ReadError>
+    ensures { Gives result (whole_image reader.old) reader.new }
+{
+    let image = read_image(reader)?;
+    if !reader.left().is_empty() {
+        return Err(ReadError::Bad);
+    }
+    Ok(image)
+}
+
+/// Appends the bytes of a valid image. Where memory runs out, the buffer is as before.
+#[tactic(auto, using(crate::proofs::WritableLaws::writable, event_codec::proofs::GrowthLaws::front_kept))]
+pub fn put_image_bytes(image: &Image, out: &mut Vec<u8>) -> Result<(), NoMemory>
+    requires valid { valid image.now ≡ true }
+    requires few { length (spelling.image image.now) < 2 ^ 32 }
+    ensures appended { OnOk result (out.new.items ≡ out.old.items ++ spelling.image image.now) }
+    ensures kept { OnErr result (out.new.items ≡ out.old.items) }
+{
+    let before = out.len();
+    match put_whole(image, out) {
+        Ok(()) => Ok(()),
+        Err(refused) => {
+            out.truncate(before);
+            Err(refused)
+        }
+    }
+}
+
+/// The bytes of a valid image.
+#[tactic(auto, using(crate::proofs::WritableLaws::writable))]
+pub fn put(alloc: Global, image: &Image) -> Result<Seq<u8>, NoMemory>
+    requires valid { valid image.now ≡ true }
+    requires few { length (spelling.image image.now) < 2 ^ 32 }
+    ensures bytes { IfOk result (λ bytes. bytes ≡ spelling.image image.now) }
+{
+    let mut bytes = Vec::new(alloc);
+    put_whole(image, &mut bytes)?;
+    Ok(Seq::of(bytes))
+}

@@ -1,0 +1,32 @@
+//! How many keys and parts the groups of an aggregate have.
+ghost use Rattle.std.specs.Prelude.{◌≡◌, length};
+
+use ts_model::ViewDef;
+
+/// How many keys and parts the groups of an aggregate have. Their bytes don't tell it.
+#[derive(Clone, Copy, Debug, PartialEq, Eq)]
+pub struct Shape {
+    /// The keys.
+    pub keys: usize,
+    /// The parts.
+    pub parts: usize,
+}
+
+impl Shape {
+    /// The shape of what has no groups.
+    pub fn none() -> Shape
+        ensures { result ≡ record { keys = 0; parts = 0 } }
+    {
+        Shape { keys: 0, parts: 0 }
+    }
+
+    /// The shape of the groups of an aggregate.
+    pub fn of(def: &ViewDef) -> Shape
+        ensures { result ≡ record { keys = length def.now.fold.keys; parts = length def.now.fold.aggs } }
+    {
+        Shape {
+            keys: def.fold.keys.len(),
+            parts: def.fold.aggs.len(),
+        }
+    }
+}

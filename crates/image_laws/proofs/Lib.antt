@@ -1,0 +1,12 @@
+pub mod AlikeLaws
+pub mod AlikeAnswers
+pub mod ImageLaws
+pub mod CheckpointLaws
+pub mod ValidParts
+pub mod NameLaws
+pub mod ValidRanges
+pub mod ValidGroups
+pub mod ValidImages
+pub mod OneImage
+pub mod EndLaws
+pub mod WorkedImages

@@ -1,0 +1,43 @@
+//! Laws of saved images. Each is the clause of a function that does nothing.
+ghost use Rattle.image_laws.specs.Alike.{AlikeAnswers, AlikeStays};
+ghost use Rattle.image_laws.specs.Ends.{HistoriesEnd};
+ghost use Rattle.image_laws.specs.Images.{CheckpointsKeep, ImagesAreAlike, ImagesAreValid, OneImage};
+
+/// A history that is alike to one that begins with an image stays alike to it under the same events, which
+/// are allowed after the one exactly where they are allowed after the other, but for a finish with a
+/// snapshot below the image.
+pub fn alike_histories_stay_alike()
+    ensures { AlikeStays }
+{}
+
+/// Alike histories give the same answers and windows, and each call does the same at both.
+pub fn alike_histories_answer_alike()
+    ensures { AlikeAnswers }
+{}
+
+/// An allowed history and its image are alike.
+pub fn images_are_alike()
+    ensures { ImagesAreAlike }
+{}
+
+/// What comes after the image of a history is answered as after the whole history.
+pub fn checkpoints_keep_answers()
+    ensures { CheckpointsKeep }
+{}
+
+/// The image of an allowed history is valid, where each group in a bucket touched after its last refresh is
+/// of fewer than 2^62 rows.
+pub fn images_are_valid()
+    ensures { ImagesAreValid }
+{}
+
+/// A history has at most one image.
+pub fn a_history_has_one_image()
+    ensures { OneImage }
+{}
+
+/// An allowed history goes to position 2^62 at most, wherever it begins. A call makes its event below that
+/// position, and at it is refused as E30.
+pub fn histories_end()
+    ensures { HistoriesEnd }
+{}
