@@ -1,6 +1,6 @@
 -- What a statement asks for that isn't refused at an allowed history can be done there.
 use Rattle.std.proofs.Common.{◌≡◌, ◌∙◌, refl, sym, subst, ap, ℕ, suc, ◌+◌, ◌*◌, ◌<◌, ◌≤◌, Bool, true, false, not, ◌&&◌, List, [], ◌∷◌, map, length, get_or, Option, Some, None, is_some, is_none, arith, ℤ, pos, negsuc, ◌-ℤ◌, ◌≤ℤ◌, ◌<ℤ◌, ◌-◌, ◌^◌}
-use Rattle.std.specs.Prelude.{nat_lt, nat_le, unwrap_or, slice_get, sum_by, int_lt, int_le, IsTrue, option_and_then}
+use Rattle.std.specs.Prelude.{nat_lt, nat_le, unwrap_or, slice_get, sum_by, int_lt, int_le, IsTrue, option_and_then, option_map}
 use Rattle.std.specs.Int.{int_rem_euclid}
 use Rattle.std.specs.Option.{ForSome}
 use Rattle.std.specs.List.{list_all}
@@ -18,6 +18,7 @@ use Rattle.ts_model.proofs.FitLaws.{fold_columns}
 use Rattle.ts_schema.specs.Names.{is_name}
 use Rattle.stmt_reader.specs.Proper.{IsProperFold, AreProperRows}
 use Rattle.ts_schema.specs.declared.columns.Column.{Column}
+use Rattle.ts_schema.specs.declared.conditions.Test.{Test}
 use Rattle.ts_model.specs.declared.events.Event.{Event}
 use Rattle.ts_model.specs.declared.events.Event.TheVariants as events
 use Rattle.ts_model.specs.declared.events.Op.{Op}
@@ -28,6 +29,8 @@ use Rattle.ts_model.specs.declared.rosters.Roster.{Roster}
 use Rattle.ts_model.specs.declared.tables.Hyper.{Hyper as HyperInfo}
 use Rattle.ts_model.specs.declared.tables.TableDef.{TableDef}
 use Rattle.ts_model.specs.declared.tables.TableInfo.{TableInfo}
+use Rattle.ts_model.specs.declared.views.Agg.{Agg}
+use Rattle.ts_model.specs.declared.views.Fold.{Fold}
 use Rattle.ts_model.specs.declared.views.ViewDef.{ViewDef}
 use Rattle.ts_model.specs.History.{History}
 use Rattle.ts_model.specs.Roster.{roster, table_of, hyper_of, is_taken}
@@ -36,11 +39,12 @@ use Rattle.ts_model.specs.Sound.{all_apart, columns_fit, hyper_fits, sound_at, o
 use Rattle.ts_model.specs.Answers.{can_ask, columns_are_there}
 use Rattle.ts_model.specs.Bytes.{event_bytes, name_bytes, op_bytes}
 use Rattle.ts_model.specs.Roster.{of_hyper, of_table}
-use Rattle.ts_model.specs.Timely.{timely}
+use Rattle.ts_model.specs.Timely.{timely_at}
 use Rattle.ts_catalog.specs.Columns.{column_from}
 use Rattle.ts_catalog.specs.Relations.{found_in}
 use Rattle.ts_catalog.specs.declared.relations.Found.{Found}
 use Rattle.ts_catalog.specs.declared.relations.Found.TheVariants as found
+use Rattle.stmt_reader.specs.Words.{calendar_word}
 use Rattle.stmt_reader.specs.Written.{IsWholeFold, IsWritten, agg_size, alias_size, column_size, fold_size, name_size, row_size, size_of, test_size}
 use Rattle.stmt_reader.specs.declared.statements.NamedAgg.{NamedAgg}
 use Rattle.stmt_reader.specs.declared.statements.NamedFold.{NamedFold}
@@ -49,14 +53,14 @@ use Rattle.stmt_reader.specs.declared.statements.Stmt.{Stmt}
 use Rattle.stmt_reader.specs.declared.statements.Stmt.TheVariants as stmts
 use Rattle.stmt_check.specs.Refusals.{◌⊳◌, finds_nothing, hypertable_refusal, missing, name_refusal, number_of, plain_refusal, query_refusal, refused, view_refusal}
 use Rattle.stmt_check.specs.Check.{action_of, interval_of, no_table, refusal_of, rows_into, rows_query, rows_query_refusal, table_at, time_of}
-use Rattle.stmt_check.specs.Folds.{aggregate_name, aggregate_of, bucket_column, fold_of, fold_refusal, function_name, number_or_zero, output_names, test_of, tests_of, tests_refusal}
+use Rattle.stmt_check.specs.Folds.{aggregate_name, aggregate_of, bucket_column, calendar_of, calendar_refusal, fold_of, fold_refusal, function_name, head_name, is_unit, number_or_zero, unit_count, units_refusal, output_names, test_of, tests_of, tests_refusal}
 use Rattle.stmt_check.specs.Queries.{bound_refusal, drop_test}
 use Rattle.stmt_check.specs.Rows.{insert_refusal, inserted_rows}
 use Rattle.stmt_check.specs.Tables.{hyper_refusal, is_interval, table_refusal}
-use Rattle.stmt_check.specs.Sound.{MayCome, MayBeMade, IsOperation, IsWindow, IsSound, ActionsAreSound}
+use Rattle.stmt_check.specs.Sound.{MayCome, MayBeMade, IsCalendar, IsOperation, IsWindow, IsSound, ActionsAreSound}
 use Rattle.stmt_check.proofs.PassedLaws.{neither, not_wrong, not_missing, has_to_be}
 use Rattle.stmt_check.proofs.FoundLaws.{Stands, IsHyper, RelationAt, relation_at, name_is_free}
-use Rattle.stmt_check.proofs.FoldLaws.{FoldIsSound, fold_is_sound, names_apart, outputs_are_names, place_is_there, tests_fit, tests_there}
+use Rattle.stmt_check.proofs.FoldLaws.{FoldIsSound, fold_is_sound, rest_is_sound, names_apart, outputs_are_names, place_is_there, tests_fit, tests_there}
 use Rattle.stmt_check.proofs.RosterLaws.{interval_is_in_range, HyperIsSound, RosterIsSound, TableIsSound, all_at, roster_is_sound}
 use Rattle.stmt_check.proofs.RowLaws.{IsHyperOf, rows_are_sound}
 use Rattle.stmt_check.proofs.TableLaws.{table_columns_fit}
@@ -113,7 +117,7 @@ columns_of cols e =
 -- ---- events that may come
 
 -- an event that fits and is short
-may_come : (h : History) (e : Event) (n : ℕ) → sound_at h e ≡ true → event_bytes e ≤ n → n < 4294967296 → timely h e ≡ true → MayCome h e
+may_come : (h : History) (e : Event) (n : ℕ) → sound_at h e ≡ true → event_bytes e ≤ n → n < 4294967296 → timely_at h e ≡ true → MayCome h e
 may_come h e n fits short small time = record { is_sound = and_from _ _ fits (lt-ltb _ _ (omega arith)); is_timely = time }
 
 -- a name that isn't taken, where there is room for one more
@@ -416,6 +420,53 @@ buckets_action h p fold (found.Hyper n) s t w proper e =
     on_hypertable (λ def hyper. columns_are_there (length def.cols) (fold_of (table_numbered r n) fold)) r n table
     (fold_columns (length (table_numbered r n).def.cols) (fold_of (table_numbered r n) fold) fits)
 
+-- units that aren't refused
+units_are : (p : ℕ) (info : TableInfo) (number : ℤ) (unit : List ℕ) (f : NamedFold) → units_refusal p info number unit f ≡ None → ((1 ≤ unwrap_or (unit_count number) 0) × (unwrap_or (unit_count number) 0 ≤ 1200)) × (is_unit unit ≡ true)
+units_are p info number unit f e =
+    let one = neither (missing p 29 (unit_count number)) _ e in
+    let two = neither (refused p 29 (not (is_unit unit))) _ one.1 in
+    (counted_units number (not_missing p 29 (unit_count number) one.0), has_to_be p 29 0 (is_unit unit) two.0)
+  where
+    counted_units : (n : ℤ) → is_some (unit_count n) ≡ true → (1 ≤ unwrap_or (unit_count n) 0) × (unwrap_or (unit_count n) 0 ≤ 1200)
+    counted_units n e = grind (arith, ints)
+
+-- what is among the first columns is among more
+all_among : {T : Type 0} (col : T → ℕ) (n m : ℕ) (xs : List T) → n ≤ m → list_all (λ x. nat_lt (col x) n) xs ≡ true → list_all (λ x. nat_lt (col x) m) xs ≡ true
+all_among col n m [] le e = refl
+all_among col n m (x ∷ xs) le e =
+    let parts = and_parts (nat_lt (col x) n) (list_all (λ x. nat_lt (col x) n) xs) e in
+    let low : col x < n = ltb-true _ _ parts.0 in
+    and_from _ _ (lt-ltb _ _ (omega arith)) (all_among col n m xs le parts.1)
+
+columns_among : (n m : ℕ) (fold : Fold) → n ≤ m → columns_are_there n fold ≡ true → columns_are_there m fold ≡ true
+columns_among n m fold le e =
+    let tests = and_parts (list_all (λ k. nat_lt k n) fold.keys && list_all (λ agg. nat_lt agg.col n) fold.aggs) _ e in
+    let keys = and_parts (list_all (λ k. nat_lt k n) fold.keys) _ tests.0 in
+    and_from _ _ (and_from _ _ (all_among (λ k. k) n m fold.keys le keys.0) (all_among (λ (a : Agg). a.col) n m fold.aggs le keys.1)) (all_among (λ (t : Test). t.col) n m fold.tests le tests.1)
+
+calendar_action : (h : History) (p : ℕ) (number : ℤ) (unit : List ℕ) (fold : NamedFold) (f : Found) → RosterIsSound (roster h) → RelationAt (roster h) f → IsWholeFold fold → IsProperFold fold
+    → (hypertable_refusal p f ⊳ calendar_refusal p (table_at (roster h) f) number unit fold) ≡ None
+    → IsCalendar h (number_of f) (unwrap_or (unit_count number) 0) unit (time_of (table_at (roster h) f).hyper) (calendar_of (table_at (roster h) f) fold)
+calendar_action h p number unit fold found.None s t w proper e = absurd cc
+calendar_action h p number unit fold (found.Plain n) s t w proper e = absurd cc
+calendar_action h p number unit fold (found.View n) s t w proper e = absurd cc
+calendar_action h p number unit fold (found.Hyper n) s t w proper e =
+    let r = roster h in
+    let info = table_numbered r n in
+    let table = hypertable_is r n s t in
+    let cols = columns_of info.def.cols table.table.sound.columns in
+    let parts = neither (units_refusal p info number unit fold) _ e in
+    let units = units_are p info number unit fold parts.0 in
+    let fits = (rest_is_sound p false (head_name calendar_word fold) info fold table.table.sound cols.some w proper parts.1).fits in
+    let there = fold_columns (length info.def.cols) (calendar_of info fold) fits in
+    record {
+      in_range = units.0;
+      known = units.1;
+      place = ap (λ o. option_map (λ hyper. hyper.at) (option_and_then (λ info. info.hyper) o)) table.table.at ∙ ap (option_map (λ hyper. hyper.at)) table.is ∙ ap Some (sym (ap time_of table.is));
+      query = on_hypertable (λ def hyper. columns_are_there (length def.cols) (calendar_of info fold)) r n table there;
+      columns = columns_among (length info.def.cols) 16 (calendar_of info fold) cols.few there;
+    }
+
 rows_action : (h : History) (p : ℕ) (tests : List NamedTest) (f : Found) → RosterIsSound (roster h) → RelationAt (roster h) f
     → (query_refusal p f ⊳ rows_query_refusal p (roster h) f tests) ≡ None
     → can_ask (roster h) (rows_query (roster h) f tests) ≡ true
@@ -447,6 +498,7 @@ action_is_sound h p bytes stmts.BeginRead r w short e = tt
 action_is_sound h p bytes stmts.Commit r w short e = tt
 action_is_sound h p bytes stmts.Rollback r w short e = tt
 action_is_sound h p bytes (stmts.Buckets fold) r w short e = buckets_action h p fold (found_in (roster h) fold.table) r (relation_at (roster h) fold.table) w.whole w.proper e
+action_is_sound h p bytes (stmts.Calendar number unit fold) r w short e = calendar_action h p number unit fold (found_in (roster h) fold.table) r (relation_at (roster h) fold.table) w.whole w.proper.2 e
 action_is_sound h p bytes (stmts.Rows table tests) r w short e = rows_action h p tests (found_in (roster h) table) r (relation_at (roster h) table) e
 
 pub actions_are_sound : ActionsAreSound

@@ -28,7 +28,7 @@ use Rattle.stmt_reader.specs.declared.statements.NamedAgg.{NamedAgg}
 use Rattle.stmt_reader.specs.declared.statements.NamedFold.{NamedFold}
 use Rattle.stmt_reader.specs.declared.statements.NamedTest.{NamedTest}
 use Rattle.stmt_check.specs.Refusals.{marked, refused, missing}
-use Rattle.stmt_check.specs.Folds.{aggregate_name, aggregate_of, aggregate_refusal, aggregates_refusal, argument_of, argument_refusal, bucket_column, columns_before, fold_of, fold_refusal, function_name, is_aggregate, is_key, is_shift, is_step, is_taken, is_time_column, key_refusal, keys_refusal, number_or_zero, output_count, output_names, test_of, tests_of, tests_refusal, width_refusal}
+use Rattle.stmt_check.specs.Folds.{aggregate_name, aggregate_of, aggregate_refusal, aggregates_refusal, argument_of, argument_refusal, bucket_column, columns_before, fold_of, fold_refusal, function_name, is_aggregate, is_key, is_shift, is_step, is_taken, is_time_column, key_refusal, keys_refusal, number_or_zero, output_count, output_names, rest_refusal, test_of, tests_of, tests_refusal, width_refusal}
 use Rattle.stmt_check.proofs.PassedLaws.{neither, not_wrong, not_missing, has_to_be}
 use Rattle.stmt_check.proofs.RosterLaws.{HyperIsSound, TableIsSound}
 
@@ -255,17 +255,26 @@ pub record FoldIsSound (info : TableInfo) (f : NamedFold) : Type 0 where
   pub fits : fold_fits (length info.def.cols) (fold_of info f) ≡ true
   pub few : suc (length f.keys + length f.aggs) ≤ 16
 
+-- what the rest of a fold that isn't refused says
+pub record RestIsSound (info : TableInfo) (f : NamedFold) : Type 0 where
+  pub fits : fold_fits (length info.def.cols) (fold_of info f) ≡ true
+  pub few : suc (length f.keys + length f.aggs) ≤ 16
+
+pub rest_is_sound : (p : ℕ) (distinct : Bool) (head : List ℕ) (info : TableInfo) (f : NamedFold) → TableIsSound info → 0 < length info.def.cols → IsWholeFold f → IsProperFold f → rest_refusal p distinct head info f ≡ None → RestIsSound info f
+rest_is_sound p distinct head info f s some w proper e =
+    let two = neither (keys_refusal p distinct (output_count f) info head [] f.keys) _ e in
+    let three = neither (aggregates_refusal p distinct (output_count f) info head f.keys [] f.aggs) _ two.1 in
+    let aggs = aggregates_fit p distinct (output_count f) info head f.keys [] f.aggs s some w.aggs three.0 in
+    record {
+      fits = and_from _ _ (and_from _ _ (keys_fit p distinct (output_count f) info head [] f.keys s two.0) aggs.fit) (tests_fit p info f.tests s w.tests proper.tests three.1);
+      few = omega (arith, aggs.few w.some);
+    }
+
 pub fold_is_sound : (p : ℕ) (distinct : Bool) (info : TableInfo) (f : NamedFold) → TableIsSound info → 0 < length info.def.cols → IsWholeFold f → IsProperFold f → fold_refusal p distinct info f ≡ None → FoldIsSound info f
 fold_is_sound p distinct info f s some w proper e =
     let one = neither (width_refusal p info f) _ e in
-    let two = neither (keys_refusal p distinct (output_count f) info (bucket_column f) [] f.keys) _ one.1 in
-    let three = neither (aggregates_refusal p distinct (output_count f) info (bucket_column f) f.keys [] f.aggs) _ two.1 in
-    let aggs = aggregates_fit p distinct (output_count f) info (bucket_column f) f.keys [] f.aggs s some w.aggs three.0 in
-    record {
-      width = width_fits p info f one.0;
-      fits = and_from _ _ (and_from _ _ (keys_fit p distinct (output_count f) info (bucket_column f) [] f.keys s two.0) aggs.fit) (tests_fit p info f.tests s w.tests proper.tests three.1);
-      few = omega (arith, aggs.few w.some);
-    }
+    let rest = rest_is_sound p distinct (bucket_column f) info f s some w proper one.1 in
+    record { width = width_fits p info f one.0; fits = rest.fits; few = rest.few }
 
 -- a name that is given, or a word that is a name
 given_name : (given : Option (List ℕ)) (word : List ℕ) → IsAlias given → is_name word ≡ true → is_name (unwrap_or given word) ≡ true

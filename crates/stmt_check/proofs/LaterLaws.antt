@@ -15,17 +15,18 @@ use Rattle.ts_catalog.specs.Columns.{column_from, column_of}
 use Rattle.ts_catalog.specs.Relations.{found_in}
 use Rattle.ts_catalog.specs.declared.relations.Found.{Found}
 use Rattle.ts_catalog.specs.declared.relations.Found.TheVariants as found
+use Rattle.stmt_reader.specs.Words.{calendar_word}
 use Rattle.stmt_reader.specs.declared.statements.NamedAgg.{NamedAgg}
 use Rattle.stmt_reader.specs.declared.statements.NamedFold.{NamedFold}
 use Rattle.stmt_reader.specs.declared.statements.NamedTest.{NamedTest}
 use Rattle.stmt_reader.specs.declared.statements.Stmt.{Stmt}
 use Rattle.stmt_reader.specs.declared.statements.Stmt.TheVariants as stmts
-use Rattle.stmt_check.specs.Codes.{bad_width, most_rows, no_column, null_value, value_count}
+use Rattle.stmt_check.specs.Codes.{bad_unit, bad_width, most_rows, no_column, null_value, value_count}
 use Rattle.stmt_check.specs.declared.actions.Action.TheVariants as actions
 use Rattle.stmt_check.specs.declared.inserts.Rule.{Rule}
 use Rattle.stmt_check.specs.declared.inserts.Shape.{Shape}
 use Rattle.stmt_check.specs.Check.{action_of, interval_of, refusal_of, rows_into, rows_query_refusal, table_at, time_of, view_at}
-use Rattle.stmt_check.specs.Folds.{aggregate_name, aggregate_refusal, aggregates_refusal, argument_refusal, bucket_column, columns_before, fold_of, fold_refusal, is_key, is_shift, is_step, is_taken, is_time_column, key_refusal, keys_refusal, output_count, output_names, rest_refusal, tests_of, tests_refusal, width_refusal}
+use Rattle.stmt_check.specs.Folds.{aggregate_name, aggregate_refusal, aggregates_refusal, argument_refusal, bucket_column, calendar_refusal, columns_before, fold_of, fold_refusal, head_name, is_key, is_shift, is_step, is_taken, is_time_column, is_unit, key_refusal, keys_refusal, output_count, output_names, rest_refusal, tests_of, tests_refusal, unit_count, units_refusal, width_refusal}
 use Rattle.stmt_check.specs.Queries.{bound_refusal, drop_test, starts_refusal}
 use Rattle.stmt_check.specs.Refusals.{◌⊳◌, hypertable_refusal, marked, missing, name_refusal, number_of, plain_refusal, query_refusal, view_refusal}
 use Rattle.stmt_check.specs.Rows.{insert_refusal, list_refusal, list_refusal_of, row_refusal, rows_refusal, shape_of, value_refusal, values_refusal}
@@ -99,6 +100,12 @@ rest_again p q distinct head info f e =
 
 pub fold_again : (p q : ℕ) (distinct : Bool) (info : TableInfo) (f : NamedFold) → fold_refusal p distinct info f ≡ None → fold_refusal q distinct info f ≡ None
 fold_again p q distinct info f e = both_again _ _ _ _ (width_again p q info f) (rest_again p q distinct (bucket_column f) info f) e
+
+units_again : (p q : ℕ) (info : TableInfo) (number : ℤ) (unit : List ℕ) (f : NamedFold) → units_refusal p info number unit f ≡ None → units_refusal q info number unit f ≡ None
+units_again p q info number unit f e = both_again _ _ _ _ (there_again p q _ (unit_count number)) (both_again _ _ _ _ (again p q bad_unit 0 (not (is_unit unit))) (again p q no_column 0 (not (is_time_column (column_of info f.at))))) e
+
+calendar_again : (p q : ℕ) (info : TableInfo) (number : ℤ) (unit : List ℕ) (f : NamedFold) → calendar_refusal p info number unit f ≡ None → calendar_refusal q info number unit f ≡ None
+calendar_again p q info number unit f e = both_again _ _ _ _ (units_again p q info number unit f) (rest_again p q false (head_name calendar_word f) info f) e
 
 -- ---- rows
 
@@ -184,6 +191,7 @@ refused_at_none p q r stmts.BeginRead e = refl
 refused_at_none p q r stmts.Commit e = refl
 refused_at_none p q r stmts.Rollback e = refl
 refused_at_none p q r (stmts.Buckets fold) e = both_again _ _ _ _ (hypertable_again p q (found_in r fold.table)) (fold_again p q false (table_at r (found_in r fold.table)) fold) e
+refused_at_none p q r (stmts.Calendar number unit fold) e = both_again _ _ _ _ (hypertable_again p q (found_in r fold.table)) (calendar_again p q (table_at r (found_in r fold.table)) number unit fold) e
 refused_at_none p q r (stmts.Rows table tests) e = both_again _ _ _ _ (query_again p q (found_in r table)) (queried_again p q r (found_in r table) tests) e
 
 -- ---- what is needed

@@ -21,6 +21,7 @@ use Rattle.ts_model.specs.History.{History}
 use Rattle.ts_model.specs.Limits.{most_relations}
 use Rattle.ts_model.specs.Roster.{roster, same_name, table_named, table_of, view_named, is_taken as name_is_taken, of_table, of_hyper}
 use Rattle.ts_model.specs.Sound.{all_apart, fold_fits, hyper_fits, output_count as columns_out, sound, sound_at, view_fits}
+use Rattle.ts_model.proofs.SoundLaws.{timely_in_roster}
 use Rattle.ts_bucket.specs.Bucket.{is_width}
 use Rattle.ts_model.specs.Timely.{timely}
 use Rattle.ts_model.specs.Allowed.{allowed}
@@ -169,7 +170,7 @@ table_ready h p name cols e =
     let fits = (and_parts (is_name name) _ (and_parts (sound_at h (events.Table def)) _ parts.0).0).1 in
     let counts = (and_parts (nat_lt 0 (length cols) && nat_le (length cols) 16) _ fits).0 in
     let few : length cols ≤ 16 = leb-true _ _ (and_parts (nat_lt 0 (length cols)) _ counts).1 in
-    both_none (name_refusal p (roster h) name (length (roster h).tables)) _ (name_is_free p (roster h) name (length (roster h).tables) parts.1)
+    both_none (name_refusal p (roster h) name (length (roster h).tables)) _ (name_is_free p (roster h) name (length (roster h).tables) (timely_in_roster h (events.Table def) parts.1))
     (columns_ready p (length cols) [] cols (columns_apart cols fits) (omega arith))
 
 -- ---- create_hypertable
@@ -197,7 +198,7 @@ hyper_ready h p table n info at c interval named is col e =
     let hyper : HyperInfo = record { at = at; interval = interval } in
     let parts = and_parts (sound h (events.Hyper n hyper)) (timely h (events.Hyper n hyper)) e in
     let fits = subst (λ (o : Option TableInfo). hyper_fits hyper o ≡ true) is (and_parts (sound_at h (events.Hyper n hyper)) _ parts.0).0 in
-    let plain : is_some info.hyper ≡ false = not_yet info.hyper (subst (λ (o : Option TableInfo). is_none (option_and_then (λ (i : TableInfo). i.hyper) o) ≡ true) is parts.1) in
+    let plain : is_some info.hyper ≡ false = not_yet info.hyper (subst (λ (o : Option TableInfo). is_none (option_and_then (λ (i : TableInfo). i.hyper) o) ≡ true) is (timely_in_roster h (events.Hyper n hyper) parts.1)) in
     let what : found_in r table ≡ found.Plain n = found_table r table n info named is ∙ kind_is info n false plain in
     let where_is : get_or r.tables n no_table ≡ info = get_or_from_slice_get r.tables n info no_table is in
     subst (λ (f : Found). (plain_refusal p f ⊳ hyper_refusal p (table_at r f).def.cols c.name interval) ≡ None) (sym what)
@@ -313,7 +314,7 @@ view_ready h p name only filled f n info named is columns e =
     let hyper = over_hyper info.hyper fits in
     let what : found_in r f.table ≡ found.Hyper n = found_table r f.table n info named is ∙ kind_is info n true hyper.0 in
     let where_is : get_or r.tables n no_table ≡ info = get_or_from_slice_get r.tables n info no_table is in
-    both_none (name_refusal p r name (length r.views)) _ (name_is_free p r name (length r.views) parts.1)
+    both_none (name_refusal p r name (length r.views)) _ (name_is_free p r name (length r.views) (timely_in_roster h (events.View def) parts.1))
     (subst (λ (x : Found). (hypertable_refusal p x ⊳ fold_refusal p true (table_at r x) f) ≡ None) (sym what)
     (subst (λ (t : TableInfo). fold_refusal p true t f ≡ None) (sym where_is) (fold_ready p info f hyper.1 columns)))
   where

@@ -14,7 +14,7 @@ use Rattle.ts_model.specs.declared.tables.TableInfo.{TableInfo}
 use Rattle.ts_model.specs.declared.views.ViewDef.{ViewDef}
 use Rattle.ts_model.specs.History.{History}
 use Rattle.ts_model.specs.Roster.{no_relations, roster, table_of}
-use Rattle.ts_model.specs.Allowed.{all_allowed, allowed}
+use Rattle.ts_model.specs.Allowed.{all_allowed}
 use Rattle.ts_model.specs.Sound.{sound_in, columns_fit, fold_fits, output_count, view_fits}
 use Rattle.ts_bucket.specs.Bucket.{is_width}
 use Rattle.ts_model.specs.Limits.{most_columns}

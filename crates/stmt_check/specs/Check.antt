@@ -21,7 +21,7 @@ use Rattle.stmt_check.specs.declared.actions.Action.{Action}
 use Rattle.stmt_check.specs.declared.actions.Action.TheVariants as actions
 use Rattle.stmt_check.specs.declared.actions.Checked.{Checked}
 use Rattle.stmt_check.specs.declared.actions.Checked.TheVariants as checked
-use Rattle.stmt_check.specs.Folds.{fold_of, fold_refusal, output_names, tests_of, tests_refusal}
+use Rattle.stmt_check.specs.Folds.{calendar_of, calendar_refusal, fold_of, fold_refusal, unit_count, output_names, tests_of, tests_refusal}
 use Rattle.stmt_check.specs.Queries.{bound_refusal, drop_test, starts_of, starts_refusal}
 use Rattle.stmt_check.specs.Refusals.{◌⊳◌, hypertable_refusal, name_refusal, number_of, plain_refusal, query_refusal, view_refusal}
 use Rattle.stmt_check.specs.Rows.{insert_refusal, inserted_rows}
@@ -100,6 +100,9 @@ refusal_of pos roster stmts.Rollback = None
 refusal_of pos roster (stmts.Buckets fold) =
     hypertable_refusal pos (found_in roster fold.table)
     ⊳ fold_refusal pos false (table_at roster (found_in roster fold.table)) fold
+refusal_of pos roster (stmts.Calendar number unit fold) =
+    hypertable_refusal pos (found_in roster fold.table)
+    ⊳ calendar_refusal pos (table_at roster (found_in roster fold.table)) number unit fold
 refusal_of pos roster (stmts.Rows table tests) =
     query_refusal pos (found_in roster table) ⊳ rows_query_refusal pos roster (found_in roster table) tests
 
@@ -149,6 +152,10 @@ action_of roster stmts.Rollback = actions.Rollback
 action_of roster (stmts.Buckets fold) =
     actions.Ask
     (queries.Buckets (number_of (found_in roster fold.table)) (fold_of (table_at roster (found_in roster fold.table)) fold))
+action_of roster (stmts.Calendar number unit fold) =
+    actions.Calendar (number_of (found_in roster fold.table)) (unwrap_or (unit_count number) 0) unit
+    (time_of (table_at roster (found_in roster fold.table)).hyper)
+    (calendar_of (table_at roster (found_in roster fold.table)) fold)
 action_of roster (stmts.Rows table tests) = actions.Ask (rows_query roster (found_in roster table) tests)
 
 -- a statement is resolved: what it asks for where nothing is refused, and else the first refusal

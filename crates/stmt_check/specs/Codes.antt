@@ -34,6 +34,10 @@ bad_width = 14
 abbrev pub not_aggregate : ℕ
 not_aggregate = 22
 
+-- a unit of the calendar, or how many of them a bucket has, is none
+abbrev pub bad_unit : ℕ
+bad_unit = 29
+
 -- the most rows of one INSERT
 abbrev pub most_rows : ℕ
 most_rows = 1000

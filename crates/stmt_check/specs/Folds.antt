@@ -1,9 +1,9 @@
 -- Tests and folds over a hypertable.
-use Rattle.std.specs.Prelude.{ℕ, ◌==◌, Bool, false, not, ◌||◌, ◌&&◌, nat_le, ℤ, pos as nonneg, List, [], ◌∷◌, ◌++◌, length, map, Option, Some, None, is_none, is_some, unwrap_or, int_le, int_lt, codes, Result}
+use Rattle.std.specs.Prelude.{ℕ, ◌==◌, Bool, false, not, ◌||◌, ◌&&◌, nat_le, ℤ, pos as nonneg, List, [], ◌∷◌, ◌++◌, length, map, Option, Some, None, is_none, is_some, unwrap_or, int_le, int_lt, unsigned_abs, codes, if◌then◌else◌, Result}
 use Rattle.ts_num.specs.declared.values.Fun.{Fun}
 use Rattle.ts_num.specs.declared.values.Fun.TheVariants.{CountAll, Count, Sum, Min, Max, Avg}
 use Rattle.ts_bucket.specs.Bucket.{max_step}
-use Rattle.stmt_check.specs.Codes.{bad_width, no_column}
+use Rattle.stmt_check.specs.Codes.{bad_unit, bad_width, no_column}
 use Rattle.ts_model.specs.Limits.{most_columns}
 use Rattle.ts_model.specs.Calls.{name_taken, too_many}
 use Rattle.ts_model.specs.declared.outcomes.Refusal.{Refusal}
@@ -16,7 +16,7 @@ use Rattle.ts_catalog.specs.Columns.{column_of}
 use Rattle.stmt_reader.specs.declared.statements.NamedAgg.{NamedAgg}
 use Rattle.stmt_reader.specs.declared.statements.NamedFold.{NamedFold}
 use Rattle.stmt_reader.specs.declared.statements.NamedTest.{NamedTest}
-use Rattle.stmt_reader.specs.Words.{bucket_word}
+use Rattle.stmt_reader.specs.Words.{bucket_word, calendar_word}
 use Rattle.stmt_check.specs.declared.folds.Rest.{Rest}
 use Rattle.stmt_check.specs.Refusals.{◌⊳◌, marked, missing, refused}
 use Rattle.std.specs.List.{list_any}
@@ -164,6 +164,27 @@ rest_refusal pos distinct head info f =
 abbrev pub fold_refusal : ℕ → Bool → TableInfo → NamedFold → Option Refusal
 fold_refusal pos distinct info f = width_refusal pos info f ⊳ rest_refusal pos distinct (bucket_column f) info f
 
+-- how many units a bucket of the calendar has, where that is from 1 to 1,200
+abbrev pub unit_count : ℤ → Option ℕ
+unit_count n = if int_le (nonneg 1) n && int_le n (nonneg 1200) then Some (unsigned_abs n) else None
+
+-- a unit of the calendar
+abbrev pub is_unit : List ℕ → Bool
+is_unit unit =
+    same_name unit (codes "day") || same_name unit (codes "week") || same_name unit (codes "month")
+    || same_name unit (codes "year")
+
+-- the number of units, the unit and the time column
+abbrev pub units_refusal : ℕ → TableInfo → ℤ → List ℕ → NamedFold → Option Refusal
+units_refusal pos info number unit f =
+    missing pos bad_unit (unit_count number) ⊳ refused pos bad_unit (not (is_unit unit))
+    ⊳ refused pos no_column (not (is_time_column (column_of info f.at)))
+
+-- a fold by buckets of the calendar over a hypertable: its bucket, and the rest
+abbrev pub calendar_refusal : ℕ → TableInfo → ℤ → List ℕ → NamedFold → Option Refusal
+calendar_refusal pos info number unit f =
+    units_refusal pos info number unit f ⊳ rest_refusal pos false (head_name calendar_word f) info f
+
 -- the column that an aggregate reads; `count(*)` has column 0
 abbrev pub argument_of : TableInfo → Option (List ℕ) → ℕ
 argument_of info None = 0
@@ -185,6 +206,15 @@ rest_of info f = record {
 abbrev pub fold_of : TableInfo → NamedFold → Fold
 fold_of info f = record {
   width = width_of f;
+  keys = map (number_or_zero info) f.keys;
+  aggs = map (aggregate_of info) f.aggs;
+  tests = tests_of info f.tests;
+}
+
+-- a fold by buckets of the calendar with the numbers of its columns, in a width that isn't looked at
+abbrev pub calendar_of : TableInfo → NamedFold → Fold
+calendar_of info f = record {
+  width = record { step = nonneg 1; shift = nonneg 0 };
   keys = map (number_or_zero info) f.keys;
   aggs = map (aggregate_of info) f.aggs;
   tests = tests_of info f.tests;

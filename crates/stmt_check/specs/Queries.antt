@@ -1,5 +1,5 @@
 -- The buckets of an aggregate that tests ask for, and the chunks below a bound.
-use Rattle.std.specs.Prelude.{ℕ, ◌==◌, Bool, true, false, not, ◌&&◌, ℤ, pos as nonneg, ◌+ℤ◌, ◌-◌, List, [], ◌∷◌, Option, Some, None}
+use Rattle.std.specs.Prelude.{ℕ, ◌==◌, Bool, true, false, not, ◌&&◌, ℤ, pos as nonneg, ◌+ℤ◌, List, [], ◌∷◌, Option, Some, None}
 use Rattle.std.specs.Int.{int_max, int_min}
 use Rattle.ts_bucket.specs.WholeSpans.{least, greatest}
 use Rattle.ts_bucket.specs.Chunks.{chunk_start}

@@ -1,6 +1,6 @@
 -- What a statement that isn't refused asks for: an event that may come next, a window of an aggregate, or a query
 -- that can be asked.
-use Rattle.std.specs.Prelude.{◌≡◌, ℕ, ◌+◌, ◌*◌, ◌<◌, ◌≤◌, ℤ, List, [], ◌∷◌, ◌++◌, length, sum_by, Option, None, IsTrue, IsSome, true}
+use Rattle.std.specs.Prelude.{◌≡◌, ℕ, ◌+◌, ◌*◌, ◌<◌, ◌≤◌, ℤ, List, [], ◌∷◌, ◌++◌, length, sum_by, Option, Some, None, option_map, IsTrue, IsSome, true}
 use Rattle.std.specs.List.{list_all}
 use Rattle.std.specs.Option.{ForSome}
 use Rattle.ts_bucket.specs.Bucket.{IsWidth, is_time}
@@ -9,23 +9,27 @@ use Rattle.ts_model.specs.declared.events.Event.TheVariants as events
 use Rattle.ts_model.specs.declared.events.Op.{Op}
 use Rattle.ts_model.specs.declared.views.ViewDef.{ViewDef}
 use Rattle.ts_model.specs.History.{History, Begins}
-use Rattle.ts_model.specs.Roster.{roster, view_of}
+use Rattle.ts_model.specs.declared.queries.Query.TheVariants.{Buckets}
+use Rattle.ts_model.specs.declared.views.Fold.{Fold}
+use Rattle.ts_model.specs.Limits.{most_columns}
+use Rattle.ts_model.specs.Roster.{roster, hyper_of, view_of}
 use Rattle.ts_model.specs.Allowed.{all_allowed}
-use Rattle.ts_model.specs.Answers.{can_ask}
+use Rattle.ts_model.specs.Answers.{can_ask, columns_are_there}
 use Rattle.ts_model.specs.Bytes.{op_bytes}
 use Rattle.ts_model.specs.Sound.{op_fits, sound}
-use Rattle.ts_model.specs.Timely.{timely}
+use Rattle.ts_model.specs.Timely.{timely_at}
 use Rattle.stmt_reader.specs.Limits.{longest_line, longest_input}
 use Rattle.stmt_reader.specs.Written.{IsWritten}
 use Rattle.stmt_reader.specs.declared.statements.Stmt.{Stmt}
 use Rattle.stmt_check.specs.declared.actions.Action.{Action}
 use Rattle.stmt_check.specs.declared.actions.Action.TheVariants as actions
 use Rattle.stmt_check.specs.Check.{IsNumbered, action_of, refusal_of}
+use Rattle.stmt_check.specs.Folds.{is_unit}
 
 -- an event may come next
 pub record MayCome (h : History) (e : Event) : Type 0 where
   pub is_sound : IsTrue (sound h e)
-  pub is_timely : IsTrue (timely h e)
+  pub is_timely : IsTrue (timely_at h e)
 
 -- an aggregate may be made, and its width is one
 pub record MayBeMade (h : History) (def : ViewDef) : Type 0 where
@@ -44,6 +48,15 @@ pub record IsWindow (h : History) (view : ℕ) (lo hi : Option ℤ) : Type 0 whe
   pub low : ForSome lo (λ t. IsTrue (is_time t))
   pub high : ForSome hi (λ t. IsTrue (is_time t))
 
+-- a grouping by buckets of the calendar can be asked: it is of a hypertable with this time column, on columns that are
+-- there
+pub record IsCalendar (h : History) (table number : ℕ) (unit : List ℕ) (at : ℕ) (fold : Fold) : Type 0 where
+  pub in_range : (1 ≤ number) × (number ≤ 1200)
+  pub known : IsTrue (is_unit unit)
+  pub place : option_map (λ hyper. hyper.at) (hyper_of (roster h) table) ≡ Some at
+  pub query : IsTrue (can_ask (roster h) (Buckets table fold))
+  pub columns : IsTrue (columns_are_there most_columns fold)
+
 -- what an action from a text of so many bytes asks for can be done at a history
 abbrev pub IsSound : History → ℕ → Action → Type 0
 IsSound h bytes (actions.Table def) = MayCome h (events.Table def)
@@ -59,6 +72,7 @@ IsSound h bytes actions.Begin = Unit {0}
 IsSound h bytes actions.BeginRead = Unit {0}
 IsSound h bytes actions.Commit = Unit {0}
 IsSound h bytes actions.Rollback = Unit {0}
+IsSound h bytes (actions.Calendar table number unit at fold) = IsCalendar h table number unit at fold
 IsSound h bytes (actions.Ask query) = IsTrue (can_ask (roster h) query)
 
 -- a statement of a text of at most 65,536 bytes that isn't refused at an allowed history asks for something sound there

@@ -1,6 +1,6 @@
 //! What a checked statement asks for.
-use ts_model::{Hyper, Op, Query, Refusal, TableDef, ViewDef};
-use ts_schema::NoMemory;
+use ts_model::{Fold, Hyper, Op, Query, Refusal, TableDef, ViewDef};
+use ts_schema::{Name, NoMemory};
 
 /// What a statement asks for, with its names resolved to numbers.
 #[derive(Drop, Debug, Clone, PartialEq, Eq)]
@@ -54,6 +54,18 @@ pub enum Action {
     Rollback,
     /// Answer this query.
     Ask(Query),
+    /// Group the rows of a hypertable by buckets of the calendar.
+    Calendar {
+        table: u32,
+        /// How many units a bucket has, from 1 to 1,200.
+        number: u32,
+        /// The unit: `day`, `week`, `month` or `year`.
+        unit: Name,
+        /// The declared place of the time column.
+        at: u32,
+        /// The grouping, whose width isn't looked at.
+        fold: Fold,
+    },
 }
 
 /// How a check ends.

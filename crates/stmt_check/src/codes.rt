@@ -2,7 +2,7 @@
 ghost use Rattle.std.specs.Prelude.{◌≡◌};
 ghost use Rattle.ts_model.specs.Calls.{name_taken, too_many};
 ghost use Rattle.ts_model.specs.Limits.{most_columns, most_relations};
-ghost use Rattle.stmt_check.specs.Codes.{bad_time, bad_width, most_rows, no_column, no_relation, not_aggregate, not_hypertable, null_value, value_count};
+ghost use Rattle.stmt_check.specs.Codes.{bad_time, bad_unit, bad_width, most_rows, no_column, no_relation, not_aggregate, not_hypertable, null_value, value_count};
 ghost use Rattle.stmt_check.specs.declared.codes.TheConstants as codes;
 
 /// No relation has this name.
@@ -35,6 +35,9 @@ pub const TOO_MANY: u8 = 21;
 /// The relation is there and isn't an aggregate.
 pub const NOT_AGGREGATE: u8 = 22;
 
+/// A unit of the calendar, or how many of them a bucket has, is none.
+pub const BAD_UNIT: u8 = 29;
+
 /// The most tables, and the most aggregates.
 pub const MAX_RELATIONS: usize = 64;
 
@@ -55,6 +58,7 @@ pub fn numbers_law()
     ensures width { codes.BAD_WIDTH ≡ bad_width }
     ensures count { codes.VALUE_COUNT ≡ value_count }
     ensures null { codes.NULL_VALUE ≡ null_value }
+    ensures unit { codes.BAD_UNIT ≡ bad_unit }
     ensures many { codes.TOO_MANY ≡ too_many }
     ensures limits { (most_relations ≡ 64) × (most_columns ≡ 16) × (most_rows ≡ 1000) }
     ensures most { (codes.MAX_RELATIONS ≡ most_relations) × (codes.MAX_COLUMNS ≡ most_columns)

@@ -3,11 +3,12 @@ ghost use Rattle.std.specs.Prelude.{◌≡◌, ◌<◌, ◌+◌, ◌^◌, ◌&&�
 ghost use Rattle.ts_schema.specs.Names.{is_name};
 ghost use Rattle.ts_num.specs.declared.values.Fun.{Fun};
 ghost use Rattle.stmt_check.specs.Folds.{aggregate_name, argument_of, argument_refusal, columns_before, is_aggregate, fold_of, fold_refusal, function_name, head_name, rest_of, rest_refusal, is_key, is_step, is_taken, is_time_column, key_refusal, number_or_zero, output_count, output_names, tests_of, tests_refusal, ChecksWidth, ChecksKeys, ChecksAggregate, ChecksAggregates};
+ghost use Rattle.stmt_check.specs.Folds.{calendar_of, calendar_refusal, is_unit, unit_count, units_refusal};
 ghost use Rattle.stmt_check.specs.Results.{Checks};
 ghost use Rattle.stmt_check.specs.Tables.{is_among};
 
 use crate::actions::Stop;
-use crate::codes::{BAD_WIDTH, MAX_COLUMNS, NAME_TAKEN, NO_COLUMN, TOO_MANY};
+use crate::codes::{BAD_UNIT, BAD_WIDTH, MAX_COLUMNS, NAME_TAKEN, NO_COLUMN, TOO_MANY};
 use crate::refusals::{present, refuse_if, refuse_marked};
 use std::alloc::Global;
 use stmt_reader::{NamedAgg, NamedFold, NamedTest};
@@ -19,6 +20,9 @@ use ts_schema::{Name, NoMemory, Seq, Test};
 
 /// The name of a bucket's column where no other is given.
 const BUCKET_NAME: &[u8] = b"time_bucket";
+
+/// The name of the column of a bucket of the calendar where no other is given.
+const CALENDAR_NAME: &[u8] = b"calendar_bucket";
 
 /// The greatest step of a width.
 const MAX_STEP: i64 = 1_099_511_627_776;
@@ -79,6 +83,74 @@ pub(crate) fn check_fold(
         aggs,
         tests,
     })
+}
+
+/// The fold by buckets of the calendar with the numbers of its columns, and how many units a bucket has.
+pub(crate) fn check_calendar(
+    alloc: Global,
+    pos: u64,
+    info: &TableInfo,
+    number: i64,
+    unit: &Name,
+    fold: &NamedFold,
+) -> Result<(u32, Fold), Stop>
+    requires { length info.now.def.cols < 2 ^ 32 }
+    ensures { Checks (calendar_refusal pos info.now number unit.now fold.now) (unwrap_or (unit_count number) 0, calendar_of info.now fold.now) result }
+{
+    let number = check_units(pos, info, number, unit, fold)?;
+    let Rest { keys, aggs, tests } = check_rest(
+        alloc,
+        pos,
+        false,
+        name_of_head(CALENDAR_NAME, fold),
+        info,
+        fold,
+    )?;
+    let fold = Fold {
+        width: Width { step: 1, shift: 0 },
+        keys,
+        aggs,
+        tests,
+    };
+    Ok((number, fold))
+}
+
+/// How many units a bucket of the calendar has, where the unit is one and the column is the time column.
+fn check_units(
+    pos: u64,
+    info: &TableInfo,
+    number: i64,
+    unit: &Name,
+    fold: &NamedFold,
+) -> Result<u32, Stop>
+    requires { length info.now.def.cols < 2 ^ 32 }
+    ensures { Checks (units_refusal pos info.now number unit.now fold.now) (unwrap_or (unit_count number) 0) result }
+{
+    let count = present(pos, BAD_UNIT, unit_count(number))?;
+    refuse_if(pos, BAD_UNIT, !is_unit(unit.bytes()))?;
+    refuse_if(pos, NO_COLUMN, !is_time(column(info, &fold.at)))?;
+    Ok(count)
+}
+
+/// How many units a bucket of the calendar has, where that is in range.
+fn unit_count(number: i64) -> Option<u32>
+    ensures { result ≡ unit_count number }
+{
+    if 1 <= number && number <= 1_200 {
+        Some(number as u32)
+    } else {
+        None
+    }
+}
+
+/// Whether a word is a unit of the calendar.
+fn is_unit(word: &[u8]) -> bool
+    ensures { result ≡ is_unit word.now }
+{
+    word == b"day".as_slice()
+        || word == b"week".as_slice()
+        || word == b"month".as_slice()
+        || word == b"year".as_slice()
 }
 
 /// The rest of a fold behind its head, whose column has this name.

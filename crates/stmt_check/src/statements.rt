@@ -4,7 +4,7 @@ ghost use Rattle.stmt_reader.specs.declared.statements.Stmt.TheVariants as stmts
 ghost use Rattle.stmt_check.specs.Check.{IsChecked, IsNumbered, interval_of, time_of, Resolves};
 
 use crate::actions::{Action, Checked, Stop};
-use crate::folds::{check_fold, check_tests, names_of_outputs};
+use crate::folds::{check_calendar, check_fold, check_tests, names_of_outputs};
 use crate::inserts::check_rows;
 use crate::queries::{before_chunk, check_bound, check_starts};
 use crate::relations::{
@@ -61,6 +61,7 @@ fn resolve(alloc: Global, pos: u64, roster: &Roster, stmt: &Stmt) -> Result<Acti
         Stmt::Commit => Ok(Action::Commit),
         Stmt::Rollback => Ok(Action::Rollback),
         Stmt::Buckets(fold) => buckets(alloc, pos, roster, fold),
+        Stmt::Calendar { number, unit, fold } => calendar(alloc, pos, roster, *number, unit, fold),
         Stmt::Rows { table, tests } => rows(alloc, pos, roster, table, tests.items()),
     }
 }
@@ -222,6 +223,30 @@ fn buckets(alloc: Global, pos: u64, roster: &Roster, fold: &NamedFold) -> Result
     let table = hypertable(pos, roster, &fold.table)?;
     let fold = check_fold(alloc, pos, false, table_info(roster, table), fold)?;
     Ok(Action::Ask(Query::Buckets { table, fold }))
+}
+
+/// A fold by buckets of the calendar over a hypertable.
+fn calendar(
+    alloc: Global,
+    pos: u64,
+    roster: &Roster,
+    number: i64,
+    unit: &Name,
+    fold: &NamedFold,
+) -> Result<Action, Stop>
+    requires { IsNumbered roster.now }
+    ensures { Resolves pos roster.now (stmts.Calendar number unit.now fold.now) result }
+{
+    let table = hypertable(pos, roster, &fold.table)?;
+    let info = table_info(roster, table);
+    let (number, fold) = check_calendar(alloc, pos, info, number, unit, fold)?;
+    Ok(Action::Calendar {
+        table,
+        number,
+        unit: unit.copy()?,
+        at: place_of_time(&info.hyper),
+        fold,
+    })
 }
 
 /// SELECT *.

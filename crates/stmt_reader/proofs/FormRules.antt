@@ -4,7 +4,7 @@ use Rattle.std.specs.Prelude.{codes}
 use Rattle.stmt_reader.specs.Tokens.{Token, number, mark}
 use Rattle.stmt_reader.specs.Scan as scan
 use Rattle.stmt_reader.specs.Scan.{Seen, seen}
-use Rattle.stmt_reader.specs.Words.{is_keyword, is_mark, is_number, head_name, bucket_word}
+use Rattle.stmt_reader.specs.Words.{is_keyword, is_spelled, is_mark, is_number, head_name, bucket_word, calendar_word}
 use Rattle.stmt_reader.specs.Streams.{Placed, Stream, onto, plain, heads}
 use Rattle.stmt_reader.specs.Reading as read
 use Rattle.stmt_reader.specs.Reading.{parts}
@@ -18,9 +18,9 @@ use Rattle.stmt_reader.specs.declared.statements.Stmt.{Stmt}
 use Rattle.stmt_reader.specs.declared.statements.Stmt.TheVariants as stmt
 use Rattle.stmt_reader.proofs.Placed.{splits, onto-append}
 use Rattle.stmt_reader.proofs.Rules.{Reads, none, any, heads-any, Avoids, alike-refl, reads_alike, reads_gives, reads_bind, reads_then}
-use Rattle.stmt_reader.proofs.RuleTokens.{behind, Leads, reads_keyword, reads_mark, reads_number, reads_choose, takes_keyword, takes_mark, mark_only, avoids_means, avoids_keyword, avoids_mark, avoids_number, avoids_sequence, avoids_either}
+use Rattle.stmt_reader.proofs.RuleTokens.{behind, Leads, reads_keyword, reads_mark, reads_number, reads_choose, takes_keyword, takes_mark, takes_word, mark_only, avoids_means, avoids_keyword, avoids_spelled, avoids_mark, avoids_number, avoids_sequence, avoids_either}
 use Rattle.stmt_reader.proofs.RuleLists.{reads_listed}
-use Rattle.stmt_reader.proofs.PartRules.{reads_last, avoids_end, reads_name, reads_quoted, reads_flag, reads_value, reads_row, reads_column, reads_source, on_filters, on_aggregates, on_as, reads_bucket, reads_grouping}
+use Rattle.stmt_reader.proofs.PartRules.{reads_last, avoids_end, reads_name, reads_quoted, reads_flag, reads_value, reads_row, reads_column, reads_source, on_filters, on_aggregates, on_as, reads_bucket, reads_calendar_bucket, reads_grouping}
 use Rattle.stmt_reader.proofs.SelectRules.{reads_select_list, avoids_select_list}
 
 -- a rule behind one that may be no token
@@ -208,8 +208,27 @@ fold_rule = sequence rule.fold (λ f. means (stmt.Buckets f))
 avoids_fold : (test on : Seen → Bool) → test (scan.word (codes "time_bucket")) ≡ false → Avoids test fold_rule on
 avoids_fold test on h = avoids_sequence _ _ _ _ (avoids_sequence _ _ _ _ (avoids_sequence _ _ _ _ (avoids_keyword test kw.TimeBucket _ h)))
 
+abbrev calendar_rule : Rule Stmt
+calendar_rule = sequence rule.calendar_bucket (λ h. sequence (rule.fold_behind calendar_word h.head) (λ f. means (stmt.Calendar h.number h.unit f)))
+
+reads_calendar : (n : ℕ) → Reads n read.calendar_rest calendar_rule none
+unfolding read.calendar_rest
+reads_calendar n =
+    reads_bind n (reads_calendar_bucket n)
+    (λ h. reads_last n (stmt.Calendar h.number h.unit) (reads_fold_behind n calendar_word h.head))
+    (λ h. avoids_sequence _ _ _ _ (avoids_sequence _ _ _ _ (avoids_select_list on_as _ refl)))
+
+abbrev either_fold : Rule Stmt
+either_fold = either (behind (is_spelled calendar_word) calendar_rule) fold_rule
+
+avoids_either_fold : (test on : Seen → Bool) → test (scan.word calendar_word) ≡ false → test (scan.word (codes "time_bucket")) ≡ false → Avoids test either_fold on
+avoids_either_fold test on h k = avoids_either _ _ _ _ (avoids_sequence _ _ _ _ (avoids_spelled test calendar_word _ h)) (avoids_fold test on k)
+
+abbrev on_calendar : Seen → Bool
+on_calendar = any (is_spelled calendar_word) (any none none)
+
 abbrev on_star : Seen → Bool
-on_star = any (is_mark marks.Star) (any on_filters none)
+on_star = any (is_mark marks.Star) (any on_filters on_calendar)
 
 abbrev on_drop : Seen → Bool
 on_drop = any (is_keyword kw.DropChunks) (any none on_star)
@@ -221,16 +240,18 @@ abbrev select_rule : Rule Stmt
 select_rule =
     either (behind (is_keyword kw.CreateHypertable) hyper_rule)
     (either (behind (is_keyword kw.DropChunks) drop_rule)
-    (either (behind (is_mark marks.Star) (sequence rule.source (λ s. means (stmt.Rows s.0 s.1)))) fold_rule))
+    (either (behind (is_mark marks.Star) (sequence rule.source (λ s. means (stmt.Rows s.0 s.1)))) either_fold))
 
 reads_select : (n : ℕ) → Reads n read.select_rest select_rule on_select
 unfolding read.select_rest
 reads_select n =
     takes_keyword n kw.CreateHypertable reads_hyper
     (takes_keyword n kw.DropChunks reads_drop
-    (takes_mark n marks.Star reads_rows (reads_last n stmt.Buckets (reads_fold n)) (avoids_fold _ _ refl))
-    (avoids_either _ _ _ _ (avoids_sequence _ _ _ _ (avoids_mark _ marks.Star _ refl)) (avoids_fold _ _ refl)))
-    (avoids_either _ _ _ _ (avoids_sequence _ _ _ _ (avoids_keyword _ kw.DropChunks _ refl)) (avoids_either _ _ _ _ (avoids_sequence _ _ _ _ (avoids_mark _ marks.Star _ refl)) (avoids_fold _ _ refl)))
+    (takes_mark n marks.Star reads_rows
+    (takes_word n calendar_word reads_calendar (reads_last n stmt.Buckets (reads_fold n)) (avoids_fold _ _ refl))
+    (avoids_either_fold _ _ refl refl))
+    (avoids_either _ _ _ _ (avoids_sequence _ _ _ _ (avoids_mark _ marks.Star _ refl)) (avoids_either_fold _ _ refl refl)))
+    (avoids_either _ _ _ _ (avoids_sequence _ _ _ _ (avoids_keyword _ kw.DropChunks _ refl)) (avoids_either _ _ _ _ (avoids_sequence _ _ _ _ (avoids_mark _ marks.Star _ refl)) (avoids_either_fold _ _ refl refl)))
 
 -- ---- CALL and REFRESH
 
@@ -419,8 +440,9 @@ form_to ts a (inl (us, vs, u, e, k, inl m)) = inr (inr (inl (us, vs, u, e, k, m)
 form_to ts a (inl (us, vs, u, e, k, inr m)) = inl (us, vs, u, e, k, m)
 form_to ts a (inr (inl (us, vs, u, e, k, inl m))) = inr (inl (us, vs, u, e, k, m))
 form_to ts a (inr (inl (us, vs, u, e, k, inr (inl m)))) = inr (inr (inr (inr (inr (inr (inl (us, vs, u, e, k, m)))))))
-form_to ts a (inr (inl (us, vs, u, e, k, inr (inr (inl m))))) = inr (inr (inr (inr (inr (inr (inr (inr (inr (inr (inr (inr (inr (inr (inr (inr (us, vs, u, e, k, m))))))))))))))))
-form_to ts a (inr (inl (us, vs, u, e, k, inr (inr (inr m))))) = inr (inr (inr (inr (inr (inr (inr (inr (inr (inr (inr (inr (inr (inr (inr (inl (us, vs, u, e, k, m))))))))))))))))
+form_to ts a (inr (inl (us, vs, u, e, k, inr (inr (inl m))))) = inr (inr (inr (inr (inr (inr (inr (inr (inr (inr (inr (inr (inr (inr (inr (inr (inr (us, vs, u, e, k, m)))))))))))))))))
+form_to ts a (inr (inl (us, vs, u, e, k, inr (inr (inr (inl m)))))) = inr (inr (inr (inr (inr (inr (inr (inr (inr (inr (inr (inr (inr (inr (inr (inr (inl (us, vs, u, e, k, m)))))))))))))))))
+form_to ts a (inr (inl (us, vs, u, e, k, inr (inr (inr (inr m)))))) = inr (inr (inr (inr (inr (inr (inr (inr (inr (inr (inr (inr (inr (inr (inr (inl (us, vs, u, e, k, m))))))))))))))))
 form_to ts a (inr (inr (inl m))) = inr (inr (inr (inl m)))
 form_to ts a (inr (inr (inr (inl m)))) = inr (inr (inr (inr (inl m))))
 form_to ts a (inr (inr (inr (inr (inl m))))) = inr (inr (inr (inr (inr (inl m)))))
@@ -450,8 +472,9 @@ form_back ts a (inr (inr (inr (inr (inr (inr (inr (inr (inr (inr (inr (inl (us, 
 form_back ts a (inr (inr (inr (inr (inr (inr (inr (inr (inr (inr (inr (inr (inl (us, vs, u, e, k, m)))))))))))))) = inr (inr (inr (inr (inr (inr (inr (inl (us, vs, u, e, k, inl m))))))))
 form_back ts a (inr (inr (inr (inr (inr (inr (inr (inr (inr (inr (inr (inr (inr (inl m)))))))))))))) = inr (inr (inr (inr (inr (inr (inr (inr (inl m))))))))
 form_back ts a (inr (inr (inr (inr (inr (inr (inr (inr (inr (inr (inr (inr (inr (inr (inl m))))))))))))))) = inr (inr (inr (inr (inr (inr (inr (inr (inr m))))))))
-form_back ts a (inr (inr (inr (inr (inr (inr (inr (inr (inr (inr (inr (inr (inr (inr (inr (inl (us, vs, u, e, k, m))))))))))))))))) = inr (inl (us, vs, u, e, k, inr (inr (inr m))))
-form_back ts a (inr (inr (inr (inr (inr (inr (inr (inr (inr (inr (inr (inr (inr (inr (inr (inr (us, vs, u, e, k, m))))))))))))))))) = inr (inl (us, vs, u, e, k, inr (inr (inl m))))
+form_back ts a (inr (inr (inr (inr (inr (inr (inr (inr (inr (inr (inr (inr (inr (inr (inr (inl (us, vs, u, e, k, m))))))))))))))))) = inr (inl (us, vs, u, e, k, inr (inr (inr (inr m)))))
+form_back ts a (inr (inr (inr (inr (inr (inr (inr (inr (inr (inr (inr (inr (inr (inr (inr (inr (inl (us, vs, u, e, k, m)))))))))))))))))) = inr (inl (us, vs, u, e, k, inr (inr (inr (inl m)))))
+form_back ts a (inr (inr (inr (inr (inr (inr (inr (inr (inr (inr (inr (inr (inr (inr (inr (inr (inr (us, vs, u, e, k, m)))))))))))))))))) = inr (inl (us, vs, u, e, k, inr (inr (inl m))))
 
 pub reads_form : (n : ℕ) → Reads n read.form rule.form on_form
 reads_form n = reads_alike n read.form read.form form_rule rule.form on_form on_form (λ s. refl) (record { to = form_to; back = form_back }) (λ s h. h) (reads_form_rule n)

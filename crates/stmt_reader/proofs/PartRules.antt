@@ -20,7 +20,6 @@ use Rattle.stmt_reader.specs.declared.keywords.Keyword.{Keyword}
 use Rattle.stmt_reader.specs.declared.keywords.Keyword.TheVariants as kw
 use Rattle.stmt_reader.specs.declared.tokens.Mark.TheVariants as marks
 use Rattle.stmt_reader.specs.declared.phrases.Separator.TheVariants as separators
-use Rattle.stmt_reader.specs.declared.folds.Head.{Head}
 use Rattle.stmt_reader.specs.declared.statements.NamedAgg.{NamedAgg}
 use Rattle.stmt_reader.proofs.Placed.{nothing_placed}
 use Rattle.stmt_reader.proofs.Rules.{Reads, none, heads-none, any, Avoids, alike-refl, reads_alike, reads_gives, reads_bind, reads_then}
@@ -250,6 +249,13 @@ reads_bucket n =
     reads_bind n (reads_offset n)
     (λ shift. reads_then n (reads_mark n marks.Close) (λ _. reads_last n (λ x. record { step = step; shift = shift; at = at; name = x }) (reads_alias n)))
     (λ shift. avoids_sequence _ _ _ _ (avoids_mark _ marks.Close _ refl)))))))
+
+pub reads_calendar_bucket : (n : ℕ) → Reads n read.calendar_bucket rule.calendar_bucket on_as
+unfolding read.calendar_bucket
+reads_calendar_bucket n =
+    reads_then n (reads_mark n marks.Open) (λ _. reads_then n (reads_number n) (λ z. reads_then n (reads_mark n marks.Comma) (λ _. reads_then n (reads_quoted n) (λ u.
+    reads_then n (reads_mark n marks.Comma) (λ _. reads_then n (reads_name n) (λ c. reads_then n (reads_mark n marks.Close) (λ _.
+    reads_last n (λ x. record { number = z; unit = u; head = record { step = pos 1; shift = pos 0; at = c; name = x } }) (reads_alias n))))))))
 
 pub reads_grouping : (n : ℕ) (first : List ℕ) (keys : List (List ℕ)) → Reads n (read.grouping first keys) (rule.grouping first keys) none
 unfolding read.grouping read.items

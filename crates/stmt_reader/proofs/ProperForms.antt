@@ -1,20 +1,18 @@
 -- What the grammar's statements hold is proper.
-use Rattle.std.proofs.Common.{◌≡◌, ℕ, ℤ, pos, Bool, true, false, List, [], ◌∷◌, Option, Some, None, refl}
+use Rattle.std.proofs.Common.{ℕ, pos, List, [], Option, Some, None, refl}
 use Rattle.std.specs.Prelude.{IfSome}
 use Rattle.std.specs.List.{AllByRecursion}
 use Rattle.ts_num.specs.declared.values.Fun.{Fun}
 use Rattle.ts_num.specs.declared.values.Fun.TheVariants as fun
-use Rattle.ts_schema.specs.declared.conditions.Cmp.{Cmp}
-use Rattle.ts_schema.specs.declared.conditions.Cmp.TheVariants as cmp
 use Rattle.stmt_reader.specs.Grammar as rule
 use Rattle.stmt_reader.specs.Grammar.{Rule, means, sequence}
-use Rattle.stmt_reader.specs.Words.{function_of, comparison_of, is_star_of, head_name, bucket_word}
-use Rattle.stmt_reader.specs.Proper.{IsName, IsWord, IsValue, IsAlias, IsProperColumn, IsProperTest, IsProperAgg, AreProperTests, AreProperRows, IsProperFold, IsProper}
+use Rattle.stmt_reader.specs.Words.{function_of, comparison_of, is_star_of, is_spelled, head_name, bucket_word, calendar_word}
+use Rattle.stmt_reader.specs.Proper.{IsName, IsWord, IsValue, IsAlias, IsProperColumn, IsProperTest, IsProperAgg, AreProperTests, IsProperFold, IsProper}
 use Rattle.stmt_reader.specs.declared.keywords.Keyword.TheVariants as kw
 use Rattle.stmt_reader.specs.declared.tokens.Mark.TheVariants as marks
+use Rattle.stmt_reader.specs.declared.folds.CalendarHead.{CalendarHead}
 use Rattle.stmt_reader.specs.declared.folds.Head.{Head}
 use Rattle.stmt_reader.specs.declared.forms.Window.{Window}
-use Rattle.stmt_reader.specs.declared.statements.Stmt.{Stmt}
 use Rattle.stmt_reader.specs.declared.statements.Stmt.TheVariants as stmt
 use Rattle.stmt_reader.specs.declared.statements.NamedAgg.{NamedAgg}
 use Rattle.stmt_reader.specs.declared.statements.NamedTest.{NamedTest}
@@ -140,6 +138,24 @@ holds_fold_behind own b h =
 
 fold : Holds rule.fold IsProperFold
 fold = holds_then bucket (λ b h. holds_fold_behind bucket_word b h)
+
+record IsProperCalendar (h : CalendarHead) : Type 0 where
+  number : IsWord h.number
+  unit : IsName h.unit
+  head : IsProperHead h.head
+
+calendar_bucket : Holds rule.calendar_bucket IsProperCalendar
+calendar_bucket =
+    past (rule.mark marks.Open)
+    (holds_then holds_number (λ z h.
+    past (rule.mark marks.Comma)
+    (holds_then holds_quoted (λ u k.
+    past (rule.mark marks.Comma)
+    (holds_then holds_name (λ c m.
+    past (rule.mark marks.Close)
+    (holds_then alias (λ x n.
+    holds_means (record { number = z; unit = u; head = record { step = pos 1; shift = pos 0; at = c; name = x } }) IsProperCalendar
+    (record { number = h; unit = k; head = record { step = refl; shift = zero_is_word; at = m; name = n } })))))))))
 
 -- ---- statements
 
@@ -281,6 +297,14 @@ rollback = past (rule.keyword kw.Rollback) (holds_means stmt.Rollback IsProper t
 buckets : Holds rule.buckets IsProper
 buckets = past (rule.keyword kw.Select) (holds_then fold (λ f h. holds_means (stmt.Buckets f) IsProper h))
 
+calendar : Holds rule.calendar IsProper
+calendar =
+    past (rule.keyword kw.Select)
+    (past (rule.wanted (is_spelled calendar_word))
+    (holds_then calendar_bucket (λ h k.
+    holds_then (holds_fold_behind calendar_word h.head k.head) (λ f m.
+    holds_means (stmt.Calendar h.number h.unit f) IsProper (k.number, k.unit, m)))))
+
 select_rows : Holds rule.select_rows IsProper
 select_rows =
     past (rule.keyword kw.Select)
@@ -305,7 +329,8 @@ form =
     (holds_either begin_read
     (holds_either commit
     (holds_either rollback
-    (holds_either buckets select_rows)))))))))))))))
+    (holds_either buckets
+    (holds_either calendar select_rows))))))))))))))))
 
 -- a whole statement
 pub holds_statement : Holds rule.statement IsProper

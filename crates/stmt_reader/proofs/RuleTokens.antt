@@ -7,7 +7,7 @@ use Rattle.std.proofs.lemmas.Slice.Eq.{bytes_eq-Decides}
 use Rattle.stmt_reader.specs.Tokens.{Token, word, number, quoted, mark, is_i64}
 use Rattle.stmt_reader.specs.Scan as scan
 use Rattle.stmt_reader.specs.Scan.{Seen, seen, i64_of}
-use Rattle.stmt_reader.specs.Words.{is_keyword, keyword_text, is_mark, mark_number, number_of}
+use Rattle.stmt_reader.specs.Words.{is_keyword, is_spelled, keyword_text, is_mark, mark_number, number_of}
 use Rattle.stmt_reader.specs.Streams.{Placed, Stream, ends, stops, ◌then◌, onto, plain, size, seen_ahead, heads, tail, place, refused}
 use Rattle.stmt_reader.specs.Reading as read
 use Rattle.stmt_reader.specs.Reading.{Parser, go_on, bind, said, one, wanted, fitting, takes, choose}
@@ -421,6 +421,10 @@ pub takes_mark : (n : ℕ) {A : Type 0} (m : Mark) {p q : Parser A} {L M : Rule 
     → Reads n (takes (is_mark m) p q) (either (behind (is_mark m) L) M) (any (is_mark m) (any c d))
 takes_mark n m {p = p} {L = L} {c = c} r o apart = reads_takes n (is_mark m) (mark m) p L c refl (same_mark m) (inner_of n r) (r 0).starts o apart
 
+pub takes_word : (n : ℕ) {A : Type 0} (text : List ℕ) {p q : Parser A} {L M : Rule A} {c d : Seen → Bool} → ((m : ℕ) → Reads m p L c) → Reads n q M d → Avoids (is_spelled text) M (any (is_spelled text) (any c d))
+    → Reads n (takes (is_spelled text) p q) (either (behind (is_spelled text) L) M) (any (is_spelled text) (any c d))
+takes_word n text {p = p} {L = L} {c = c} r o apart = reads_takes n (is_spelled text) (word text) p L c refl (same_text text) (inner_of n r) (r 0).starts o apart
+
 -- ---- rules that begin with other tokens
 
 pub avoids_means : {A : Type 0} (test : Seen → Bool) (a : A) (on : Seen → Bool) → Avoids test (means a) (any test on)
@@ -444,6 +448,15 @@ keyword_only test k h (scan.mark m) e = absurd cc
 
 pub avoids_keyword : (test : Seen → Bool) (k : Keyword) (on : Seen → Bool) → test (scan.word (keyword_text k)) ≡ false → Avoids test (rule.keyword k) on
 avoids_keyword test k on h = avoids_wanted test (is_keyword k) on (keyword_only test k h)
+
+spelled_only : (test : Seen → Bool) (text : List ℕ) → test (scan.word text) ≡ false → (t : Seen) → is_spelled text t ≡ true → test t ≡ false
+spelled_only test text h (scan.word w) e = subst (λ v. test (scan.word v) ≡ false) (sym ((bytes_eq-Decides w text).0 e)) h
+spelled_only test text h (scan.number z) e = absurd cc
+spelled_only test text h (scan.quoted w) e = absurd cc
+spelled_only test text h (scan.mark m) e = absurd cc
+
+pub avoids_spelled : (test : Seen → Bool) (text : List ℕ) (on : Seen → Bool) → test (scan.word text) ≡ false → Avoids test (rule.wanted (is_spelled text)) on
+avoids_spelled test text on h = avoids_wanted test (is_spelled text) on (spelled_only test text h)
 
 -- the mark of a number
 abbrev mark_of : ℕ → Mark

@@ -2,13 +2,14 @@
 use Rattle.std.proofs.Common.{ℕ, ◌+◌, ◌≤◌, length, Some, None, arith}
 use Rattle.stmt_reader.specs.Grammar as rule
 use Rattle.stmt_reader.specs.Grammar.{Rule}
+use Rattle.stmt_reader.specs.Words.{calendar_word}
 use Rattle.stmt_reader.specs.Written.{IsShaped, IsWholeRow, name_size, column_size, row_size, list_size}
 use Rattle.stmt_reader.specs.declared.keywords.Keyword.TheVariants as kw
 use Rattle.stmt_reader.specs.declared.tokens.Mark.TheVariants as marks
 use Rattle.stmt_reader.specs.declared.statements.Stmt.{Stmt}
 use Rattle.stmt_reader.specs.declared.statements.Stmt.TheVariants as stmt
-use Rattle.stmt_reader.proofs.Yields.{Yields, Item, yields_means, yields_then, yields_either, yields_listed, yields_keyword, yields_mark, yields_name, yields_quoted, yields_number}
-use Rattle.stmt_reader.proofs.WrittenParts.{Any, yields_value, yields_row, yields_column, yields_source, yields_fold}
+use Rattle.stmt_reader.proofs.Yields.{Yields, Item, yields_means, yields_then, yields_either, yields_listed, yields_keyword, yields_mark, yields_name, yields_quoted, yields_number, yields_spelled}
+use Rattle.stmt_reader.proofs.WrittenParts.{Any, yields_value, yields_row, yields_column, yields_source, yields_fold, yields_fold_behind, yields_calendar_bucket}
 
 -- a statement by tokens of so many bytes
 abbrev Holds : Stmt → ℕ → Type 0
@@ -176,6 +177,14 @@ buckets =
     yields_then yields_fold (λ f b hb.
     yields_means (stmt.Buckets f) _ (record { whole = hb.is; size = omega (arith, hb.size) })))
 
+calendar : Yields rule.calendar Holds
+calendar =
+    yields_then (yields_keyword kw.Select) (λ _ a ha.
+    yields_then (yields_spelled calendar_word) (λ _ b hb.
+    yields_then yields_calendar_bucket (λ h c hc.
+    yields_then (yields_fold_behind calendar_word h.head) (λ f d hd.
+    yields_means (stmt.Calendar h.number h.unit f) _ (record { whole = hd.is; size = omega (arith, hd.size) })))))
+
 select_rows : Yields rule.select_rows Holds
 select_rows =
     yields_then (yields_keyword kw.Select) (λ _ a ha.
@@ -201,7 +210,8 @@ form =
     (yields_either begin_read
     (yields_either commit
     (yields_either rollback
-    (yields_either buckets select_rows)))))))))))))))
+    (yields_either buckets
+    (yields_either calendar select_rows))))))))))))))))
 
 -- a whole statement
 pub yields_statement : Yields rule.statement Holds

@@ -20,8 +20,9 @@ use Rattle.stmt_reader.specs.declared.tokens.Mark.{Mark}
 use Rattle.stmt_reader.specs.declared.tokens.Mark.TheVariants as marks
 use Rattle.stmt_reader.specs.declared.folds.Head.{Head}
 use Rattle.stmt_reader.specs.declared.statements.NamedAgg.{NamedAgg}
+use Rattle.stmt_reader.specs.declared.statements.NamedFold.{NamedFold}
 use Rattle.stmt_reader.specs.declared.statements.NamedTest.{NamedTest}
-use Rattle.stmt_reader.proofs.Yields.{Yields, Item, Items, Listed, token_size, yields_means, yields_then, yields_either, yields_many, yields_listed, yields_one, yields_wanted, yields_keyword, yields_mark, yields_name, yields_number}
+use Rattle.stmt_reader.proofs.Yields.{Yields, Item, Items, Listed, token_size, yields_means, yields_then, yields_either, yields_many, yields_listed, yields_one, yields_wanted, yields_keyword, yields_mark, yields_name, yields_number, yields_quoted}
 
 -- nothing more to say of a value
 abbrev pub Any : {A : Type 0} → A → Type 0
@@ -283,11 +284,33 @@ yields_grouping first keys =
     yields_then (yields_keyword kw.By) (λ _ n hn.
     record { holds = λ ts u l. omega arith }))
 
+-- a fold whose head has this column and this name, and what stands behind the head
+pub record BehindHead (b : Head) (f : NamedFold) (n : ℕ) : Type 0 where
+  pub is : IsWholeFold f
+  pub size : fold_size f ≤ 15 + length b.at + alias_size b.name + n
+
+pub yields_fold_behind : (own : List ℕ) (b : Head) → Yields (rule.fold_behind own b) (BehindHead b)
+yields_fold_behind own b =
+    yields_then yields_select_list (λ list n hn.
+    yields_then yields_source (λ from k hk.
+    yields_then (yields_grouping (head_name own b.name) list.0) (λ _ i hi.
+    yields_means (record { step = b.step; shift = b.shift; at = b.at; name = b.name; keys = list.0; aggs = list.1; table = from.0; tests = from.1 }) _
+    (record { is = record { some = hn.some; aggs = hn.aggs; tests = hk.tests }; size = omega (arith, hn.size, hk.size) }))))
+
 pub yields_fold : Yields rule.fold (Item IsWholeFold fold_size)
 yields_fold =
     yields_then yields_bucket (λ b m hm.
-    yields_then yields_select_list (λ list n hn.
-    yields_then yields_source (λ from k hk.
-    yields_then (yields_grouping (head_name bucket_word b.name) list.0) (λ _ i hi.
-    yields_means (record { step = b.step; shift = b.shift; at = b.at; name = b.name; keys = list.0; aggs = list.1; table = from.0; tests = from.1 }) _
-    (record { is = record { some = hn.some; aggs = hn.aggs; tests = hk.tests }; size = omega (arith, hn.size, hk.size) })))))
+    record { holds = λ ts f l. let k = (yields_fold_behind bucket_word b).holds ts f l in record { is = k.is; size = omega (arith, k.size) } })
+
+-- ( num , 'unit' , c ) AS x
+pub yields_calendar_bucket : Yields rule.calendar_bucket (λ h n. 7 + length h.unit + length h.head.at + alias_size h.head.name ≤ n)
+yields_calendar_bucket =
+    yields_then (yields_mark marks.Open) (λ _ a ha.
+    yields_then yields_number (λ z b hb.
+    yields_then (yields_mark marks.Comma) (λ _ c hc.
+    yields_then yields_quoted (λ u d hd.
+    yields_then (yields_mark marks.Comma) (λ _ e he.
+    yields_then yields_name (λ col f hf.
+    yields_then (yields_mark marks.Close) (λ _ g hg.
+    yields_then yields_alias (λ x i hi.
+    yields_means (record { number = z; unit = u; head = record { step = pos 1; shift = pos 0; at = col; name = x } }) _ (omega arith)))))))))

@@ -6,7 +6,7 @@ use Rattle.std.proofs.lemmas.List.Sums.{sum_by-cons}
 use Rattle.std.proofs.lemmas.Slice.Eq.{bytes_eq-Decides}
 use Rattle.stmt_reader.specs.Tokens.{Token, word, number, quoted, mark}
 use Rattle.stmt_reader.specs.Scan.{Seen, seen}
-use Rattle.stmt_reader.specs.Words.{keyword_text, is_keyword, is_mark, word_of, quoted_of}
+use Rattle.stmt_reader.specs.Words.{keyword_text, is_keyword, is_spelled, is_mark, word_of, quoted_of}
 use Rattle.stmt_reader.specs.Grammar as rule
 use Rattle.stmt_reader.specs.Grammar.{Rule, means, sequence, either, many, listed, one, wanted}
 use Rattle.stmt_reader.specs.declared.keywords.Keyword.{Keyword}
@@ -123,6 +123,15 @@ keyword_size k (mark m) e = absurd cc
 
 pub yields_keyword : (k : Keyword) → Yields (rule.keyword k) (λ _ n. length (keyword_text k) ≤ n)
 yields_keyword k = yields_wanted (is_keyword k) (λ n. length (keyword_text k) ≤ n) (keyword_size k)
+
+spelled_size : (text : List ℕ) (t : Token) → is_spelled text (seen t) ≡ true → length text ≤ token_size t + 0
+spelled_size text (word w) e = omega (arith, ap length ((bytes_eq-Decides w text).0 e))
+spelled_size text (number z) e = absurd cc
+spelled_size text (quoted w) e = absurd cc
+spelled_size text (mark m) e = absurd cc
+
+pub yields_spelled : (text : List ℕ) → Yields (wanted (is_spelled text)) (λ _ n. length text ≤ n)
+yields_spelled text = yields_wanted (is_spelled text) (λ n. length text ≤ n) (spelled_size text)
 
 mark_size : (m : Mark) (t : Token) → is_mark m (seen t) ≡ true → 1 ≤ token_size t + 0
 mark_size m (word w) e = absurd cc

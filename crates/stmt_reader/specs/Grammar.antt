@@ -2,11 +2,12 @@
 use Rattle.std.specs.Prelude.{◌≡◌, ℕ, suc, ℤ, pos, Bool, true, false, ◌⊎◌, List, [], ◌∷◌, ◌++◌, Option, Some, None}
 use Rattle.stmt_reader.specs.Tokens.{Token, number as number_token}
 use Rattle.stmt_reader.specs.Scan.{Seen, seen}
-use Rattle.stmt_reader.specs.Words.{is_keyword, is_mark, word_of, quoted_of, flag_of, comparison_of, function_of, is_star_of, is_item, head_name, bucket_word}
+use Rattle.stmt_reader.specs.Words.{is_keyword, is_spelled, is_mark, word_of, quoted_of, flag_of, comparison_of, function_of, is_star_of, is_item, head_name, bucket_word, calendar_word}
 use Rattle.stmt_reader.specs.declared.keywords.Keyword.{Keyword}
 use Rattle.stmt_reader.specs.declared.keywords.Keyword.TheVariants as kw
 use Rattle.stmt_reader.specs.declared.tokens.Mark.{Mark}
 use Rattle.stmt_reader.specs.declared.tokens.Mark.TheVariants as marks
+use Rattle.stmt_reader.specs.declared.folds.CalendarHead.{CalendarHead}
 use Rattle.stmt_reader.specs.declared.folds.Head.{Head}
 use Rattle.stmt_reader.specs.declared.forms.Window.{Window}
 use Rattle.stmt_reader.specs.declared.statements.Stmt.{Stmt}
@@ -214,6 +215,27 @@ fold_behind own h = do
 -- fold, behind its SELECT: bucket { , c } , agg { , agg } FROM n [WHERE tests] GROUP BY item { , item }
 abbrev pub fold : Rule NamedFold
 fold = bucket >>= fold_behind bucket_word
+
+-- ( num , 'unit' , c ) [AS x], behind calendar_bucket
+abbrev pub calendar_bucket : Rule CalendarHead
+calendar_bucket = do
+  mark marks.Open
+  z ← number
+  mark marks.Comma
+  u ← quoted
+  mark marks.Comma
+  c ← name
+  mark marks.Close
+  x ← alias
+  means (record { number = z; unit = u; head = record { step = pos 1; shift = pos 0; at = c; name = x } })
+
+-- calendar_bucket ( num , 'unit' , c ) [AS x] { , c } , agg { , agg } FROM n [WHERE tests] GROUP BY item { , item }
+abbrev pub calendar_fold : Rule Stmt
+calendar_fold = do
+  wanted (is_spelled calendar_word)
+  h ← calendar_bucket
+  f ← fold_behind calendar_word h.head
+  means (stmt.Calendar h.number h.unit f)
 
 -- ---- statements
 
@@ -430,6 +452,10 @@ rollback = keyword kw.Rollback >> means stmt.Rollback
 abbrev pub buckets : Rule Stmt
 buckets = keyword kw.Select >> fold >>= λ f. means (stmt.Buckets f)
 
+-- SELECT, and a fold by buckets of the calendar
+abbrev pub calendar : Rule Stmt
+calendar = keyword kw.Select >> calendar_fold
+
 -- SELECT * FROM n [WHERE tests]
 abbrev pub select_rows : Rule Stmt
 select_rows = do
@@ -456,7 +482,8 @@ form =
     (either begin_read
     (either commit
     (either rollback
-    (either buckets select_rows)))))))))))))))
+    (either buckets
+    (either calendar select_rows))))))))))))))))
 
 -- [;]
 abbrev pub semicolon : Rule (Unit {0})

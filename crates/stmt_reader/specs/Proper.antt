@@ -1,5 +1,5 @@
 -- Proper statements: their names are names in lower case, and their numbers are of 64 bits.
-use Rattle.std.specs.Prelude.{◌≡◌, ℕ, ℤ, true, List, Option, Some, None}
+use Rattle.std.specs.Prelude.{◌≡◌, ℕ, ℤ, true, List, Option}
 use Rattle.std.specs.Prelude.{IfSome}
 use Rattle.std.specs.List.{AllByRecursion}
 use Rattle.ts_schema.specs.Names.{is_name}
@@ -78,4 +78,5 @@ IsProper stmt.BeginRead = Unit {0}
 IsProper stmt.Commit = Unit {0}
 IsProper stmt.Rollback = Unit {0}
 IsProper (stmt.Buckets fold) = IsProperFold fold
+IsProper (stmt.Calendar number unit fold) = IsWord number × IsName unit × IsProperFold fold
 IsProper (stmt.Rows table tests) = IsName table × AreProperTests tests

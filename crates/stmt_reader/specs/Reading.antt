@@ -1,6 +1,6 @@
 use Rattle.std.specs.Prelude.{◌≡◌, ℕ, zero, suc, ℤ, Bool, true, false, if◌then◌else◌, List, [], ◌∷◌, ◌++◌, Option, Some, None, option_and_then, Result, Ok, Err, pos}
 use Rattle.stmt_reader.specs.Scan.{Seen}
-use Rattle.stmt_reader.specs.Words.{is_keyword, is_mark, is_number, word_of, quoted_of, number_of, flag_of, comparison_of, function_of, function_of_word, is_star_of, is_item, head_name, bucket_word}
+use Rattle.stmt_reader.specs.Words.{is_keyword, is_mark, is_number, word_of, quoted_of, number_of, flag_of, comparison_of, function_of, function_of_word, is_star_of, is_item, is_spelled, head_name, bucket_word, calendar_word}
 use Rattle.stmt_reader.specs.Streams.{Stream, size, seen_ahead, heads, tail, place, is_end, refused}
 use Rattle.stmt_reader.specs.declared.faults.Fault.{Fault}
 use Rattle.stmt_reader.specs.declared.faults.Fault.TheVariants.{BadNumber}
@@ -11,6 +11,7 @@ use Rattle.stmt_reader.specs.declared.keywords.Keyword.TheVariants as kw
 use Rattle.stmt_reader.specs.declared.tokens.Mark.TheVariants as marks
 use Rattle.stmt_reader.specs.declared.phrases.Separator.{Separator}
 use Rattle.stmt_reader.specs.declared.phrases.Separator.TheVariants as separators
+use Rattle.stmt_reader.specs.declared.folds.CalendarHead.{CalendarHead}
 use Rattle.stmt_reader.specs.declared.folds.Head.{Head}
 use Rattle.stmt_reader.specs.declared.forms.Window.{Window}
 use Rattle.stmt_reader.specs.declared.statements.Stmt.{Stmt}
@@ -293,6 +294,19 @@ fold_behind own h = do
 unfoldable pub fold_rest : Parser NamedFold
 fold_rest = bucket >>= fold_behind bucket_word
 
+-- ( num , 'unit' , c ) [AS x], after calendar_bucket
+unfoldable pub calendar_bucket : Parser CalendarHead
+calendar_bucket = do
+  mark marks.Open
+  z ← number
+  mark marks.Comma
+  u ← quoted
+  mark marks.Comma
+  c ← name
+  mark marks.Close
+  x ← alias
+  gives (record { number = z; unit = u; head = record { step = pos 1; shift = pos 0; at = c; name = x } })
+
 -- ---- statements, after the words that tell them apart
 
 -- n ( column { , column } )
@@ -423,13 +437,21 @@ drop_rest = do
 unfoldable pub rows_rest : Parser Stmt
 rows_rest = source >>= λ s. gives (stmt.Rows s.0 s.1)
 
+-- a fold by buckets of the calendar, after calendar_bucket
+unfoldable pub calendar_rest : Parser Stmt
+calendar_rest = do
+  h ← calendar_bucket
+  f ← fold_behind calendar_word h.head
+  gives (stmt.Calendar h.number h.unit f)
+
 -- what follows SELECT
 unfoldable pub select_rest : Parser Stmt
 select_rest =
     takes (is_keyword kw.CreateHypertable) hyper_rest
     (takes (is_keyword kw.DropChunks) drop_rest
     (takes (is_mark marks.Star) rows_rest
-    (fold_rest >>= λ f. gives (stmt.Buckets f))))
+    (takes (is_spelled calendar_word) calendar_rest
+    (fold_rest >>= λ f. gives (stmt.Buckets f)))))
 
 -- 'n' , bound , bound
 unfoldable pub window : Parser Window

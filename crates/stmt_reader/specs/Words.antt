@@ -179,3 +179,7 @@ head_name own (Some x) = x
 -- the own word of a bucket
 abbrev pub bucket_word : List ℕ
 bucket_word = codes "time_bucket"
+
+-- the own word of a bucket of the calendar
+abbrev pub calendar_word : List ℕ
+calendar_word = codes "calendar_bucket"

@@ -74,6 +74,7 @@ IsWhole stmt.BeginRead = Unit {0}
 IsWhole stmt.Commit = Unit {0}
 IsWhole stmt.Rollback = Unit {0}
 IsWhole (stmt.Buckets fold) = IsWholeFold fold
+IsWhole (stmt.Calendar number unit fold) = IsWholeFold fold
 IsWhole (stmt.Rows table tests) = AllByRecursion IsWholeTest tests
 
 -- ---- bytes that a text of a statement has at least
@@ -137,6 +138,7 @@ size_of stmt.BeginRead = 0
 size_of stmt.Commit = 0
 size_of stmt.Rollback = 0
 size_of (stmt.Buckets fold) = 6 + fold_size fold
+size_of (stmt.Calendar number unit fold) = 6 + length unit + fold_size fold
 size_of (stmt.Rows table tests) = 11 + length table + sum_by test_size tests
 
 -- a statement of a text of so many bytes

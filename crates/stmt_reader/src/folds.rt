@@ -20,6 +20,9 @@ use ts_schema::{Name, Seq};
 /// The name of a bucket that has none after AS.
 const BUCKET_NAME: &[u8] = b"time_bucket";
 
+/// The word of a bucket of the calendar, which names it where no name follows AS.
+pub const CALENDAR_NAME: &[u8] = b"calendar_bucket";
+
 /// What a fold begins with: a width, the column that it is over, and the name after AS. The rest of
 /// the fold stands behind it.
 #[derive(Drop)]
@@ -32,6 +35,17 @@ pub struct Head {
     pub at: Name,
     /// The name of the output column after AS.
     pub name: Option<Name>,
+}
+
+/// What a fold by buckets of the calendar begins with.
+#[derive(Drop)]
+pub struct CalendarHead {
+    /// How many units a bucket has.
+    pub number: i64,
+    /// The unit.
+    pub unit: Name,
+    /// The column that it is over and the name after AS, with step 1 and offset 0.
+    pub head: Head,
 }
 
 /// An aggregate.
@@ -100,6 +114,31 @@ impl Reader<'_> {
             shift,
             at,
             name,
+        })
+    }
+
+    /// `( num , 'unit' , c ) [AS x]` behind `calendar_bucket`.
+    #[tactic(auto, unfolding(crate::specs::Reading::calendar_bucket, crate::specs::Reading::bind))]
+    pub fn calendar_bucket(&mut self) -> Result<CalendarHead, ReadError>
+        ensures { Gives result (spec.calendar_bucket (ahead self.old)) (ahead self.new) }
+    {
+        self.mark(Mark::Open)?;
+        let number = self.number()?;
+        self.mark(Mark::Comma)?;
+        let unit = self.quoted()?;
+        self.mark(Mark::Comma)?;
+        let at = self.name()?;
+        self.mark(Mark::Close)?;
+        let name = self.alias()?;
+        Ok(CalendarHead {
+            number,
+            unit,
+            head: Head {
+                step: 1,
+                shift: 0,
+                at,
+                name,
+            },
         })
     }
 

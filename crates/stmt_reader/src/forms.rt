@@ -5,6 +5,7 @@ ghost use Rattle.stmt_reader.specs.Reading as spec;
 ghost use Rattle.stmt_reader.specs.Reading.{Gives};
 
 use crate::faults::ReadError;
+use crate::folds::CALENDAR_NAME;
 use crate::keywords::Keyword;
 use crate::phrases::Separator;
 use crate::reader::Reader;
@@ -256,7 +257,24 @@ impl Reader<'_> {
         if self.takes_mark(Mark::Star) {
             return self.rows();
         }
+        if self.takes_word(CALENDAR_NAME) {
+            return self.calendar();
+        }
         Ok(Stmt::Buckets(self.fold()?))
+    }
+
+    /// What follows `SELECT calendar_bucket`.
+    #[tactic(auto, unfolding(crate::specs::Reading::calendar_rest, crate::specs::Reading::bind))]
+    fn calendar(&mut self) -> Result<Stmt, ReadError>
+        ensures { Gives result (spec.calendar_rest (ahead self.old)) (ahead self.new) }
+    {
+        let calendar = self.calendar_bucket()?;
+        let fold = self.fold_behind(CALENDAR_NAME, calendar.head)?;
+        Ok(Stmt::Calendar {
+            number: calendar.number,
+            unit: calendar.unit,
+            fold,
+        })
     }
 
     /// What follows `SELECT create_hypertable`.

@@ -78,6 +78,15 @@ pub enum Stmt {
     Rollback,
     /// `SELECT time_bucket`
     Buckets(NamedFold),
+    /// `SELECT calendar_bucket`
+    Calendar {
+        /// How many units a bucket has.
+        number: i64,
+        /// The unit.
+        unit: Name,
+        /// The rest, with step 1 and offset 0.
+        fold: NamedFold,
+    },
     /// `SELECT * FROM`
     Rows {
         table: Name,

@@ -1,5 +1,4 @@
-use Rattle.std.proofs.Common.{rules, ◌≡◌, ◌≤◌, ◌+◌, length, take, drop, cond, sym, ap, ◌∙◌, arith}
-use Rattle.stmt_reader.specs.Tokens.{begins_with}
+use Rattle.std.proofs.Common.{◌+◌, drop, cond, sym, ap, ◌∙◌, arith}
 use Rattle.stmt_reader.specs.Lines.{comment_at}
 use Rattle.stmt_reader.proofs.Comments.{no_dash_left, dash_found}
 use Rattle.stmt_reader.proofs.lines.comment_start.Goals as goal

@@ -1,0 +1,9 @@
+pub mod CalendarLaws
+mod CycleLaws
+mod MonthLaws
+pub mod BucketLaws
+mod PlaceLaws
+mod MoveLaws
+pub mod RowLaws
+mod JiffLaws
+mod WidthLaws

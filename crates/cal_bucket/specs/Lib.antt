@@ -1,0 +1,10 @@
+pub mod Calendar
+pub mod Cycles
+pub mod Buckets
+pub mod Places
+pub mod Plans
+pub mod Rows
+pub mod Cells
+pub mod Answers
+pub mod Moves
+pub mod Laws

@@ -1,0 +1,58 @@
+//! Laws of the calendar. Each is the clause of a function that does nothing.
+ghost use Rattle.cal_bucket.specs.Laws.{DaysHaveAWidth, EachHasAMonth, EachHasOneBucket, EachHasOneMonth, FittingRowsAreShown, FourHundredYears};
+ghost use Rattle.cal_bucket.specs.Laws.{January2000, MonthBucketsAreGreatest, MonthsFollow, MonthsStartWithFirstDates};
+ghost use Rattle.cal_bucket.specs.Laws.{ColumnsShowRows, NamesAreOfBuckets, WeeksHaveAWidth, WeeksStartOnMondays};
+
+/// Months follow one another, both ways from January 2000.
+pub fn months_follow()
+    ensures first { January2000 }
+    ensures next { MonthsFollow }
+{}
+
+/// Months start with the first dates of `jiff`, in all its years.
+pub fn months_start_with_first_dates()
+    ensures { MonthsStartWithFirstDates }
+{}
+
+/// Each number of seconds lies in exactly one month.
+pub fn months_part_the_times()
+    ensures some { EachHasAMonth }
+    ensures one { EachHasOneMonth }
+{}
+
+/// Every 4,800 months the calendar comes again, 400 years later.
+pub fn four_hundred_years_are_alike()
+    ensures { FourHundredYears }
+{}
+
+/// A time has one bucket.
+pub fn each_has_one_bucket()
+    ensures { EachHasOneBucket }
+{}
+
+/// The bucket of some months is named by the greatest start that may name it.
+pub fn month_buckets_are_greatest()
+    ensures { MonthBucketsAreGreatest }
+{}
+
+/// Buckets of days and of weeks have a width, and those of weeks start on Mondays.
+pub fn weeks_start_on_mondays()
+    ensures days { DaysHaveAWidth }
+    ensures weeks { WeeksHaveAWidth }
+    ensures mondays { WeeksStartOnMondays }
+{}
+
+/// The name that answers have for the bucket of a time is that of its bucket.
+pub fn names_are_of_buckets()
+    ensures { NamesAreOfBuckets }
+{}
+
+/// What a plan shows over the columns of rows is what it shows over the rows.
+pub fn columns_show_rows()
+    ensures { ColumnsShowRows }
+{}
+
+/// Rows that fit a hypertable are what `cal_answer` takes.
+pub fn fitting_rows_are_shown()
+    ensures { FittingRowsAreShown }
+{}

@@ -1,0 +1,20 @@
+//! Buckets of the calendar: the month of a time, where a month starts, and the bucket of a time in days,
+//! weeks, months or years.
+#![tactic(auto)]
+
+mod answers;
+mod buckets;
+mod cycles;
+pub mod laws;
+mod months;
+mod moves;
+mod plans;
+mod rows;
+
+pub use answers::cal_answer;
+pub use buckets::calendar_bucket;
+pub use months::{month_of, month_start};
+pub use plans::{CalPlan, CalUnit};
+
+#[cfg(test)]
+mod tests;

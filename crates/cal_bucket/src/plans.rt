@@ -1,0 +1,24 @@
+//! What a query by buckets of the calendar asks for.
+use ts_model::Fold;
+
+/// A unit of the calendar.
+#[derive(Clone, Copy, Debug, PartialEq, Eq)]
+pub enum CalUnit {
+    Day,
+    Week,
+    Month,
+    Year,
+}
+
+/// A grouping by buckets of the calendar.
+#[derive(Drop, Debug)]
+pub struct CalPlan {
+    /// How many units a bucket has, from 1 to 1,200.
+    pub number: u32,
+    /// The unit.
+    pub unit: CalUnit,
+    /// The place of the time column among all columns, from 0.
+    pub at: u32,
+    /// How rows are grouped and aggregated. Its width plays no part.
+    pub fold: Fold,
+}

@@ -1,0 +1,12 @@
+pub mod Alike
+pub mod Fitting
+pub mod Fresh
+pub mod Gathered
+pub mod Gathering
+pub mod Held
+pub mod Nesting
+pub mod Parts
+pub mod Regrouping
+pub mod Showing
+pub mod Sorting
+pub mod Widening

@@ -1,0 +1,122 @@
+-- Laws of roll-ups, each in one sentence.
+use Rattle.std.specs.Prelude.{◌≡◌, ℕ, true, false, ℤ, pos, ◌+ℤ◌, ◌-ℤ◌, List, Some}
+use Rattle.std.specs.List.{list_all}
+use Rattle.ts_num.specs.declared.values.Datum.{Datum}
+use Rattle.ts_bucket.specs.Bucket.{IsWidth, bucket_of, first_of, holds, is_bucket, is_time}
+use Rattle.ts_bucket.specs.Ranges.{lies_in}
+use Rattle.ts_bucket.specs.WholeSpans.{is_below}
+use Rattle.ts_bucket.specs.declared.spans.Span.{Span}
+use Rattle.ts_bucket.specs.declared.widths.Width.{Width}
+use Rattle.ts_schema.specs.declared.rows.Row.{Row}
+use Rattle.ts_model.specs.declared.queries.Answer.{Answer}
+use Rattle.ts_model.specs.declared.views.Fold.{Fold}
+use Rattle.ts_model.specs.declared.views.ViewDef.{ViewDef}
+use Rattle.ts_model.specs.Answers.{answer_of_view}
+use Rattle.ts_model.specs.History.{History}
+use Rattle.ts_model.specs.Refreshes.{watermark}
+use Rattle.ts_model.specs.Rows.{rows}
+use Rattle.ts_model.specs.Groups.{groups_of}
+use Rattle.ts_model.specs.Scratch.{fold_rows, scratch_of}
+use Rattle.hier_agg.specs.declared.plans.UpperPlan.{UpperPlan}
+use Rattle.hier_agg.specs.Plans.{PlanFits, all_starts, composed, nests}
+use Rattle.hier_agg.specs.Regroup.{regroup}
+use Rattle.hier_agg.specs.Stale.{AreUpperRanges, AreWholeRanges, holds_stale}
+use Rattle.hier_agg.specs.Upper.{rows_within, upper_answer, upper_rows}
+
+-- ---- buckets
+
+-- where widths nest, the bucket of a time's bucket is the bucket of the time, and the first bucket lies in the first
+pub record BucketsNest : Type 0 where
+  pub buckets :
+      (lower upper : Width) (t : ℤ) → IsWidth lower → IsWidth upper → nests lower upper ≡ true
+      → bucket_of upper (bucket_of lower t) ≡ bucket_of upper t
+  pub first :
+      (lower upper : Width) → IsWidth lower → IsWidth upper → nests lower upper ≡ true
+      → bucket_of upper (first_of lower) ≡ first_of upper
+
+-- ---- rows
+
+-- the groups of rows, grouped more coarsely, are the groups of the rows under the composed fold
+abbrev pub GroupingInTwoSteps : Type 0
+GroupingInTwoSteps =
+    (lower : Fold) (plan : UpperPlan) (rows : List Row) → PlanFits lower plan
+    → regroup lower plan (groups_of lower rows) ≡ groups_of (composed lower plan) rows
+
+-- a roll-up over the rows of the lower fold shows the rows of the composed fold
+abbrev pub RollUpsShowTheComposedFold : Type 0
+RollUpsShowTheComposedFold =
+    (lower : Fold) (plan : UpperPlan) (rows : List Row) → PlanFits lower plan
+    → upper_rows lower plan (fold_rows lower rows) ≡ fold_rows (composed lower plan) rows
+
+-- a wider bucket in which an answer shows the rows of the lower fold shows the aggregation from scratch under the
+-- composed fold, whatever the answer shows elsewhere
+abbrev pub WiderBucketsShowTheComposedFold : Type 0
+WiderBucketsShowTheComposedFold =
+    (lower : Fold) (plan : UpperPlan) (rows : List Row) (found : List (List Datum)) (b : ℤ) → PlanFits lower plan
+    → is_bucket plan.width b ≡ true
+    → rows_within plan.width b found ≡ rows_within plan.width b (fold_rows lower rows)
+    → rows_within plan.width b (upper_rows lower plan found) ≡ scratch_of (composed lower plan) b rows
+
+-- so a roll-up whose composed fold is the lower one itself, which has its width, all its keys and columns and no test,
+-- shows of a bucket what the lower answer shows of it, of whatever rows that is; and it names the same ranges stale
+pub record WholeRollUpsShowTheLowerAnswer : Type 0 where
+  pub rows :
+      (lower : Fold) (plan : UpperPlan) (rows : List Row) (found : List (List Datum)) (b : ℤ) → PlanFits lower plan
+      → composed lower plan ≡ lower → is_bucket lower.width b ≡ true
+      → rows_within lower.width b found ≡ scratch_of lower b rows
+      → rows_within lower.width b (upper_rows lower plan found) ≡ rows_within lower.width b found
+  pub stale :
+      (w : Width) (stale found : List Span) → IsWidth w → AreWholeRanges w stale → AreUpperRanges w stale found
+      → found ≡ stale
+
+-- ---- stale buckets
+
+-- the stale ranges of an aggregate's answer are ranges of whole buckets that rise and don't touch
+abbrev pub AnswersHaveWholeRanges : Type 0
+AnswersHaveWholeRanges =
+    (n : ℕ) (h : History) (starts : Span) (def : ViewDef) → IsWidth def.fold.width
+    → AreWholeRanges def.fold.width (answer_of_view n h starts (Some def)).stale
+
+-- a stale bucket of the lower width that lies in a wider one
+pub record IsHeld (lower upper : Width) (ranges : List Span) (b x : ℤ) : Type 0 where
+  pub bucket : is_bucket lower x ≡ true
+  pub within : holds upper b x ≡ true
+  pub stale : lies_in ranges x ≡ true
+
+-- a wider bucket holds a stale one exactly where there is a stale bucket in it
+pub record StaleBucketsAreHeld : Type 0 where
+  pub there :
+      (lower upper : Width) (stale : List Span) (b : ℤ) → IsWidth lower → IsWidth upper → nests lower upper ≡ true
+      → AreWholeRanges lower stale → is_bucket upper b ≡ true → holds_stale upper stale b ≡ true
+      → (x : ℤ) × IsHeld lower upper stale b x
+  pub held :
+      (lower upper : Width) (stale : List Span) (b x : ℤ) → IsHeld lower upper stale b x
+      → holds_stale upper stale b ≡ true
+
+-- an answer is rolled up from a lower one by a plan: its rows are the roll-up, and its stale ranges the wider ones
+pub record IsRolledUp (lower : Fold) (plan : UpperPlan) (shown upper : Answer) : Type 0 where
+  pub rows : upper.rows ≡ upper_rows lower plan shown.rows
+  pub stale : AreUpperRanges plan.width shown.stale upper.stale
+
+-- the upper answer of an answer with ranges of whole buckets is rolled up from it
+abbrev pub UpperAnswersAreRolledUp : Type 0
+UpperAnswersAreRolledUp =
+    (lower : Fold) (plan : UpperPlan) (shown : Answer) → IsWidth plan.width → AreWholeRanges lower.width shown.stale
+    → IsRolledUp lower plan shown (upper_answer lower plan shown)
+
+-- ---- at every history
+
+-- all of a wider bucket is shown up to date: an aggregate that shows materialised rows only has its last number below
+-- the watermark
+abbrev pub IsShownWhole : ℕ → ViewDef → History → Width → ℤ → Type 0
+IsShownWhole n def h w b = def.only ≡ true → is_below ((b +ℤ w.step) -ℤ pos 1) (watermark n def h) ≡ true
+
+-- at every history, in the roll-up of the answer of an aggregate over all its buckets, a wider bucket that isn't named
+-- stale and is shown whole shows the aggregation from scratch of the table's rows under the composed fold
+abbrev pub FreshBucketsShowTheComposedFold : Type 0
+FreshBucketsShowTheComposedFold =
+    (n : ℕ) (def : ViewDef) (h : History) (plan : UpperPlan) (upper : Answer) (b : ℤ) → PlanFits def.fold plan
+    → list_all (λ row. is_time row.at) (rows def.table h) ≡ true
+    → IsRolledUp def.fold plan (answer_of_view n h all_starts (Some def)) upper → is_bucket plan.width b ≡ true
+    → lies_in upper.stale b ≡ false → IsShownWhole n def h plan.width b
+    → rows_within plan.width b upper.rows ≡ scratch_of (composed def.fold plan) b (rows def.table h)

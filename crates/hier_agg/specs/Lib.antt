@@ -1,0 +1,9 @@
+pub mod Laws
+pub mod Plans
+pub mod ReadLaws
+pub mod Reads
+pub mod Refusals
+pub mod Regroup
+pub mod Stale
+pub mod Taken
+pub mod Upper

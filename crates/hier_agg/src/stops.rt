@@ -1,0 +1,63 @@
+//! Why the reading of a roll-up ends early.
+ghost use Rattle.std.specs.Prelude.{unwrap_or};
+ghost use Rattle.stmt_check.specs.Refusals.{marked, missing};
+ghost use Rattle.hier_agg.specs.Reads.{Checks};
+
+use ts_model::Refusal;
+use ts_schema::NoMemory;
+
+/// No column has this name, or it isn't of the kind that is wanted.
+pub(crate) const NO_COLUMN: u8 = 8;
+
+/// A width or an offset is out of its range, or doesn't fit that of the aggregate.
+pub(crate) const BAD_WIDTH: u8 = 14;
+
+/// There would be more columns than there may be.
+pub(crate) const TOO_MANY: u8 = 21;
+
+/// A function doesn't fit the column that it is to add up.
+pub(crate) const BAD_ROLLUP: u8 = 28;
+
+/// Why the reading ended early.
+#[derive(Clone, Copy, Debug, PartialEq, Eq)]
+pub(crate) enum Stop {
+    /// This is refused.
+    Refused(Refusal),
+    /// There was no memory.
+    NoMemory,
+}
+
+impl From<NoMemory> for Stop {
+    ghost use Rattle.std.specs.Prelude.{◌≡◌};
+    ghost use Rattle.hier_agg.specs.declared.stops.Stop.TheVariants.{NoMemory};
+
+    ghost from_gives = { λ _ e. e ≡ NoMemory };
+
+    fn from(_refused: NoMemory) -> Stop {
+        Stop::NoMemory
+    }
+}
+
+/// Refuses with this number and mark where something is wrong.
+pub(crate) fn refuse_marked(pos: u64, code: u8, mark: u64, wrong: bool) -> Result<(), Stop>
+    ensures { Checks (marked pos code mark wrong) tt result }
+{
+    if wrong {
+        return Err(Stop::Refused(Refusal { code, pos, mark }));
+    }
+    Ok(())
+}
+
+/// What has to be there, or the refusal of a column.
+pub(crate) fn present(pos: u64, found: Option<u32>) -> Result<u32, Stop>
+    ensures { Checks (missing pos 8 found) (unwrap_or found 0) result }
+{
+    match found {
+        Some(number) => Ok(number),
+        None => Err(Stop::Refused(Refusal {
+            code: NO_COLUMN,
+            pos,
+            mark: 0,
+        })),
+    }
+}
