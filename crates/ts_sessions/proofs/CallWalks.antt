@@ -12,7 +12,6 @@ use Rattle.result_text.specs.declared.replies.Said.{Said}
 use Rattle.ts_sessions.specs.declared.changes.Change.{Change}
 use Rattle.ts_sessions.specs.declared.changes.Completion.{Completion}
 use Rattle.ts_sessions.specs.declared.tries.Tried.{Tried}
-use Rattle.ts_sessions.specs.declared.tries.Tried.TheVariants as tried
 use Rattle.ts_sessions.specs.Procedures.{Procedure, ending_as, tries, tries_at}
 use Rattle.ts_sessions.specs.Places.{Places, Turn}
 use Rattle.ts_sessions.specs.Sessions.{EndsAt, Completes, Tries, came, changed, has_failed, turn_of}
@@ -74,29 +73,3 @@ pub completes_ends : {A T J : Type 0} (g : Result A Refusal → Turn Places) (al
 completes_ends g alone old procedure t new p read said change result w e s =
     completes_walk alone (has_failed t) old (ending_as g procedure) new p read said change result
     (subst (λ y. Walks alone (has_failed t) old (ending_as g procedure) new y) e (walks_as g alone (has_failed t) old procedure new (came t) w)) s
-
--- the three answers of a call that was asked for its position, each with its line
-pub done_ends : {A T J : Type 0} (g : Result A Refusal → Turn Places) (alone : Bool) (old : State) (act : History → Act A) (outcome : Outcome A) (pos : ℕ) (t : Tried A) (a : A) (new : State) (p : Places) (read : ℕ) (said : List Said) (change : Change T J) (result : Result (Completion T J) NoMemory) → Called alone old act outcome new → pos ≡ position new.history → IsTried pos outcome (Ok t) → t ≡ tried.Done a → Completes said change false result → g (Ok a) ≡ record { places = changed change p; said = said; reads = read } → EndsAt alone old (ending_as g (tries act)) p read result new
-done_ends g alone old act outcome pos t a new p read said change result c e i j s f =
-    let w = called_tries alone old act outcome new (Ok t) c (subst (λ x. IsTried x outcome (Ok t)) e i) in
-    completes_ends g alone old (tries act) (tried.Done a) new p read said change result (subst (λ y. Tries alone old (tries act) (Ok y) new) j w) f s
-
-pub refused_ends : {A T J : Type 0} (g : Result A Refusal → Turn Places) (alone : Bool) (old : State) (act : History → Act A) (outcome : Outcome A) (pos : ℕ) (t : Tried A) (r : Refusal) (new : State) (p : Places) (read : ℕ) (said : List Said) (change : Change T J) (result : Result (Completion T J) NoMemory) → Called alone old act outcome new → pos ≡ position new.history → IsTried pos outcome (Ok t) → t ≡ tried.Refused r → Completes said change false result → g (Err r) ≡ record { places = changed change p; said = said; reads = read } → EndsAt alone old (ending_as g (tries act)) p read result new
-refused_ends g alone old act outcome pos t r new p read said change result c e i j s f =
-    let w = called_tries alone old act outcome new (Ok t) c (subst (λ x. IsTried x outcome (Ok t)) e i) in
-    completes_ends g alone old (tries act) (tried.Refused r) new p read said change result (subst (λ y. Tries alone old (tries act) (Ok y) new) j w) f s
-
-pub failed_ends : {A T J : Type 0} (g : Result A Refusal → Turn Places) (alone : Bool) (old : State) (act : History → Act A) (outcome : Outcome A) (pos : ℕ) (t : Tried A) (r : Refusal) (new : State) (p : Places) (read : ℕ) (said : List Said) (change : Change T J) (result : Result (Completion T J) NoMemory) → Called alone old act outcome new → pos ≡ position new.history → IsTried pos outcome (Ok t) → t ≡ tried.Failed r → Completes said change true result → g (Err r) ≡ record { places = changed change p; said = said; reads = read } → EndsAt alone old (ending_as g (tries act)) p read result new
-failed_ends g alone old act outcome pos t r new p read said change result c e i j s f =
-    let w = called_tries alone old act outcome new (Ok t) c (subst (λ x. IsTried x outcome (Ok t)) e i) in
-    completes_ends g alone old (tries act) (tried.Failed r) new p read said change result (subst (λ y. Tries alone old (tries act) (Ok y) new) j w) f s
-
--- the three answers of a call whose procedure was walked, each with its line
-pub completes_done : {A T J : Type 0} (g : Result A Refusal → Turn Places) (alone : Bool) (old : State) (procedure : Procedure (Result A Refusal)) (t : Tried A) (a : A) (new : State) (p : Places) (read : ℕ) (said : List Said) (change : Change T J) (result : Result (Completion T J) NoMemory) → Tries alone old procedure (Ok t) new → t ≡ tried.Done a → Completes said change false result → g (Ok a) ≡ record { places = changed change p; said = said; reads = read } → EndsAt alone old (ending_as g procedure) p read result new
-completes_done g alone old procedure t a new p read said change result w j s e = completes_ends g alone old procedure (tried.Done a) new p read said change result (subst (λ y. Tries alone old procedure (Ok y) new) j w) e s
-
-pub completes_refused : {A T J : Type 0} (g : Result A Refusal → Turn Places) (alone : Bool) (old : State) (procedure : Procedure (Result A Refusal)) (t : Tried A) (r : Refusal) (new : State) (p : Places) (read : ℕ) (said : List Said) (change : Change T J) (result : Result (Completion T J) NoMemory) → Tries alone old procedure (Ok t) new → t ≡ tried.Refused r → Completes said change false result → g (Err r) ≡ record { places = changed change p; said = said; reads = read } → EndsAt alone old (ending_as g procedure) p read result new
-completes_refused g alone old procedure t r new p read said change result w j s e = completes_ends g alone old procedure (tried.Refused r) new p read said change result (subst (λ y. Tries alone old procedure (Ok y) new) j w) e s
-
-pub completes_failed : {A T J : Type 0} (g : Result A Refusal → Turn Places) (alone : Bool) (old : State) (procedure : Procedure (Result A Refusal)) (t : Tried A) (r : Refusal) (new : State) (p : Places) (read : ℕ) (said : List Said) (change : Change T J) (result : Result (Completion T J) NoMemory) → Tries alone old procedure (Ok t) new → t ≡ tried.Failed r → Completes said change true result → g (Err r) ≡ record { places = changed change p; said = said; reads = read } → EndsAt alone old (ending_as g procedure) p read result new
-completes_failed g alone old procedure t r new p read said change result w j s e = completes_ends g alone old procedure (tried.Failed r) new p read said change result (subst (λ y. Tries alone old procedure (Ok y) new) j w) e s

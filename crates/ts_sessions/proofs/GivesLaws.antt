@@ -5,8 +5,8 @@ use Rattle.std.specs.List.{AllByRecursion}
 use Rattle.std.proofs.lemmas.Bool.{true≢false}
 use Rattle.std.proofs.lemmas.Bool.Decides.{nat_tests}
 use Rattle.ts_model.specs.declared.events.Event.{Event}
-use Rattle.ts_model.specs.History.{History, start, ◌▸◌, event_at, position, prefix, Begins, same, further}
-use Rattle.ts_model.proofs.HistoryLaws.{begins_prefix, begins_trans, position_begins, position_prefix, prefix_end, prefix_stays}
+use Rattle.ts_model.specs.History.{History, start, resumed, ◌▸◌, event_at, base_position, position, prefix, Begins, same, further}
+use Rattle.ts_model.proofs.HistoryLaws.{base_begins, base_below, begins_prefix, begins_trans, position_begins, position_prefix, prefix_end, prefix_stays}
 use Rattle.ts_sessions.specs.Procedures.{Procedure, sees, adds, ends}
 use Rattle.ts_sessions.specs.Gives.{AreEvents, Gives, StopsAtEnd, StopsLater, last_of, numbers, printed}
 use Rattle.ts_sessions.specs.Laws.{SameReading}
@@ -17,6 +17,7 @@ use Rattle.ts_sessions.specs.Steady.{IsEnded, Steady}
 -- an event has a number up to the position
 numbered : (h : History) (k : ℕ) (e : Event) → event_at h k ≡ Some e → k ≤ position h
 numbered start k e is = absurd (true≢false (sym (ap is_some is)))
+numbered (resumed i) k e is = absurd (true≢false (sym (ap is_some is)))
 numbered (h ▸ x) k e is =
     elim (k == suc (position h)) as (λ t. (k == suc (position h)) ≡ t → cond t (Some x) (event_at h k) ≡ Some e → k ≤ suc (position h)) [
       | true ↦ λ t _. grind (arith, nat_tests)
@@ -32,6 +33,13 @@ event_stays k x same is = is
 event_stays {g} k x (further {h} {e} b) is =
     let there = event_stays k x b is in
     event_further h e k (numbered h k x there) ∙ there
+
+-- a position at or above that of what a history begins with is at or above its base
+base_low : {base all : History} {p : ℕ} → Begins base all → position base ≤ p → base_position all ≤ p
+base_low {base} {all} {p} b l =
+    let same_base : base_position all ≡ base_position base = base_begins b in
+    let low : base_position base ≤ position base = base_below base in
+    omega arith
 
 -- the last event of what a history begins with
 pub last_event : {old h : History} (e : Event) → Begins (old ▸ e) h → event_at h (suc (position old)) ≡ Some e
@@ -96,7 +104,7 @@ gives_longer fresh base all longer stop later at so_far (sees shown f) (None ∷
 gives_longer fresh base all longer stop later at so_far (sees shown f) (Some p ∷ ps) last given y s b above on st g =
     let here : prefix longer p ≡ prefix all p = prefix_stays p on g.1 in
     let from : Begins base (prefix all p) = begins_within p b above.0 in
-    let above_here = all_above (position (prefix all p)) p (printed ps) (position_prefix all p g.1) (looks_above all stop p so_far (f (prefix all p)) ps last given y g.3) in
+    let above_here = all_above (position (prefix all p)) p (printed ps) (position_prefix all p (base_low b above.0) g.1) (looks_above all stop p so_far (f (prefix all p)) ps last given y g.3) in
     let rest = gives_longer true (prefix all p) all longer stop later p so_far (f (prefix all p)) ps last given y ((s (prefix all p) from).0 g.2) (begins_prefix all p) above_here on st g.3 in
     (g.0, omega (arith, g.1, position_begins on), subst (λ h. shown h ≡ true) (sym here) g.2, subst (λ h. Gives longer later p so_far (f h) ps last given y) (sym here) rest)
 gives_longer fresh base all longer stop later at so_far (adds e next stopped) ps last given y s b above on st (inl g) =
@@ -207,7 +215,7 @@ same_reading fresh base all stop at too so_far (sees shown f) (Some p ∷ ps) (N
 same_reading fresh base all stop at too so_far (sees shown f) (Some p ∷ ps) (Some q ∷ qs) last last_too given given_too y z s b above same_at st e g h =
     let here : q ≡ p = first_same p q (printed ps) (printed qs) e in
     let from : Begins base (prefix all p) = begins_within p b above.0 in
-    let above_here = all_above (position (prefix all p)) p (printed ps) (position_prefix all p g.1) (looks_above all stop p so_far (f (prefix all p)) ps last given y g.3) in
+    let above_here = all_above (position (prefix all p)) p (printed ps) (position_prefix all p (base_low b above.0) g.1) (looks_above all stop p so_far (f (prefix all p)) ps last given y g.3) in
     same_reading true (prefix all p) all stop p p so_far (f (prefix all p)) ps qs last last_too given given_too y z ((s (prefix all p) from).0 g.2) (begins_prefix all p) above_here (λ _. refl) st (rest_same p q (printed ps) (printed qs) e) g.3
     (subst (λ k. Gives all stop k so_far (f (prefix all k)) qs last_too given_too z) here h.3)
 same_reading fresh base all stop at too so_far (adds x next stopped) ps qs last last_too given given_too y z s b above same_at st e (inl g) (inl h) =

@@ -1,6 +1,6 @@
 -- What statements bring to their session, and what it holds after them.
-use Rattle.std.proofs.Common.{◌≡◌, ℕ, ◌+◌, ◌≤◌, Bool, List, [], sym, refl, subst, arith}
-use Rattle.std.specs.Prelude.{Result, Ok, Err, IsTrue, IfOk}
+use Rattle.std.proofs.Common.{◌≡◌, ℕ, ◌+◌, ◌≤◌, Bool, [], sym, refl, subst, arith}
+use Rattle.std.specs.Prelude.{Result, Ok, Err, IsTrue}
 use Rattle.ts_schema.specs.declared.memory.NoMemory.{NoMemory}
 use Rattle.ts_model.specs.declared.events.Op.{Op}
 use Rattle.ts_model.specs.History.{History, position, prefix}
@@ -8,8 +8,6 @@ use Rattle.ts_model.specs.States.{State}
 use Rattle.ts_model.specs.Allowed.{all_allowed}
 use Rattle.ts_model.proofs.HistoryLaws.{prefix_end}
 use Rattle.stmt_check.proofs.QueueLaws.{queues_are_sound}
-use Rattle.result_text.specs.declared.replies.Said.{Said}
-use Rattle.ts_sessions.specs.declared.blocks.Open.{Open}
 use Rattle.ts_sessions.specs.declared.blocks.Open.TheVariants as opens
 use Rattle.ts_sessions.specs.declared.changes.Change.{Change}
 use Rattle.ts_sessions.specs.declared.changes.Change.TheVariants as changes
@@ -17,44 +15,11 @@ use Rattle.ts_sessions.specs.declared.changes.Completion.{Completion}
 use Rattle.ts_sessions.specs.Procedures.{Procedure}
 use Rattle.ts_sessions.specs.Held.{GoesOn, HoldsBlock, block_of, most_queued, queued}
 use Rattle.ts_sessions.specs.Places.{Block, none, writing, reading, Places, Turn}
-use Rattle.ts_sessions.specs.Sessions.{BringsLittle, BringsNothing, ChangeFits, ChangeHolds, Ends, EndsAt, Completes, changed, queued_on, turn_of}
+use Rattle.ts_sessions.specs.Sessions.{ChangeFits, ChangeHolds, Ends, EndsAt, changed, queued_on, turn_of}
 use Rattle.ts_sessions.proofs.WalkLaws.{goes_breaks, goes_walks}
 use Rattle.ts_model.specs.declared.snapshots.Shown.{Ghosts as Shown}
 
 -- ---- what statements bring
-
-pub completes_holds : {T J : Type 0} (shown : Shown T J) (bytes : ℕ) (h : History) (said : List Said) (change : Change T J) (failed : Bool) (result : Result (Completion T J) NoMemory) → Completes said change failed result → ChangeHolds shown bytes change h → IfOk result (λ t. ChangeHolds shown bytes t.change h)
-completes_holds shown bytes h said change failed (Ok t) s k = subst (λ c. ChangeHolds shown bytes c h) (sym s.1) k
-completes_holds shown bytes h said change failed (Err e) s k = tt
-
-nothing_holds : {T J : Type 0} (shown : Shown T J) (bytes : ℕ) (h : History) (c : Change T J) → BringsNothing c → ChangeHolds shown bytes c h
-nothing_holds shown bytes h changes.Nothing b = tt
-nothing_holds shown bytes h (changes.Cuts c) b = tt
-nothing_holds shown bytes h (changes.Holds c at job) b = absurd b
-nothing_holds shown bytes h (changes.GivesUp c) b = tt
-nothing_holds shown bytes h (changes.Enters o) b = absurd b
-nothing_holds shown bytes h (changes.Queues op more) b = absurd b
-
-pub brings_nothing : {T J : Type 0} (shown : Shown T J) (bytes : ℕ) (h : History) (result : Result (Completion T J) NoMemory) → IfOk result (λ t. BringsNothing t.change) → IfOk result (λ t. ChangeHolds shown bytes t.change h)
-brings_nothing shown bytes h (Ok t) b = nothing_holds shown bytes h t.change b
-brings_nothing shown bytes h (Err e) b = tt
-
-out_holds : {T : Type 0} (stands : T → History → Type 0) (h : History) (o : Open T) → block_of o ≡ none → HoldsBlock stands o h × (queued (block_of o) ≡ 0)
-out_holds stands h opens.Nothing e = (tt, refl)
-out_holds stands h (opens.Write q) e = absurd cc
-out_holds stands h (opens.Read at shot) e = absurd cc
-
-little_holds : {T J : Type 0} (shown : Shown T J) (bytes : ℕ) (h : History) (c : Change T J) → BringsLittle c → ChangeHolds shown bytes c h
-little_holds shown bytes h changes.Nothing b = tt
-little_holds shown bytes h (changes.Cuts c) b = tt
-little_holds shown bytes h (changes.Holds c at job) b = absurd b
-little_holds shown bytes h (changes.GivesUp c) b = tt
-little_holds shown bytes h (changes.Enters o) b = out_holds shown.stands h o b
-little_holds shown bytes h (changes.Queues op more) b = absurd b
-
-pub brings_little : {T J : Type 0} (shown : Shown T J) (bytes : ℕ) (h : History) (result : Result (Completion T J) NoMemory) → IfOk result (λ t. BringsLittle t.change) → IfOk result (λ t. ChangeHolds shown bytes t.change h)
-brings_little shown bytes h (Ok t) b = little_holds shown bytes h t.change b
-brings_little shown bytes h (Err e) b = tt
 
 -- the snapshot of a whole history is that at its position
 pub whole_holds : {T : Type 0} (stands : T → History → Type 0) (shot : T) (at : ℕ) (h : History) → stands shot h → IsTrue (all_allowed h) → at ≡ position h → HoldsBlock stands (opens.Read at shot) h × (queued (block_of (opens.Read at shot)) ≡ 0)

@@ -1,6 +1,6 @@
 -- Snapshots that a session holds, and their jobs.
 use Rattle.std.proofs.Common.{◌≡◌, ℕ, suc, ◌==◌, Bool, true, false, cond, nat_lt, List, [], ◌∷◌, Option, Some, None, sym, refl, ap, ◌∙◌, subst, inl, inr, arith}
-use Rattle.std.specs.Prelude.{Result, Ok, Err, IsTrue, OnOk, is_some, ◌||◌}
+use Rattle.std.specs.Prelude.{Result, Ok, Err, IsTrue, OnOk, is_some, not, ◌||◌}
 use Rattle.std.specs.Map.{remove_entry}
 use Rattle.std.specs.Ordering.{nat_cmp, is_eq}
 use Rattle.std.specs.declared.cmp.Ordering.TheVariants.{Less, Equal, Greater}
@@ -16,20 +16,18 @@ use Rattle.ts_model.specs.History.{History, ◌▸◌, position, Begins}
 use Rattle.ts_model.specs.States.{State, stands_still}
 use Rattle.ts_model.specs.Pending.{finished_by, is_known, pending}
 use Rattle.ts_model.specs.Sound.{finish_fits, sound, sound_at}
-use Rattle.ts_model.specs.Calls.{finish_of, stopped}
+use Rattle.ts_model.specs.Timely.{has_room}
+use Rattle.ts_model.specs.Calls.{finish_of, stopped, history_full, makes, refusal, refuses as refuses_call}
 use Rattle.ts_model.proofs.AllowedLaws.{known_stays}
-use Rattle.ts_sessions.specs.declared.changes.Completion.{Completion}
 use Rattle.ts_sessions.specs.declared.sessions.Snapshot.{Snapshot}
-use Rattle.ts_sessions.specs.Procedures.{looks, ends, ending_as, tries_at}
+use Rattle.ts_sessions.specs.Procedures.{ending_as, tries_at}
 use Rattle.ts_sessions.specs.Held.{GoesOn, HoldsJob, HoldsSnapshots, is_finished, is_lost, positions}
-use Rattle.ts_sessions.specs.Holding.{job_on, lost_stays, snapshots_on}
+use Rattle.ts_sessions.specs.Holding.{job_on, snapshots_on}
 use Rattle.ts_sessions.specs.Jobs.{without_job}
 use Rattle.ts_sessions.specs.Places.{Places, Turn, held_for, refuses}
-use Rattle.ts_sessions.specs.Sessions.{EndsAt, turn_of}
-use Rattle.ts_sessions.specs.Step.{finish_turn, finishes_held, finishes_refresh, unfinished}
-use Rattle.ts_sessions.specs.Walks.{Walks, Breaks}
+use Rattle.ts_sessions.specs.Step.{finish_turn, finishes_refresh, lost_code, unfinished}
+use Rattle.ts_sessions.specs.Walks.{Walks}
 use Rattle.ts_sessions.proofs.StateLaws.{goes_seen}
-use Rattle.ts_sessions.proofs.WalkLaws.{not_begun}
 use Rattle.ts_model.specs.declared.snapshots.Shown.{Ghosts as Shown}
 
 -- ---- keys
@@ -124,7 +122,12 @@ finished_now k (Finished f) e = refl
 finished_now k Unknown e = absurd (true≢false (sym e))
 
 lost_still : (s : State) (c : ℕ) → IsTrue (stands_still s) → IsTrue (is_lost s c)
-lost_still s c t = elim (is_finished (pending s.history c)) as (λ f. (f || stands_still s) ≡ true) [ true ↦ refl | false ↦ t ]
+lost_still s c t = elim (is_finished (pending s.history c)) as (λ f. (f || (stands_still s || not (has_room s.history))) ≡ true) [ true ↦ refl | false ↦ ap (λ b. b || not (has_room s.history)) t ]
+
+lost_full : (s : State) (c : ℕ) → has_room s.history ≡ false → IsTrue (is_lost s c)
+lost_full s c f =
+    let full : (stands_still s || not (has_room s.history)) ≡ true = elim (stands_still s) as (λ b. (b || not (has_room s.history)) ≡ true) [ true ↦ refl | false ↦ ap not f ] in
+    elim (is_finished (pending s.history c)) as (λ f. (f || (stands_still s || not (has_room s.history))) ≡ true) [ true ↦ refl | false ↦ full ]
 
 lost_finished : (s : State) (c : ℕ) → is_finished (pending s.history c) ≡ true → IsTrue (is_lost s c)
 lost_finished s c e = rw e refl
@@ -134,12 +137,16 @@ built_finishes h c at k =
     let itself : (c == c) ≡ true = grind (arith, nat_tests) in
     rw itself (finished_now (suc (position h)) (pending h c) k)
 
-finish_lost_at : (alone failed : Bool) (mid : State) (c at : ℕ) (p : Pending) (new : State) (y : Result ℕ Refusal) → pending mid.history c ≡ p → is_known p ≡ true → Walks alone failed mid (tries_at mid.history (finish_of c at mid.history p)) new y → IsTrue (is_lost new c)
-finish_lost_at alone failed mid c at (Waiting n) new y e k (inl w) = lost_still new c (subst (λ s. IsTrue (stands_still s)) (sym w.1.1) w.0)
-finish_lost_at alone failed mid c at (Waiting n) new y e k (inr (inl w)) =
+finish_lost_waiting : (alone failed : Bool) (mid : State) (c at n : ℕ) (room : Bool) (new : State) (y : Result ℕ Refusal) → has_room mid.history ≡ room → pending mid.history c ≡ Waiting n → Walks alone failed mid (tries_at mid.history (cond room (makes (Built c at) (suc (position mid.history))) (refuses_call (refusal history_full mid.history 0)))) new y → IsTrue (is_lost new c)
+finish_lost_waiting alone failed mid c at n true new y r e (inl w) = lost_still new c (subst (λ s. IsTrue (stands_still s)) (sym w.1.1) w.0)
+finish_lost_waiting alone failed mid c at n true new y r e (inr (inl w)) =
     let fin : is_finished (pending (mid.history ▸ Built c at) c) ≡ true = built_finishes mid.history c at (subst (λ p. is_known p ≡ true) (sym e) refl) in
     lost_finished new c (subst (λ s. is_finished (pending s.history c) ≡ true) (sym w.rest.1) (subst (λ h. is_finished (pending h c) ≡ true) (sym w.first.history) fin))
-finish_lost_at alone failed mid c at (Waiting n) new y e k (inr (inr w)) = lost_still new c (subst (λ s. IsTrue (stands_still s)) (sym w.1.rest.1) (subst (λ o. IsTrue (is_some o)) (sym w.1.first.failed) refl))
+finish_lost_waiting alone failed mid c at n true new y r e (inr (inr w)) = lost_still new c (subst (λ s. IsTrue (stands_still s)) (sym w.1.rest.1) (subst (λ o. IsTrue (is_some o)) (sym w.1.first.failed) refl))
+finish_lost_waiting alone failed mid c at n false new y r e w = lost_full new c (subst (λ s. has_room s.history ≡ false) (sym w.1) r)
+
+finish_lost_at : (alone failed : Bool) (mid : State) (c at : ℕ) (p : Pending) (new : State) (y : Result ℕ Refusal) → pending mid.history c ≡ p → is_known p ≡ true → Walks alone failed mid (tries_at mid.history (finish_of c at mid.history p)) new y → IsTrue (is_lost new c)
+finish_lost_at alone failed mid c at (Waiting n) new y e k w = finish_lost_waiting alone failed mid c at n (has_room mid.history) new y refl e w
 finish_lost_at alone failed mid c at (Finished f) new y e k w = lost_finished new c (subst (λ s. is_finished (pending s.history c) ≡ true) (sym w.1) (ap is_finished e))
 finish_lost_at alone failed mid c at Unknown new y e k w = absurd (true≢false (sym k))
 
@@ -148,22 +155,18 @@ finish_lost alone failed old c at new y k w =
     finish_lost_at alone failed w.mid c at (pending w.mid.history c) new y refl (known_stays c (goes_seen alone old w.mid w.first).begins k) w.rest
 
 -- a finish of such a refresh is refused: by its finish, or as an event of a store that stands still
-lost_at : (alone failed : Bool) (mid : State) (p : Places) (c at : ℕ) (q : Pending) (new : State) (y : Turn Places) → (is_finished q || stands_still mid) ≡ true → failed ≡ false → new ≡ mid → y ≡ refuses p (unfinished stopped mid.history q) → Walks alone failed mid (ending_as (finish_turn p c at) (tries_at mid.history (finish_of c at mid.history q))) new y
-lost_at alone failed mid p c at (Waiting n) new y lost f n_is y_is = inl (lost, (f, n_is, y_is))
+lost_waiting : (alone failed : Bool) (mid : State) (p : Places) (c at : ℕ) (room : Bool) (new : State) (y : Turn Places) → (stands_still mid || not room) ≡ true → failed ≡ false → new ≡ mid → y ≡ refuses p (refusal (cond room stopped history_full) mid.history 0) → Walks alone failed mid (ending_as (finish_turn p c at) (tries_at mid.history (cond room (makes (Built c at) (suc (position mid.history))) (refuses_call (refusal history_full mid.history 0))))) new y
+lost_waiting alone failed mid p c at true new y lost f n_is y_is = inl (still (stands_still mid) lost, (f, n_is, y_is))
+  where
+    still : (b : Bool) → (b || false) ≡ true → b ≡ true
+    still true e = refl
+    still false e = e
+lost_waiting alone failed mid p c at false new y lost f n_is y_is = (f, n_is, y_is)
+
+pub lost_at : (alone failed : Bool) (mid : State) (p : Places) (c at : ℕ) (q : Pending) (new : State) (y : Turn Places) → (is_finished q || (stands_still mid || not (has_room mid.history))) ≡ true → failed ≡ false → new ≡ mid → y ≡ refuses p (unfinished (lost_code mid.history) mid.history q) → Walks alone failed mid (ending_as (finish_turn p c at) (tries_at mid.history (finish_of c at mid.history q))) new y
+lost_at alone failed mid p c at (Waiting n) new y lost f n_is y_is = lost_waiting alone failed mid p c at (has_room mid.history) new y lost f n_is y_is
 lost_at alone failed mid p c at (Finished k) new y lost f n_is y_is = (f, n_is, y_is)
 lost_at alone failed mid p c at Unknown new y lost f n_is y_is = (f, n_is, y_is)
-
-pub lost_refused : {T J : Type 0} (alone : Bool) (old : State) (p : Places) (c at : ℕ) (result : Result (Completion T J) NoMemory) (new : State) → IsTrue (is_lost old c) → EndsAt alone old (looks (λ h. ends (refuses p (unfinished stopped h (pending h c))))) p 0 result new → EndsAt alone old (looks (λ h. finishes_held p h c (Some at))) p 0 result new
-lost_refused alone old p c at (Ok t) new lost w = record {
-  mid = w.mid;
-  first = w.first;
-  rest = lost_at alone t.failed w.mid p c at (pending w.mid.history c) new (turn_of p 0 t) (lost_stays old w.mid c (goes_seen alone old w.mid w.first) lost) w.rest.0 w.rest.1 w.rest.2;
-}
-lost_refused alone old p c at (Err x) new lost w = record {
-  mid = w.mid;
-  first = w.first;
-  rest = subst (λ s. Breaks alone w.mid (finishes_held p w.mid.history c (Some at)) s) (sym w.rest) (not_begun alone w.mid (finishes_held p w.mid.history c (Some at)));
-}
 
 -- ---- clauses that don't ask how a statement completed
 

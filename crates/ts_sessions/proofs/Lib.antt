@@ -10,9 +10,16 @@ pub mod BlockWalks
 pub mod HoldLaws
 pub mod JobLaws
 pub mod SessionLaws
+pub mod DeedWalks
+pub mod NamedLaws
+pub mod CalendarLaws
+pub mod FormLaws
+pub mod FirstLaws
+pub mod HeldDeeds
 pub mod GivesLaws
 pub mod GivenWalks
 pub mod MadeLaws
+mod FewEvents
 pub mod StepLaws
 pub mod ReplyLaws
 pub mod SteadyLaws

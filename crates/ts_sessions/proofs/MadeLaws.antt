@@ -5,7 +5,7 @@ use Rattle.std.proofs.lemmas.List.{append_assoc, append-nil}
 use Rattle.ts_bucket.specs.Bucket.{first_of}
 use Rattle.ts_bucket.specs.declared.spans.Span.{Span}
 use Rattle.ts_model.specs.declared.events.Event.{Event}
-use Rattle.ts_model.specs.declared.events.Event.TheVariants.{Hyper as HyperMade, Table as TableMade, View as ViewMade}
+use Rattle.ts_model.specs.declared.events.Event.TheVariants.{Hyper as HyperMade, Table as TableMade, View as ViewMade, Cut as CutEvent, Built as BuiltEvent, Commit as CommitEvent, Mode as ModeEvent}
 use Rattle.ts_model.specs.declared.events.Op.{Op}
 use Rattle.ts_model.specs.declared.outcomes.Committed.{Committed}
 use Rattle.ts_model.specs.declared.outcomes.CutDone.{CutDone}
@@ -23,7 +23,8 @@ use Rattle.ts_model.specs.Limits.{most_relations}
 use Rattle.ts_model.specs.Roster.{roster, hyper_of, is_taken, view_of}
 use Rattle.ts_model.specs.Pending.{pending}
 use Rattle.ts_model.specs.Windows.{window}
-use Rattle.ts_model.specs.Calls.{Act, refuses as refuses_call, returns as completes_call, makes, committing, cut_of_view, cut_over, cutting, finish_of, finishing, making_hyper, making_table, making_view, name_taken, new_relation, numbered, refusal, setting_mode, too_many}
+use Rattle.ts_model.specs.Timely.{has_room}
+use Rattle.ts_model.specs.Calls.{Act, committed as calls_committed, history_full, making, refuses as refuses_call, returns as completes_call, makes, committing, cut_of_view, cut_over, cutting, finish_of, finishing, making_hyper, making_table, making_view, name_taken, new_relation, numbered, refusal, setting_mode, too_many}
 use Rattle.stmt_reader.specs.declared.faults.Fault.{Fault}
 use Rattle.stmt_reader.specs.declared.statements.Stmt.{Stmt}
 use Rattle.stmt_reader.specs.declared.statements.Stmt.TheVariants as stmts
@@ -37,13 +38,15 @@ use Rattle.result_text.specs.declared.replies.Said.TheVariants as said
 use Rattle.ts_sessions.specs.Procedures.{Procedure, sees, adds, ends, ending_as, followed_by, tries_at}
 use Rattle.ts_sessions.specs.Made.{made_by, made_in}
 use Rattle.ts_sessions.specs.Places.{Block, none, writing, reading, Places, Turn, cuts, enters, held_for}
+use Rattle.ts_sessions.specs.Replies.{replies_as, replies_in, reply_to}
 use Rattle.ts_sessions.specs.Step.{Taken, acts, after_cut, after_line, after_snapshot, after_view, block_refusal, changes, closes, commits, committed, cut_turn, finish_turn, finishes, finishes_held, given_up, kind_of, least_start, let_pass, makes_event, named, named_first, named_here, passed, passed_first, performs_in, read_at, reads_as, refresh_meant, refreshed, refreshes, refusal_reading, snap_turn, snaps, step, taken, takes_snapshot, reported, view_made}
 use Rattle.ts_sessions.specs.Walks.{Walks, Sees}
+use Rattle.ts_sessions.proofs.NamedLaws.{named_holds}
 
 -- ---- procedures
 
 -- a procedure at a history, where these events were made before: what it ends with goes with the numbers of all that were made then
-abbrev Names : {A : Type 0} → (List ℕ → A → Type 0) → List ℕ → History → Procedure A → Type 0
+abbrev pub Names : {A : Type 0} → (List ℕ → A → Type 0) → List ℕ → History → Procedure A → Type 0
 Names N made h (sees shown f) = (g : History) → Names N made g (f g)
 Names N made h (adds e next stop) = Names N (made ++ suc (position h) ∷ []) (h ▸ e) next × Names N made h stop
 Names N made h (ends a) = N made a
@@ -95,7 +98,7 @@ abbrev Adds : {A : Type 0} → (A → List ℕ) → List ℕ → List ℕ → Re
 Adds of before all y = all ≡ before ++ made_of of y
 
 -- after what was made before, the lines of a turn name the rest
-abbrev Lists : List ℕ → List ℕ → Turn Places → Type 0
+abbrev pub Lists : List ℕ → List ℕ → Turn Places → Type 0
 Lists before all t = all ≡ before ++ made_in t.said
 
 tries_named : {A : Type 0} (of : A → List ℕ) (before : List ℕ) (h : History) (act : Act A) → Numbers of h act → Names (Adds of before) before h (tries_at h act)
@@ -117,15 +120,19 @@ abbrev of_cut : CutDone → List ℕ
 of_cut (CutMade c span) = c ∷ []
 of_cut (NothingDone at) = []
 
+-- an event that is made, or refused at the end of a history
+made_numbers : {A : Type 0} (of : A → List ℕ) (h : History) (e : Event) (a : A) → of a ≡ suc (position h) ∷ [] → Numbers of h (making h e a)
+made_numbers of h e a is = elim (has_room h) as (λ t. Numbers of h (cond t (makes e a) (refuses_call (refusal history_full h 0)))) [ true ↦ is | false ↦ tt ]
+
 new_numbers : (h : History) (taken : Bool) (many : ℕ) (e : Event) → Numbers one h (new_relation h taken many e)
 new_numbers h true many e = tt
-new_numbers h false many e = elim (nat_lt many most_relations) as (λ t. Numbers one h (cond t (numbered h e) (refuses_call (refusal too_many h (suc most_relations))))) [ true ↦ refl | false ↦ tt ]
+new_numbers h false many e = elim (nat_lt many most_relations) as (λ t. Numbers one h (cond t (numbered h e) (refuses_call (refusal too_many h (suc most_relations))))) [ true ↦ made_numbers one h e (suc (position h)) refl | false ↦ tt ]
 
 hyper_numbers : (t : ℕ) (hyper : Hyper) (h : History) → Numbers one h (making_hyper t hyper h)
-hyper_numbers t hyper h = elim (is_some (hyper_of (roster h) t)) as (λ b. Numbers one h (cond b (refuses_call (refusal name_taken h 0)) (numbered h (HyperMade t hyper)))) [ true ↦ tt | false ↦ refl ]
+hyper_numbers t hyper h = elim (is_some (hyper_of (roster h) t)) as (λ b. Numbers one h (cond b (refuses_call (refusal name_taken h 0)) (numbered h (HyperMade t hyper)))) [ true ↦ tt | false ↦ made_numbers one h (HyperMade t hyper) (suc (position h)) refl ]
 
 over_numbers : (n : ℕ) (h : History) (w : Window) → Numbers of_cut h (cut_over n h w)
-over_numbers n h (Whole span) = refl
+over_numbers n h (Whole span) = made_numbers of_cut h (CutEvent n span) (CutMade (suc (position h)) span) refl
 over_numbers n h NoBucket = tt
 over_numbers n h Nothing = refl
 
@@ -137,7 +144,7 @@ cut_numbers : (n : ℕ) (lo hi : Option ℤ) (h : History) → Numbers of_cut h 
 cut_numbers n lo hi h = view_numbers n lo hi h (view_of (roster h) n)
 
 pending_numbers : (c at : ℕ) (h : History) (p : Pending) → Numbers one h (finish_of c at h p)
-pending_numbers c at h (Waiting n) = refl
+pending_numbers c at h (Waiting n) = made_numbers one h (BuiltEvent c at) (suc (position h)) refl
 pending_numbers c at h (Finished f) = tt
 pending_numbers c at h Unknown = tt
 
@@ -221,7 +228,7 @@ finishes_named p h (Some c) = finishes_held_named p h c (held_for c p.held)
 -- ---- blocks
 
 commits_named : (p after : Places) (h : History) (ops : List Op) → Names (Lists []) [] h (commits p after h ops)
-commits_named p after h ops = call_named of_commit h (committing ops h) (committed p after) refl (commit_completes p after)
+commits_named p after h ops = call_named of_commit h (committing ops h) (committed p after) (made_numbers of_commit h (CommitEvent ops) (calls_committed ops h) refl) (commit_completes p after)
 
 changes_named : (p : Places) (bytes : ℕ) (h : History) (op : Op) (b : Block) → Names (Lists []) [] h (changes p bytes h op b)
 changes_named p bytes h op none = commits_named p p h (op ∷ [])
@@ -247,7 +254,7 @@ acts_named p bytes h (actions.Hyper t hyper) = call_named one h (making_hyper t 
 acts_named p bytes h (actions.View def filled) =
     let n = length (roster h).views in
     names_then (Adds one []) (Lists []) [] h (tries_at h (making_view def h)) (after_view p n def filled) (tries_named one [] h (making_view def h) (new_numbers h (is_taken (roster h) def.name) n (ViewMade def))) (λ all g y e. after_view_named p n def filled all g y e)
-acts_named p bytes h (actions.Mode n only) = call_named one h (setting_mode n only h) (reported p said.Mode) refl (reported_completes p said.Mode (λ k. refl))
+acts_named p bytes h (actions.Mode n only) = call_named one h (setting_mode n only h) (reported p said.Mode) (made_numbers one h (ModeEvent n only) (suc (position h)) refl) (reported_completes p said.Mode (λ k. refl))
 acts_named p bytes h (actions.Change op) = changes_named p bytes h op p.block
 acts_named p bytes h (actions.Refresh n lo hi) = cut_then_named [] p n lo hi (least_start (view_of (roster h) n)) h
 acts_named p bytes h (actions.Cut n lo hi) =
@@ -259,6 +266,7 @@ acts_named p bytes h actions.Begin = refl
 acts_named p bytes h actions.BeginRead = refl
 acts_named p bytes h actions.Commit = closes_named p h p.block
 acts_named p bytes h actions.Rollback = given_up_completes p.block
+acts_named p bytes h (actions.Calendar table number unit at fold) = refl
 acts_named p bytes h (actions.Ask q) = refl
 
 passed_named : (p : Places) (bytes : ℕ) (h : History) (stmt : Stmt) (o : Option Refusal) → Names (Lists []) [] h (passed p bytes h stmt o)
@@ -283,6 +291,7 @@ shown_named p bytes g h at stmts.BeginRead b e = absurd cc
 shown_named p bytes g h at stmts.Commit b e = subst (λ x. Names (Lists []) [] g (closes p h x)) (sym b) refl
 shown_named p bytes g h at stmts.Rollback b e = given_up_completes p.block
 shown_named p bytes g h at (stmts.Buckets fold) b e = refl
+shown_named p bytes g h at (stmts.Calendar number unit fold) b e = refl
 shown_named p bytes g h at (stmts.Rows table tests) b e = refl
 
 shown_passed : (p : Places) (bytes : ℕ) (g h : History) (at : ℕ) (stmt : Stmt) (o : Option Refusal) → p.block ≡ reading at → refusal_reading (kind_of stmt) ≡ None → Names (Lists []) [] g (passed p bytes h stmt o)
@@ -294,9 +303,9 @@ first_named p bytes h stmt (Some r) = refl
 first_named p bytes h stmt None = λ g. acts_named p bytes g (action_of (roster h) stmt)
 
 here_named : (p : Places) (bytes : ℕ) (h : History) (stmt : Stmt) (b : Block) → p.block ≡ b → block_refusal b (kind_of stmt) ≡ None → Names (Lists []) [] h (named p bytes stmt (read_at b h))
-here_named p bytes h stmt none e pass = passed_named p bytes h stmt (refusal_of (position h) (roster h) stmt)
-here_named p bytes h stmt (writing ops n) e pass = passed_named p bytes h stmt (refusal_of (position h) (roster h) stmt)
-here_named p bytes h stmt (reading at) e pass = shown_passed p bytes h (prefix h at) at stmt (refusal_of (position (prefix h at)) (roster (prefix h at)) stmt) e pass
+here_named p bytes h stmt none e pass = named_holds (Names (Lists []) [] h) p bytes h stmt (λ r e. refl) (λ plan. refl) (passed_named p bytes h stmt (refusal_of (position h) (roster h) stmt))
+here_named p bytes h stmt (writing ops n) e pass = named_holds (Names (Lists []) [] h) p bytes h stmt (λ r e. refl) (λ plan. refl) (passed_named p bytes h stmt (refusal_of (position h) (roster h) stmt))
+here_named p bytes h stmt (reading at) e pass = named_holds (Names (Lists []) [] h) p bytes (prefix h at) stmt (λ r e. refl) (λ plan. refl) (shown_passed p bytes h (prefix h at) at stmt (refusal_of (position (prefix h at)) (roster (prefix h at)) stmt) e pass)
 
 one_look : (p : Places) (bytes : ℕ) (h : History) (stmt : Stmt) (b : Block) → p.block ≡ b → block_refusal b (kind_of stmt) ≡ None → Names (Lists []) [] h (named_here p bytes stmt)
 one_look p bytes h stmt b e pass = λ g. subst (λ x. Names (Lists []) [] g (named p bytes stmt (read_at x g))) (sym e) (here_named p bytes g stmt b e pass)
@@ -325,3 +334,17 @@ pub step_made : (alone failed : Bool) (old : State) (p : Places) (text : List �
 step_made alone failed old p text skip new y w =
     let m = walks_made (Lists []) alone failed old (step p text skip) new y old.made [] (sym (append-nil old.made)) (read_named p (length text) old.history (statement (stream text skip))) w in
     m.is ∙ ap (λ l. old.made ++ l) m.names
+
+-- ---- replies
+
+-- where a statement is looked at once, so does what its reply says
+reply_in_named : (p : Places) (bytes : ℕ) (h : History) (stmt : Stmt) (o : Option Refusal) → block_refusal p.block (kind_of stmt) ≡ o → Names (Lists []) [] h (replies_in p bytes stmt o)
+reply_in_named p bytes h stmt (Some r) e = refl
+reply_in_named p bytes h stmt None e = one_look p bytes h stmt p.block refl e
+
+reply_as_named : (p : Places) (bytes : ℕ) (h : History) (read : Result (Stmt × Stream) Fault) → Names (Lists []) [] h (replies_as p bytes read)
+reply_as_named p bytes h (Ok read) = reply_in_named p bytes h read.0 (block_refusal p.block (kind_of read.0)) refl
+reply_as_named p bytes h (Err f) = refl
+
+pub reply_named : (p : Places) (text : List ℕ) (skip : ℕ) (h : History) → Names (Lists []) [] h (reply_to p text skip)
+reply_named p text skip h = reply_as_named p (length text) h (statement (stream text skip))

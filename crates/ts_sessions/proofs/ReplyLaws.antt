@@ -38,14 +38,15 @@ use Rattle.ts_sessions.specs.Places.{Block, none, writing, reading, Places, Turn
 use Rattle.ts_sessions.specs.Replies.{replies_as, replies_in}
 use Rattle.ts_sessions.specs.Step.{acts, after_view, block_refusal, kind_of, let_pass, makes_event, named, named_first, named_here, passed, passed_first, performs_in, read_at, reads_as, reported}
 use Rattle.ts_sessions.specs.Walks.{Walks, Sees, history_after, ending}
+use Rattle.ts_sessions.proofs.NamedLaws.{event_named}
 use Rattle.ts_sessions.proofs.StateLaws.{goes_seen, sees_trans}
 use Rattle.ts_sessions.proofs.WalkLaws.{goes_walks}
 
 -- ---- names that stay
 
 -- a statement that still passes and asks for the same
-pub stays_named : (p : Places) (bytes : ℕ) (stmt : Stmt) (g h : History) → Stays g h stmt → acts p bytes h (action_of (roster g) stmt) ≡ named p bytes stmt h
-stays_named p bytes stmt g h s = ap (acts p bytes h) (sym s.action) ∙ ap (passed p bytes h stmt) (sym (s.passes (position h)))
+pub stays_named : (p : Places) (bytes : ℕ) (stmt : Stmt) (g h : History) → makes_event (kind_of stmt) ≡ true → Stays g h stmt → acts p bytes h (action_of (roster g) stmt) ≡ named p bytes stmt h
+stays_named p bytes stmt g h makes s = ap (acts p bytes h) (sym s.action) ∙ ap (passed p bytes h stmt) (sym (s.passes (position h))) ∙ sym (event_named p bytes h stmt makes)
 
 -- a relation to be made whose name was taken meanwhile, or that is one too many now: its call and the check of its name refuse it alike
 new_or_refused : (p : Places) (bytes : ℕ) (h : History) (stmt : Stmt) (taken few : Bool) (there : Bool → Bool → Procedure (Turn Places)) → there taken few ≡ acts p bytes h (action_of (roster h) stmt) → ((b : Bool) → there true b ≡ ends (refuses p (refusal name_taken h 0))) → there false false ≡ ends (refuses p (refusal too_many h (suc most_relations))) → there taken few ≡ passed p bytes h stmt (refused (position h) name_taken taken ⊳ marked (position h) too_many (suc most_relations) (not few))
@@ -91,7 +92,7 @@ new_aggregate p bytes g h name only filled fold b e =
     aggregate_of a = no_view
 
 new_hyper : (p : Places) (bytes : ℕ) (g h : History) (table col : List ℕ) (interval : ℤ) → HyperLater g h table col interval → acts p bytes h (action_of (roster g) (stmts.Hyper table col interval)) ≡ named p bytes (stmts.Hyper table col interval) h
-new_hyper p bytes g h table col interval (plain s) = stays_named p bytes (stmts.Hyper table col interval) g h s
+new_hyper p bytes g h table col interval (plain s) = stays_named p bytes (stmts.Hyper table col interval) g h refl s
 new_hyper p bytes g h table col interval (hyper n now was) =
     let stmt = stmts.Hyper table col interval in
     let at = subst (λ f. RelationAt (roster h) f) now (relation_at (roster h) table) in
@@ -106,12 +107,12 @@ pub names_stay : NamesStay
 names_stay p bytes (stmts.Table name cols) g h b ok makes e = new_table p bytes g h name cols e
 names_stay p bytes (stmts.Hyper table col interval) g h b ok makes e = new_hyper p bytes g h table col interval (hyper_made_later g h (position g) table col interval b e)
 names_stay p bytes (stmts.View name only filled fold) g h b ok makes e = new_aggregate p bytes g h name only filled fold b e
-names_stay p bytes (stmts.Mode view only) g h b ok makes e = stays_named p bytes (stmts.Mode view only) g h (mode_later g h (position g) view only b ok e)
-names_stay p bytes (stmts.Insert table cols rows) g h b ok makes e = stays_named p bytes (stmts.Insert table cols rows) g h (insert_later g h (position g) table cols rows b e)
-names_stay p bytes (stmts.Delete table tests) g h b ok makes e = stays_named p bytes (stmts.Delete table tests) g h (delete_later g h (position g) table tests b e)
-names_stay p bytes (stmts.Drop table below) g h b ok makes e = stays_named p bytes (stmts.Drop table below) g h (drop_later g h (position g) table below b e)
-names_stay p bytes (stmts.Refresh view lo hi) g h b ok makes e = stays_named p bytes (stmts.Refresh view lo hi) g h (refresh_later g h (position g) view lo hi b ok e)
-names_stay p bytes (stmts.Cut view lo hi) g h b ok makes e = stays_named p bytes (stmts.Cut view lo hi) g h (cut_later g h (position g) view lo hi b ok e)
+names_stay p bytes (stmts.Mode view only) g h b ok makes e = stays_named p bytes (stmts.Mode view only) g h makes (mode_later g h (position g) view only b ok e)
+names_stay p bytes (stmts.Insert table cols rows) g h b ok makes e = stays_named p bytes (stmts.Insert table cols rows) g h makes (insert_later g h (position g) table cols rows b e)
+names_stay p bytes (stmts.Delete table tests) g h b ok makes e = stays_named p bytes (stmts.Delete table tests) g h makes (delete_later g h (position g) table tests b e)
+names_stay p bytes (stmts.Drop table below) g h b ok makes e = stays_named p bytes (stmts.Drop table below) g h makes (drop_later g h (position g) table below b e)
+names_stay p bytes (stmts.Refresh view lo hi) g h b ok makes e = stays_named p bytes (stmts.Refresh view lo hi) g h makes (refresh_later g h (position g) view lo hi b ok e)
+names_stay p bytes (stmts.Cut view lo hi) g h b ok makes e = stays_named p bytes (stmts.Cut view lo hi) g h makes (cut_later g h (position g) view lo hi b ok e)
 names_stay p bytes (stmts.Snap cut) g h b ok makes e = absurd (true≢false (sym makes))
 names_stay p bytes (stmts.Finish cut) g h b ok makes e = absurd (true≢false (sym makes))
 names_stay p bytes stmts.Begin g h b ok makes e = absurd (true≢false (sym makes))
@@ -119,6 +120,7 @@ names_stay p bytes stmts.BeginRead g h b ok makes e = absurd (true≢false (sym 
 names_stay p bytes stmts.Commit g h b ok makes e = absurd (true≢false (sym makes))
 names_stay p bytes stmts.Rollback g h b ok makes e = absurd (true≢false (sym makes))
 names_stay p bytes (stmts.Buckets fold) g h b ok makes e = absurd (true≢false (sym makes))
+names_stay p bytes (stmts.Calendar number unit fold) g h b ok makes e = absurd (true≢false (sym makes))
 names_stay p bytes (stmts.Rows table tests) g h b ok makes e = absurd (true≢false (sym makes))
 
 -- ---- one look
@@ -129,7 +131,7 @@ allowed_before alone failed old procedure new y ok w = allowed_begins (goes_walk
 
 -- names that passed at a first look, and what follows
 passed_walks : (alone failed : Bool) (old mid : State) (p : Places) (bytes : ℕ) (stmt : Stmt) (new : State) (y : Turn Places) (o : Option Refusal) → makes_event (kind_of stmt) ≡ true → all_allowed new.history ≡ true → Sees alone old mid → refusal_of (position mid.history) (roster mid.history) stmt ≡ o → Walks alone failed mid (passed_first p bytes mid.history stmt o) new y → Walks alone failed old (looks (named p bytes stmt)) new y
-passed_walks alone failed old mid p bytes stmt new y (Some r) makes ok s e w = record { mid = mid; first = s; rest = subst (λ o. Walks alone failed mid (passed p bytes mid.history stmt o) new y) (sym e) w }
+passed_walks alone failed old mid p bytes stmt new y (Some r) makes ok s e w = record { mid = mid; first = s; rest = subst (λ d. Walks alone failed mid d new y) (sym (event_named p bytes mid.history stmt makes)) (subst (λ o. Walks alone failed mid (passed p bytes mid.history stmt o) new y) (sym e) w) }
 passed_walks alone failed old mid p bytes stmt new y None makes ok s e w =
     let seen = (goes_seen alone mid w.mid w.first).begins in
     let allowed = allowed_before alone failed w.mid (acts p bytes w.mid.history (action_of (roster mid.history) stmt)) new y ok w.rest in
@@ -172,15 +174,15 @@ passed_alone : (p : Places) (bytes : ℕ) (stmt : Stmt) (h : History) (o : Optio
 passed_alone p bytes stmt h (Some r) = record { history = refl; end = refl }
 passed_alone p bytes stmt h None = record { history = refl; end = refl }
 
-outside_alone : (p : Places) (bytes : ℕ) (stmt : Stmt) (h : History) (makes : Bool) → p.block ≡ none → SameAlone h (named_here p bytes stmt) (cond makes (named_first p bytes stmt) (named_here p bytes stmt))
-outside_alone p bytes stmt h false e = record { history = refl; end = refl }
-outside_alone p bytes stmt h true e =
+outside_alone : (p : Places) (bytes : ℕ) (stmt : Stmt) (h : History) (makes : Bool) → makes_event (kind_of stmt) ≡ makes → p.block ≡ none → SameAlone h (named_here p bytes stmt) (cond makes (named_first p bytes stmt) (named_here p bytes stmt))
+outside_alone p bytes stmt h false made e = record { history = refl; end = refl }
+outside_alone p bytes stmt h true made e =
     let one = passed_alone p bytes stmt h (refusal_of (position h) (roster h) stmt) in
-    let here : named p bytes stmt (read_at p.block h) ≡ named p bytes stmt h = ap (λ b. named p bytes stmt (read_at b h)) e in
+    let here : named p bytes stmt (read_at p.block h) ≡ passed p bytes h stmt (refusal_of (position h) (roster h) stmt) = ap (λ b. named p bytes stmt (read_at b h)) e ∙ event_named p bytes h stmt made in
     record { history = ap (λ d. history_after d h) here ∙ one.history; end = ap (λ d. ending d h) here ∙ one.end }
 
 performs_alone : (p : Places) (bytes : ℕ) (stmt : Stmt) (b : Block) (h : History) → p.block ≡ b → SameAlone h (named_here p bytes stmt) (performs_in p bytes stmt b)
-performs_alone p bytes stmt none h e = outside_alone p bytes stmt h (makes_event (kind_of stmt)) e
+performs_alone p bytes stmt none h e = outside_alone p bytes stmt h (makes_event (kind_of stmt)) refl e
 performs_alone p bytes stmt (writing ops n) h e = record { history = refl; end = refl }
 performs_alone p bytes stmt (reading at) h e = record { history = refl; end = refl }
 

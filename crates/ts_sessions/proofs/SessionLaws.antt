@@ -1,6 +1,6 @@
 -- A session before and after a statement.
 use Rattle.std.proofs.Common.{◌≡◌, ℕ, ◌+◌, ◌≤◌, true, false, cond, List, [], ◌∷◌, Option, Some, None, sym, refl, ap, ◌∙◌, subst}
-use Rattle.std.specs.Prelude.{Result, Ok, Err, IsTrue, OnOk, OnErr}
+use Rattle.std.specs.Prelude.{Result, Ok, Err, IfSome, IsTrue, OnOk, OnErr}
 use Rattle.std.specs.Map.{remove_entry}
 use Rattle.std.specs.Ordering.{is_eq, nat_cmp, match_ordering}
 use Rattle.std.specs.declared.cmp.Ordering.{Ordering}
@@ -20,7 +20,11 @@ use Rattle.ts_sessions.specs.Held.{Carries, GoesOn, HoldsBlock, HoldsJob, HoldsO
 use Rattle.ts_sessions.specs.Holding.{block_on, snapshots_on}
 use Rattle.ts_sessions.specs.Jobs.{without_job}
 use Rattle.ts_sessions.specs.Places.{Places, gives_up, held_for, holds}
-use Rattle.ts_sessions.specs.Sessions.{Spares, queued_on}
+use Rattle.stmt_reader.specs.Answers.{IsRead}
+use Rattle.stmt_reader.specs.Streams.{Stream}
+use Rattle.stmt_reader.specs.declared.faults.Fault.{Fault}
+use Rattle.stmt_reader.specs.declared.statements.Stmt.{Stmt}
+use Rattle.ts_sessions.specs.Sessions.{Spares, finish_meant, finish_read, queued_on}
 use Rattle.ts_sessions.proofs.JobLaws.{removed_holds, removed_positions, same_key, taken_holds, taken_positions}
 use Rattle.ts_model.specs.declared.snapshots.Shown.{Ghosts as Shown}
 
@@ -32,17 +36,29 @@ same_places s t b c h = ap (λ x. record { block = block_of x; cut = t.cut; held
 pub taken_places : {T J : Type 0} (s t : Session T J) (c at : ℕ) (job : Option J) → t.block ≡ s.block → t.cut ≡ s.cut → held_for c s.held.entries ≡ Some (record { at = at; job = job }) → t.held.entries ≡ without_job c at s.held.entries → places_in t ≡ places_in s
 taken_places s t c at job b k h e = same_places s t b k (ap positions e ∙ taken_positions c at s.held.entries job h)
 
-pub forgotten_places : {T J : Type 0} (s t u : Session T J) (c at : ℕ) → t.block ≡ s.block → t.cut ≡ s.cut → t.held.entries ≡ without_job c at s.held.entries → u.block ≡ t.block → u.cut ≡ t.cut → u.held.entries ≡ remove_entry (is_at (nat_cmp c)) t.held.entries → Spares (places_in s) (places_in u)
+pub forgotten_places : {T J : Type 0} (s t u : Session T J) (c at : ℕ) → t.block ≡ s.block → t.cut ≡ s.cut → t.held.entries ≡ without_job c at s.held.entries → u.block ≡ t.block → u.cut ≡ t.cut → u.held.entries ≡ remove_entry (is_at (nat_cmp c)) t.held.entries → Spares (Some c) (places_in s) (places_in u)
 forgotten_places s t u c at b k e x y z = record {
   gone = Some c;
+  only = refl;
   same =
       ap (λ q. record { block = block_of q; cut = u.cut; held = positions u.held.entries }) (x ∙ b) ∙ ap (λ q. record { block = block_of s.block; cut = q; held = positions u.held.entries }) (y ∙ k)
       ∙ ap (λ q. record { block = block_of s.block; cut = s.cut; held = positions q }) (z ∙ ap (remove_entry (is_at (nat_cmp c))) e)
       ∙ ap (λ q. record { block = block_of s.block; cut = s.cut; held = q }) (removed_positions c at s.held.entries);
 }
 
-pub spared : (p q : Places) → q ≡ p → Spares p q
-spared p q e = record { gone = None; same = e }
+pub spared : (meant : Option ℕ) (p q : Places) → q ≡ p → Spares meant p q
+spared meant p q e = record { gone = None; only = tt; same = e }
+
+-- what is given up is what was taken, and that was meant
+pub spares_meant : (taken meant : Option ℕ) (p q : Places) → IfSome taken (λ cut. meant ≡ Some cut) → Spares taken p q → Spares meant p q
+spares_meant taken meant p q m s = record { gone = s.gone; only = only s.gone s.only; same = s.same }
+  where
+    only : (gone : Option ℕ) → IfSome gone (λ cut. taken ≡ Some cut) → IfSome gone (λ cut. meant ≡ Some cut)
+    only None k = tt
+    only (Some c) k = subst (λ t. IfSome t (λ cut. meant ≡ Some cut)) k m
+
+pub taken_none : (taken meant : Option ℕ) → taken ≡ None → IfSome taken (λ cut. meant ≡ Some cut)
+taken_none taken meant e = subst (λ t. IfSome t (λ cut. meant ≡ Some cut)) (sym e) tt
 
 pub on_err : {A : Type 0} (P : Type 0) (result : Result A NoMemory) → P → OnErr result P
 on_err P (Ok a) p = tt
@@ -160,3 +176,8 @@ on_ok_by (Err e) P Q f p = tt
 pub held_either : {A : Type 0} (result : Result A NoMemory) (R P Q : Type 0) → (P → R) → (Q → R) → OnOk result P → OnErr result Q → R
 held_either (Ok a) R P Q f h p q = f p
 held_either (Err e) R P Q f h p q = h q
+
+-- the refresh that a line is to finish is that of the statement that was read
+pub read_meant : (p : Places) (stmt : Stmt) (r : Result (Stmt × Stream) Fault) → IsRead stmt r → finish_read p r ≡ finish_meant p stmt
+read_meant p stmt (Ok read) e = ap (finish_meant p) e
+read_meant p stmt (Err f) e = absurd e

@@ -1,5 +1,5 @@
 -- What a session asks of a store, the store can do.
-use Rattle.std.proofs.Common.{◌≡◌, ℕ, ◌≤◌, cond, nat_lt, true, false, [], ◌∷◌, Option, Bool, sym, refl, ap, ◌∙◌, subst}
+use Rattle.std.proofs.Common.{◌≡◌, ℕ, ◌≤◌, cond, nat_lt, true, false, List, Option, Bool, sym, refl, ap, ◌∙◌, subst}
 use Rattle.std.specs.Prelude.{ℤ, IsTrue}
 use Rattle.std.proofs.lemmas.Bool.{and_parts}
 use Rattle.ts_model.specs.declared.events.Event.TheVariants as events
@@ -8,8 +8,9 @@ use Rattle.ts_model.specs.declared.queries.Query.{Query}
 use Rattle.ts_model.specs.declared.rosters.Roster.{Roster}
 use Rattle.ts_model.specs.declared.tables.Hyper.{Hyper}
 use Rattle.ts_model.specs.declared.tables.TableDef.{TableDef}
+use Rattle.ts_model.specs.declared.views.Fold.{Fold}
 use Rattle.ts_model.specs.declared.views.ViewDef.{ViewDef}
-use Rattle.ts_model.specs.History.{History, start, ◌▸◌, position, prefix}
+use Rattle.ts_model.specs.History.{History, start, resumed, ◌▸◌, position, prefix}
 use Rattle.ts_model.specs.Roster.{roster}
 use Rattle.ts_model.specs.Allowed.{all_allowed, allowed}
 use Rattle.ts_model.specs.Answers.{can_ask}
@@ -21,7 +22,7 @@ use Rattle.stmt_check.specs.declared.actions.Action.{Action}
 use Rattle.stmt_check.specs.declared.actions.Action.TheVariants as actions
 use Rattle.stmt_check.specs.declared.actions.Checked.TheVariants as checked
 use Rattle.stmt_check.specs.Check.{IsChecked, IsNumbered, action_of}
-use Rattle.stmt_check.specs.Sound.{IsSound, IsWindow, IsOperation}
+use Rattle.stmt_check.specs.Sound.{IsCalendar, IsSound, IsWindow, IsOperation}
 use Rattle.stmt_check.proofs.ActionLaws.{actions_are_sound}
 use Rattle.stmt_check.proofs.RosterLaws.{rosters_are_numbered}
 use Rattle.ts_sessions.specs.Sound.{AsksSoundly, kind_of_action}
@@ -63,6 +64,7 @@ kinds_agree r stmts.BeginRead = refl
 kinds_agree r stmts.Commit = refl
 kinds_agree r stmts.Rollback = refl
 kinds_agree r (stmts.Buckets fold) = refl
+kinds_agree r (stmts.Calendar number unit fold) = refl
 kinds_agree r (stmts.Rows table tests) = refl
 
 pub ready_kind : (pos : ℕ) (r : Roster) (stmt : Stmt) (action : Action) → IsChecked pos r stmt (checked.Ready action) → kind_of stmt ≡ kind_of_action action
@@ -82,9 +84,6 @@ view_sound h bytes a def filled s e = (subst (IsSound h bytes) e s).event.is_sou
 pub mode_sound : (h : History) (bytes : ℕ) (a : Action) (n : ℕ) (only : Bool) → IsSound h bytes a → a ≡ actions.Mode n only → IsTrue (sound h (events.Mode n only))
 mode_sound h bytes a n only s e = (subst (IsSound h bytes) e s).is_sound
 
-pub change_sound : (h : History) (bytes : ℕ) (a : Action) (op : Op) → IsSound h bytes a → a ≡ actions.Change op → IsTrue (sound h (events.Commit (op ∷ [])))
-change_sound h bytes a op s e = (subst (IsSound h bytes) e s).event.is_sound
-
 pub operation_sound : (h : History) (bytes : ℕ) (a : Action) (op : Op) → IsSound h bytes a → a ≡ actions.Change op → IsOperation h bytes op
 operation_sound h bytes a op s e = subst (IsSound h bytes) e s
 
@@ -97,8 +96,12 @@ cut_sound h bytes a n lo hi s e = subst (IsSound h bytes) e s
 pub query_sound : (h : History) (bytes : ℕ) (a : Action) (q : Query) → IsSound h bytes a → a ≡ actions.Ask q → IsTrue (can_ask (roster h) q)
 query_sound h bytes a q s e = subst (IsSound h bytes) e s
 
+pub calendar_sound : (h : History) (bytes : ℕ) (a : Action) (t number : ℕ) (unit : List ℕ) (at : ℕ) (fold : Fold) → IsSound h bytes a → a ≡ actions.Calendar t number unit at fold → IsCalendar h t number unit at fold
+calendar_sound h bytes a t number unit at fold s e = subst (IsSound h bytes) e s
+
 -- the first events of an allowed history are one
 pub allowed_prefix : (h : History) (p : ℕ) → all_allowed h ≡ true → all_allowed (prefix h p) ≡ true
 allowed_prefix start p ok = refl
+allowed_prefix (resumed i) p ok = ok
 allowed_prefix (h ▸ e) p ok =
     elim (nat_lt (position h) p) as (λ t. all_allowed (cond t (h ▸ e) (prefix h p)) ≡ true) [ true ↦ ok | false ↦ allowed_prefix h p (and_parts (all_allowed h) (allowed h e) ok).0 ]

@@ -29,8 +29,9 @@ use Rattle.ts_sessions.specs.LineLaws.{ReadsWithin, RepliesAreSteady}
 use Rattle.ts_sessions.specs.Places.{Block, none, writing, reading, Places, Turn, cuts, enters, held_for, turns}
 use Rattle.ts_sessions.specs.Replies.{replies_as, replies_in}
 use Rattle.ts_sessions.specs.Steady.{IsEnded, SameLater, Steady}
-use Rattle.ts_sessions.specs.Step.{Taken, acts, begins, committed, cut_turn, finish_turn, refreshed, reported, after_cut, after_line, after_snapshot, after_view, block_refusal, changes, closes, commits, finishes, finishes_held, kind_of, least_start, named, named_here, passed, prints, prints_writing, read_at, refresh_meant, refreshes, taken, view_made}
+use Rattle.ts_sessions.specs.Step.{Taken, acts, begins, committed, cut_turn, finish_turn, refreshed, reported, after_cut, after_line, after_snapshot, after_view, block_refusal, changes, closes, commits, finishes, finishes_held, kind_of, least_start, makes_event, named, named_here, passed, prints, prints_writing, read_at, refresh_meant, refreshes, taken, view_made}
 use Rattle.ts_sessions.proofs.BlockWalks.{block_is}
+use Rattle.ts_sessions.proofs.NamedLaws.{event_named, named_holds}
 use Rattle.ts_sessions.proofs.ReplyLaws.{stays_named}
 
 -- ---- procedures one after the other
@@ -122,6 +123,7 @@ steady_acts h l p bytes actions.Begin = tt
 steady_acts h l p bytes actions.BeginRead = tt
 steady_acts h l p bytes actions.Commit = steady_closes h l p p.block
 steady_acts h l p bytes actions.Rollback = tt
+steady_acts h l p bytes (actions.Calendar table number unit at fold) = tt
 steady_acts h l p bytes (actions.Ask q) = tt
 
 steady_passed : (h l : History) (p : Places) (bytes : ℕ) (stmt : Stmt) (o : Option Refusal) → Steady true h (passed p bytes l stmt o)
@@ -129,7 +131,7 @@ steady_passed h l p bytes stmt (Some r) = tt
 steady_passed h l p bytes stmt None = steady_acts h l p bytes (action_of (roster l) stmt)
 
 steady_named : (h l : History) (p : Places) (bytes : ℕ) (stmt : Stmt) → Steady true h (named p bytes stmt l)
-steady_named h l p bytes stmt = steady_passed h l p bytes stmt (refusal_of (position l) (roster l) stmt)
+steady_named h l p bytes stmt = named_holds (λ d. Steady true h d) p bytes l stmt (λ r e. tt) (λ plan. tt) (steady_passed h l p bytes stmt (refusal_of (position l) (roster l) stmt))
 
 -- ---- looks
 
@@ -166,6 +168,7 @@ only_begins stmts.BeginRead e = absurd (true≢false (sym e))
 only_begins stmts.Commit e = absurd (true≢false (sym e))
 only_begins stmts.Rollback e = absurd (true≢false (sym e))
 only_begins (stmts.Buckets fold) e = absurd (true≢false (sym e))
+only_begins (stmts.Calendar number unit fold) e = absurd (true≢false (sym e))
 only_begins (stmts.Rows table tests) e = absurd (true≢false (sym e))
 
 steady_outside : (base : History) (p : Places) (bytes : ℕ) (stmt : Stmt) → Steady false base (named_here (enters none p) bytes stmt)
@@ -190,10 +193,11 @@ steady_queue base p bytes stmt ops n op kind is later =
     let waits : (l : History) (r : Roster) → acts q bytes l (action_of r stmt) ≡ ends (y r) = λ l r. ap (acts q bytes l) (is r) in
     hidden base q bytes stmt (λ h on e.
     let none_now : refusal_of (position h) (roster h) stmt ≡ None = none_there _ (ap (λ k. prints_writing ops k (refusal_of (position h) (roster h) stmt)) (sym kind) ∙ e) in
-    let here : named q bytes stmt h ≡ ends (y (roster h)) = ap (passed q bytes h stmt) none_now ∙ waits h (roster h) in (
+    let makes : makes_event (kind_of stmt) ≡ true = ap makes_event kind in
+    let here : named q bytes stmt h ≡ ends (y (roster h)) = event_named q bytes h stmt makes ∙ ap (passed q bytes h stmt) none_now ∙ waits h (roster h) in (
       λ l c.
           let s = later h l c none_now in
-          (ap (λ k. prints_writing ops k (refusal_of (position l) (roster l) stmt)) kind ∙ ap is_some (s.passes (position l)), sym (stays_named q bytes stmt h l s) ∙ waits l (roster h) ∙ sym here),
+          (ap (λ k. prints_writing ops k (refusal_of (position l) (roster l) stmt)) kind ∙ ap is_some (s.passes (position l)), sym (stays_named q bytes stmt h l makes s) ∙ waits l (roster h) ∙ sym here),
       subst IsEnded (sym here) tt,
     ))
 
@@ -222,6 +226,7 @@ steady_writing base p bytes stmts.BeginRead ops n e = refused_here _ e
 steady_writing base p bytes stmts.Commit ops n e = steady_commit base p bytes ops n
 steady_writing base p bytes stmts.Rollback ops n e = let q = enters (writing ops n) p in unshown base q bytes stmts.Rollback (turns (enters none q) said.Rollback) (λ r. refl) (λ h. refl)
 steady_writing base p bytes (stmts.Buckets fold) ops n e = refused_here _ e
+steady_writing base p bytes (stmts.Calendar number unit fold) ops n e = refused_here _ e
 steady_writing base p bytes (stmts.Rows table tests) ops n e = refused_here _ e
 
 -- ---- in a read block
@@ -237,7 +242,7 @@ ended_passed p bytes stmt h (Some r) i = tt
 ended_passed p bytes stmt h None i = i
 
 ended_named : (p : Places) (bytes : ℕ) (stmt : Stmt) → ((h : History) → IsEnded (acts p bytes h (action_of (roster h) stmt))) → (h : History) → IsEnded (named p bytes stmt h)
-ended_named p bytes stmt i h = ended_passed p bytes stmt h (refusal_of (position h) (roster h) stmt) (i h)
+ended_named p bytes stmt i h = named_holds IsEnded p bytes h stmt (λ r e. tt) (λ plan. tt) (ended_passed p bytes stmt h (refusal_of (position h) (roster h) stmt) (i h))
 
 steady_reading : (base : History) (p : Places) (bytes : ℕ) (stmt : Stmt) (at : ℕ) → at ≤ position base → block_refusal (reading at) (kind_of stmt) ≡ None → Steady false base (named_here (enters (reading at) p) bytes stmt)
 steady_reading base p bytes (stmts.Table name cols) at le e = refused_here _ e
@@ -256,6 +261,7 @@ steady_reading base p bytes stmts.BeginRead at le e = refused_here _ e
 steady_reading base p bytes stmts.Commit at le e = steady_read base p bytes stmts.Commit at le (ended_named (enters (reading at) p) bytes stmts.Commit (λ h. tt))
 steady_reading base p bytes stmts.Rollback at le e = steady_read base p bytes stmts.Rollback at le (ended_named (enters (reading at) p) bytes stmts.Rollback (λ h. tt))
 steady_reading base p bytes (stmts.Buckets fold) at le e = steady_read base p bytes (stmts.Buckets fold) at le (ended_named (enters (reading at) p) bytes (stmts.Buckets fold) (λ h. tt))
+steady_reading base p bytes (stmts.Calendar number unit fold) at le e = steady_read base p bytes (stmts.Calendar number unit fold) at le (ended_named (enters (reading at) p) bytes (stmts.Calendar number unit fold) (λ h. tt))
 steady_reading base p bytes (stmts.Rows table tests) at le e = steady_read base p bytes (stmts.Rows table tests) at le (ended_named (enters (reading at) p) bytes (stmts.Rows table tests) (λ h. tt))
 
 -- ---- lines

@@ -1,8 +1,7 @@
 -- What a line comes to, by what its statement came to and what was answered.
 use Rattle.std.proofs.Common.{◌≡◌, ℕ, ◌+◌, ◌<◌, ◌≤◌, ◌^◌, ◌++◌, Bool, true, false, List, Option, Some, None, sym, refl, ap, ◌∙◌, subst, arith}
-use Rattle.std.specs.Prelude.{Result, Ok}
-use Rattle.ts_schema.specs.declared.memory.NoMemory.{NoMemory}
-use Rattle.ts_model.specs.History.{History, Begins}
+use Rattle.std.specs.Prelude.{Ok}
+use Rattle.ts_model.specs.History.{History}
 use Rattle.ts_model.specs.States.{State}
 use Rattle.result_text.specs.declared.replies.Said.{Said}
 use Rattle.ts_sessions.specs.declared.changes.Change.{Change}
@@ -11,25 +10,17 @@ use Rattle.ts_sessions.specs.declared.replies.Reply.{Reply as ReplyMade}
 use Rattle.ts_sessions.specs.declared.replies.StepEnd.{StepEnd}
 use Rattle.ts_sessions.specs.declared.replies.StepEnd.TheVariants as steps
 use Rattle.ts_sessions.specs.declared.sessions.Session.{Session}
-use Rattle.ts_sessions.specs.Procedures.{Procedure}
-use Rattle.ts_sessions.specs.Held.{Carries, HoldsOf, places_in, queued}
+use Rattle.ts_sessions.specs.Held.{Carries, places_in, queued}
 use Rattle.ts_sessions.specs.Places.{Places, Turn}
 use Rattle.ts_sessions.specs.Sessions.{AnswersSo, ChangeHolds, Ends, IfAnswered, IfNoMemory, IsReplied, IsReply, Spares, Stepped, Reports, changed, turn_of, without}
 use Rattle.ts_sessions.specs.Step.{step}
 use Rattle.ts_sessions.specs.Walks.{Walks}
 use Rattle.ts_sessions.proofs.EndLaws.{raised_up}
-use Rattle.ts_sessions.proofs.HoldLaws.{change_queues, goes_ended}
+use Rattle.ts_sessions.proofs.HoldLaws.{change_queues}
 use Rattle.ts_sessions.proofs.MadeLaws.{step_made}
-use Rattle.ts_sessions.proofs.SessionLaws.{carried_places, kept_held, spared}
+use Rattle.ts_sessions.proofs.SessionLaws.{carried_places, spared}
 use Rattle.ts_sessions.proofs.WalkLaws.{walks_break}
 use Rattle.ts_model.specs.declared.snapshots.Shown.{Ghosts as Shown}
-
--- ---- what is held after a statement
-
-module _ {T J : Type 0} (shown : Shown T J) (fits_on : (job : J) (g h : History) → Begins g h → shown.fits job g → shown.fits job h) where
-  -- a session that a statement leaves as it is
-  pub ended_held : (s : Session T J) (alone : Bool) (old : State) (procedure : Procedure (Turn Places)) (p : Places) (result : Result (Completion T J) NoMemory) (new : State) (before after : ℕ) → Ends alone old procedure p result new before after → HoldsOf shown s old → HoldsOf shown s new
-  ended_held s alone old procedure p result new before after e k = kept_held shown fits_on s s old new refl refl (goes_ended alone old procedure p result new before after e) k
 
 -- ---- answers
 
@@ -75,10 +66,10 @@ stepped alone old p text skip name completion steps.NoMemory new q before after 
     (walks_break alone completion.failed old (step p text skip) new (turn_of p e.read completion) e.ends, subst (λ m. before ≤ m) (sym e.counted) (raised_up e.read before short))
 
 -- a line without memory for its answer leaves its session
-pub spares_then : {T J : Type 0} (s t : Session T J) (p : Places) (end : StepEnd) → places_in s ≡ p → IfNoMemory end (Carries s t) → IfNoMemory end (Spares p (places_in t))
-spares_then s t p (steps.Reply r) e k = tt
-spares_then s t p (steps.DiskFault r) e k = tt
-spares_then s t p steps.NoMemory e k = spared p (places_in t) (carried_places s t k ∙ e)
+pub spares_then : {T J : Type 0} (meant : Option ℕ) (s t : Session T J) (p : Places) (end : StepEnd) → places_in s ≡ p → IfNoMemory end (Carries s t) → IfNoMemory end (Spares meant p (places_in t))
+spares_then meant s t p (steps.Reply r) e k = tt
+spares_then meant s t p (steps.DiskFault r) e k = tt
+spares_then meant s t p steps.NoMemory e k = spared meant p (places_in t) (carried_places s t k ∙ e)
 
 -- ---- queues
 
@@ -86,13 +77,13 @@ without_block : (gone : Option ℕ) (p : Places) → (without gone p).block ≡ 
 without_block None p = refl
 without_block (Some c) p = refl
 
-pub spared_queue : (p q : Places) (bytes : ℕ) → Spares p q → queued q.block ≤ queued p.block + bytes
-spared_queue p q bytes s =
+pub spared_queue : (meant : Option ℕ) (p q : Places) (bytes : ℕ) → Spares meant p q → queued q.block ≤ queued p.block + bytes
+spared_queue meant p q bytes s =
     let same : queued q.block ≡ queued p.block = ap (λ x. queued x.block) s.same ∙ ap queued (without_block s.gone p) in
     omega (arith, same)
 
 -- the queue grows by at most the bytes of the line
-pub queue_then : {T J : Type 0} (shown : Shown T J) (bytes : ℕ) (h : History) (c : Change T J) (p q : Places) (end : StepEnd) → ChangeHolds shown bytes c h → IfAnswered end (q ≡ changed c p) → IfNoMemory end (Spares p q) → queued q.block ≤ queued p.block + bytes
-queue_then shown bytes h c p q (steps.Reply r) k e s = subst (λ x. queued x.block ≤ queued p.block + bytes) (sym e) (change_queues shown bytes h c p k)
-queue_then shown bytes h c p q (steps.DiskFault r) k e s = subst (λ x. queued x.block ≤ queued p.block + bytes) (sym e) (change_queues shown bytes h c p k)
-queue_then shown bytes h c p q steps.NoMemory k e s = spared_queue p q bytes s
+pub queue_then : {T J : Type 0} (meant : Option ℕ) (shown : Shown T J) (bytes : ℕ) (h : History) (c : Change T J) (p q : Places) (end : StepEnd) → ChangeHolds shown bytes c h → IfAnswered end (q ≡ changed c p) → IfNoMemory end (Spares meant p q) → queued q.block ≤ queued p.block + bytes
+queue_then meant shown bytes h c p q (steps.Reply r) k e s = subst (λ x. queued x.block ≤ queued p.block + bytes) (sym e) (change_queues shown bytes h c p k)
+queue_then meant shown bytes h c p q (steps.DiskFault r) k e s = subst (λ x. queued x.block ≤ queued p.block + bytes) (sym e) (change_queues shown bytes h c p k)
+queue_then meant shown bytes h c p q steps.NoMemory k e s = spared_queue meant p q bytes s

@@ -1,15 +1,12 @@
 -- An aggregate that is made, and the refresh that follows it.
-use Rattle.std.proofs.Common.{◌≡◌, ℕ, suc, ◌+◌, ◌<◌, ◌≤◌, ◌^◌, Bool, true, false, cond, nat_lt, not, List, [], ◌∷◌, ◌++◌, length, Option, Some, None, sym, refl, ap, ◌∙◌, subst, inr, arith}
-use Rattle.std.specs.Prelude.{Result, Ok, Err, IsSome, IfOk, is_some, ◌||◌, slice_get, position as place}
+use Rattle.std.proofs.Common.{◌≡◌, ℕ, suc, ◌+◌, ◌≤◌, Bool, true, false, cond, nat_lt, not, List, [], ◌∷◌, ◌++◌, length, Option, Some, None, sym, refl, ap, ◌∙◌, subst, inr, arith}
+use Rattle.std.specs.Prelude.{Result, Ok, Err, IsSome, is_some, ◌||◌, slice_get, position as place}
 use Rattle.std.specs.List.{position_or_len}
-use Rattle.std.specs.Result.{IsErr}
 use Rattle.std.proofs.lemmas.Bool.{true≢false, cond-true, ltb-false, lt-ltb}
 use Rattle.std.proofs.lemmas.List.Sums.{prefix_len-le-length}
 use Rattle.std.proofs.lemmas.List.Folds.{position_or_len_push}
 use Rattle.std.proofs.Common.{length-append, ◌==◌}
 use Rattle.std.proofs.lemmas.Bool.Decides.{nat_tests}
-use Rattle.std.specs.Prelude.{ℤ}
-use Rattle.ts_bucket.specs.Bucket.{first_of}
 use Rattle.ts_schema.specs.declared.memory.NoMemory.{NoMemory}
 use Rattle.ts_model.specs.declared.events.Event.{Event}
 use Rattle.ts_model.specs.declared.events.Event.TheVariants.{View}
@@ -19,27 +16,26 @@ use Rattle.ts_model.specs.declared.outcomes.Refusal.{Refusal}
 use Rattle.ts_model.specs.declared.rosters.Roster.{Roster}
 use Rattle.ts_model.specs.declared.views.ViewDef.{ViewDef}
 use Rattle.ts_model.specs.History.{History, ◌▸◌, position, Begins}
-use Rattle.ts_model.specs.States.{State, Found, Makes}
+use Rattle.ts_model.specs.States.{State, Makes}
 use Rattle.ts_model.specs.Roster.{roster, roster_after, is_taken, same_name, table_named, view_named, view_of}
 use Rattle.ts_model.specs.Limits.{most_relations}
-use Rattle.ts_model.specs.Calls.{refuses, refusal, Answered, Called, making_view, new_relation, numbered, too_many}
+use Rattle.ts_model.specs.Timely.{has_room}
+use Rattle.ts_model.specs.Calls.{refuses, makes as makes_call, history_full, refusal, Answered, Called, making_view, new_relation, numbered, too_many}
 use Rattle.ts_model.specs.Laws.{KeepsView}
 use Rattle.ts_model.proofs.RosterLaws.{relations_stay}
 use Rattle.result_text.specs.declared.replies.Said.{Said}
-use Rattle.ts_sessions.specs.declared.changes.Change.{Change}
 use Rattle.ts_sessions.specs.declared.changes.Completion.{Completion}
 use Rattle.ts_sessions.specs.declared.tries.Tried.{Tried}
 use Rattle.ts_sessions.specs.declared.tries.Tried.TheVariants as tried
-use Rattle.ts_sessions.specs.Procedures.{Procedure, looks, ends, ending_as, followed_by, tries_at}
+use Rattle.ts_sessions.specs.Procedures.{Procedure, looks, ending_as, followed_by, tries_at}
 use Rattle.ts_sessions.specs.Places.{Places, Turn}
-use Rattle.ts_sessions.specs.Sessions.{Ends, EndsAt, Completes, changed, has_failed, came, turn_of}
-use Rattle.ts_sessions.specs.Step.{after_line, after_view, view_made}
+use Rattle.ts_sessions.specs.Sessions.{Ends, changed, turn_of}
+use Rattle.ts_sessions.specs.Step.{after_line}
 use Rattle.ts_sessions.specs.Sound.{number_from, view_number}
 use Rattle.ts_sessions.specs.Tried.{IsTried}
 use Rattle.ts_sessions.specs.Walks.{Walks, Breaks}
 use Rattle.ts_sessions.proofs.CallWalks.{answered_tries}
-use Rattle.ts_sessions.proofs.EndLaws.{quiet, raised_up, completes_then, then_at}
-use Rattle.ts_sessions.proofs.WalkLaws.{breaks_first, walks_as, walks_break}
+use Rattle.ts_sessions.proofs.WalkLaws.{breaks_first, walks_as}
 use Rattle.stmt_check.proofs.RowLaws.{same_itself}
 
 -- ---- the number of an aggregate
@@ -97,7 +93,11 @@ made_there : (found : State) (taken : Bool) (many : ℕ) (e : Event) (k : ℕ) (
 made_there found true many e k mid w = absurd w
 made_there found false many e k mid w =
     (elim (nat_lt many most_relations) as (λ t. Answered (cond t (numbered found.history e) (refuses (refusal too_many found.history (suc most_relations)))) found (outcomes.Done k) mid → (false ≡ false) × Makes e found mid) [
-      | true ↦ λ v. (refl, v.1)
+      | true ↦
+          elim (has_room found.history) as (λ t. Answered (cond t (makes_call e (suc (position found.history))) (refuses (refusal history_full found.history 0))) found (outcomes.Done k) mid → (false ≡ false) × Makes e found mid) [
+            | true ↦ λ v. (refl, v.1)
+            | false ↦ λ v. absurd v
+          ]
       | false ↦ λ v. absurd v
     ]) w
 
@@ -117,45 +117,8 @@ was_made def found k mid w =
 
 -- ---- the statement
 
--- a statement at the history that its call found
-at_found : {T J : Type 0} (alone : Bool) (old found : State) (f : History → Procedure (Turn Places)) (p : Places) (read : ℕ) (result : Result (Completion T J) NoMemory) (new : State) → Found alone old found → EndsAt alone found (f found.history) p read result new → EndsAt alone old (looks f) p read result new
-at_found alone old found f p read (Ok t) new i e = record { mid = found; first = inr i; rest = e }
-at_found alone old found f p read (Err x) new i e = record { mid = found; first = inr i; rest = e }
-
--- the aggregate was made, and its refresh went on
-pub made_then : {T J : Type 0} (alone : Bool) (old : State) (def : ViewDef) (k : ℕ) (mid : State) (next : ℕ → Result ℕ Refusal → Procedure (Turn Places)) (p : Places) (result : Result (Completion T J) NoMemory) (new : State) (before after : ℕ) → Called alone old (making_view def) (outcomes.Done k) mid → ((n : ℕ) → WasMade def n mid.history → Ends alone mid (next n (Ok k)) p result new before after) → Ends alone old (looks (λ h. followed_by (tries_at h (making_view def h)) (next (length (roster h).views)))) p result new before after
-made_then alone old def k mid next p result new before after c e =
-    let h = c.found.history in
-    let n = length (roster h).views in
-    let here = e n (was_made def c.found k mid c.answered) in
-    let w = answered_tries alone (making_view def h) c.found (outcomes.Done k) mid (Ok (tried.Done k)) c.answered refl in
-    record {
-      read = here.read;
-      ends = at_found alone old c.found (λ g. followed_by (tries_at g (making_view def g)) (next (length (roster g).views))) p here.read result new c.finds
-          (then_at alone c.found (tries_at h (making_view def h)) (Ok k) mid (next n) p here.read result new w here.ends);
-      counted = here.counted;
-    }
-
--- the call ended so, and the statement ends with these lines
-pub view_completes : {T J : Type 0} (alone : Bool) (old : State) (def : ViewDef) (outcome : Outcome ℕ) (pos : ℕ) (t : Tried ℕ) (failed : Bool) (new : State) (next : ℕ → Result ℕ Refusal → Procedure (Turn Places)) (p : Places) (said : List Said) (change : Change T J) (result : Result (Completion T J) NoMemory) (m : ℕ) → m < 2 ^ 64 → Called alone old (making_view def) outcome new → pos ≡ position new.history → IsTried pos outcome (Ok t) → failed ≡ has_failed t → ((n : ℕ) → next n (came t) ≡ ends (record { places = changed change p; said = said; reads = 0 })) → Completes said change failed result → Ends alone old (looks (λ h. followed_by (tries_at h (making_view def h)) (next (length (roster h).views)))) p result new m m
-view_completes alone old def outcome pos t failed new next p said change result m short c e i f y s =
-    let h = c.found.history in
-    let w = answered_tries alone (making_view def h) c.found outcome new (Ok t) c.answered (subst (λ x. IsTried x outcome (Ok t)) e i) in
-    quiet alone old (looks (λ g. followed_by (tries_at g (making_view def g)) (next (length (roster g).views)))) p result new m short
-    (at_found alone old c.found (λ g. followed_by (tries_at g (making_view def g)) (next (length (roster g).views))) p 0 result new c.finds
-    (completes_then alone (has_failed t) c.found (tries_at h (making_view def h)) (came t) new (next (length (roster h).views)) p said change result w (y (length (roster h).views)) (subst (λ x. Completes said change x result) f s)))
-
-pub view_done : {T J : Type 0} (alone : Bool) (old : State) (def : ViewDef) (outcome : Outcome ℕ) (pos : ℕ) (t : Tried ℕ) (k : ℕ) (new : State) (next : ℕ → Result ℕ Refusal → Procedure (Turn Places)) (p : Places) (said : List Said) (change : Change T J) (result : Result (Completion T J) NoMemory) (m : ℕ) → m < 2 ^ 64 → Called alone old (making_view def) outcome new → pos ≡ position new.history → IsTried pos outcome (Ok t) → t ≡ tried.Done k → Completes said change false result → ((n : ℕ) → next n (Ok k) ≡ ends (record { places = changed change p; said = said; reads = 0 })) → Ends alone old (looks (λ h. followed_by (tries_at h (making_view def h)) (next (length (roster h).views)))) p result new m m
-view_done alone old def outcome pos t k new next p said change result m short c e i j s y = view_completes alone old def outcome pos (tried.Done k) false new next p said change result m short c e (subst (λ x. IsTried pos outcome (Ok x)) j i) refl y s
-
-pub view_refused : {T J : Type 0} (alone : Bool) (old : State) (def : ViewDef) (outcome : Outcome ℕ) (pos : ℕ) (t : Tried ℕ) (r : Refusal) (new : State) (next : ℕ → Result ℕ Refusal → Procedure (Turn Places)) (p : Places) (said : List Said) (change : Change T J) (result : Result (Completion T J) NoMemory) (m : ℕ) → m < 2 ^ 64 → Called alone old (making_view def) outcome new → pos ≡ position new.history → IsTried pos outcome (Ok t) → t ≡ tried.Refused r → Completes said change false result → ((n : ℕ) → next n (Err r) ≡ ends (record { places = changed change p; said = said; reads = 0 })) → Ends alone old (looks (λ h. followed_by (tries_at h (making_view def h)) (next (length (roster h).views)))) p result new m m
-view_refused alone old def outcome pos t r new next p said change result m short c e i j s y = view_completes alone old def outcome pos (tried.Refused r) false new next p said change result m short c e (subst (λ x. IsTried pos outcome (Ok x)) j i) refl y s
-
-pub view_failed : {T J : Type 0} (alone : Bool) (old : State) (def : ViewDef) (outcome : Outcome ℕ) (pos : ℕ) (t : Tried ℕ) (r : Refusal) (new : State) (next : ℕ → Result ℕ Refusal → Procedure (Turn Places)) (p : Places) (said : List Said) (change : Change T J) (result : Result (Completion T J) NoMemory) (m : ℕ) → m < 2 ^ 64 → Called alone old (making_view def) outcome new → pos ≡ position new.history → IsTried pos outcome (Ok t) → t ≡ tried.Failed r → Completes said change true result → ((n : ℕ) → next n (Err r) ≡ ends (record { places = changed change p; said = said; reads = 0 })) → Ends alone old (looks (λ h. followed_by (tries_at h (making_view def h)) (next (length (roster h).views)))) p result new m m
-view_failed alone old def outcome pos t r new next p said change result m short c e i j s y = view_completes alone old def outcome pos (tried.Failed r) true new next p said change result m short c e (subst (λ x. IsTried pos outcome (Ok x)) j i) refl y s
-
 -- it did what it is for only where its call did
-done_outcome : (pos : ℕ) (outcome : Outcome ℕ) (k : ℕ) → IsTried pos outcome (Ok (tried.Done k)) → outcome ≡ outcomes.Done k
+pub done_outcome : (pos : ℕ) (outcome : Outcome ℕ) (k : ℕ) → IsTried pos outcome (Ok (tried.Done k)) → outcome ≡ outcomes.Done k
 done_outcome pos (outcomes.Done a) k i = done_same a k i
   where
     done_same : (a k : ℕ) → tried.Done k ≡ tried.Done a → outcomes.Done a ≡ outcomes.Done k
@@ -163,12 +126,6 @@ done_outcome pos (outcomes.Done a) k i = done_same a k i
 done_outcome pos (outcomes.Refused r) k i = absurd cc
 done_outcome pos outcomes.DiskFault k i = absurd cc
 done_outcome pos outcomes.NoMemory k i = absurd i
-
--- the aggregate was made, and its refresh went on
-pub made_on : {T J : Type 0} (alone : Bool) (old : State) (def : ViewDef) (outcome : Outcome ℕ) (pos : ℕ) (t : Tried ℕ) (k : ℕ) (mid : State) (next : ℕ → Result ℕ Refusal → Procedure (Turn Places)) (p : Places) (result : Result (Completion T J) NoMemory) (new : State) (before after : ℕ) → Called alone old (making_view def) outcome mid → IsTried pos outcome (Ok t) → t ≡ tried.Done k → ((n : ℕ) → WasMade def n mid.history → Ends alone mid (next n (Ok k)) p result new before after) → Ends alone old (looks (λ h. followed_by (tries_at h (making_view def h)) (next (length (roster h).views)))) p result new before after
-made_on alone old def outcome pos t k mid next p result new before after c i j e =
-    made_then alone old def k mid next p result new before after
-    (subst (λ o. Called alone old (making_view def) o mid) (done_outcome pos outcome k (subst (λ x. IsTried pos outcome (Ok x)) j i)) c) e
 
 -- what it made is there under its name
 pub made_named : (alone : Bool) (old : State) (def : ViewDef) (outcome : Outcome ℕ) (pos : ℕ) (t : Tried ℕ) (k : ℕ) (mid : State) → Called alone old (making_view def) outcome mid → IsTried pos outcome (Ok t) → t ≡ tried.Done k → (n : ℕ) × WasMade def n mid.history
@@ -209,18 +166,6 @@ led alone old procedure line p completion l new before after e s c f = record {
   counted = e.counted;
 }
 
-pub unled : {T J : Type 0} (alone : Bool) (old : State) (procedure : Procedure (Turn Places)) (line : Said) (p : Places) (result : Result (Completion T J) NoMemory) (f : NoMemory) (new : State) (before after : ℕ) → before < 2 ^ 64 → Ends alone old procedure p result new before after → Ends {T = T} {J = J} alone old (ending_as (after_line line) procedure) p (Err f) new before after
-unled alone old procedure line p (Ok t) f new before after short e = record {
-  read = 0;
-  ends = breaks_first alone old procedure (λ a. ends (after_line line a)) new (walks_break alone t.failed old procedure new (turn_of p e.read t) e.ends);
-  counted = subst (λ m. before ≤ m) (sym e.counted) (raised_up e.read before short);
-}
-unled alone old procedure line p (Err x) f new before after short e = record { read = 0; ends = breaks_first alone old procedure (λ a. ends (after_line line a)) new e.ends; counted = e.counted }
-
-pub led_by : {T J : Type 0} (alone : Bool) (old : State) (procedure : Procedure (Turn Places)) (line : Said) (p : Places) (completion : Completion T J) (result : Result (Completion T J) NoMemory) (new : State) (before after : ℕ) → before < 2 ^ 64 → Ends alone old procedure p (Ok completion) new before after → IfOk result (λ t. t.said ≡ line ∷ completion.said) → IfOk result (λ t. t.change ≡ completion.change) → IfOk result (λ t. t.failed ≡ completion.failed) → Ends alone old (ending_as (after_line line) procedure) p result new before after
-led_by alone old procedure line p completion (Ok t) new before after short e s c f = led alone old procedure line p completion t new before after e s c f
-led_by alone old procedure line p completion (Err x) new before after short e s c f = unled alone old procedure line p (Ok completion) x new before after short e
-
 -- the number under a name, as a snapshot's roster has it
 pub number_in : (r : Roster) (views : List ViewDef) (g h : History) (name : List ℕ) (v n : ℕ) → v ≡ number_from name 0 views → views ≡ r.views → r ≡ roster h → Begins g h → view_named (roster g) name ≡ Some n → v ≡ n
 number_in r views g h name v n a b c d e = a ∙ ap (number_from name 0) (b ∙ ap (λ x. x.views) c) ∙ named_on g h name n d e
@@ -242,15 +187,3 @@ pub made_is_named : (alone : Bool) (old : State) (def : ViewDef) (outcome : Outc
 made_is_named alone old def outcome pos t k mid name c i j e =
     let w = made_named alone old def outcome pos t k mid c i j in
     subst (λ x. IsNamed (roster mid.history) x) (sym e) (was_named def w.0 mid.history w.1)
-
--- the statement went on after its aggregate was made
-pub made_goes_on : {T J : Type 0} (alone : Bool) (old : State) (def : ViewDef) (filled : Bool) (outcome : Outcome ℕ) (pos : ℕ) (t : Tried ℕ) (k : ℕ) (mid : State) (name : List ℕ) (min : ℤ) (p : Places) (result : Result (Completion T J) NoMemory) (new : State) (before after : ℕ) → Called alone old (making_view def) outcome mid → IsTried pos outcome (Ok t) → t ≡ tried.Done k → name ≡ def.name → min ≡ first_of def.fold.width → Ends alone mid (view_made p (view_number (roster mid.history) name) min k filled) p result new before after → Ends alone old (looks (λ h. followed_by (tries_at h (making_view def h)) (after_view p (length (roster h).views) def filled))) p result new before after
-made_goes_on alone old def filled outcome pos t k mid name min p result new before after c i j e f ends_so =
-    made_on alone old def outcome pos t k mid (λ n. after_view p n def filled) p result new before after c i j
-    (λ n w. subst (λ m. Ends alone mid (view_made p m (first_of def.fold.width) k filled) p result new before after)
-    (ap (view_number (roster mid.history)) e ∙ number_named (roster mid.history) def.name n w.named)
-    (subst (λ m. Ends alone mid (view_made p (view_number (roster mid.history) name) m k filled) p result new before after) f ends_so))
-
-pub err_led : {T J : Type 0} (alone : Bool) (old : State) (procedure : Procedure (Turn Places)) (line : Said) (p : Places) (x : NoMemory) (result : Result (Completion T J) NoMemory) (new : State) (before after : ℕ) → before < 2 ^ 64 → IsErr result → Ends {T = T} {J = J} alone old procedure p (Err x) new before after → Ends alone old (ending_as (after_line line) procedure) p result new before after
-err_led alone old procedure line p x (Ok t) new before after short i e = absurd (true≢false (sym i))
-err_led {T = T} {J = J} alone old procedure line p x (Err y) new before after short i e = unled {T = T} {J = J} alone old procedure line p (Err x) y new before after short e

@@ -1,14 +1,17 @@
 -- What a session holds, and that it goes with what its store has seen.
-use Rattle.std.specs.Prelude.{◌≡◌, ℕ, ◌+◌, ◌≤◌, Bool, true, false, ◌||◌, List, [], ◌∷◌, ◌++◌, map, Option, Some, None, IsTrue, ⊤}
+use Rattle.std.specs.Prelude.{◌≡◌, ℕ, ◌+◌, ◌≤◌, Bool, true, false, not, ◌||◌, List, [], ◌∷◌, ◌++◌, map, Option, Some, None, IsTrue, ⊤}
 use Rattle.std.specs.List.{AllByRecursion}
 use Rattle.ts_model.specs.declared.events.Op.{Op}
 use Rattle.ts_model.specs.History.{History, position, prefix, Begins}
 use Rattle.ts_model.specs.Allowed.{all_allowed}
+use Rattle.ts_model.specs.Timely.{has_room}
 use Rattle.ts_model.specs.Pending.{pending}
 use Rattle.ts_model.specs.States.{State, stands_still}
 use Rattle.ts_model.specs.declared.refreshes.Pending.{Pending}
 use Rattle.ts_model.specs.declared.refreshes.Pending.TheVariants.{Waiting, Finished, Unknown}
 use Rattle.stmt_check.specs.Sound.{IsQueue}
+use Rattle.ts_sessions.specs.declared.blocks.Block.{Block as BlockKind}
+use Rattle.ts_sessions.specs.declared.blocks.Block.TheVariants.{Outside, Write as WriteBlock, Read as ReadBlock}
 use Rattle.ts_sessions.specs.declared.blocks.Open.{Open}
 use Rattle.ts_sessions.specs.declared.blocks.Open.TheVariants.{Nothing, Write, Read}
 use Rattle.ts_sessions.specs.declared.sessions.Session.{Session}
@@ -48,6 +51,12 @@ queued (reading at) = 0
 abbrev pub waiting_bytes : {T J : Type 0} → Session T J → ℕ
 waiting_bytes s = queued (places_in s).block
 
+-- operations wait in a write block alone
+abbrev pub WaitsInside : BlockKind → ℕ → Type 0
+WaitsInside Outside n = n ≡ 0
+WaitsInside WriteBlock n = ⊤
+WaitsInside ReadBlock n = n ≡ 0
+
 -- an operation from a text of so many bytes waits for the end of a write block
 abbrev pub pushed : {T : Type 0} → Op → ℕ → Open T → Open T
 pushed op more Nothing = Nothing
@@ -78,9 +87,10 @@ is_finished (Waiting n) = false
 is_finished (Finished f) = true
 is_finished Unknown = false
 
--- no refresh with this number can be finished any more: it was finished, or the store stands still
+-- no refresh with this number can be finished any more: it was finished, or the store stands still, or its history
+-- is full
 abbrev pub is_lost : State → ℕ → Bool
-is_lost s c = is_finished (pending s.history c) || stands_still s
+is_lost s c = is_finished (pending s.history c) || (stands_still s || not (has_room s.history))
 
 -- a job fits what was seen, and is that of a snapshot at this position for this refresh
 abbrev pub IsJobOf : {T J : Type 0} → Shown T J → ℕ → ℕ → History → J → Type 0

@@ -1,7 +1,9 @@
 -- What a session holds goes with what its store has seen.
-use Rattle.std.proofs.Common.{◌≡◌, ℕ, ◌≤◌, ◌==◌, Bool, true, false, cond, List, [], ◌∷◌, Option, Some, None, sym, refl, ◌∙◌, subst, arith}
-use Rattle.std.specs.Prelude.{IsTrue, ◌||◌, suc}
-use Rattle.std.proofs.lemmas.Bool.{true≢false}
+use Rattle.std.proofs.Common.{◌≡◌, ℕ, ◌≤◌, ◌==◌, Bool, true, false, cond, nat_le, List, [], ◌∷◌, Option, Some, None, sym, refl, ap, ◌∙◌, subst, arith}
+use Rattle.std.specs.Prelude.{IsTrue, ◌||◌, not, suc}
+use Rattle.std.proofs.lemmas.Bool.{true≢false, leb-true, le-ltb, ltb-false, not-true}
+use Rattle.ts_model.specs.Timely.{has_room}
+use Rattle.ts_model.specs.Limits.{last_position}
 use Rattle.std.proofs.lemmas.Bool.Decides.{nat_tests}
 use Rattle.ts_model.specs.declared.events.Event.{Event}
 use Rattle.ts_model.specs.declared.events.Event.TheVariants.{Table, Hyper, View, Mode, Commit, Cut, Built}
@@ -9,14 +11,16 @@ use Rattle.ts_model.specs.declared.refreshes.Pending.{Pending}
 use Rattle.ts_model.specs.declared.refreshes.Pending.TheVariants.{Waiting, Finished, Unknown}
 use Rattle.ts_model.specs.Allowed.{all_allowed}
 use Rattle.ts_model.specs.Pending.{finished_by, is_known, pending}
-use Rattle.ts_model.specs.History.{History, start, ◌▸◌, position, prefix, Begins, same, further}
+use Rattle.ts_model.specs.History.{History, start, resumed, ◌▸◌, position, prefix, Begins, same, further}
+use Rattle.ts_model.specs.Saved.{pending_among}
 use Rattle.ts_model.specs.States.{State, stands_still}
 use Rattle.ts_model.proofs.HistoryLaws.{position_begins, prefix_further}
 use Rattle.ts_sessions.specs.declared.blocks.Open.{Open}
 use Rattle.ts_sessions.specs.declared.blocks.Open.TheVariants.{Nothing, Write, Read}
 use Rattle.ts_sessions.specs.declared.sessions.Session.{Session}
 use Rattle.ts_sessions.specs.declared.sessions.Snapshot.{Snapshot}
-use Rattle.ts_sessions.specs.Held.{GoesOn, HoldsBlock, HoldsJob, HoldsSnapshots, HoldsOf, is_finished, is_lost}
+use Rattle.ts_sessions.specs.Held.{GoesOn, HoldsBlock, HoldsJob, HoldsSnapshots, HoldsOf, WaitsInside, is_finished, is_lost, queued}
+use Rattle.ts_sessions.specs.Places.{Block, none, writing, reading, block_kind}
 use Rattle.stmt_check.proofs.QueueLaws.{queues_are_sound}
 use Rattle.ts_model.specs.declared.snapshots.Shown.{Ghosts as Shown}
 
@@ -39,6 +43,11 @@ known_by k Unknown e = e
 
 known_within : (h : History) (k : ℕ) → is_known (pending h k) ≡ true → k ≤ position h
 known_within start k e = absurd (true≢false (sym e))
+known_within (resumed i) k e =
+    elim (nat_le k i.pos) as (λ t. nat_le k i.pos ≡ t → is_known (cond t (pending_among i.waiting i.done k) Unknown) ≡ true → k ≤ i.pos) [
+      | true ↦ λ l _. leb-true k i.pos l
+      | false ↦ λ _ f. absurd (true≢false (sym f))
+    ] refl e
 known_within (h ▸ Table def) k e = omega (arith, known_within h k e)
 known_within (h ▸ Hyper t hyper) k e = omega (arith, known_within h k e)
 known_within (h ▸ View def) k e = omega (arith, known_within h k e)
@@ -85,10 +94,17 @@ either true b c d f g e = rw (f refl) refl
 either false b true d f g e = refl
 either false b false d f g e = g e
 
+-- a full history stays full
+full_stays : {g h : History} → Begins g h → not (has_room g) ≡ true → not (has_room h) ≡ true
+full_stays {g} {h} b f =
+    let full : last_position ≤ position g = ltb-false (position g) last_position (not-true (has_room g) f) in
+    ap not (le-ltb (position h) last_position (omega (arith, full, position_begins b)))
+
 pub lost_stays : (g h : State) (c : ℕ) → GoesOn g h → IsTrue (is_lost g c) → IsTrue (is_lost h c)
 lost_stays g h c on l =
-    either (is_finished (pending g.history c)) (stands_still g) (is_finished (pending h.history c)) (stands_still h)
-    (finished_stays c on.begins) on.still l
+    either (is_finished (pending g.history c)) (stands_still g || not (has_room g.history)) (is_finished (pending h.history c)) (stands_still h || not (has_room h.history))
+    (finished_stays c on.begins)
+    (either (stands_still g) (not (has_room g.history)) (stands_still h) (not (has_room h.history)) on.still (full_stays on.begins)) l
 
 -- ---- what a session holds
 
@@ -128,3 +144,10 @@ holds_on shown fits_on session g h on k = record {
   block = block_on shown.stands session.block g.history h.history on.begins k.block;
   snapshots = snapshots_on shown fits_on g h session.held.entries on k.snapshots;
 }
+
+-- ---- operations that wait
+
+pub waits_inside : (b : Block) → WaitsInside (block_kind b) (queued b)
+waits_inside none = refl
+waits_inside (writing ops n) = tt
+waits_inside (reading at) = refl

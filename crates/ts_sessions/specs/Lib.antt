@@ -16,3 +16,4 @@ pub mod Jobs
 pub mod Sessions
 pub mod Sound
 pub mod Parts
+pub mod Deeds

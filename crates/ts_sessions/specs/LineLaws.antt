@@ -1,12 +1,14 @@
 -- Laws of lines, each in one sentence.
-use Rattle.std.specs.Prelude.{◌≡◌, ℕ, ◌≤◌, Bool, true, false, List, None}
+use Rattle.std.specs.Prelude.{◌≡◌, ℕ, zero, suc, ◌≤◌, Bool, true, false, List, length, None}
 use Rattle.ts_model.specs.Allowed.{all_allowed}
 use Rattle.ts_model.specs.History.{History, position, Begins}
 use Rattle.ts_model.specs.Roster.{roster}
 use Rattle.ts_model.specs.States.{State}
 use Rattle.stmt_reader.specs.declared.statements.Stmt.{Stmt}
 use Rattle.stmt_check.specs.Check.{action_of, refusal_of}
+use Rattle.ts_sessions.specs.Made.{made_in}
 use Rattle.ts_sessions.specs.Places.{Block, none, writing, reading, Places, Turn}
+use Rattle.ts_sessions.specs.Procedures.{Procedure, sees, adds, ends}
 use Rattle.ts_sessions.specs.Replies.{reply_to}
 use Rattle.ts_sessions.specs.Steady.{Steady}
 use Rattle.ts_sessions.specs.Step.{acts, kind_of, makes_event, named, step}
@@ -43,3 +45,16 @@ abbrev pub RepliesAreSteady : Type 0
 RepliesAreSteady =
     (p : Places) (text : List ℕ) (skip : ℕ) (base : History) → ReadsWithin p.block (position base)
     → Steady false base (reply_to p text skip)
+
+-- a procedure makes so many events at most
+abbrev pub AtMost : {A : Type 0} → ℕ → Procedure A → Type 0
+AtMost n (sees shown f) = (h : History) → AtMost n (f h)
+AtMost zero (adds e next stop) = ⊥
+AtMost (suc n) (adds e next stop) = AtMost n next × AtMost n stop
+AtMost n (ends a) = Unit {0}
+
+-- a line of a session makes at most three events
+abbrev pub LinesMakeFewEvents : Type 0
+LinesMakeFewEvents =
+    (alone failed : Bool) (old : State) (p : Places) (text : List ℕ) (skip : ℕ) (new : State) (y : Turn Places)
+    → Walks alone failed old (step p text skip) new y → length (made_in y.said) ≤ 3

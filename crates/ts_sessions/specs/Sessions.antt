@@ -1,5 +1,5 @@
 -- What contracts see of how calls and statements end, and of what a line came to.
-use Rattle.std.specs.Prelude.{◌≡◌, ℕ, ◌+◌, ◌≤◌, Bool, true, false, List, [], ◌∷◌, ◌++◌, Option, Some, None, Result, Ok, Err, ⊤, IfOk}
+use Rattle.std.specs.Prelude.{◌≡◌, ℕ, ◌+◌, ◌≤◌, Bool, true, false, List, [], ◌∷◌, ◌++◌, Option, Some, None, Result, Ok, Err, ⊤, IfOk, IfSome}
 use Rattle.ts_schema.specs.Counts.{raised_by}
 use Rattle.ts_schema.specs.declared.memory.NoMemory.{NoMemory}
 use Rattle.ts_model.specs.declared.events.Op.{Op}
@@ -24,7 +24,12 @@ use Rattle.ts_sessions.specs.Places.{Block, none, writing, reading, Places, Turn
 use Rattle.ts_sessions.specs.Held.{block_of, queued, most_queued, HoldsBlock, IsJobOf, HoldsOf}
 use Rattle.ts_sessions.specs.Made.{made_in}
 use Rattle.ts_sessions.specs.Script.{text_of, has_fault}
-use Rattle.ts_sessions.specs.Step.{Taken, takes_snapshot}
+use Rattle.stmt_reader.specs.declared.faults.Fault.{Fault}
+use Rattle.stmt_reader.specs.declared.statements.Stmt.{Stmt}
+use Rattle.stmt_reader.specs.declared.statements.Stmt.TheVariants as stmts
+use Rattle.stmt_reader.specs.Reading.{statement}
+use Rattle.stmt_reader.specs.Streams.{Stream, stream}
+use Rattle.ts_sessions.specs.Step.{Taken, refresh_meant, takes_snapshot}
 use Rattle.ts_model.specs.declared.snapshots.Shown.{Ghosts as Shown}
 use Rattle.ts_sessions.specs.declared.sessions.Session.{Session}
 use Rattle.ts_model.specs.declared.backends.Backend.{Ghosts as Backend}
@@ -113,20 +118,6 @@ HoldsAfter shown change old new =
 abbrev pub ChangeFits : {T J : Type 0} → Change T J → Block → Type 0
 ChangeFits (changes.Queues op more) b = queued b + more ≤ most_queued
 ChangeFits other b = ⊤
-
--- a change that brings nothing that has to go with what was seen
-abbrev pub BringsNothing : {T J : Type 0} → Change T J → Type 0
-BringsNothing (changes.Holds c at job) = ⊥
-BringsNothing (changes.Enters b) = ⊥
-BringsNothing (changes.Queues op more) = ⊥
-BringsNothing other = ⊤
-
--- the same, but that the session may come out of its block
-abbrev pub BringsLittle : {T J : Type 0} → Change T J → Type 0
-BringsLittle (changes.Holds c at job) = ⊥
-BringsLittle (changes.Enters b) = block_of b ≡ none
-BringsLittle (changes.Queues op more) = ⊥
-BringsLittle other = ⊤
 
 -- what a statement came to, with places that it began with, where so many rows were read
 abbrev pub turn_of : {T J : Type 0} → Places → ℕ → Completion T J → Turn Places
@@ -230,7 +221,21 @@ abbrev pub without : Option ℕ → Places → Places
 without None p = p
 without (Some c) p = gives_up c p
 
--- the places are as before, or a snapshot was given up whose job a store took
-pub record Spares (old new : Places) : Type 0 where
+-- the places are as before, or the snapshot was given up for the refresh that was meant to be finished
+pub record Spares (meant : Option ℕ) (old new : Places) : Type 0 where
   pub gone : Option ℕ
+  pub only : IfSome gone (λ cut. meant ≡ Some cut)
   pub same : new ≡ without gone old
+
+-- the refresh that a statement is to finish, if it is to finish one
+abbrev pub finish_meant : Places → Stmt → Option ℕ
+finish_meant p (stmts.Finish number) = refresh_meant p number
+finish_meant p other = None
+
+abbrev pub finish_read : Places → Result (Stmt × Stream) Fault → Option ℕ
+finish_read p (Ok read) = finish_meant p read.0
+finish_read p (Err fault) = None
+
+-- and a line, whose statement stands after the first `skip` bytes of its text
+abbrev pub finish_in : Places → List ℕ → ℕ → Option ℕ
+finish_in p text skip = finish_read p (statement (stream text skip))

@@ -40,6 +40,7 @@ kind_of_action actions.Begin = kinds.Begins
 kind_of_action actions.BeginRead = kinds.BeginsRead
 kind_of_action actions.Commit = kinds.Commits
 kind_of_action actions.Rollback = kinds.RollsBack
+kind_of_action (actions.Calendar table number unit at fold) = kinds.Asks
 kind_of_action (actions.Ask q) = kinds.Asks
 
 -- the number of the first aggregate with a name, where the aggregates are numbered from k, or how many there are

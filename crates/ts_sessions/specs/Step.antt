@@ -1,5 +1,5 @@
 -- The step of a session: what a line does, by the places of its session.
-use Rattle.std.specs.Prelude.{ℕ, ◌+◌, ℤ, pos as nonneg, negsuc, Bool, true, false, not, cond, is_some, List, [], ◌∷◌, ◌++◌, length, Option, Some, None, Result, Ok, Err}
+use Rattle.std.specs.Prelude.{ℕ, ◌+◌, ℤ, pos as nonneg, negsuc, codes, if◌then◌else◌, Bool, true, false, not, cond, is_some, List, [], ◌∷◌, ◌++◌, length, Option, Some, None, Result, Ok, Err}
 use Rattle.ts_bucket.specs.Bucket.{first_of}
 use Rattle.ts_bucket.specs.declared.spans.Span.{Span}
 use Rattle.ts_model.specs.declared.events.Op.{Op}
@@ -7,6 +7,7 @@ use Rattle.ts_model.specs.declared.outcomes.CutDone.{CutDone}
 use Rattle.ts_model.specs.declared.outcomes.CutDone.TheVariants.{Cut as CutMade, Nothing as NothingDone}
 use Rattle.ts_model.specs.declared.outcomes.Committed.{Committed}
 use Rattle.ts_model.specs.declared.outcomes.Refusal.{Refusal}
+use Rattle.ts_model.specs.declared.queries.Answer.{Answer}
 use Rattle.ts_model.specs.declared.queries.Query.{Query}
 use Rattle.ts_model.specs.declared.queries.Query.TheVariants as queries
 use Rattle.ts_model.specs.declared.refreshes.Pending.{Pending}
@@ -14,11 +15,12 @@ use Rattle.ts_model.specs.declared.refreshes.Pending.TheVariants.{Waiting, Finis
 use Rattle.ts_model.specs.declared.rosters.Roster.{Roster}
 use Rattle.ts_model.specs.declared.views.ViewDef.{ViewDef}
 use Rattle.ts_model.specs.History.{History, position, prefix}
-use Rattle.ts_model.specs.Roster.{roster, view_of}
+use Rattle.ts_model.specs.Roster.{roster, same_name, view_of}
 use Rattle.ts_model.specs.Answers.{answer}
 use Rattle.ts_model.specs.Pending.{pending}
 use Rattle.ts_model.specs.Reads.{reads as reads_of, job_reads}
-use Rattle.ts_model.specs.Calls.{refusal, no_refresh, making_table, making_hyper, making_view, setting_mode, committing, cutting, finishing}
+use Rattle.ts_model.specs.Timely.{has_room}
+use Rattle.ts_model.specs.Calls.{stopped, history_full, refusal, no_refresh, making_table, making_hyper, making_view, setting_mode, committing, cutting, finishing}
 use Rattle.stmt_reader.specs.declared.faults.Fault.{Fault}
 use Rattle.stmt_reader.specs.declared.faults.Fault.TheVariants as faults
 use Rattle.stmt_reader.specs.declared.statements.Stmt.{Stmt}
@@ -28,11 +30,23 @@ use Rattle.stmt_reader.specs.Streams.{Stream, stream}
 use Rattle.stmt_check.specs.declared.actions.Action.{Action}
 use Rattle.stmt_check.specs.declared.actions.Action.TheVariants as actions
 use Rattle.stmt_check.specs.Check.{action_of, refusal_of}
+use Rattle.hier_agg.specs.declared.plans.UpperPlan.{UpperPlan}
+use Rattle.hier_agg.specs.declared.reads.UpperRead.{UpperRead}
+use Rattle.hier_agg.specs.declared.reads.UpperRead.TheVariants as uppers
+use Rattle.hier_agg.specs.Plans.{lower_query}
+use Rattle.hier_agg.specs.Reads.{upper_read}
+use Rattle.hier_agg.specs.Upper.{upper_answer}
+use Rattle.cal_bucket.specs.declared.plans.CalPlan.{CalPlan}
+use Rattle.cal_bucket.specs.declared.plans.CalUnit.{CalUnit}
+use Rattle.cal_bucket.specs.declared.plans.CalUnit.TheVariants as units
+use Rattle.cal_bucket.specs.Answers.{plan_rows}
 use Rattle.result_text.specs.declared.codes.TheConstants.{NO_TOKEN, SYNTAX, BAD_NUMBER, IN_WRITE_BLOCK, IN_READ_BLOCK, NO_BLOCK, NO_SNAPSHOT}
 use Rattle.result_text.specs.declared.replies.Said.{Said}
 use Rattle.result_text.specs.declared.replies.Said.TheVariants as said
 use Rattle.ts_sessions.specs.declared.kinds.Kind.{Kind}
 use Rattle.ts_sessions.specs.declared.kinds.Kind.TheVariants as kinds
+use Rattle.ts_sessions.specs.declared.queries.Form.{Form}
+use Rattle.ts_sessions.specs.declared.queries.Form.TheVariants as forms
 use Rattle.ts_sessions.specs.declared.queries.Plan.{Plan}
 use Rattle.ts_sessions.specs.Procedures.{Procedure, sees, looks, ends, followed_by, ending_as, tries_at, tries}
 use Rattle.ts_sessions.specs.Places.{Block, none, writing, reading, Places, held_for, enters, cuts, holds, gives_up, Turn, turns, refuses}
@@ -71,6 +85,7 @@ kind_of stmts.BeginRead = kinds.BeginsRead
 kind_of stmts.Commit = kinds.Commits
 kind_of stmts.Rollback = kinds.RollsBack
 kind_of (stmts.Buckets fold) = kinds.Asks
+kind_of (stmts.Calendar number unit fold) = kinds.Asks
 kind_of (stmts.Rows table tests) = kinds.Asks
 
 -- why a statement of this kind may not be outside a block, where there is nothing to end
@@ -204,6 +219,10 @@ abbrev pub snaps : Places → History → Option ℕ → Turn Places
 snaps p h None = refuses p (refusal no_refresh h 0)
 snaps p h (Some c) = snap_turn p c (taken c h)
 
+-- why a refresh that waits can't be finished any more
+abbrev pub lost_code : History → ℕ
+lost_code h = cond (has_room h) stopped history_full
+
 -- why a refresh can't be finished: with this number where it waits
 abbrev pub unfinished : ℕ → History → Pending → Refusal
 unfinished code h (Waiting n) = refusal code h 0
@@ -233,16 +252,43 @@ asked_start r (queries.Rows t tests) = nonneg 0
 asked_start r (queries.Buckets t fold) = nonneg 0
 asked_start r (queries.Aggregate n starts) = least_start (view_of r n)
 
--- what answers a query statement
+-- what answers a query: its answer as it is
 abbrev pub plan_of : Roster → Query → Plan
-plan_of r q = record { query = q; min = asked_start r q }
+plan_of r q = record { query = q; form = forms.Own; min = asked_start r q }
+
+-- what answers a roll-up: the answer of the aggregate in wider buckets, the first of which is the start
+abbrev pub roll_up_plan : UpperPlan → Plan
+roll_up_plan plan = record { query = lower_query plan; form = forms.RolledUp plan; min = first_of plan.width }
+
+-- the unit of the calendar that a word stands for
+abbrev pub unit_of : List ℕ → CalUnit
+unit_of word =
+    if same_name word (codes "day") then units.Day
+    else if same_name word (codes "week") then units.Week
+    else if same_name word (codes "month") then units.Month
+    else units.Year
+
+-- what answers a grouping by buckets of the calendar: the rows that pass its tests, grouped. None of them is stale
+abbrev pub calendar_plan : ℕ → CalPlan → Plan
+calendar_plan t cal = record { query = queries.Rows t cal.fold.tests; form = forms.Calendar cal; min = nonneg 0 }
+
+-- an answer rolled up by a plan over an aggregate
+abbrev pub rolled_up : Option ViewDef → UpperPlan → Answer → Answer
+rolled_up None plan shown = shown
+rolled_up (Some def) plan shown = upper_answer def.fold plan shown
+
+-- what is made of an answer
+abbrev pub in_form : Roster → Form → Answer → Answer
+in_form r forms.Own shown = shown
+in_form r (forms.RolledUp plan) shown = rolled_up (view_of r plan.view) plan shown
+in_form r (forms.Calendar cal) shown = record { rows = plan_rows cal shown.rows; stale = [] }
 
 -- the answer by a plan at a history
 abbrev pub answers : Places → History → Plan → Turn Places
 answers p h plan =
     record {
       places = p;
-      said = said.Answered (answer plan.query h) (position h) plan.min ∷ [];
+      said = said.Answered (in_form (roster h) plan.form (answer plan.query h)) (position h) plan.min ∷ [];
       reads = reads_of plan.query h;
     }
 
@@ -297,15 +343,23 @@ acts p bytes h actions.BeginRead = ends (turns (enters (reading (position h)) p)
 acts p bytes h actions.Commit = closes p h p.block
 acts p bytes h actions.Rollback = ends (turns (enters none p) (given_up p.block))
 acts p bytes h (actions.Ask q) = ends (answers p h (plan_of (roster h) q))
+acts p bytes h (actions.Calendar t number unit at fold) =
+    ends (answers p h (calendar_plan t (record { number = number; unit = unit_of unit; at = at; fold = fold })))
 
 -- a statement whose names and values are refused in a history, or not
 abbrev pub passed : Places → ℕ → History → Stmt → Option Refusal → Procedure (Turn Places)
 passed p bytes h stmt (Some r) = ends (refuses p r)
 passed p bytes h stmt None = acts p bytes h (action_of (roster h) stmt)
 
+-- a statement by what it asks of an aggregate: a roll-up is refused or answered, and any other is checked
+abbrev pub named_as : Places → ℕ → History → Stmt → UpperRead → Procedure (Turn Places)
+named_as p bytes h stmt (uppers.Plan plan) = ends (answers p h (roll_up_plan plan))
+named_as p bytes h stmt (uppers.Refused r) = ends (refuses p r)
+named_as p bytes h stmt other = passed p bytes h stmt (refusal_of (position h) (roster h) stmt)
+
 -- a statement whose names are looked at in a history
 abbrev pub named : Places → ℕ → Stmt → History → Procedure (Turn Places)
-named p bytes stmt h = passed p bytes h stmt (refusal_of (position h) (roster h) stmt)
+named p bytes stmt h = named_as p bytes h stmt (upper_read (position h) (roster h) stmt)
 
 -- the history that a session reads: in a read block, as it was when the block began
 abbrev pub read_at : Block → History → History

@@ -13,7 +13,7 @@ pub trait Actor {
     ghost use Rattle.std.specs.Prelude.{◌≡◌, ℕ, ◌+◌, ◌≤◌, List, length};
     ghost use Rattle.std.specs.Thread.{IsSync};
     ghost use Rattle.ts_model.specs.States.{State};
-    ghost use Rattle.ts_sessions.specs.Held.{GoesOn, most_queued};
+    ghost use Rattle.ts_sessions.specs.Held.{GoesOn, WaitsInside, most_queued};
     ghost use Rattle.ts_sessions.specs.Places.{Block as BlockPlace, block_kind};
     ghost use Rattle.ts_sessions.specs.Script.{Semantics};
     ghost use Rattle.ts_sessions.specs.Sessions.{IfAnswered, Stepped};
@@ -38,6 +38,9 @@ pub trait Actor {
 
     // The block of its places.
     ghost within: { Self.Places → BlockPlace };
+
+    // Operations wait in a write block alone.
+    ghost waits: { (actor : Self) → WaitsInside (block_kind (Self.within (Self.places actor))) (Self.waiting actor) };
 
     // What it holds goes with what its store has seen, and with whether that stands still.
     ghost holds: { Self → State → Type 0 };
@@ -99,7 +102,7 @@ where
     ghost use Rattle.ts_sessions.specs.Held.{HoldsOf, places_in, waiting_bytes};
     ghost use Rattle.ts_sessions.specs.Places.{Places};
     ghost use Rattle.ts_sessions.specs.Script.{session_semantics};
-    ghost use Rattle.ts_sessions.specs.Holding.{holds_on as goes_on};
+    ghost use Rattle.ts_sessions.specs.Holding.{holds_on as goes_on, waits_inside};
 
     type Shot = T;
 
@@ -116,6 +119,8 @@ where
     ghost waiting = { λ s. waiting_bytes s };
 
     ghost within = { λ p. p.block };
+
+    ghost waits = { λ s. waits_inside (places_in s).block };
 
     ghost holds = { λ s h. HoldsOf T.Shown s h };
 

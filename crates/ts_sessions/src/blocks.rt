@@ -3,11 +3,11 @@ ghost use Rattle.std.specs.Prelude.{◌≡◌, ◌+◌, ◌≤◌, OnOk, OnErr};
 ghost use Rattle.ts_sessions.specs.Held.{block_of, most_queued, pushed, queued as queued_in};
 ghost use Rattle.ts_sessions.specs.Places.{block_kind};
 ghost use Rattle.ts_sessions.specs.Sessions.{queued_on};
-ghost use Rattle.ts_sessions.specs.Step.{block_refusal, refusal_outside, refusal_reading, refusal_writing};
+ghost use Rattle.ts_sessions.specs.Step.{block_refusal, given_up as given_up_of, refusal_outside, refusal_reading, refusal_writing};
 
 use crate::kinds::Kind;
 use crate::refusals::bare;
-use result_text::codes;
+use result_text::{Said, codes};
 use ts_model::{Op, Refusal};
 use ts_schema::{NoMemory, Seq};
 
@@ -86,6 +86,17 @@ impl<T> Open<T> {
                 Ok(())
             }
             Open::Read { .. } => Ok(()),
+        }
+    }
+
+    /// What is said where it is given up.
+    pub(crate) fn given_up(&self) -> Said
+        ensures { result ≡ given_up_of (block_of self.now) }
+    {
+        match self {
+            Open::Nothing => Said::End,
+            Open::Write(_) => Said::Rollback,
+            Open::Read { .. } => Said::End,
         }
     }
 

@@ -1,5 +1,5 @@
 //! What statements say, and how they change a session.
-ghost use Rattle.std.specs.Prelude.{◌≡◌, ◌∷◌, [], false, true};
+ghost use Rattle.std.specs.Prelude.{◌≡◌, ◌∷◌, [], false, IfOk};
 ghost use Rattle.result_text.specs.declared.replies.Said.TheVariants.{Fault};
 ghost use Rattle.ts_sessions.specs.Sessions.{Completes};
 
@@ -43,35 +43,13 @@ where
     pub failed: bool,
 }
 
-/// A statement says one line, and changes its session.
-pub(crate) fn reply_with<T: Shown + Drop>(
-    alloc: Global,
-    said: Said,
-    change: Change<T>,
-) -> Result<Completion<T>, NoMemory>
-where
-    T::Job: Drop,
-    ensures { Completes (said ∷ []) change false result }
+/// One line as a list.
+pub(crate) fn one_line(alloc: Global, said: Said) -> Result<Seq<Said>, NoMemory>
+    ensures { IfOk result (λ lines. lines ≡ said ∷ []) }
 {
     let mut lines = Seq::new(alloc);
     lines.push(said)?;
-    Ok(Completion {
-        said: lines,
-        change,
-        failed: false,
-    })
-}
-
-/// A statement says one line.
-pub(crate) fn reply_line<T: Shown + Drop>(
-    alloc: Global,
-    said: Said,
-) -> Result<Completion<T>, NoMemory>
-where
-    T::Job: Drop,
-    ensures { Completes (said ∷ []) Change.Nothing false result }
-{
-    reply_with(alloc, said, Change::Nothing)
+    Ok(lines)
 }
 
 /// A statement is refused.
@@ -83,45 +61,9 @@ where
     T::Job: Drop,
     ensures { Completes (Fault refusal ∷ []) Change.Nothing false result }
 {
-    reply_line(alloc, Said::Fault(refusal))
-}
-
-/// The disk failed at the event of a statement, and the store stands still.
-pub(crate) fn failed<T: Shown + Drop>(
-    alloc: Global,
-    refusal: Refusal,
-) -> Result<Completion<T>, NoMemory>
-where
-    T::Job: Drop,
-    ensures { Completes (Fault refusal ∷ []) Change.Nothing true result }
-{
-    let mut lines = Seq::new(alloc);
-    lines.push(Said::Fault(refusal))?;
     Ok(Completion {
-        said: lines,
+        said: one_line(alloc, Said::Fault(refusal))?,
         change: Change::Nothing,
-        failed: true,
-    })
-}
-
-/// A statement says what it did first, and is then refused, or the disk failed.
-pub(crate) fn broken_off<T: Shown + Drop>(
-    alloc: Global,
-    did: Said,
-    refusal: Refusal,
-    change: Change<T>,
-    failed: bool,
-) -> Result<Completion<T>, NoMemory>
-where
-    T::Job: Drop,
-    ensures { Completes (did ∷ Fault refusal ∷ []) change failed result }
-{
-    let mut lines = Seq::new(alloc);
-    lines.push(did)?;
-    lines.push(Said::Fault(refusal))?;
-    Ok(Completion {
-        said: lines,
-        change,
-        failed,
+        failed: false,
     })
 }

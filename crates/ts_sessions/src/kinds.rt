@@ -48,6 +48,7 @@ pub(crate) fn kind_of(stmt: &Stmt) -> Kind
         Stmt::Commit => Kind::Commits,
         Stmt::Rollback => Kind::RollsBack,
         Stmt::Buckets(_) => Kind::Asks,
+        Stmt::Calendar { .. } => Kind::Asks,
         Stmt::Rows { .. } => Kind::Asks,
     }
 }

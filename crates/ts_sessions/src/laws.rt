@@ -1,5 +1,5 @@
 //! Laws of what lines do. Each is the clause of a function that does nothing, at any types.
-ghost use Rattle.ts_sessions.specs.LineLaws.{NamesStay, RepliesAreSteady, StepsAreReplies};
+ghost use Rattle.ts_sessions.specs.LineLaws.{LinesMakeFewEvents, NamesStay, RepliesAreSteady, StepsAreReplies};
 ghost use Rattle.ts_sessions.specs.Laws.{GivesEvents, GivesOverLonger, LastIsPrinted, PrintedLooksDetermine, PutTogether, WalksAreGiven};
 
 /// A procedure that was walked, and then the procedure that follows it, are the walk of both.
@@ -46,4 +46,10 @@ pub fn steps_are_replies()
 /// What the reply to a line says is steady from each history on at which its session's block had begun.
 pub fn replies_are_steady()
     ensures { RepliesAreSteady }
+{}
+
+/// A line of a session makes at most three events: an aggregate that is made, and the cut and the finish of its
+/// refresh.
+pub fn lines_make_at_most_three_events()
+    ensures { LinesMakeFewEvents }
 {}

@@ -5,10 +5,12 @@
 //! - `blocks`: blocks, and the operations that wait for their end.
 //! - `steps`: the step of a session, which is one line.
 //! - `kinds`: the kinds of statements, as blocks let them pass or not.
-//! - `name_checks`: statements whose names are looked at, and that make events or have operations wait.
-//! - `events`: statements that make one event, or make an aggregate with data.
-//! - `refreshes`: the three phases of refreshes, and whole ones.
-//! - `endings`: statements that begin or end blocks, and snapshots that a session holds.
+//! - `name_checks`: what statements are to do first whose names are looked at.
+//! - `endings`: what those are to do first that begin or end blocks, or mean a snapshot that a session holds.
+//! - `deeds`: what a statement is to do with its store next, and the one way in which it is done.
+//! - `follows`: what follows a deed, by what came of it.
+//! - `events`: operations that take effect, and aggregates that are made.
+//! - `refreshes`: the three phases of refreshes.
 //! - `queries`: queries.
 //! - `tries`: what comes of calls of a store.
 //! - `changes`: what statements say, and how they change a session.
@@ -19,8 +21,10 @@
 mod actors;
 mod blocks;
 mod changes;
+mod deeds;
 mod endings;
 mod events;
+mod follows;
 mod kinds;
 pub mod laws;
 mod name_checks;

@@ -1,89 +1,95 @@
 //! Queries.
-ghost use Rattle.std.specs.Prelude.{◌≡◌, ℕ, ◌<◌, ◌^◌, Bool, IsTrue, IfOk};
+ghost use Rattle.std.specs.Prelude.{◌≡◌, ℕ, ◌<◌, ◌^◌, Bool, None, IsTrue, IfOk};
 ghost use Rattle.std.specs.Thread.{IsSync};
 ghost use Rattle.ts_model.specs.History.{History};
 ghost use Rattle.ts_model.specs.Roster.{roster as roster_of, view_of};
+ghost use Rattle.ts_model.specs.Allowed.{all_allowed};
 ghost use Rattle.ts_model.specs.Answers.{can_ask};
 ghost use Rattle.result_text.specs.declared.replies.Said.TheVariants.{Answered};
 ghost use Rattle.ts_model.specs.States.{State};
-ghost use Rattle.stmt_check.specs.declared.actions.Action.TheVariants as actions;
+ghost use Rattle.ts_sessions.specs.Deeds.{FormFits, IsFormed, NextFits, OpensTo, taken_next};
 ghost use Rattle.ts_sessions.specs.Procedures.{ends};
-ghost use Rattle.ts_sessions.specs.declared.kinds.Kind.TheVariants.{Asks};
 ghost use Rattle.ts_sessions.specs.Places.{Places};
-ghost use Rattle.ts_sessions.specs.Sessions.{BringsNothing, Ends};
-ghost use Rattle.ts_sessions.specs.Sound.{AsksSoundly, StandsForAllowed, kind_of_action};
-ghost use Rattle.ts_sessions.specs.Step.{answers, asked_start as start_asked, kind_of, least_start as start_of_view, named, plan_of as plan_of_query};
+ghost use Rattle.ts_sessions.specs.Sound.{StandsForAllowed};
+ghost use Rattle.ts_sessions.specs.Step.{answers, asked_start as start_asked, in_form as formed, least_start as start_of_view, plan_of as plan_of_query, roll_up_plan as plan_of_roll_up, calendar_plan as plan_of_calendar, unit_of as unit_of_word};
 
-use crate::changes::{Completion, refused, reply_line};
+use crate::changes::Change;
+use crate::deeds::Next;
+use crate::follows::say;
+use cal_bucket::{CalPlan, CalUnit, cal_answer};
+use hier_agg::{UpperPlan, answer_upper, lower_query};
 use result_text::Said;
 use std::alloc::Global;
 use std::thread::Threads;
-use stmt_check::{Action, Checked, check};
-use stmt_reader::Stmt;
 use ts_bucket::first;
 use ts_model::{Answer, Query, Roster, Shown};
-use ts_schema::{NoMemory, Steps};
+use ts_schema::{Name, NoMemory, Steps};
+
+/// What is made of an answer.
+#[derive(Drop)]
+pub(crate) enum Form {
+    /// It is shown as it is.
+    Own,
+    /// It is shown in wider buckets.
+    RolledUp(UpperPlan),
+    /// Its rows are grouped by buckets of the calendar.
+    Calendar(CalPlan),
+}
 
 /// What answers a query statement.
 #[derive(Drop)]
 pub(crate) struct Plan {
     /// The query that is asked.
     pub query: Query,
+    /// What is made of its answer.
+    pub form: Form,
     /// The start of the first bucket of what is asked.
     pub min: i64,
 }
 
-/// Answers a query statement from a snapshot.
-pub(crate) fn ask<R: Threads + Sync, T: Shown + Drop, L>(
-    rt: &R,
-    alloc: Global,
-    shot: &T,
-    stmt: &Stmt,
-    steps: &mut Steps<L>,
-) -> Result<Completion<T>, NoMemory>
-where
-    T::Job: Drop,
-    requires sync { IsSync R.row }
-    requires counts { steps.old < 2 ^ 64 }
-    requires sound { (bytes : ℕ) × AsksSoundly bytes stmt.now }
-    requires asks { kind_of stmt.now ≡ Asks }
-    requires stands { StandsForAllowed T.stands shot.now }
-    ensures ends { (h : History) → T.stands shot.now h → (p : Places) (bytes : ℕ) (alone : Bool) (s : State) →
-        Ends alone s (named p bytes stmt.now h) p result s steps.old steps.new }
-    ensures change { IfOk result (λ t. BringsNothing t.change) }
-{
-    match check(alloc, stmt, shot.roster(), shot.position()) {
-        Checked::Ready(action) => {
-            let plan = plan_of(shot.roster(), query_of(action));
-            answer(rt, alloc, shot, plan, steps)
-        }
-        Checked::Refused(refusal) => refused(alloc, refusal),
-        Checked::NoMemory => Err(NoMemory),
-    }
-}
-
 /// Answers by a plan from a snapshot.
-fn answer<R: Threads + Sync, T: Shown + Drop, L>(
+pub(crate) fn answer<R: Threads + Sync, T: Shown + Drop, L>(
     rt: &R,
     alloc: Global,
     shot: &T,
     plan: Plan,
     steps: &mut Steps<L>,
-) -> Result<Completion<T>, NoMemory>
+) -> Result<Next<T>, NoMemory>
 where
     T::Job: Drop,
     requires sync { IsSync R.row }
     requires counts { steps.old < 2 ^ 64 }
+    requires stands { StandsForAllowed T.stands shot.now }
+    requires formed { (h : History) → T.stands shot.now h → IsTrue (all_allowed h)
+        → IsFormed (roster_of h) plan plan.form }
     requires asks { (h : History) → T.stands shot.now h → IsTrue (can_ask (roster_of h) plan.query) }
-    ensures ends { (h : History) → T.stands shot.now h → (p : Places) (alone : Bool) (s : State) →
-        Ends alone s (ends (answers p h plan)) p result s steps.old steps.new }
-    ensures change { IfOk result (λ t. BringsNothing t.change) }
+    ensures opens { (h : History) → T.stands shot.now h → (p : Places) (alone : Bool) (s : State) →
+        OpensTo alone s (ends (answers p h plan)) p result s steps.old steps.new }
+    ensures fits { IfOk result (λ n. (s : State) (bytes : ℕ) → NextFits T.Shown bytes n s) }
+    ensures taken { IfOk result (λ n. taken_next n ≡ None) }
 {
     let answer = shot.answer(rt, &plan.query, steps)?;
-    reply_line(alloc, answered(&plan, answer, shot.position()))
+    let shown = in_form(alloc, shot.roster(), &plan.form, answer)?;
+    let said = answered(&plan, shown, shot.position());
+    say(alloc, said, Change::Nothing)
 }
 
-/// What is made of the answer at a position.
+/// What is made of an answer, by the roster of its snapshot.
+fn in_form(alloc: Global, roster: &Roster, form: &Form, answer: Answer) -> Result<Answer, NoMemory>
+    requires { FormFits roster.now form.now answer }
+    ensures { IfOk result (λ shown. shown ≡ formed roster.now form.now answer) }
+{
+    match form {
+        Form::Own => Ok(answer),
+        Form::RolledUp(plan) => match roster.views.items().get(plan.view as usize) {
+            None => Ok(answer),
+            Some(def) => answer_upper(alloc, plan, def, &answer),
+        },
+        Form::Calendar(plan) => cal_answer(alloc, plan, &answer),
+    }
+}
+
+/// What is said of an answer at a position.
 fn answered(plan: &Plan, answer: Answer, pos: u64) -> Said
     ensures { result ≡ Answered answer pos plan.now.min }
 {
@@ -95,11 +101,56 @@ fn answered(plan: &Plan, answer: Answer, pos: u64) -> Said
 }
 
 /// What answers a query.
-fn plan_of(roster: &Roster, query: Query) -> Plan
+pub(crate) fn plan_of(roster: &Roster, query: Query) -> Plan
     ensures { result ≡ plan_of_query roster.now query }
 {
     let min = asked_start(roster, &query);
-    Plan { query, min }
+    Plan {
+        query,
+        form: Form::Own,
+        min,
+    }
+}
+
+/// What answers a roll-up.
+pub(crate) fn roll_up_plan(plan: UpperPlan) -> Plan
+    ensures { result ≡ plan_of_roll_up plan }
+{
+    let query = lower_query(&plan);
+    let min = first(plan.width);
+    Plan {
+        query,
+        form: Form::RolledUp(plan),
+        min,
+    }
+}
+
+/// What answers a grouping by buckets of the calendar over a hypertable.
+pub(crate) fn calendar_plan(table: u32, cal: CalPlan) -> Result<Plan, NoMemory>
+    ensures { IfOk result (λ plan. plan ≡ plan_of_calendar table cal) }
+{
+    let tests = cal.fold.tests.copy()?;
+    Ok(Plan {
+        query: Query::Rows { table, tests },
+        form: Form::Calendar(cal),
+        min: 0,
+    })
+}
+
+/// The unit of the calendar that a word stands for.
+pub(crate) fn unit_of(word: &Name) -> CalUnit
+    ensures { result ≡ unit_of_word word.now }
+{
+    let word = word.bytes();
+    if word == b"day".as_slice() {
+        CalUnit::Day
+    } else if word == b"week".as_slice() {
+        CalUnit::Week
+    } else if word == b"month".as_slice() {
+        CalUnit::Month
+    } else {
+        CalUnit::Year
+    }
 }
 
 /// The start of the first bucket of what is asked.
@@ -120,28 +171,5 @@ pub(crate) fn least_start(roster: &Roster, view: u32) -> i64
     match roster.views.items().get(view as usize) {
         None => 0,
         Some(def) => first(def.fold.width),
-    }
-}
-
-/// The query that an action asks.
-fn query_of(action: Action) -> Query
-    requires { kind_of_action action ≡ Asks }
-    ensures { action ≡ actions.Ask result }
-{
-    match action {
-        Action::Ask(query) => query,
-        Action::Table(_) => unreachable!(),
-        Action::Hyper { .. } => unreachable!(),
-        Action::View { .. } => unreachable!(),
-        Action::Mode { .. } => unreachable!(),
-        Action::Change(_) => unreachable!(),
-        Action::Refresh { .. } => unreachable!(),
-        Action::Cut { .. } => unreachable!(),
-        Action::Snap { .. } => unreachable!(),
-        Action::Finish { .. } => unreachable!(),
-        Action::Begin => unreachable!(),
-        Action::BeginRead => unreachable!(),
-        Action::Commit => unreachable!(),
-        Action::Rollback => unreachable!(),
     }
 }

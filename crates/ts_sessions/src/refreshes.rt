@@ -1,22 +1,16 @@
-//! Refreshes: their three phases, each with one look, and whole ones.
-ghost use Rattle.std.specs.Prelude.{◌≡◌, ℕ, ◌<◌, ◌^◌, [], ◌∷◌, false, Ok, IsSome, IsTrue, IfOk};
+//! Refreshes: their three phases, each with one look.
+ghost use Rattle.std.specs.Prelude.{◌≡◌, ◌<◌, ◌^◌, Ok, IsSome, IsTrue, IfOk};
 ghost use Rattle.std.specs.Option.{ForSome};
 ghost use Rattle.std.specs.Thread.{IsSync};
 ghost use Rattle.ts_bucket.specs.Bucket.{is_time};
 ghost use Rattle.ts_model.specs.Roster.{roster, view_of};
-ghost use Rattle.result_text.specs.declared.replies.Said.TheVariants.{Cut, Fault, Refresh};
-ghost use Rattle.ts_sessions.specs.Places.{Places, cuts};
-ghost use Rattle.ts_sessions.specs.Sessions.{BringsNothing, EndsAt, FitsSnapped, Completes, SnapEnds, Tries, turn_of, Does, DoesReading};
-ghost use Rattle.ts_sessions.specs.Step.{after_cut, after_snapshot, cut_turn, cuts_refresh, finishes_refresh};
-ghost use Rattle.ts_sessions.specs.Parts.{only_cuts, refreshes_whole};
+ghost use Rattle.ts_sessions.specs.Sessions.{FitsSnapped, SnapEnds, Tries};
+ghost use Rattle.ts_sessions.specs.Step.{cuts_refresh, finishes_refresh};
 
-use crate::changes::{Change, Completion, broken_off, failed, refused, reply_line, reply_with};
 use crate::refusals::at;
 use crate::tries::{Tried, answered};
-use result_text::{Said, codes};
-use std::alloc::Global;
+use result_text::codes;
 use std::thread::Threads;
-use ts_bucket::Span;
 use ts_model::{Backend, CutDone, Gate, Pending, Refusal, Shown};
 use ts_schema::{NoMemory, Steps};
 
@@ -40,15 +34,6 @@ pub(crate) struct Asked {
     pub hi: Option<i64>,
     /// The start of the first bucket of its aggregate.
     pub min: i64,
-}
-
-/// A refresh that was cut.
-#[derive(Drop)]
-struct Begun {
-    /// Its number.
-    pub cut: u64,
-    /// Its whole buckets.
-    pub span: Span,
 }
 
 /// Begins a refresh of the whole buckets of a window.
@@ -119,209 +104,4 @@ pub fn finish<B: Backend, G: Gate>(
     gate.between(session);
     let outcome = backend.finish(job);
     answered(outcome, backend.position())
-}
-
-/// Refreshes the whole buckets of a window: a cut, a snapshot and a finish, one after the other.
-#[tactic(auto, using(crate::proofs::EndLaws::done_then, crate::proofs::EndLaws::done_completes, crate::proofs::EndLaws::refused_completes, crate::proofs::EndLaws::failed_completes, crate::proofs::EndLaws::broken_completes))]
-pub(crate) fn refresh<R: Threads + Sync, B: Backend, G: Gate, L>(
-    rt: &R,
-    alloc: Global,
-    backend: &mut B,
-    gate: &G,
-    session: u32,
-    asked: &Asked,
-    steps: &mut Steps<L>,
-) -> Result<Completion<B::Shot>, NoMemory>
-where
-    <B::Shot as Shown>::Job: Drop,
-    requires sync { IsSync R.row }
-    requires counts { steps.old < 2 ^ 64 }
-    requires view { IsSome (view_of (roster (B.state backend.old).history) asked.now.view) }
-    requires low { ForSome asked.now.lo (λ t. IsTrue (is_time t)) }
-    requires high { ForSome asked.now.hi (λ t. IsTrue (is_time t)) }
-    ensures ends { (p : Places) →
-        DoesReading B.Backend backend.old (refreshes_whole p asked.now) p result backend.new steps.old steps.new }
-    ensures change { IfOk result (λ t. BringsNothing t.change) }
-    ensures kin { B.kin backend.new ≡ B.kin backend.old }
-{
-    match cut(backend, asked.view, asked.lo, asked.hi)? {
-        Tried::Done(done) => follow(rt, alloc, backend, gate, session, done, asked, steps),
-        Tried::Refused(refusal) => refused(alloc, refusal),
-        Tried::Failed(refusal) => failed(alloc, refusal),
-    }
-}
-
-/// Goes on after the cut of a refresh, where there was something to do.
-fn follow<R: Threads + Sync, B: Backend, G: Gate, L>(
-    rt: &R,
-    alloc: Global,
-    backend: &mut B,
-    gate: &G,
-    session: u32,
-    done: CutDone,
-    asked: &Asked,
-    steps: &mut Steps<L>,
-) -> Result<Completion<B::Shot>, NoMemory>
-where
-    <B::Shot as Shown>::Job: Drop,
-    requires sync { IsSync R.row }
-    requires counts { steps.old < 2 ^ 64 }
-    ensures ends { (p : Places) → DoesReading B.Backend backend.old
-        (after_cut p asked.now.min (Ok done)) p result backend.new steps.old steps.new }
-    ensures change { IfOk result (λ t. BringsNothing t.change) }
-    ensures kin { B.kin backend.new ≡ B.kin backend.old }
-{
-    match done {
-        CutDone::Cut { pos, span } => {
-            let begun = Begun { cut: pos, span };
-            go_on(rt, alloc, backend, gate, session, &begun, asked, steps)
-        }
-        CutDone::Nothing { pos } => reply_line(alloc, Said::Nothing(pos)),
-    }
-}
-
-/// Takes a snapshot for a refresh that this statement cut, and finishes it.
-#[tactic(auto, using(crate::proofs::EndLaws::snapped_then, crate::proofs::EndLaws::snap_refused, crate::proofs::EndLaws::snap_broken))]
-fn go_on<R: Threads + Sync, B: Backend, G: Gate, L>(
-    rt: &R,
-    alloc: Global,
-    backend: &mut B,
-    gate: &G,
-    session: u32,
-    begun: &Begun,
-    asked: &Asked,
-    steps: &mut Steps<L>,
-) -> Result<Completion<B::Shot>, NoMemory>
-where
-    <B::Shot as Shown>::Job: Drop,
-    requires sync { IsSync R.row }
-    requires counts { steps.old < 2 ^ 64 }
-    ensures ends { (p : Places) → DoesReading B.Backend backend.old
-        (after_cut p asked.now.min (Ok (CutDone.Cut begun.now.cut begun.now.span)))
-        p result backend.new steps.old steps.new }
-    ensures change { IfOk result (λ t. BringsNothing t.change) }
-    ensures kin { B.kin backend.new ≡ B.kin backend.old }
-{
-    match take_snapshot(rt, backend, begun.cut, steps)? {
-        Snapped::Taken { at, job } => finish_begun(
-            alloc, backend, gate, session, begun, asked, at, job,
-        ),
-        Snapped::Refused(refusal) => refuse_begun(alloc, begun, asked, refusal, false),
-    }
-}
-
-/// Finishes a refresh that this statement cut.
-#[tactic(auto, using(crate::proofs::CallWalks::completes_ends, crate::proofs::WalkLaws::breaks_first))]
-fn finish_begun<B: Backend, G: Gate>(
-    alloc: Global,
-    backend: &mut B,
-    gate: &G,
-    session: u32,
-    begun: &Begun,
-    asked: &Asked,
-    at: u64,
-    job: <B::Shot as Shown>::Job,
-) -> Result<Completion<B::Shot>, NoMemory>
-where
-    <B::Shot as Shown>::Job: Drop,
-    requires fits { B.Shot.fits job (B.state backend.old).history }
-    requires cut { B.Shot.cut_of job ≡ begun.now.cut }
-    requires snap { B.Shot.snap_of job ≡ at }
-    ensures ends { (p : Places) (read : ℕ) → EndsAt B.alone (B.state backend.old)
-        (after_snapshot (cuts begun.now.cut p) begun.now.cut begun.now.span asked.now.min
-        (Ok (record { at = at; reads = read })))
-        p read result (B.state backend.new) }
-    ensures change { IfOk result (λ t. BringsNothing t.change) }
-    ensures kin { B.kin backend.new ≡ B.kin backend.old }
-{
-    match finish(backend, gate, session, job)? {
-        Tried::Done(pos) => {
-            let said = whole(begun, asked, pos, at);
-            reply_with(alloc, said, Change::Cuts(begun.cut))
-        }
-        Tried::Refused(refusal) => refuse_begun(alloc, begun, asked, refusal, false),
-        Tried::Failed(refusal) => refuse_begun(alloc, begun, asked, refusal, true),
-    }
-}
-
-/// What a whole refresh did: the event that finished it, and its snapshot.
-fn whole(begun: &Begun, asked: &Asked, pos: u64, snap: u64) -> Said
-    ensures { result ≡ Refresh begun.now.cut pos snap begun.now.span asked.now.min }
-{
-    Said::Refresh {
-        cut: begun.cut,
-        pos,
-        snap,
-        span: begun.span,
-        min: asked.min,
-    }
-}
-
-/// A refresh that this statement cut goes no further.
-fn refuse_begun<T: Shown + Drop>(
-    alloc: Global,
-    begun: &Begun,
-    asked: &Asked,
-    refusal: Refusal,
-    failed: bool,
-) -> Result<Completion<T>, NoMemory>
-where
-    T::Job: Drop,
-    ensures { Completes (Cut begun.now.cut begun.now.span asked.now.min ∷ Fault refusal ∷ [])
-        (Change.Cuts begun.now.cut) failed result }
-{
-    let did = Said::Cut {
-        cut: begun.cut,
-        span: begun.span,
-        min: asked.min,
-    };
-    broken_off(alloc, did, refusal, Change::Cuts(begun.cut), failed)
-}
-
-/// Begins a refresh, and does no more.
-#[tactic(auto, using(crate::proofs::CallWalks::completes_ends, crate::proofs::WalkLaws::breaks_first))]
-pub(crate) fn only_cut<B: Backend>(
-    alloc: Global,
-    backend: &mut B,
-    asked: &Asked,
-) -> Result<Completion<B::Shot>, NoMemory>
-where
-    <B::Shot as Shown>::Job: Drop,
-    requires view { IsSome (view_of (roster (B.state backend.old).history) asked.now.view) }
-    requires low { ForSome asked.now.lo (λ t. IsTrue (is_time t)) }
-    requires high { ForSome asked.now.hi (λ t. IsTrue (is_time t)) }
-    ensures ends { (p : Places) → Does B.Backend backend.old (only_cuts p asked.now) p result backend.new }
-    ensures change { IfOk result (λ t. BringsNothing t.change) }
-    ensures kin { B.kin backend.new ≡ B.kin backend.old }
-{
-    match cut(backend, asked.view, asked.lo, asked.hi)? {
-        Tried::Done(done) => say_cut(alloc, done, asked),
-        Tried::Refused(refusal) => refused(alloc, refusal),
-        Tried::Failed(refusal) => failed(alloc, refusal),
-    }
-}
-
-/// Says what a cut did.
-fn say_cut<T: Shown + Drop>(
-    alloc: Global,
-    done: CutDone,
-    asked: &Asked,
-) -> Result<Completion<T>, NoMemory>
-where
-    T::Job: Drop,
-    ensures turn { IfOk result (λ t. (p : Places) → turn_of p 0 t ≡ cut_turn p asked.now.min (Ok done)) }
-    ensures failed { IfOk result (λ t. t.failed ≡ false) }
-    ensures change { IfOk result (λ t. BringsNothing t.change) }
-{
-    match done {
-        CutDone::Cut { pos, span } => {
-            let said = Said::Cut {
-                cut: pos,
-                span,
-                min: asked.min,
-            };
-            reply_with(alloc, said, Change::Cuts(pos))
-        }
-        CutDone::Nothing { pos } => reply_line(alloc, Said::Nothing(pos)),
-    }
 }

@@ -1,18 +1,16 @@
 //! The step of a session: one line.
-ghost use Rattle.std.specs.Prelude.{◌≡◌, ℕ, ◌+◌, ◌<◌, ◌≤◌, ◌^◌, length, None, IfOk, OnOk, OnErr};
+ghost use Rattle.std.specs.Prelude.{◌≡◌, ◌+◌, ◌<◌, ◌≤◌, ◌^◌, length, None, Some, IfOk, IfSome, OnOk, OnErr};
 ghost use Rattle.std.specs.Thread.{IsSync};
-ghost use Rattle.ts_sessions.specs.declared.kinds.Kind.TheVariants.{Asks, Changes};
+ghost use Rattle.ts_sessions.specs.Deeds.{NextFits, OpensTo, Takes, taken_next};
 ghost use Rattle.ts_sessions.specs.Held.{Carries, HoldsOf, most_queued, places_in, waiting_bytes};
-ghost use Rattle.ts_sessions.specs.Sessions.{AnswersSo, BringsNothing, ChangeFits, IfAnswered, IfNoMemory, IsReplied, Spares, Stepped, changed, Brings, DoesReading, HoldsAfter};
+ghost use Rattle.ts_sessions.specs.Sessions.{AnswersSo, Brings, ChangeFits, DoesReading, HoldsAfter, IfAnswered, IfNoMemory, IsReplied, Spares, Stepped, changed, finish_in, finish_meant};
 ghost use Rattle.ts_sessions.specs.Sound.{AsksSoundly};
-ghost use Rattle.ts_sessions.specs.Step.{block_refusal, kind_of as kind_of_stmt, performs, step as step_of, passes_block};
+ghost use Rattle.ts_sessions.specs.Step.{block_refusal, kind_of as kind_of_stmt, passes_block, performs, step as step_of};
 
-use crate::blocks::Open;
 use crate::changes::{Change, Completion, refused};
-use crate::endings::{begin, begin_read};
+use crate::deeds::{Deed, Next, carry_out};
+use crate::endings::begin;
 use crate::kinds::kind_of;
-use crate::name_checks::{make, queue};
-use crate::queries::ask;
 use crate::refusals::placed;
 use crate::replies::{Reply, StepEnd, replied, write_reply};
 use crate::sessions::Session;
@@ -47,7 +45,8 @@ where
         requires holds { HoldsOf T.Shown self.old (B.state backend.old) }
         ensures stepped { Stepped B.alone (B.state backend.old) (step_of (places_in self.old) text.now skip)
             self.old.name result (B.state backend.new) (places_in self.new) steps.old steps.new }
-        ensures spared { IfNoMemory result (Spares (places_in self.old) (places_in self.new)) }
+        ensures spared { IfNoMemory result (Spares (finish_in (places_in self.old) text.now skip)
+            (places_in self.old) (places_in self.new)) }
         ensures name { self.new.name ≡ self.old.name }
         ensures number { self.new.number ≡ self.old.number }
         ensures holds { HoldsOf T.Shown self.new (B.state backend.new) }
@@ -114,7 +113,8 @@ where
             (places_in self.old) result backend.new steps.old steps.new }
         ensures change { Brings T.Shown (length text.now) result (B.state backend.new).history }
         ensures places { OnOk result (places_in self.new ≡ places_in self.old) }
-        ensures spared { OnErr result (Spares (places_in self.old) (places_in self.new)) }
+        ensures spared { OnErr result (Spares (finish_in (places_in self.old) text.now skip) (places_in self.old)
+            (places_in self.new)) }
         ensures name { self.new.name ≡ self.old.name }
         ensures number { self.new.number ≡ self.old.number }
         ensures holds { HoldsOf T.Shown self.new (B.state backend.new) }
@@ -151,7 +151,8 @@ where
             result backend.new steps.old steps.new }
         ensures change { Brings T.Shown bytes result (B.state backend.new).history }
         ensures places { OnOk result (places_in self.new ≡ places_in self.old) }
-        ensures spared { OnErr result (Spares (places_in self.old) (places_in self.new)) }
+        ensures spared { OnErr result (Spares (finish_meant (places_in self.old) stmt.now) (places_in self.old)
+            (places_in self.new)) }
         ensures name { self.new.name ≡ self.old.name }
         ensures number { self.new.number ≡ self.old.number }
         ensures holds { HoldsOf T.Shown self.new (B.state backend.new) }
@@ -183,88 +184,70 @@ where
             (places_in self.old) result backend.new steps.old steps.new }
         ensures change { Brings T.Shown bytes result (B.state backend.new).history }
         ensures places { OnOk result (places_in self.new ≡ places_in self.old) }
-        ensures spared { OnErr result (Spares (places_in self.old) (places_in self.new)) }
+        ensures spared { OnErr result (Spares (finish_meant (places_in self.old) stmt.now) (places_in self.old)
+            (places_in self.new)) }
         ensures name { self.new.name ≡ self.old.name }
         ensures number { self.new.number ≡ self.old.number }
         ensures holds { HoldsOf T.Shown self.new (B.state backend.new) }
         ensures kin { B.kin backend.new ≡ B.kin backend.old }
     {
-        match stmt {
-            Stmt::Snap { cut } => self.snap(rt, alloc, backend, *cut, steps),
-            Stmt::Finish { cut } => self.finish(alloc, backend, gate, *cut),
-            Stmt::Begin => begin(alloc),
-            Stmt::BeginRead => begin_read(alloc, backend),
-            Stmt::Commit => self.commit(alloc, backend),
-            Stmt::Rollback => self.roll_back(alloc),
-            Stmt::Buckets(_) => self.ask(rt, alloc, backend, stmt, steps),
-            Stmt::Rows { .. } => self.ask(rt, alloc, backend, stmt, steps),
-            Stmt::Insert { .. } => self.change(rt, alloc, backend, gate, stmt, bytes, steps),
-            Stmt::Delete { .. } => self.change(rt, alloc, backend, gate, stmt, bytes, steps),
-            Stmt::Drop { .. } => self.change(rt, alloc, backend, gate, stmt, bytes, steps),
-            Stmt::Table { .. } => make(rt, alloc, backend, gate, self.number, stmt, steps),
-            Stmt::Hyper { .. } => make(rt, alloc, backend, gate, self.number, stmt, steps),
-            Stmt::View { .. } => make(rt, alloc, backend, gate, self.number, stmt, steps),
-            Stmt::Mode { .. } => make(rt, alloc, backend, gate, self.number, stmt, steps),
-            Stmt::Refresh { .. } => make(rt, alloc, backend, gate, self.number, stmt, steps),
-            Stmt::Cut { .. } => make(rt, alloc, backend, gate, self.number, stmt, steps),
+        let next = self.first(rt, alloc, backend, stmt, bytes, steps)?;
+        let _so_far = steps.count();
+        let taken = next.taken();
+        match carry_out(rt, alloc, backend, gate, self.number, next, steps) {
+            Ok(completion) => Ok(completion),
+            Err(NoMemory) => {
+                self.give_up(taken);
+                Err(NoMemory)
+            }
         }
     }
 
-    /// Inserts or deletes rows: at once, or at the end of its write block.
-    fn change<R: Threads + Sync, B: Backend<Shot = T>, G: Gate, L>(
-        &self,
+    /// What a statement is to do first that the block lets pass. Only one whose names are looked at meets the store.
+    fn first<R: Threads + Sync, B: Backend<Shot = T>, L>(
+        &mut self,
         rt: &R,
         alloc: Global,
         backend: &mut B,
-        gate: &G,
         stmt: &Stmt,
         bytes: u64,
         steps: &mut Steps<L>,
-    ) -> Result<Completion<T>, NoMemory>
+    ) -> Result<Next<T>, NoMemory>
         requires sync { IsSync R.row }
         requires counts { steps.old < 2 ^ 64 }
         requires sound { AsksSoundly bytes stmt.now }
-        requires changes { kind_of_stmt stmt.now ≡ Changes }
-        requires passes { block_refusal (places_in self.now).block Changes ≡ None }
-        ensures ends { DoesReading B.Backend backend.old (performs (places_in self.now) bytes stmt.now)
-            (places_in self.now) result backend.new steps.old steps.new }
-        ensures change { Brings T.Shown bytes result (B.state backend.new).history }
+        requires passes { block_refusal (places_in self.old).block (kind_of_stmt stmt.now) ≡ None }
+        requires holds { HoldsOf T.Shown self.old (B.state backend.old) }
+        ensures opens { OpensTo B.alone (B.state backend.old) (performs (places_in self.old) bytes stmt.now)
+            (places_in self.old) result (B.state backend.new) steps.old steps.new }
+        ensures fits { IfOk result (λ n. NextFits T.Shown bytes n (B.state backend.new)) }
+        ensures takes { IfOk result (λ n. Takes T.Shown n self.old self.new) }
+        ensures meant { IfOk result (λ n. IfSome (taken_next n)
+            (λ cut. finish_meant (places_in self.old) stmt.now ≡ Some cut)) }
+        ensures kept { OnErr result (Carries self.old self.new) }
+        ensures name { self.new.name ≡ self.old.name }
+        ensures number { self.new.number ≡ self.old.number }
         ensures kin { B.kin backend.new ≡ B.kin backend.old }
     {
-        match &self.block {
-            Open::Nothing => make(rt, alloc, backend, gate, self.number, stmt, steps),
-            Open::Write(_) => queue(alloc, backend, stmt, bytes),
-            Open::Read { .. } => unreachable!(),
-        }
-    }
-
-    /// Answers a query: in a read block from its snapshot.
-    fn ask<R: Threads + Sync, B: Backend<Shot = T>, L>(
-        &self,
-        rt: &R,
-        alloc: Global,
-        backend: &mut B,
-        stmt: &Stmt,
-        steps: &mut Steps<L>,
-    ) -> Result<Completion<T>, NoMemory>
-        requires sync { IsSync R.row }
-        requires counts { steps.old < 2 ^ 64 }
-        requires sound { (bytes : ℕ) × AsksSoundly bytes stmt.now }
-        requires asks { kind_of_stmt stmt.now ≡ Asks }
-        requires passes { block_refusal (places_in self.now).block Asks ≡ None }
-        requires holds { HoldsOf T.Shown self.now (B.state backend.old) }
-        ensures ends { (bytes : ℕ) → DoesReading B.Backend backend.old
-            (performs (places_in self.now) bytes stmt.now) (places_in self.now) result backend.new steps.old steps.new }
-        ensures change { IfOk result (λ t. BringsNothing t.change) }
-        ensures kin { B.kin backend.new ≡ B.kin backend.old }
-    {
-        match &self.block {
-            Open::Nothing => {
-                let shot = backend.snap()?;
-                ask(rt, alloc, &shot, stmt, steps)
-            }
-            Open::Write(_) => unreachable!(),
-            Open::Read { at: _, shot } => ask(rt, alloc, shot, stmt, steps),
+        match stmt {
+            Stmt::Snap { cut } => Ok(Next::Deed(self.snap(*cut))),
+            Stmt::Finish { cut } => Ok(Next::Deed(self.finish(*cut))),
+            Stmt::Begin => begin(alloc),
+            Stmt::BeginRead => Ok(Next::Deed(Deed::BeginRead)),
+            Stmt::Commit => self.end_block(alloc),
+            Stmt::Rollback => self.roll_back(alloc),
+            Stmt::Table { .. }
+            | Stmt::Hyper { .. }
+            | Stmt::View { .. }
+            | Stmt::Mode { .. }
+            | Stmt::Insert { .. }
+            | Stmt::Delete { .. }
+            | Stmt::Drop { .. }
+            | Stmt::Refresh { .. }
+            | Stmt::Cut { .. }
+            | Stmt::Buckets(_)
+            | Stmt::Calendar { .. }
+            | Stmt::Rows { .. } => self.named(rt, alloc, backend, stmt, bytes, steps),
         }
     }
 }

@@ -1,6 +1,7 @@
 //! What comes of calls of a store.
 ghost use Rattle.std.specs.Prelude.{◌≡◌};
 ghost use Rattle.ts_sessions.specs.Tried.{IsTried};
+ghost use Rattle.ts_sessions.specs.Sessions.{came as came_of, has_failed};
 
 use crate::refusals::at;
 use result_text::codes;
@@ -27,5 +28,29 @@ pub(crate) fn answered<T: Drop>(outcome: Outcome<T>, position: u64) -> Result<Tr
         Outcome::Refused(refusal) => Ok(Tried::Refused(refusal)),
         Outcome::DiskFault => Ok(Tried::Failed(at(codes::STOPPED, position, 0))),
         Outcome::NoMemory => Err(NoMemory),
+    }
+}
+
+impl<T> Tried<T> {
+    /// Whether the disk failed.
+    pub(crate) fn failed(&self) -> bool
+        ensures { result ≡ has_failed self.now }
+    {
+        match self {
+            Tried::Done(_) => false,
+            Tried::Refused(_) => false,
+            Tried::Failed(_) => true,
+        }
+    }
+
+    /// What came of the call: what it did, or why it was refused.
+    pub(crate) fn came(self) -> Result<T, Refusal>
+        ensures { result ≡ came_of self }
+    {
+        match self {
+            Tried::Done(done) => Ok(done),
+            Tried::Refused(refusal) => Err(refusal),
+            Tried::Failed(refusal) => Err(refusal),
+        }
     }
 }

@@ -1,32 +1,47 @@
-use Rattle.std.proofs.Common.{◌∙◌, sym, subst, refl}
-use Rattle.ts_model.specs.Calls.{no_refresh, refusal}
-use Rattle.ts_sessions.specs.Procedures.{ends, looks}
+use Rattle.std.proofs.Common.{◌∙◌, refl, sym, subst}
 use Rattle.ts_sessions.specs.Held.{places_in}
-use Rattle.ts_sessions.specs.Places.{refuses}
-use Rattle.ts_sessions.specs.Sessions.{EndsAt, Spares}
-use Rattle.ts_sessions.specs.Step.{finishes}
-use Rattle.ts_sessions.proofs.HoldLaws.{goes_ends}
-use Rattle.ts_sessions.proofs.SessionLaws.{kept_held, on_err, spared}
+use Rattle.ts_sessions.specs.Jobs.{TakesJob}
+use Rattle.ts_sessions.proofs.HeldDeeds.{stands_held, stands_lost, stands_unheld, takes_job, takes_lost, takes_nothing}
+use Rattle.ts_sessions.proofs.JobLaws.{held_at, held_holds, not_held}
 use Rattle.ts_sessions.proofs.sessions.Session.finish.Goals as goal
 
-pub returns-in-Some-clause-ends : goal.returns-in-Some-clause-ends
-returns-in-Some-clause-ends g c =
-    let p = places_in c.args.self.now in
-    subst (λ m. EndsAt g.B.Backend.alone (g.B.Backend.state c.args.backend.now) (looks (λ h. finishes p h m)) p 0 c.finish_held.result (g.B.Backend.state c.finish_held.new.backend)) (sym c.in-Some.is ∙ c.meant.ensures) c.finish_held.ensures.ends
+pub returns-in-Job-clause-stands : goal.returns-in-Job-clause-stands
+returns-in-Job-clause-stands g c = λ s k.
+    let w = subst (λ r. TakesJob c.in-Some.cut c.args.self.now.held.entries r c.take_job.new.self.held.entries) c.in-Job.is c.take_job.ensures.took in
+    stands_held (places_in c.args.self.now) c.args.number c.in-Some.cut c.in-Job.at s (sym c.meant.ensures ∙ c.in-Some.is) (held_at c.in-Some.cut c.args.self.now.held.entries _ w.0)
 
-pub returns-in-None-clause-ends : goal.returns-in-None-clause-ends
-returns-in-None-clause-ends g c =
-    let p = places_in c.args.self.now in
-    subst (λ m. EndsAt g.B.Backend.alone (g.B.Backend.state c.args.backend.now) (looks (λ h. finishes p h m)) p 0 c.refuse_unknown.result (g.B.Backend.state c.refuse_unknown.new.backend)) (sym c.in-None.is ∙ c.meant.ensures) (c.refuse_unknown.ensures.ends p)
+pub returns-in-Job-clause-fits : goal.returns-in-Job-clause-fits
+returns-in-Job-clause-fits g c = λ s k.
+    let w = subst (λ r. TakesJob c.in-Some.cut c.args.self.now.held.entries r c.take_job.new.self.held.entries) c.in-Job.is c.take_job.ensures.took in
+    held_holds g.T.Shown s c.in-Some.cut c.args.self.now.held.entries _ k.snapshots w.0
 
-pub returns-in-None-clause-spared : goal.returns-in-None-clause-spared
-returns-in-None-clause-spared g c = let p = places_in c.args.self.now in on_err (Spares p p) c.refuse_unknown.result (spared p p refl)
+pub returns-in-Job-clause-takes : goal.returns-in-Job-clause-takes
+returns-in-Job-clause-takes g c =
+    let w = subst (λ r. TakesJob c.in-Some.cut c.args.self.now.held.entries r c.take_job.new.self.held.entries) c.in-Job.is c.take_job.ensures.took in
+    takes_job g.T.Shown g.met.T.Shown.fits_on c.in-Some.cut c.in-Job.at c.in-Job.job c.args.self.now c.take_job.new.self c.take_job.ensures.block c.take_job.ensures.cut w
 
-pub returns-in-None-clause-holds : goal.returns-in-None-clause-holds
-returns-in-None-clause-holds g c =
-    let T = g.T.Shown in
-    let old = g.B.Backend.state c.args.backend.now in
-    let new = g.B.Backend.state c.refuse_unknown.new.backend in
-    let p = places_in c.args.self.now in
-    let procedure = looks (λ h. ends (refuses p (refusal no_refresh h 0))) in
-    kept_held T g.met.T.Shown.fits_on c.args.self.now c.args.self.now old new refl refl (goes_ends g.B.Backend.alone old procedure p 0 c.refuse_unknown.result new (c.refuse_unknown.ensures.ends p)) c.requires.holds
+pub returns-in-Lost-clause-stands : goal.returns-in-Lost-clause-stands
+returns-in-Lost-clause-stands g c = λ s k.
+    let w = subst (λ r. TakesJob c.in-Some.cut c.args.self.now.held.entries r c.take_job.new.self.held.entries) c.in-Lost.is c.take_job.ensures.took in
+    stands_lost (places_in c.args.self.now) c.args.number c.in-Some.cut c.in-Lost.at s (sym c.meant.ensures ∙ c.in-Some.is) (held_at c.in-Some.cut c.args.self.now.held.entries _ w.0) (held_holds g.T.Shown s c.in-Some.cut c.args.self.now.held.entries _ k.snapshots w.0)
+
+pub returns-in-Lost-clause-takes : goal.returns-in-Lost-clause-takes
+returns-in-Lost-clause-takes g c =
+    let w = subst (λ r. TakesJob c.in-Some.cut c.args.self.now.held.entries r c.take_job.new.self.held.entries) c.in-Lost.is c.take_job.ensures.took in
+    takes_lost g.T.Shown g.met.T.Shown.fits_on c.in-Some.cut c.in-Lost.at _ c.args.self.now c.take_job.new.self refl c.take_job.ensures.block c.take_job.ensures.cut w
+
+pub returns-in-Nothing-clause-stands : goal.returns-in-Nothing-clause-stands
+returns-in-Nothing-clause-stands g c = λ s k.
+    let w = subst (λ r. TakesJob c.in-Some.cut c.args.self.now.held.entries r c.take_job.new.self.held.entries) c.in-Nothing.is c.take_job.ensures.took in
+    stands_unheld (places_in c.args.self.now) c.args.number c.in-Some.cut s (sym c.meant.ensures ∙ c.in-Some.is) (not_held c.in-Some.cut c.args.self.now.held.entries w.0)
+
+pub returns-in-Nothing-clause-takes : goal.returns-in-Nothing-clause-takes
+returns-in-Nothing-clause-takes g c =
+    let w = subst (λ r. TakesJob c.in-Some.cut c.args.self.now.held.entries r c.take_job.new.self.held.entries) c.in-Nothing.is c.take_job.ensures.took in
+    takes_nothing g.T.Shown g.met.T.Shown.fits_on _ c.args.self.now c.take_job.new.self refl c.take_job.ensures.block c.take_job.ensures.cut w.1
+
+pub returns-in-None-clause-takes : goal.returns-in-None-clause-takes
+returns-in-None-clause-takes g c = takes_nothing g.T.Shown g.met.T.Shown.fits_on _ c.args.self.now _ refl refl refl refl
+
+pub returns-in-Job-clause-meant : goal.returns-in-Job-clause-meant
+returns-in-Job-clause-meant g c = sym c.meant.ensures ∙ c.in-Some.is

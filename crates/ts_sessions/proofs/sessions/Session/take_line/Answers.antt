@@ -1,4 +1,9 @@
-use Rattle.std.proofs.Common.{length, arith}
+use Rattle.std.proofs.Common.{length, subst, sym, arith}
+use Rattle.std.specs.Prelude.{OnErr}
+use Rattle.stmt_reader.specs.Reading.{statement}
+use Rattle.stmt_reader.specs.Streams.{stream}
+use Rattle.ts_sessions.specs.Sessions.{Spares}
+use Rattle.ts_sessions.proofs.SessionLaws.{read_meant}
 use Rattle.ts_sessions.specs.Held.{places_in}
 use Rattle.ts_sessions.specs.Step.{step}
 use Rattle.ts_sessions.proofs.EndLaws.{broken}
@@ -18,3 +23,9 @@ returns-in-NoMemory-clause-ends g c =
     let p = places_in c.args.self.now in
     let procedure = step p c.args.text.now c.args.skip in
     broken alone old procedure p _ old _ _ (omega arith) (not_begun alone old procedure)
+
+-- what may be lost is what the statement meant
+pub returns-in-Stmt-clause-spared : goal.returns-in-Stmt-clause-spared
+returns-in-Stmt-clause-spared g c =
+    let p = places_in c.args.self.now in
+    subst (λ m. OnErr c.take.result (Spares m p (places_in c.take.new.self))) (sym (read_meant p c.in-Stmt.stmt (statement (stream c.args.text.now c.args.skip)) c.in-Stmt.ensures.exact)) c.take.ensures.spared

@@ -1,0 +1,233 @@
+-- Deeds: each leads on to what comes next, and a statement is carried out from one on.
+use Rattle.std.proofs.Common.{◌≡◌, ℕ, ◌≤◌, Bool, true, false, List, length, Option, Some, None, sym, refl, ◌∙◌, ap, subst, inr, arith}
+use Rattle.std.specs.Prelude.{ℤ, Result, Ok, Err, OnOk}
+use Rattle.std.specs.Result.{IsErr}
+use Rattle.std.proofs.lemmas.Bool.{true≢false}
+use Rattle.ts_schema.specs.Counts.{raised_by}
+use Rattle.ts_schema.specs.declared.memory.NoMemory.{NoMemory}
+use Rattle.ts_bucket.specs.Bucket.{first_of}
+use Rattle.ts_model.specs.declared.outcomes.Outcome.{Outcome}
+use Rattle.ts_model.specs.declared.outcomes.Refusal.{Refusal}
+use Rattle.ts_model.specs.declared.views.ViewDef.{ViewDef}
+use Rattle.ts_model.specs.Calls.{Answered, Called, Looked, making_view}
+use Rattle.ts_model.specs.Roster.{roster}
+use Rattle.result_text.specs.declared.replies.Said.{Said}
+use Rattle.ts_model.specs.declared.snapshots.Shown.{Ghosts as Shown}
+use Rattle.stmt_check.specs.declared.actions.Action.{Action}
+use Rattle.ts_model.specs.History.{History, Begins, position}
+use Rattle.ts_model.specs.States.{State, Found}
+use Rattle.ts_sessions.specs.declared.changes.Completion.{Completion}
+use Rattle.ts_sessions.specs.declared.deeds.Advanced.{Advanced}
+use Rattle.ts_sessions.specs.declared.deeds.Deed.{Deed}
+use Rattle.ts_sessions.specs.declared.deeds.Deed.TheVariants as deeds
+use Rattle.ts_sessions.specs.declared.deeds.Next.{Next}
+use Rattle.ts_sessions.specs.declared.deeds.Next.TheVariants as nexts
+use Rattle.ts_sessions.specs.declared.tries.Tried.{Tried}
+use Rattle.ts_sessions.specs.declared.tries.Tried.TheVariants as tried
+use Rattle.ts_sessions.specs.Deeds.{Advances, CarriesOut, CountsFrom, Goes, Leads, IsLostBy, IsLostNext, Joins, MadeFits, cut_in, led, led_lines, rest, rest_next, spent, spent_next, view_leaves}
+use Rattle.ts_sessions.specs.Places.{Places, Turn}
+use Rattle.ts_sessions.specs.Procedures.{Procedure, ends, followed_by, looks, sees, tries_at}
+use Rattle.ts_sessions.specs.Sessions.{Brings, ChangeHolds, EndsAt, Tries, came, changed, has_failed, turn_of}
+use Rattle.ts_sessions.specs.Sound.{number_at, view_number}
+use Rattle.ts_sessions.specs.Step.{acts, after_line, after_view, view_made}
+use Rattle.ts_sessions.specs.Held.{GoesOn}
+use Rattle.ts_sessions.specs.Holding.{lost_stays}
+use Rattle.ts_sessions.specs.Tried.{IsTried}
+use Rattle.ts_sessions.specs.Walks.{Walks, Breaks, Sees}
+use Rattle.ts_sessions.proofs.CallWalks.{answered_tries}
+use Rattle.ts_sessions.proofs.HoldLaws.{goes_ends}
+use Rattle.ts_sessions.proofs.JobLaws.{always_ok}
+use Rattle.ts_sessions.proofs.StateLaws.{goes_seen}
+use Rattle.ts_sessions.proofs.NameCheckWalks.{looked_breaks, looked_walks}
+use Rattle.ts_sessions.proofs.ViewWalks.{done_outcome, made_is_named, number_named, was_made}
+use Rattle.ts_sessions.proofs.WalkLaws.{break_together, breaks_first, breaks_seen, not_begun, put_together, walks_as, walks_break, walks_seen}
+
+-- ---- one deed
+
+-- what was walked leads to what follows
+pub walk_leads : {A B : Type 0} (alone failed : Bool) (old : State) (first : Procedure A) (mid : State) (a : A) (next : A → Procedure B) → Walks alone failed old first mid a → Leads alone failed old (followed_by first next) mid (next a)
+walk_leads alone failed old first mid a next w = record {
+  walks = λ failed_then new y v. put_together alone failed failed_then old first mid a next new y w v;
+  breaks = λ new v. break_together alone failed old first mid a next new w v;
+}
+
+pub broken_off : {T J : Type 0} (alone : Bool) (old : State) (p : Places) (read : ℕ) (deed : Deed T J) (result : Result (Advanced T J) NoMemory) (new : State) (n : ℕ) → IsErr result → Breaks alone old (rest p read old.history deed) new → Advances alone old p read deed result new n n
+broken_off alone old p read deed (Ok a) new n i b = absurd (true≢false (sym i))
+broken_off alone old p read deed (Err e) new n i b = (b, omega arith)
+
+-- no memory for a call, or for what follows it
+pub call_broken : {A T J : Type 0} (alone : Bool) (old : State) (p : Places) (read : ℕ) (deed : Deed T J) (first : Procedure A) (k : A → Procedure (Turn Places)) (result : Result (Advanced T J) NoMemory) (new : State) (n : ℕ) → IsErr result → rest p read old.history deed ≡ followed_by first k → Breaks alone old first new → Advances alone old p read deed result new n n
+call_broken alone old p read deed first k result new n i e b =
+    broken_off alone old p read deed result new n i (subst (λ d. Breaks alone old d new) (sym e) (breaks_first alone old first k new b))
+
+pub next_broken : {A T J : Type 0} (alone : Bool) (old : State) (p : Places) (read : ℕ) (deed : Deed T J) (first : Procedure (Result A Refusal)) (k : Result A Refusal → Procedure (Turn Places)) (t : Tried A) (result : Result (Advanced T J) NoMemory) (new : State) (n : ℕ) → IsErr result → rest p read old.history deed ≡ followed_by first k → Tries alone old first (Ok t) new → Advances alone old p read deed result new n n
+next_broken alone old p read deed first k t result new n i e w =
+    broken_off alone old p read deed result new n i
+    (subst (λ d. Breaks alone old d new) (sym e) ((walk_leads alone (has_failed t) old first new (came t) k w).breaks new (not_begun alone new (k (came t)))))
+
+-- a call that may make an event, and what follows it
+pub call_goes : {A T J : Type 0} (alone : Bool) (old : State) (p : Places) (read read_then : ℕ) (deed : Deed T J) (first : Procedure (Result A Refusal)) (k : Result A Refusal → Procedure (Turn Places)) (t : Tried A) (r : Result A Refusal) (failed : Bool) (next : Next T J) (new : State) (n : ℕ) → rest p read old.history deed ≡ followed_by first k → spent read deed ≡ read_then → Tries alone old first (Ok t) new → failed ≡ has_failed t → r ≡ came t → rest_next p read_then new.history next ≡ k r → spent_next read_then next ≡ read_then → Goes alone old p read deed (record { said = None; next = next; failed = failed }) new n n
+call_goes alone old p read read_then deed first k t r failed next new n e s w f j d spent_so = record {
+  read_then = read_then;
+  leads =
+      subst (λ x. Leads alone x old (rest p read old.history deed) new (rest_next p read_then new.history next)) (sym f)
+      (subst (λ x. Leads alone (has_failed t) old x new (rest_next p read_then new.history next)) (sym e)
+      (subst (λ x. Leads alone (has_failed t) old (followed_by first k) new x) (sym (d ∙ ap k j)) (walk_leads alone (has_failed t) old first new (came t) k w)));
+  spent_then = spent_so;
+  counted = λ from had. subst (λ m. n ≡ raised_by m from) s had;
+  rose = omega arith;
+}
+
+-- ---- a statement
+
+abbrev led_turn : Option Said → Turn Places → Turn Places
+led_turn None y = y
+led_turn (Some line) y = after_line line y
+
+led_walks : (line : Option Said) (alone failed : Bool) (old : State) (procedure : Procedure (Turn Places)) (new : State) (y : Turn Places) → Walks alone failed old procedure new y → Walks alone failed old (led line procedure) new (led_turn line y)
+led_walks None alone failed old procedure new y w = w
+led_walks (Some line) alone failed old procedure new y w = walks_as (after_line line) alone failed old procedure new y w
+
+led_breaks : (line : Option Said) (alone : Bool) (old : State) (procedure : Procedure (Turn Places)) (new : State) → Breaks alone old procedure new → Breaks alone old (led line procedure) new
+led_breaks None alone old procedure new b = b
+led_breaks (Some line) alone old procedure new b = breaks_first alone old procedure (λ a. ends (after_line line a)) new b
+
+joined_turn : {T J : Type 0} (line : Option Said) (p : Places) (read : ℕ) (t u : Completion T J) → u.said ≡ led_lines line t.said → u.change ≡ t.change → led_turn line (turn_of p read t) ≡ turn_of p read u
+joined_turn None p read t u s c = sym (ap (λ q. record { places = changed q p; said = u.said; reads = read }) c ∙ ap (λ q. record { places = changed t.change p; said = q; reads = read }) s)
+joined_turn (Some line) p read t u s c = sym (ap (λ q. record { places = changed q p; said = u.said; reads = read }) c ∙ ap (λ q. record { places = changed t.change p; said = q; reads = read }) s)
+
+-- what follows a deed came to its end
+after_walk : {T J : Type 0} (alone : Bool) (old : State) (procedure : Procedure (Turn Places)) (p : Places) (total : ℕ) (a : Advanced T J) (t : Completion T J) (mid : State) (left : Procedure (Turn Places)) (result : Result (Completion T J) NoMemory) (new : State) → Leads alone a.failed old procedure mid (led a.said left) → Walks alone t.failed mid left new (turn_of p total t) → Joins a.said a.failed t result → EndsAt alone old procedure p total result new
+after_walk alone old procedure p total a t mid left (Ok u) new w v j =
+    subst (λ z. Walks alone z old procedure new (turn_of p total u)) (sym j.2)
+    (w.walks t.failed new (turn_of p total u)
+    (subst (λ z. Walks alone t.failed mid (led a.said left) new z) (joined_turn a.said p total t u j.0 j.1) (led_walks a.said alone t.failed mid left new (turn_of p total t) v)))
+after_walk alone old procedure p total a t mid left (Err e) new w v j =
+    w.breaks new (led_breaks a.said alone mid left new (walks_break alone t.failed mid left new (turn_of p total t) v))
+
+counts_any : {A B : Type 0} (a : A) (result : Result B NoMemory) (had total before after : ℕ) → CountsFrom {A = A} (Ok a) had total before after → CountsFrom result had total before after
+counts_any a (Ok b) had total before after k = k
+counts_any a (Err e) had total before after k = tt
+
+-- the end of a statement
+pub ended : {T J : Type 0} (alone : Bool) (s : State) (p : Places) (read : ℕ) (next : Next T J) (t : Completion T J) (n : ℕ) → next ≡ nexts.End t → t.failed ≡ false → CarriesOut alone s p read next (Ok t) s n n
+ended alone s p read next t n e f = subst (λ q. CarriesOut alone s p read q (Ok t) s n n) (sym e) (record { total = read; ends = (f, refl, refl); counted = λ from had. had; rose = omega arith })
+
+-- a statement that went on after a deed
+pub went_on : {T J : Type 0} (alone : Bool) (old : State) (p : Places) (read : ℕ) (next : Next T J) (deed : Deed T J) (a : Advanced T J) (mid : State) (t : Completion T J) (result : Result (Completion T J) NoMemory) (new : State) (before between after : ℕ) → next ≡ nexts.Deed deed → Goes alone old p read deed a mid before between → ((had : ℕ) → CarriesOut alone mid p had a.next (Ok t) new between after) → Joins a.said a.failed t result → CarriesOut alone old p read next result new before after
+went_on alone old p read next deed a mid t result new before between after e w z j =
+    let later = z w.read_then in
+    let up : between ≤ after = later.rose in
+    subst (λ q. CarriesOut alone old p read q result new before after) (sym e)
+    (record {
+      total = later.total;
+      ends = after_walk alone old (rest p read old.history deed) p later.total a t mid (rest_next p w.read_then mid.history a.next) result new w.leads later.ends j;
+      counted = counts_any t result (spent read deed) later.total before after (λ from had. later.counted from (subst (λ m. between ≡ raised_by m from) (sym w.spent_then) (w.counted from had)));
+      rose = omega (arith, w.rose, up);
+    })
+
+-- a statement that broke off: at a deed, or later
+pub broken_here : {T J : Type 0} (alone : Bool) (old : State) (p : Places) (read : ℕ) (next : Next T J) (deed : Deed T J) (e : NoMemory) (result : Result (Completion T J) NoMemory) (new : State) (before after : ℕ) → next ≡ nexts.Deed deed → IsErr result → Advances alone old p read deed (Err e) new before after → CarriesOut alone old p read next result new before after
+broken_here alone old p read next deed e (Ok t) new before after is i w = absurd (true≢false (sym i))
+broken_here alone old p read next deed e (Err x) new before after is i w =
+    subst (λ q. CarriesOut alone old p read q (Err x) new before after) (sym is) (record { total = 0; ends = w.0; counted = tt; rose = w.1 })
+
+pub broken_later : {T J : Type 0} (alone : Bool) (old : State) (p : Places) (read : ℕ) (next : Next T J) (deed : Deed T J) (a : Advanced T J) (mid : State) (e : NoMemory) (result : Result (Completion T J) NoMemory) (new : State) (before between after : ℕ) → next ≡ nexts.Deed deed → IsErr result → Goes alone old p read deed a mid before between → ((had : ℕ) → CarriesOut alone mid p had a.next (Err e) new between after) → CarriesOut alone old p read next result new before after
+broken_later alone old p read next deed a mid e (Ok t) new before between after is i w z = absurd (true≢false (sym i))
+broken_later alone old p read next deed a mid e (Err x) new before between after is i w z =
+    let later = z w.read_then in
+    let up : between ≤ after = later.rose in
+    subst (λ q. CarriesOut alone old p read q (Err x) new before after) (sym is)
+    (record {
+      total = 0;
+      ends = w.leads.breaks new (led_breaks a.said alone mid (rest_next p w.read_then mid.history a.next) new later.ends);
+      counted = tt;
+      rose = omega (arith, w.rose, up);
+    })
+
+-- what a statement brings to its session
+pub joined_brings : {T J : Type 0} (shown : Shown T J) (bytes : ℕ) (h : History) (said : Option Said) (failed : Bool) (t : Completion T J) (result : Result (Completion T J) NoMemory) → Joins said failed t result → ChangeHolds shown bytes t.change h → Brings shown bytes result h
+joined_brings shown bytes h said failed t (Ok u) j k = subst (λ c. ChangeHolds shown bytes c h) (sym j.1) k
+joined_brings shown bytes h said failed t (Err e) j k = tt
+
+-- ---- looks
+
+-- a look by a call that only looks
+pub look_leads : {A : Type 0} (alone : Bool) (old : State) (Reports : History → Type 0) (mid : State) (shown : History → Bool) (f : History → Procedure A) → Looked alone old Reports mid → Leads alone false old (sees shown f) mid (f mid.history)
+look_leads alone old Reports mid shown f l = record {
+  walks = λ failed new y w. looked_walks alone failed old Reports mid shown f new y l w;
+  breaks = λ new b. looked_breaks alone old Reports mid shown f new l b;
+}
+
+-- what begins with a look goes on from a state that was looked at
+pub seen_leads : {A : Type 0} (alone : Bool) (old mid : State) (shown : History → Bool) (f : History → Procedure A) → Sees alone old mid → Leads alone false old (sees shown f) mid (sees shown f)
+seen_leads alone old mid shown f s = record {
+  walks = λ failed new y w. walks_seen alone failed old mid shown f new y s w;
+  breaks = λ new b. breaks_seen alone old mid shown f new s b;
+}
+
+-- ---- aggregates
+
+found_leads : {A : Type 0} (alone failed : Bool) (old found : State) (f : History → Procedure A) (mid : State) (left : Procedure A) → Found alone old found → Leads alone failed found (f found.history) mid left → Leads alone failed old (looks f) mid left
+found_leads alone failed old found f mid left i w = record {
+  walks = λ failed_then new y v. record { mid = found; first = inr i; rest = w.walks failed_then new y v };
+  breaks = λ new b. record { mid = found; first = inr i; rest = w.breaks new b };
+}
+
+made_same : (def : ViewDef) (filled : Bool) (found : State) (outcome : Outcome ℕ) (pos : ℕ) (t : Tried ℕ) (mid : State) (name : List ℕ) (min : ℤ) (p : Places) → Answered (making_view def found.history) found outcome mid → IsTried pos outcome (Ok t) → name ≡ def.name → min ≡ first_of def.fold.width → after_view p (length (roster found.history).views) def filled (came t) ≡ view_leaves p (number_at mid.history name) min filled (came t)
+made_same def filled found outcome pos (tried.Done k) mid name min p w i e f =
+    let n = length (roster found.history).views in
+    let made = was_made def found k mid (subst (λ o. Answered (making_view def found.history) found o mid) (done_outcome pos outcome k i) w) in
+    let at : n ≡ number_at mid.history name = sym (number_named (roster mid.history) def.name n made.named) ∙ ap (view_number (roster mid.history)) (sym e) in
+    ap (λ x. view_made p x (first_of def.fold.width) k filled) at ∙ ap (λ x. view_made p (number_at mid.history name) x k filled) (sym f)
+made_same def filled found outcome pos (tried.Refused r) mid name min p w i e f = refl
+made_same def filled found outcome pos (tried.Failed r) mid name min p w i e f = refl
+
+pub view_leads : (alone : Bool) (old : State) (def : ViewDef) (filled : Bool) (outcome : Outcome ℕ) (pos : ℕ) (t : Tried ℕ) (mid : State) (name : List ℕ) (min : ℤ) (p : Places) → Called alone old (making_view def) outcome mid → pos ≡ position mid.history → IsTried pos outcome (Ok t) → name ≡ def.name → min ≡ first_of def.fold.width → Leads alone (has_failed t) old (looks (λ g. followed_by (tries_at g (making_view def g)) (after_view p (length (roster g).views) def filled))) mid (view_leaves p (number_at mid.history name) min filled (came t))
+view_leads alone old def filled outcome pos t mid name min p c e i n m =
+    let h = c.found.history in
+    let w = answered_tries alone (making_view def h) c.found outcome mid (Ok t) c.answered (subst (λ x. IsTried x outcome (Ok t)) e i) in
+    subst (λ q. Leads alone (has_failed t) old (looks (λ g. followed_by (tries_at g (making_view def g)) (after_view p (length (roster g).views) def filled))) mid q) (made_same def filled c.found outcome pos t mid name min p c.answered i n m)
+    (found_leads alone (has_failed t) old c.found (λ g. followed_by (tries_at g (making_view def g)) (after_view p (length (roster g).views) def filled)) mid _ c.finds
+    (walk_leads alone (has_failed t) c.found (tries_at h (making_view def h)) mid (came t) (after_view p (length (roster h).views) def filled) w))
+
+pub view_fits : (alone : Bool) (old : State) (def : ViewDef) (outcome : Outcome ℕ) (pos : ℕ) (t : Tried ℕ) (mid : State) (name : List ℕ) → Called alone old (making_view def) outcome mid → IsTried pos outcome (Ok t) → name ≡ def.name → MadeFits (came t) mid.history name
+view_fits alone old def outcome pos (tried.Done k) mid name c i e = let w = made_is_named alone old def outcome pos (tried.Done k) k mid name c i refl e in (w.named, w.there)
+view_fits alone old def outcome pos (tried.Refused r) mid name c i e = tt
+view_fits alone old def outcome pos (tried.Failed r) mid name c i e = tt
+
+-- a deed whose procedure leads to this
+pub goes_by : {T J : Type 0} (alone : Bool) (old : State) (p : Places) (read read_then : ℕ) (deed : Deed T J) (procedure : Procedure (Turn Places)) (a : Advanced T J) (new : State) (n : ℕ) (left : Procedure (Turn Places)) → rest p read old.history deed ≡ procedure → spent read deed ≡ read_then → Leads alone a.failed old procedure new left → led a.said (rest_next p read_then new.history a.next) ≡ left → spent_next read_then a.next ≡ read_then → Goes alone old p read deed a new n n
+goes_by alone old p read read_then deed procedure a new n left e s w d spent_so = record {
+  read_then = read_then;
+  leads = subst (λ x. Leads alone a.failed old x new (led a.said (rest_next p read_then new.history a.next))) (sym e) (subst (λ x. Leads alone a.failed old procedure new x) (sym d) w);
+  spent_then = spent_so;
+  counted = λ from had. subst (λ m. n ≡ raised_by m from) s had;
+  rose = omega arith;
+}
+
+-- ---- a refresh that can't be finished any more stays so
+
+lost_on : {T J : Type 0} (deed : Deed T J) (g h : State) → GoesOn g h → IsLostBy deed g → IsLostBy deed h
+lost_on (deeds.Finish job f) g h on l = lost_stays g h (cut_in f) on l
+lost_on other g h on l = tt
+
+pub lost_later : {T J : Type 0} (alone : Bool) (next : Next T J) (deed : Deed T J) (then : Next T J) (p : Places) (read : ℕ) (result joined : Result (Completion T J) NoMemory) (g h : State) (before after : ℕ) → next ≡ nexts.Deed deed → CarriesOut alone g p read then result h before after → IsLostBy deed g → OnOk joined (IsLostNext next h)
+lost_later alone next deed then p read result joined g h before after e c l =
+    subst (λ q. OnOk joined (IsLostNext q h)) (sym e)
+    (always_ok (IsLostBy deed h) joined (lost_on deed g h (goes_ends alone g (rest_next p read g.history then) p c.total result h c.ends) l))
+
+pub lost_ended : {T J : Type 0} (next : Next T J) (t : Completion T J) (s : State) → next ≡ nexts.End t → IsLostNext next s
+lost_ended next t s e = subst (λ q. IsLostNext q s) (sym e) tt
+
+-- ---- actions
+
+-- looks that come to the same
+pub looks_leads : {A : Type 0} (alone : Bool) (s : State) (shown : History → Bool) (f g : History → Procedure A) → ((h : History) → Begins s.history h → f h ≡ g h) → Leads alone false s (sees shown f) s (looks g)
+looks_leads alone s shown f g same = record {
+  walks = λ failed new y w. record { mid = w.mid; first = w.first; rest = subst (λ d. Walks alone failed w.mid d new y) (sym (same w.mid.history (goes_seen alone s w.mid w.first).begins)) w.rest };
+  breaks = λ new b. record { mid = b.mid; first = b.first; rest = subst (λ d. Breaks alone b.mid d new) (sym (same b.mid.history (goes_seen alone s b.mid b.first).begins)) b.rest };
+}
+
+pub act_leads : (alone : Bool) (s : State) (p : Places) (bytes : ℕ) (a b : Action) (g : History → Procedure (Turn Places)) → a ≡ b → ((h : History) → Begins s.history h → acts p bytes h b ≡ g h) → Leads alone false s (looks (λ h. acts p bytes h a)) s (looks g)
+act_leads alone s p bytes a b g e same = looks_leads alone s (λ h. true) (λ h. acts p bytes h a) g (λ h on. ap (acts p bytes h) e ∙ same h on)

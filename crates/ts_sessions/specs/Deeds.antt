@@ -1,0 +1,395 @@
+-- What a statement is to do with its store next, and what is left of its procedure there.
+use Rattle.std.specs.Prelude.{◌≡◌, ℕ, ◌≤◌, ℤ, Bool, true, false, ◌||◌, List, ◌∷◌, length, Option, Some, None, option_map, Result, Ok, Err, IsSome, IsTrue, ⊤}
+use Rattle.std.specs.Option.{ForSome}
+use Rattle.std.specs.Map.{remove_entry}
+use Rattle.std.specs.Ordering.{nat_cmp}
+use Rattle.std.specs.BTreeMap.{is_at}
+use Rattle.ts_schema.specs.Counts.{raised_by}
+use Rattle.ts_schema.specs.declared.memory.NoMemory.{NoMemory}
+use Rattle.ts_bucket.specs.Bucket.{first_of, is_time}
+use Rattle.ts_model.specs.declared.events.Event.{Event}
+use Rattle.ts_model.specs.declared.events.Event.TheVariants as events
+use Rattle.result_text.specs.declared.codes.TheConstants.{NO_SNAPSHOT}
+use Rattle.result_text.specs.declared.replies.Said.{Said}
+use Rattle.result_text.specs.declared.replies.Said.TheVariants as said
+use Rattle.ts_model.specs.declared.outcomes.Refusal.{Refusal}
+use Rattle.ts_model.specs.declared.queries.Answer.{Answer}
+use Rattle.ts_model.specs.declared.rosters.Roster.{Roster}
+use Rattle.ts_model.specs.declared.snapshots.Shown.{Ghosts as Shown}
+use Rattle.ts_model.specs.History.{History, position}
+use Rattle.ts_model.specs.States.{State}
+use Rattle.ts_model.specs.Calls.{Act, committing, making_hyper, making_table, making_view, no_refresh, refusal, setting_mode}
+use Rattle.ts_model.specs.Sound.{sound}
+use Rattle.ts_model.specs.Pending.{pending}
+use Rattle.ts_model.specs.Roster.{roster, hyper_of, view_of}
+use Rattle.ts_sessions.specs.declared.changes.Completion.{Completion}
+use Rattle.ts_sessions.specs.declared.deeds.Advanced.{Advanced}
+use Rattle.ts_sessions.specs.declared.deeds.Deed.{Deed}
+use Rattle.ts_sessions.specs.declared.deeds.Deed.TheVariants as deeds
+use Rattle.ts_sessions.specs.declared.deeds.Finishing.{Finishing}
+use Rattle.ts_sessions.specs.declared.deeds.Finishing.TheVariants as finishing
+use Rattle.ts_sessions.specs.declared.deeds.Lacks.{Lacks}
+use Rattle.ts_sessions.specs.declared.deeds.Lacks.TheVariants as lacks
+use Rattle.ts_sessions.specs.declared.deeds.Line.{Line}
+use Rattle.ts_sessions.specs.declared.deeds.Line.TheVariants as lines
+use Rattle.ts_sessions.specs.declared.deeds.Making.{Making}
+use Rattle.ts_sessions.specs.declared.deeds.Making.TheVariants as making
+use Rattle.ts_sessions.specs.declared.deeds.Next.{Next}
+use Rattle.ts_sessions.specs.declared.deeds.Next.TheVariants as nexts
+use Rattle.ts_sessions.specs.declared.queries.Form.{Form}
+use Rattle.ts_sessions.specs.declared.queries.Form.TheVariants as forms
+use Rattle.ts_sessions.specs.declared.queries.Plan.{Plan}
+use Rattle.stmt_check.specs.declared.actions.Action.{Action}
+use Rattle.stmt_check.specs.Check.{action_of, refusal_of}
+use Rattle.stmt_reader.specs.declared.statements.Stmt.{Stmt}
+use Rattle.hier_agg.specs.declared.reads.UpperRead.{UpperRead}
+use Rattle.hier_agg.specs.declared.reads.UpperRead.TheVariants as uppers
+use Rattle.hier_agg.specs.Plans.{lower_query}
+use Rattle.hier_agg.specs.Reads.{upper_read}
+use Rattle.hier_agg.specs.Stale.{AreWholeRanges}
+use Rattle.cal_bucket.specs.declared.plans.CalPlan.{CalPlan}
+use Rattle.cal_bucket.specs.Buckets.{IsNumber}
+use Rattle.cal_bucket.specs.Rows.{ShowARow}
+use Rattle.ts_model.specs.declared.queries.Query.{Query}
+use Rattle.ts_model.specs.declared.queries.Query.TheVariants.{Rows}
+use Rattle.ts_model.specs.Answers.{columns_are_there}
+use Rattle.ts_model.specs.Limits.{most_columns}
+use Rattle.std.specs.List.{AllByRecursion}
+use Rattle.ts_sessions.specs.declared.kinds.Kind.{Kind}
+use Rattle.ts_sessions.specs.declared.kinds.Kind.TheVariants as kinds
+use Rattle.ts_sessions.specs.declared.refreshes.Asked.{Asked}
+use Rattle.ts_sessions.specs.declared.sessions.Session.{Session}
+use Rattle.ts_sessions.specs.Held.{GoesOn, HoldsOf, IsJobOf, is_lost, places_in}
+use Rattle.ts_sessions.specs.Places.{Block, Places, Turn, cuts, enters, none, reading, refuses, turns, writing}
+use Rattle.ts_sessions.specs.Procedures.{Procedure, ending_as, ends, followed_by, looks, tries, tries_at}
+use Rattle.ts_sessions.specs.Sessions.{ChangeHolds, EndsAt, Spares, turn_of}
+use Rattle.ts_sessions.specs.Step.{acts, after_cut, after_line, after_snapshot, after_view, answers, committed, cut_turn, cuts_refresh, finish_turn, finishes_refresh, kind_of, lost_code, makes_event, refreshed, reported, roll_up_plan, snap_turn, takes_snapshot, unfinished, view_made}
+use Rattle.ts_sessions.specs.Sound.{IsNamed, IsThere, number_at}
+use Rattle.ts_sessions.specs.Walks.{Walks, Breaks}
+
+-- ---- what is left
+
+-- the refresh that is finished, and where its snapshot was taken
+abbrev pub cut_in : Finishing → ℕ
+cut_in (finishing.Begun begun at) = begun.cut
+cut_in (finishing.Held cut at) = cut
+
+abbrev pub at_in : Finishing → ℕ
+at_in (finishing.Begun begun at) = at
+at_in (finishing.Held cut at) = at
+
+-- what a finish comes to, in a statement that read so many rows
+abbrev pub finished : Places → ℕ → Finishing → Result ℕ Refusal → Turn Places
+finished p read (finishing.Begun begun at) r =
+    refreshed (cuts begun.cut p) begun.cut begun.span begun.min (record { at = at; reads = read }) r
+finished p read (finishing.Held cut at) r = finish_turn p cut at r
+
+-- what makes a table or sets one thing of a relation, which event that is, and the line that says it
+abbrev pub making_of : Making → History → Act ℕ
+making_of (making.Table def) = making_table def
+making_of (making.Hyper table hyper) = making_hyper table hyper
+making_of (making.Mode view only) = setting_mode view only
+
+abbrev pub event_of : Making → Event
+event_of (making.Table def) = events.Table def
+event_of (making.Hyper table hyper) = events.Hyper table hyper
+event_of (making.Mode view only) = events.Mode view only
+
+abbrev pub line_of : Making → Line
+line_of (making.Table def) = lines.Table
+line_of (making.Hyper table hyper) = lines.Hyper
+line_of (making.Mode view only) = lines.Mode
+
+abbrev pub says : Line → ℕ → Said
+says lines.Table = said.Table
+says lines.Hyper = said.Hypertable
+says lines.Mode = said.Mode
+
+-- the places after operations took effect, which ends a block or not
+abbrev pub left_by : Bool → Places → Places
+left_by true p = enters none p
+left_by false p = p
+
+-- what is left after an aggregate with this number was made, or not
+abbrev pub view_leaves : Places → ℕ → ℤ → Bool → Result ℕ Refusal → Procedure (Turn Places)
+view_leaves p n min filled (Ok k) = view_made p n min k filled
+view_leaves p n min filled (Err r) = ends (refuses p r)
+
+-- why a refresh that waits can't be finished, where its session lacks this
+abbrev pub lack_code : Lacks → History → ℕ
+lack_code lacks.Snapshot h = NO_SNAPSHOT
+lack_code lacks.Job h = lost_code h
+
+-- what is left of a statement of a session with these places, which has read so many rows, where this is to be done
+-- next and this history was seen
+abbrev pub rest : {T J : Type 0} → Places → ℕ → History → Deed T J → Procedure (Turn Places)
+rest p read h (deeds.Refresh asked) =
+    followed_by (cuts_refresh asked.view asked.lo asked.hi) (after_cut p asked.min)
+rest p read h (deeds.Cut asked) =
+    followed_by (cuts_refresh asked.view asked.lo asked.hi) (λ r. ends (cut_turn p asked.min r))
+rest p read h (deeds.Snapshot begun) =
+    followed_by (takes_snapshot begun.cut) (after_snapshot (cuts begun.cut p) begun.cut begun.span begun.min)
+rest p read h (deeds.Hold cut) = followed_by (takes_snapshot cut) (λ r. ends (snap_turn p cut r))
+rest p read h (deeds.Finish job f) =
+    followed_by (finishes_refresh (cut_in f) (at_in f)) (λ r. ends (finished p read f r))
+rest p read h (deeds.Refuse cut lack) = looks (λ g. ends (refuses p (unfinished (lack_code lack g) g (pending g cut))))
+rest p read h (deeds.Make m) = followed_by (tries (making_of m)) (λ r. ends (reported p (says (line_of m)) r))
+rest p read h (deeds.Commit ops leaves) =
+    followed_by (tries (committing ops)) (λ r. ends (committed p (left_by leaves p) r))
+rest p read h (deeds.View def filled) =
+    looks (λ g. followed_by (tries_at g (making_view def g)) (after_view p (length (roster g).views) def filled))
+rest p read h (deeds.Fill new made) = view_made p (number_at h new.name) (first_of new.width) made true
+rest p read h deeds.BeginRead =
+    looks (λ g. ends (turns (enters (reading (position g)) p) (said.BeginRead (position g))))
+rest p read h deeds.Unknown = looks (λ g. ends (refuses p (refusal no_refresh g 0)))
+
+-- the same of what comes next
+abbrev pub rest_next : {T J : Type 0} → Places → ℕ → History → Next T J → Procedure (Turn Places)
+rest_next p read h (nexts.Deed d) = rest p read h d
+rest_next p read h (nexts.End t) = ends (turn_of p read t)
+
+-- how many meetings with the store are left at most
+abbrev pub left : {T J : Type 0} → Deed T J → ℕ
+left (deeds.Refresh asked) = 3
+left (deeds.Cut asked) = 1
+left (deeds.Snapshot begun) = 2
+left (deeds.Hold cut) = 1
+left (deeds.Finish job f) = 1
+left (deeds.Refuse cut lack) = 1
+left (deeds.Make m) = 1
+left (deeds.Commit ops leaves) = 1
+left (deeds.View def filled) = 5
+left (deeds.Fill new made) = 4
+left deeds.BeginRead = 1
+left deeds.Unknown = 1
+
+-- what is left after a line that was said already
+abbrev pub led : Option Said → Procedure (Turn Places) → Procedure (Turn Places)
+led None procedure = procedure
+led (Some line) procedure = ending_as (after_line line) procedure
+
+abbrev pub led_lines : Option Said → List Said → List Said
+led_lines None said = said
+led_lines (Some line) said = line ∷ said
+
+-- a statement's end with what was said and whether the disk failed before it
+abbrev pub Joins : {T J : Type 0} → Option Said → Bool → Completion T J → Result (Completion T J) NoMemory → Type 0
+Joins said failed t (Ok u) =
+    (u.said ≡ led_lines said t.said) × (u.change ≡ t.change) × (u.failed ≡ (failed || t.failed))
+Joins said failed t (Err e) = ⊤
+
+abbrev pub left_next : {T J : Type 0} → Next T J → ℕ
+left_next (nexts.Deed d) = left d
+left_next (nexts.End t) = 0
+
+-- of so many rows read, those that what is left goes on from
+abbrev pub spent_by : ℕ → Finishing → ℕ
+spent_by read (finishing.Begun begun at) = read
+spent_by read (finishing.Held cut at) = 0
+
+abbrev pub spent : {T J : Type 0} → ℕ → Deed T J → ℕ
+spent read (deeds.Finish job f) = spent_by read f
+spent read other = 0
+
+abbrev pub spent_next : {T J : Type 0} → ℕ → Next T J → ℕ
+spent_next read (nexts.Deed d) = spent read d
+spent_next read (nexts.End t) = read
+
+-- ---- what has to go with what was seen
+
+pub record IsAsked (h : History) (asked : Asked) : Type 0 where
+  pub view : IsSome (view_of (roster h) asked.view)
+  pub low : ForSome asked.lo (λ t. IsTrue (is_time t))
+  pub high : ForSome asked.hi (λ t. IsTrue (is_time t))
+
+abbrev pub DeedFits : {T J : Type 0} → Shown T J → Deed T J → State → Type 0
+DeedFits shown (deeds.Refresh asked) s = IsAsked s.history asked
+DeedFits shown (deeds.Cut asked) s = IsAsked s.history asked
+DeedFits shown (deeds.Finish job f) s = IsJobOf shown (cut_in f) (at_in f) s.history job
+DeedFits shown (deeds.Make m) s = IsTrue (sound s.history (event_of m))
+DeedFits shown (deeds.Commit ops leaves) s = IsTrue (sound s.history (events.Commit ops))
+DeedFits shown (deeds.View def filled) s = IsTrue (sound s.history (events.View def))
+DeedFits shown (deeds.Fill new made) s = IsNamed s.history new.name × IsThere s.history new.name
+DeedFits shown other s = ⊤
+
+-- an aggregate that was made is there under its name
+abbrev pub MadeFits : Result ℕ Refusal → History → List ℕ → Type 0
+MadeFits (Ok k) h name = IsNamed h name × IsThere h name
+MadeFits (Err r) h name = ⊤
+
+-- what a statement brings to its session, where its disk hasn't failed
+pub record EndFits {T J : Type 0} (shown : Shown T J) (bytes : ℕ) (t : Completion T J) (s : State) : Type 0 where
+  pub change : ChangeHolds shown bytes t.change s.history
+  pub stands : t.failed ≡ false
+
+-- what comes next, of a statement of a text of so many bytes
+abbrev pub NextFits : {T J : Type 0} → Shown T J → ℕ → Next T J → State → Type 0
+NextFits shown bytes (nexts.Deed d) s = DeedFits shown d s
+NextFits shown bytes (nexts.End t) s = EndFits shown bytes t s
+
+-- the job of a snapshot that a session held was taken: its refresh can't be finished any more
+abbrev pub IsLostBy : {T J : Type 0} → Deed T J → State → Type 0
+IsLostBy (deeds.Finish job f) s = IsTrue (is_lost s (cut_in f))
+IsLostBy other s = ⊤
+
+abbrev pub IsLostNext : {T J : Type 0} → Next T J → State → Type 0
+IsLostNext (nexts.Deed d) s = IsLostBy d s
+IsLostNext (nexts.End t) s = ⊤
+
+-- ---- steps
+
+-- a procedure was walked to where another is left
+pub record Leads {A : Type 0} (alone failed : Bool) (old : State) (procedure : Procedure A) (mid : State)
+    (left : Procedure A) : Type 0 where
+  pub walks : (failed_then : Bool) (new : State) (y : A)
+      → Walks alone failed_then mid left new y → Walks alone (failed || failed_then) old procedure new y
+  pub breaks : (new : State) → Breaks alone mid left new → Breaks alone old procedure new
+
+-- a deed was done, and this comes next
+pub record Goes {T J : Type 0} (alone : Bool) (old : State) (p : Places) (read : ℕ) (deed : Deed T J)
+    (a : Advanced T J) (new : State) (before after : ℕ) : Type 0 where
+  pub read_then : ℕ
+  pub leads : Leads alone a.failed old (rest p read old.history deed) new (led a.said (rest_next p read_then new.history a.next))
+  pub spent_then : spent_next read_then a.next ≡ read_then
+  pub counted : (from : ℕ) → before ≡ raised_by (spent read deed) from → after ≡ raised_by read_then from
+  pub rose : before ≤ after
+
+-- so, or the statement broke off for want of memory
+abbrev pub Advances :
+    {T J : Type 0} → Bool → State → Places → ℕ → Deed T J → Result (Advanced T J) NoMemory → State → ℕ → ℕ → Type 0
+Advances alone old p read deed (Ok a) new before after = Goes alone old p read deed a new before after
+Advances alone old p read deed (Err e) new before after =
+    Breaks alone old (rest p read old.history deed) new × (before ≤ after)
+
+-- the rows that were read were counted
+abbrev pub CountsFrom : {A : Type 0} → Result A NoMemory → ℕ → ℕ → ℕ → ℕ → Type 0
+CountsFrom (Ok a) had total before after = (from : ℕ) → before ≡ raised_by had from → after ≡ raised_by total from
+CountsFrom (Err e) had total before after = ⊤
+
+-- a statement was carried out from what comes next on
+pub record CarriesOut {T J : Type 0} (alone : Bool) (old : State) (p : Places) (read : ℕ) (next : Next T J)
+    (result : Result (Completion T J) NoMemory) (new : State) (before after : ℕ) : Type 0 where
+  pub total : ℕ
+  pub ends : EndsAt alone old (rest_next p read old.history next) p total result new
+  pub counted : CountsFrom result (spent_next read next) total before after
+  pub rose : before ≤ after
+
+-- ---- jobs that a session held
+
+-- the refresh whose held job it takes
+abbrev pub held_in : Finishing → Option ℕ
+held_in (finishing.Begun begun at) = None
+held_in (finishing.Held cut at) = Some cut
+
+abbrev pub taken_by : {T J : Type 0} → Deed T J → Option ℕ
+taken_by (deeds.Finish job f) = held_in f
+taken_by other = None
+
+abbrev pub taken_next : {T J : Type 0} → Next T J → Option ℕ
+taken_next (nexts.Deed d) = taken_by d
+taken_next (nexts.End t) = None
+
+-- entries without that of a refresh, if one is named
+abbrev pub without_entry : {X : Type 0} → Option ℕ → List (ℕ × X) → List (ℕ × X)
+without_entry None es = es
+without_entry (Some c) es = remove_entry (is_at (nat_cmp c)) es
+
+-- a session gave up the snapshot for a refresh, if one is named
+pub record Forgets {T J : Type 0} (gone : Option ℕ) (old new : Session T J) : Type 0 where
+  pub block : new.block ≡ old.block
+  pub cut : new.cut ≡ old.cut
+  pub held : new.held.entries ≡ without_entry gone old.held.entries
+
+-- a session from which what comes next took what it needs. Where that came to its end, the session goes with what is seen
+-- then; and where it broke off, it does so once it gave up the snapshot
+pub record Takes {T J : Type 0} (shown : Shown T J) (next : Next T J) (old new : Session T J) : Type 0 where
+  pub places : places_in new ≡ places_in old
+  pub holds : (s h : State) → HoldsOf shown old s → GoesOn s h → IsLostNext next h → HoldsOf shown new h
+  pub broken : (u : Session T J) → Forgets (taken_next next) new u
+      → Spares (taken_next next) (places_in old) (places_in u)
+      × ((s h : State) → HoldsOf shown old s → GoesOn s h → HoldsOf shown u h)
+
+-- what comes next stands for a procedure of a session that holds what it has to
+abbrev pub StandsFor : {T J : Type 0} → Next T J → Places → State → Procedure (Turn Places) → Type 0
+StandsFor next p s procedure = (alone : Bool) → Leads alone false s procedure s (rest_next p 0 s.history next)
+
+-- ---- what comes first
+
+-- a procedure was walked to where this comes next, and the rows that were read were counted
+pub record Opens {T J : Type 0} (alone : Bool) (old : State) (procedure : Procedure (Turn Places)) (p : Places)
+    (next : Next T J) (new : State) (before after : ℕ) : Type 0 where
+  pub read : ℕ
+  pub leads : Leads alone false old procedure new (rest_next p read new.history next)
+  pub spent : spent_next read next ≡ read
+  pub counted : after ≡ raised_by read before
+
+-- so, or the statement broke off for want of memory
+abbrev pub OpensTo :
+    {T J : Type 0} → Bool → State → Procedure (Turn Places) → Places → Result (Next T J) NoMemory → State → ℕ → ℕ
+    → Type 0
+OpensTo alone old procedure p (Ok next) new before after = Opens alone old procedure p next new before after
+OpensTo alone old procedure p (Err e) new before after = Breaks alone old procedure new × (before ≤ after)
+
+-- what a statement of this kind does stands in a history by names
+abbrev pub looks_at_names : Kind → Bool
+looks_at_names kinds.Defines = true
+looks_at_names kinds.Changes = true
+looks_at_names kinds.Asks = true
+looks_at_names other = false
+
+-- an action whose names were looked at in a history, of a statement that makes events or not: outside a block an event
+-- has a look of its own
+abbrev pub acted : Places → ℕ → Action → Block → Bool → History → Procedure (Turn Places)
+acted p bytes a none true h = looks (λ g. acts p bytes g a)
+acted p bytes a none false h = acts p bytes h a
+acted p bytes a (writing ops n) makes h = acts p bytes h a
+acted p bytes a (reading at) makes h = acts p bytes h a
+
+-- a statement whose names were looked at in a history, and refused or not
+abbrev pub judged : Places → ℕ → Stmt → Block → Bool → History → Option Refusal → Procedure (Turn Places)
+judged p bytes stmt b makes h (Some r) = ends (refuses p r)
+judged p bytes stmt b makes h None = acted p bytes (action_of (roster h) stmt) b makes h
+
+-- a statement that was checked in a history
+abbrev pub checked_at : Places → ℕ → Stmt → Block → Bool → History → Procedure (Turn Places)
+checked_at p bytes stmt b makes h = judged p bytes stmt b makes h (refusal_of (position h) (roster h) stmt)
+
+-- a statement by what it asks of an aggregate
+abbrev pub looked_as : Places → ℕ → Stmt → Block → Bool → History → UpperRead → Procedure (Turn Places)
+looked_as p bytes stmt b makes h (uppers.Plan plan) = ends (answers p h (roll_up_plan plan))
+looked_as p bytes stmt b makes h (uppers.Refused r) = ends (refuses p r)
+looked_as p bytes stmt b makes h other = checked_at p bytes stmt b makes h
+
+-- what is left of a statement once its names were looked at in a history
+abbrev pub looked_at : Places → ℕ → Stmt → History → Procedure (Turn Places)
+looked_at p bytes stmt h =
+    looked_as p bytes stmt p.block (makes_event (kind_of stmt)) h (upper_read (position h) (roster h) stmt)
+
+-- ---- queries
+
+-- a query asks for the rows of a hypertable that pass the tests of a grouping by buckets of the calendar
+pub record AsksCalendar (r : Roster) (cal : CalPlan) (query : Query) : Type 0 where
+  pub table : ℕ
+  pub asks : query ≡ Rows table cal.fold.tests
+  pub number : IsNumber cal.number
+  pub columns : IsTrue (columns_are_there most_columns cal.fold)
+  pub place : option_map (λ hyper. hyper.at) (hyper_of r table) ≡ Some cal.at
+
+-- a plan asks for the answer that its form is made of
+abbrev pub IsFormed : Roster → Plan → Form → Type 0
+IsFormed r plan forms.Own = ⊤
+IsFormed r plan (forms.RolledUp upper) = plan.query ≡ lower_query upper
+IsFormed r plan (forms.Calendar cal) = AsksCalendar r cal plan.query
+
+-- an answer shows the rows that a grouping by buckets of the calendar takes
+pub record FitsCalendar (cal : CalPlan) (shown : Answer) : Type 0 where
+  pub number : IsNumber cal.number
+  pub columns : IsTrue (columns_are_there most_columns cal.fold)
+  pub rows : AllByRecursion (ShowARow cal.at) shown.rows
+
+-- an answer is such as its form takes
+abbrev pub FormFits : Roster → Form → Answer → Type 0
+FormFits r forms.Own shown = ⊤
+FormFits r (forms.RolledUp upper) shown =
+    ForSome (view_of r upper.view) (λ def. AreWholeRanges def.fold.width shown.stale)
+FormFits r (forms.Calendar cal) shown = FitsCalendar cal shown

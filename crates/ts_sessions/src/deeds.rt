@@ -1,0 +1,446 @@
+//! Deeds: what a statement is to do with its store next, each of which meets the store once.
+ghost use Rattle.std.specs.Prelude.{◌≡◌, ℕ, ◌<◌, ◌^◌, IfOk, IsTrue, OnOk};
+ghost use Rattle.std.specs.Thread.{IsSync};
+ghost use Rattle.ts_model.specs.History.{History, position as position_of};
+ghost use Rattle.ts_model.specs.Sound.{sound};
+ghost use Rattle.ts_sessions.specs.Deeds.{Advances, CarriesOut, DeedFits, IsLostBy, IsLostNext, Joins, NextFits, event_of, held_in, lack_code, left, left_next, line_of, making_of, taken_by, taken_next};
+ghost use Rattle.ts_sessions.specs.Places.{Places};
+ghost use Rattle.ts_sessions.specs.Procedures.{tries};
+ghost use Rattle.ts_sessions.specs.Sessions.{Brings, Tries};
+
+use crate::blocks::Open;
+use crate::changes::{Change, Completion};
+use crate::events::{NewView, all_of, commit, new_view, view_number};
+use crate::follows::{
+    after_commit, after_cut, after_finish, after_hold, after_number, after_refresh_cut,
+    after_snapshot, after_view, refuse, say,
+};
+use crate::refreshes::{Asked, cut, finish, take_snapshot};
+use crate::refusals::lost_code;
+use crate::tries::{Tried, answered};
+use result_text::{Said, codes};
+use std::alloc::Global;
+use std::thread::Threads;
+use ts_bucket::Span;
+use ts_model::{Backend, Gate, Hyper, Op, Pending, Shown, TableDef, ViewDef};
+use ts_schema::{NoMemory, Seq, Steps};
+
+/// A refresh that was cut.
+#[derive(Drop)]
+pub(crate) struct Begun {
+    /// Its number.
+    pub cut: u64,
+    /// Its whole buckets.
+    pub span: Span,
+    /// The start of the first bucket of its aggregate.
+    pub min: i64,
+}
+
+/// A refresh that is finished.
+#[derive(Drop)]
+pub(crate) enum Finishing {
+    /// The statement cut it, and took its snapshot at a position.
+    Begun { begun: Begun, at: u64 },
+    /// The session held a snapshot for it.
+    Held { cut: u64, at: u64 },
+}
+
+/// What makes a table, or sets one thing of a relation.
+#[derive(Drop)]
+pub(crate) enum Making {
+    /// A table is made.
+    Table(TableDef),
+    /// A table becomes a hypertable.
+    Hyper { table: u32, hyper: Hyper },
+    /// An aggregate is set to show materialised rows only, or new rows too.
+    Mode { view: u32, only: bool },
+}
+
+/// The line that says so.
+#[derive(Clone, Copy, Debug, PartialEq, Eq)]
+pub(crate) enum Line {
+    /// A table was made.
+    Table,
+    /// A hypertable.
+    Hyper,
+    /// A mode was set.
+    Mode,
+}
+
+/// What a session lacks to finish a refresh.
+#[derive(Clone, Copy, Debug, PartialEq, Eq)]
+pub(crate) enum Lacks {
+    /// A snapshot for it.
+    Snapshot,
+    /// The job of its snapshot, which a store has taken.
+    Job,
+}
+
+/// What a statement is to do with its store next.
+#[derive(Drop)]
+pub(crate) enum Deed<T: Shown>
+where
+    T::Job: Drop,
+{
+    /// A relation is made or set.
+    Make(Making),
+    /// Operations take effect, which ends a block or not.
+    Commit { ops: Seq<Op>, leaves: bool },
+    /// An aggregate is made, and then filled or not.
+    View { def: ViewDef, filled: bool },
+    /// An aggregate that an event made is refreshed over all that there is.
+    Fill { new: NewView, made: u64 },
+    /// A read block begins, at what is seen then.
+    BeginRead,
+    /// A refresh is cut, and then goes on.
+    Refresh(Asked),
+    /// A refresh is cut.
+    Cut(Asked),
+    /// A refresh that the statement cut gets a snapshot, and is then finished.
+    Snapshot(Begun),
+    /// A refresh gets a snapshot, which the session holds.
+    Hold { cut: u64 },
+    /// A refresh is finished with a job.
+    Finish { job: T::Job, finishing: Finishing },
+    /// A refresh can't be finished, since the session lacks this: it is refused.
+    Refuse { cut: u64, lacks: Lacks },
+    /// No refresh is meant: it is refused.
+    Unknown,
+}
+
+/// What comes after a deed.
+#[derive(Drop)]
+pub(crate) enum Next<T: Shown>
+where
+    T::Job: Drop,
+{
+    /// Another deed.
+    Deed(Deed<T>),
+    /// The end of the statement.
+    End(Completion<T>),
+}
+
+/// What came of a deed.
+#[derive(Drop)]
+pub(crate) struct Advanced<T: Shown>
+where
+    T::Job: Drop,
+{
+    /// A line that is said at once.
+    pub said: Option<Said>,
+    /// What comes next.
+    pub next: Next<T>,
+    /// Whether the disk failed at its event.
+    pub failed: bool,
+}
+
+/// Carries a statement out from what comes next on.
+pub(crate) fn carry_out<R: Threads + Sync, B: Backend, G: Gate, L>(
+    rt: &R,
+    alloc: Global,
+    backend: &mut B,
+    gate: &G,
+    session: u32,
+    next: Next<B::Shot>,
+    steps: &mut Steps<L>,
+) -> Result<Completion<B::Shot>, NoMemory>
+where
+    <B::Shot as Shown>::Job: Drop,
+    requires sync { IsSync R.row }
+    requires counts { steps.old < 2 ^ 64 }
+    requires fits { (bytes : ℕ) × NextFits B.Shot.Shown bytes next (B.state backend.old) }
+    ensures ends { (p : Places) (read : ℕ) → CarriesOut B.alone (B.state backend.old) p read next result
+        (B.state backend.new) steps.old steps.new }
+    ensures change { (bytes : ℕ) → NextFits B.Shot.Shown bytes next (B.state backend.old)
+        → Brings B.Shot.Shown bytes result (B.state backend.new).history }
+    ensures lost { OnOk result (IsLostNext next (B.state backend.new)) }
+    ensures kin { B.kin backend.new ≡ B.kin backend.old }
+{
+    match next {
+        Next::End(completion) => Ok(completion),
+        Next::Deed(deed) => {
+            let advanced = advance(rt, alloc, backend, gate, session, deed, steps)?;
+            let Advanced { said, next, failed } = advanced;
+            let _so_far = steps.count();
+            let completion = carry_out(rt, alloc, backend, gate, session, next, steps)?;
+            joined(completion, said, failed)
+        }
+    }
+}
+
+/// A completion of a statement that may have said a line before, and whose disk may have failed.
+fn joined<T: Shown + Drop>(
+    completion: Completion<T>,
+    said: Option<Said>,
+    failed: bool,
+) -> Result<Completion<T>, NoMemory>
+where
+    T::Job: Drop,
+    ensures { Joins said failed completion result }
+{
+    let mut lines = completion.said.into_items();
+    match said {
+        Some(line) => {
+            lines.insert(0, line)?;
+            Ok(Completion {
+                said: Seq::of(lines),
+                change: completion.change,
+                failed: failed || completion.failed,
+            })
+        }
+        None => Ok(Completion {
+            said: Seq::of(lines),
+            change: completion.change,
+            failed: failed || completion.failed,
+        }),
+    }
+}
+
+/// Does a deed.
+fn advance<R: Threads + Sync, B: Backend, G: Gate, L>(
+    rt: &R,
+    alloc: Global,
+    backend: &mut B,
+    gate: &G,
+    session: u32,
+    deed: Deed<B::Shot>,
+    steps: &mut Steps<L>,
+) -> Result<Advanced<B::Shot>, NoMemory>
+where
+    <B::Shot as Shown>::Job: Drop,
+    requires sync { IsSync R.row }
+    requires counts { steps.old < 2 ^ 64 }
+    requires fits { DeedFits B.Shot.Shown deed (B.state backend.old) }
+    ensures advances { (p : Places) (read : ℕ) → Advances B.alone (B.state backend.old) p read deed result
+        (B.state backend.new) steps.old steps.new }
+    ensures fits { IfOk result (λ a. (bytes : ℕ) → NextFits B.Shot.Shown bytes a.next (B.state backend.new)) }
+    ensures shorter { IfOk result (λ a. left_next a.next < left deed) }
+    ensures lost { OnOk result (IsLostBy deed (B.state backend.new)) }
+    ensures kin { B.kin backend.new ≡ B.kin backend.old }
+{
+    match deed {
+        Deed::Make(making) => {
+            let line = making.line();
+            let tried = make_one(backend, making)?;
+            let failed = tried.failed();
+            let next = after_number(alloc, line, tried.came())?;
+            Ok(Advanced {
+                said: None,
+                next,
+                failed,
+            })
+        }
+        Deed::Commit { ops, leaves } => {
+            let tried = commit(backend, ops)?;
+            let failed = tried.failed();
+            let next = after_commit(alloc, leaves, tried.came())?;
+            Ok(Advanced {
+                said: None,
+                next,
+                failed,
+            })
+        }
+        Deed::View { def, filled } => {
+            let new = new_view(&def)?;
+            let outcome = backend.make_view(def);
+            let tried = answered(outcome, backend.position())?;
+            let failed = tried.failed();
+            let next = after_view(alloc, new, filled, tried.came())?;
+            Ok(Advanced {
+                said: None,
+                next,
+                failed,
+            })
+        }
+        Deed::Fill { new, made } => {
+            let shot = backend.snap()?;
+            let view = view_number(shot.roster().views.items(), &new.name);
+            let next = Next::Deed(Deed::Refresh(all_of(view, &new.width)));
+            Ok(Advanced {
+                said: Some(Said::View(made)),
+                next,
+                failed: false,
+            })
+        }
+        Deed::BeginRead => {
+            let shot = backend.snap()?;
+            let at = shot.position();
+            let next = say(
+                alloc,
+                Said::BeginRead(at),
+                Change::Enters(Open::Read { at, shot }),
+            )?;
+            Ok(Advanced {
+                said: None,
+                next,
+                failed: false,
+            })
+        }
+        Deed::Refresh(asked) => {
+            let tried = cut(backend, asked.view, asked.lo, asked.hi)?;
+            let failed = tried.failed();
+            let next = after_refresh_cut(alloc, &asked, tried.came())?;
+            Ok(Advanced {
+                said: None,
+                next,
+                failed,
+            })
+        }
+        Deed::Cut(asked) => {
+            let tried = cut(backend, asked.view, asked.lo, asked.hi)?;
+            let failed = tried.failed();
+            let next = after_cut(alloc, &asked, tried.came())?;
+            Ok(Advanced {
+                said: None,
+                next,
+                failed,
+            })
+        }
+        Deed::Snapshot(begun) => {
+            let snapped = take_snapshot(rt, backend, begun.cut, steps)?;
+            let next = after_snapshot(alloc, begun, snapped)?;
+            Ok(Advanced {
+                said: None,
+                next,
+                failed: false,
+            })
+        }
+        Deed::Hold { cut } => {
+            let snapped = take_snapshot(rt, backend, cut, steps)?;
+            let next = after_hold(alloc, cut, snapped)?;
+            Ok(Advanced {
+                said: None,
+                next,
+                failed: false,
+            })
+        }
+        Deed::Finish { job, finishing } => {
+            let tried = finish(backend, gate, session, job)?;
+            let failed = tried.failed();
+            let next = after_finish(alloc, &finishing, tried.came())?;
+            Ok(Advanced {
+                said: None,
+                next,
+                failed,
+            })
+        }
+        Deed::Refuse { cut, lacks } => {
+            let shot = backend.snap()?;
+            let next = refuse(alloc, shot.pending(cut), shot.position(), lacks)?;
+            Ok(Advanced {
+                said: None,
+                next,
+                failed: false,
+            })
+        }
+        Deed::Unknown => {
+            let shot = backend.snap()?;
+            let next = refuse(alloc, Pending::Unknown, shot.position(), Lacks::Snapshot)?;
+            Ok(Advanced {
+                said: None,
+                next,
+                failed: false,
+            })
+        }
+    }
+}
+
+impl Making {
+    /// The line that says it.
+    fn line(&self) -> Line
+        ensures { result ≡ line_of self.now }
+    {
+        match self {
+            Making::Table(_) => Line::Table,
+            Making::Hyper { .. } => Line::Hyper,
+            Making::Mode { .. } => Line::Mode,
+        }
+    }
+}
+
+/// Makes a table, or sets one thing of a relation.
+#[tactic(auto, using(crate::proofs::CallWalks::called_tries))]
+fn make_one<B: Backend>(backend: &mut B, making: Making) -> Result<Tried<u64>, NoMemory>
+    requires { IsTrue (sound (B.state backend.old).history (event_of making)) }
+    ensures tries { Tries B.alone (B.state backend.old) (tries (making_of making)) result (B.state backend.new) }
+    ensures kin { B.kin backend.new ≡ B.kin backend.old }
+{
+    match making {
+        Making::Table(def) => {
+            let outcome = backend.make_table(def);
+            answered(outcome, backend.position())
+        }
+        Making::Hyper { table, hyper } => {
+            let outcome = backend.make_hyper(table, hyper);
+            answered(outcome, backend.position())
+        }
+        Making::Mode { view, only } => {
+            let outcome = backend.set_mode(view, only);
+            answered(outcome, backend.position())
+        }
+    }
+}
+
+impl<T: Shown + Drop> Next<T>
+where
+    T::Job: Drop,
+{
+    /// The refresh whose held job it takes, if it takes one.
+    pub(crate) fn taken(&self) -> Option<u64>
+        ensures { result ≡ taken_next self.now }
+    {
+        match self {
+            Next::Deed(deed) => deed.taken(),
+            Next::End(_) => None,
+        }
+    }
+}
+
+impl<T: Shown + Drop> Deed<T>
+where
+    T::Job: Drop,
+{
+    /// The refresh whose held job it takes, if it takes one.
+    fn taken(&self) -> Option<u64>
+        ensures { result ≡ taken_by self.now }
+    {
+        match self {
+            Deed::Finish { job: _, finishing } => finishing.held(),
+            Deed::Make(_) => None,
+            Deed::Commit { .. } => None,
+            Deed::View { .. } => None,
+            Deed::Fill { .. } => None,
+            Deed::Refresh(_) => None,
+            Deed::Cut(_) => None,
+            Deed::Snapshot(_) => None,
+            Deed::Hold { .. } => None,
+            Deed::Refuse { .. } => None,
+            Deed::BeginRead => None,
+            Deed::Unknown => None,
+        }
+    }
+}
+
+impl Lacks {
+    /// Why a refresh that waits is refused at a position.
+    pub(crate) fn code(self, position: u64) -> u8
+        ensures { (h : History) → position ≡ position_of h → result ≡ lack_code self h }
+    {
+        match self {
+            Lacks::Snapshot => codes::NO_SNAPSHOT,
+            Lacks::Job => lost_code(position),
+        }
+    }
+}
+
+impl Finishing {
+    /// The refresh that a session held a snapshot for.
+    fn held(&self) -> Option<u64>
+        ensures { result ≡ held_in self.now }
+    {
+        match self {
+            Finishing::Begun { .. } => None,
+            Finishing::Held { cut, at: _ } => Some(*cut),
+        }
+    }
+}

@@ -1,0 +1,305 @@
+//! What follows a deed, by what came of it: another deed, or the end of the statement. Nothing here meets a store.
+ghost use Rattle.std.specs.Prelude.{◌≡◌, ℕ, ◌<◌, [], ◌∷◌, false, IfOk};
+ghost use Rattle.ts_bucket.specs.Bucket.{first_of};
+ghost use Rattle.ts_model.specs.History.{History, position as position_of};
+ghost use Rattle.ts_model.specs.States.{State};
+ghost use Rattle.result_text.specs.declared.replies.Said.TheVariants.{Cut, Fault};
+ghost use Rattle.ts_sessions.specs.declared.changes.Change.TheVariants.{Cuts};
+ghost use Rattle.ts_sessions.specs.declared.deeds.Next.TheVariants.{End};
+ghost use Rattle.ts_sessions.specs.Deeds.{MadeFits, NextFits, finished, lack_code, left_by, left_next, rest_next, says, spent_by, spent_next, view_leaves};
+ghost use Rattle.ts_sessions.specs.Places.{Places, cuts, refuses};
+ghost use Rattle.ts_sessions.specs.Procedures.{ends};
+ghost use Rattle.ts_sessions.specs.Sessions.{FitsSnapped, read_by, taken_as};
+ghost use Rattle.ts_sessions.specs.Sound.{number_at};
+ghost use Rattle.ts_sessions.specs.Step.{after_cut as cut_leaves, after_snapshot as snapshot_leaves, committed, cut_turn, reported, snap_turn, unfinished};
+
+use crate::blocks::Open;
+use crate::changes::{Change, Completion, one_line};
+use crate::deeds::{Begun, Deed, Finishing, Lacks, Line, Next};
+use crate::events::NewView;
+use crate::refreshes::{Asked, Snapped};
+use crate::refusals::at;
+use result_text::{Said, codes};
+use std::alloc::Global;
+use ts_model::{Committed, CutDone, Pending, Refusal, Shown};
+use ts_schema::{NoMemory, Seq};
+
+/// Ends after a relation was made or set, or not.
+pub(crate) fn after_number<T: Shown + Drop>(
+    alloc: Global,
+    line: Line,
+    came: Result<u64, Refusal>,
+) -> Result<Next<T>, NoMemory>
+where
+    T::Job: Drop,
+    ensures rest { IfOk result (λ n. (p : Places) (h : History) → rest_next p 0 h n ≡ ends (reported p (says line) came)) }
+    ensures fits { IfOk result (λ n. (s : State) (bytes : ℕ) → NextFits T.Shown bytes n s) }
+    ensures shorter { IfOk result (λ n. left_next n < 1) }
+{
+    match came {
+        Ok(number) => match line {
+            Line::Table => say(alloc, Said::Table(number), Change::Nothing),
+            Line::Hyper => say(alloc, Said::Hypertable(number), Change::Nothing),
+            Line::Mode => say(alloc, Said::Mode(number), Change::Nothing),
+        },
+        Err(refusal) => say(alloc, Said::Fault(refusal), Change::Nothing),
+    }
+}
+
+/// Ends after operations took effect, or not.
+pub(crate) fn after_commit<T: Shown + Drop>(
+    alloc: Global,
+    leaves: bool,
+    came: Result<Committed, Refusal>,
+) -> Result<Next<T>, NoMemory>
+where
+    T::Job: Drop,
+    ensures rest { IfOk result (λ n. (p : Places) (h : History) →
+        rest_next p 0 h n ≡ ends (committed p (left_by leaves p) came)) }
+    ensures fits { IfOk result (λ n. (s : State) (bytes : ℕ) → NextFits T.Shown bytes n s) }
+    ensures shorter { IfOk result (λ n. left_next n < 1) }
+{
+    match came {
+        Ok(done) => match leaves {
+            true => say(alloc, Said::Commit(done), Change::Enters(Open::Nothing)),
+            false => say(alloc, Said::Commit(done), Change::Nothing),
+        },
+        Err(refusal) => say(alloc, Said::Fault(refusal), Change::Nothing),
+    }
+}
+
+/// Goes on after an aggregate was made, or ends where it wasn't.
+pub(crate) fn after_view<T: Shown + Drop>(
+    alloc: Global,
+    new: NewView,
+    filled: bool,
+    came: Result<u64, Refusal>,
+) -> Result<Next<T>, NoMemory>
+where
+    T::Job: Drop,
+    ensures rest { IfOk result (λ n. (p : Places) (h : History) →
+        rest_next p 0 h n ≡ view_leaves p (number_at h new.name) (first_of new.width) filled came) }
+    ensures fits { IfOk result (λ n. (s : State) (bytes : ℕ) → MadeFits came s.history new.name → NextFits T.Shown bytes n s) }
+    ensures shorter { IfOk result (λ n. left_next n < 5) }
+{
+    match came {
+        Ok(made) => match filled {
+            true => Ok(Next::Deed(Deed::Fill { new, made })),
+            false => say(alloc, Said::View(made), Change::Nothing),
+        },
+        Err(refusal) => say(alloc, Said::Fault(refusal), Change::Nothing),
+    }
+}
+
+/// Goes on after the cut of a whole refresh.
+pub(crate) fn after_refresh_cut<T: Shown + Drop>(
+    alloc: Global,
+    asked: &Asked,
+    came: Result<CutDone, Refusal>,
+) -> Result<Next<T>, NoMemory>
+where
+    T::Job: Drop,
+    ensures rest { IfOk result (λ n. (p : Places) (h : History) →
+        rest_next p 0 h n ≡ cut_leaves p asked.now.min came) }
+    ensures fits { IfOk result (λ n. (s : State) (bytes : ℕ) → NextFits T.Shown bytes n s) }
+    ensures shorter { IfOk result (λ n. left_next n < 3) }
+{
+    match came {
+        Ok(done) => match done {
+            CutDone::Cut { pos, span } => Ok(Next::Deed(Deed::Snapshot(Begun {
+                cut: pos,
+                span,
+                min: asked.min,
+            }))),
+            CutDone::Nothing { pos } => say(alloc, Said::Nothing(pos), Change::Nothing),
+        },
+        Err(refusal) => say(alloc, Said::Fault(refusal), Change::Nothing),
+    }
+}
+
+/// Ends after a cut.
+pub(crate) fn after_cut<T: Shown + Drop>(
+    alloc: Global,
+    asked: &Asked,
+    came: Result<CutDone, Refusal>,
+) -> Result<Next<T>, NoMemory>
+where
+    T::Job: Drop,
+    ensures rest { IfOk result (λ n. (p : Places) (h : History) →
+        rest_next p 0 h n ≡ ends (cut_turn p asked.now.min came)) }
+    ensures fits { IfOk result (λ n. (s : State) (bytes : ℕ) → NextFits T.Shown bytes n s) }
+    ensures shorter { IfOk result (λ n. left_next n < 1) }
+{
+    match came {
+        Ok(done) => match done {
+            CutDone::Cut { pos, span } => {
+                let said = Said::Cut {
+                    cut: pos,
+                    span,
+                    min: asked.min,
+                };
+                say(alloc, said, Change::Cuts(pos))
+            }
+            CutDone::Nothing { pos } => say(alloc, Said::Nothing(pos), Change::Nothing),
+        },
+        Err(refusal) => say(alloc, Said::Fault(refusal), Change::Nothing),
+    }
+}
+
+/// Goes on after the snapshot of a refresh that the statement cut.
+pub(crate) fn after_snapshot<T: Shown + Drop>(
+    alloc: Global,
+    begun: Begun,
+    snapped: Snapped<T::Job>,
+) -> Result<Next<T>, NoMemory>
+where
+    T::Job: Drop,
+    ensures rest { IfOk result (λ n. (p : Places) (read : ℕ) (h : History) →
+        rest_next p (read_by read snapped) h n
+        ≡ snapshot_leaves (cuts begun.cut p) begun.cut begun.span begun.min (taken_as read snapped)) }
+    ensures fits { IfOk result (λ n. (s : State) (bytes : ℕ) → FitsSnapped T.Shown begun.cut s.history snapped
+        → NextFits T.Shown bytes n s) }
+    ensures spent { IfOk result (λ n. (read : ℕ) → spent_next (read_by read snapped) n ≡ read_by read snapped) }
+    ensures shorter { IfOk result (λ n. left_next n < 2) }
+{
+    match snapped {
+        Snapped::Taken { at, job } => Ok(Next::Deed(Deed::Finish {
+            job,
+            finishing: Finishing::Begun { begun, at },
+        })),
+        Snapped::Refused(refusal) => say_broken(alloc, &begun, refusal),
+    }
+}
+
+/// Ends after a snapshot that the session is to hold.
+pub(crate) fn after_hold<T: Shown + Drop>(
+    alloc: Global,
+    cut: u64,
+    snapped: Snapped<T::Job>,
+) -> Result<Next<T>, NoMemory>
+where
+    T::Job: Drop,
+    ensures rest { IfOk result (λ n. (p : Places) (read : ℕ) (h : History) →
+        rest_next p (read_by read snapped) h n ≡ ends (snap_turn p cut (taken_as read snapped))) }
+    ensures fits { IfOk result (λ n. (s : State) (bytes : ℕ) → FitsSnapped T.Shown cut s.history snapped
+        → NextFits T.Shown bytes n s) }
+    ensures spent { IfOk result (λ n. (read : ℕ) → spent_next (read_by read snapped) n ≡ read_by read snapped) }
+    ensures shorter { IfOk result (λ n. left_next n < 1) }
+{
+    match snapped {
+        Snapped::Taken { at, job } => {
+            let said = Said::Snap { cut, snap: at };
+            say(alloc, said, Change::Holds { cut, at, job })
+        }
+        Snapped::Refused(refusal) => say(alloc, Said::Fault(refusal), Change::Nothing),
+    }
+}
+
+/// Ends after a finish.
+pub(crate) fn after_finish<T: Shown + Drop>(
+    alloc: Global,
+    finishing: &Finishing,
+    came: Result<u64, Refusal>,
+) -> Result<Next<T>, NoMemory>
+where
+    T::Job: Drop,
+    ensures rest { IfOk result (λ n. (p : Places) (read : ℕ) (h : History) →
+        rest_next p (spent_by read finishing.now) h n ≡ ends (finished p read finishing.now came)) }
+    ensures fits { IfOk result (λ n. (s : State) (bytes : ℕ) → NextFits T.Shown bytes n s) }
+    ensures spent { IfOk result (λ n. (read : ℕ) → spent_next read n ≡ read) }
+    ensures shorter { IfOk result (λ n. left_next n < 1) }
+{
+    match finishing {
+        Finishing::Begun { begun, at } => match came {
+            Ok(pos) => {
+                let said = Said::Refresh {
+                    cut: begun.cut,
+                    pos,
+                    snap: *at,
+                    span: begun.span,
+                    min: begun.min,
+                };
+                say(alloc, said, Change::Cuts(begun.cut))
+            }
+            Err(refusal) => say_broken(alloc, begun, refusal),
+        },
+        Finishing::Held { cut, at } => match came {
+            Ok(pos) => {
+                let said = Said::Finish {
+                    cut: *cut,
+                    pos,
+                    snap: *at,
+                };
+                say(alloc, said, Change::GivesUp(*cut))
+            }
+            Err(refusal) => say(alloc, Said::Fault(refusal), Change::Nothing),
+        },
+    }
+}
+
+/// Refuses to finish a refresh of which this became.
+pub(crate) fn refuse<T: Shown + Drop>(
+    alloc: Global,
+    pending: Pending,
+    position: u64,
+    lacks: Lacks,
+) -> Result<Next<T>, NoMemory>
+where
+    T::Job: Drop,
+    ensures rest { IfOk result (λ n. (p : Places) (h : History) (g : History) → position ≡ position_of g →
+        rest_next p 0 h n ≡ ends (refuses p (unfinished (lack_code lacks g) g pending))) }
+    ensures fits { IfOk result (λ n. (s : State) (bytes : ℕ) → NextFits T.Shown bytes n s) }
+    ensures shorter { IfOk result (λ n. left_next n < 1) }
+{
+    let refusal = match pending {
+        Pending::Waiting(_) => at(lacks.code(position), position, 0),
+        Pending::Finished(finish) => at(codes::NO_REFRESH, position, finish),
+        Pending::Unknown => at(codes::NO_REFRESH, position, 0),
+    };
+    say(alloc, Said::Fault(refusal), Change::Nothing)
+}
+
+/// The statement ends, and says one line.
+pub(crate) fn say<T: Shown + Drop>(
+    alloc: Global,
+    said: Said,
+    change: Change<T>,
+) -> Result<Next<T>, NoMemory>
+where
+    T::Job: Drop,
+    ensures { IfOk result (λ n. n ≡ End (record { said = said ∷ []; change = change; failed = false })) }
+{
+    Ok(Next::End(Completion {
+        said: one_line(alloc, said)?,
+        change,
+        failed: false,
+    }))
+}
+
+/// The statement ends after its cut: its refresh is refused.
+fn say_broken<T: Shown + Drop>(
+    alloc: Global,
+    begun: &Begun,
+    refusal: Refusal,
+) -> Result<Next<T>, NoMemory>
+where
+    T::Job: Drop,
+    ensures { IfOk result (λ n. n ≡ End (record {
+      said = Cut begun.now.cut begun.now.span begun.now.min ∷ Fault refusal ∷ [];
+      change = Cuts begun.now.cut;
+      failed = false;
+    })) }
+{
+    let mut lines = Seq::new(alloc);
+    lines.push(Said::Cut {
+        cut: begun.cut,
+        span: begun.span,
+        min: begun.min,
+    })?;
+    lines.push(Said::Fault(refusal))?;
+    Ok(Next::End(Completion {
+        said: lines,
+        change: Change::Cuts(begun.cut),
+        failed: false,
+    }))
+}
