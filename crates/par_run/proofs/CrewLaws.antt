@@ -3,11 +3,11 @@ use Rattle.std.proofs.Common.{◌≡◌, ℕ, ◌≤◌, List, [], ◌∷◌, �
 use Rattle.std.specs.Option.{IfSome, option_to_list}
 use Rattle.std.proofs.lemmas.List.{map-append}
 use Rattle.std.proofs.lemmas.List.Elements.{All-cons, All-nil, All-push}
-use Rattle.crew_run.specs.Slots.{Slot, workers_of}
-use Rattle.session_lines.specs.declared.sessions.SessionLines.{SessionLines}
-use Rattle.session_lines.specs.declared.sorting.SortedLines.{SortedLines}
-use Rattle.session_lines.specs.Places.{script_of, scripts_of, sorted_of, IsWithin}
-use Rattle.session_lines.specs.Sorted.{sorted}
+use Rattle.par_workers.specs.Slots.{Slot, workers_of}
+use Rattle.par_lines.specs.declared.sessions.SessionLines.{SessionLines}
+use Rattle.par_lines.specs.declared.sorting.SortedLines.{SortedLines}
+use Rattle.par_lines.specs.Places.{script_of, scripts_of, sorted_of, IsWithin}
+use Rattle.par_lines.specs.Sorted.{sorted}
 use Rattle.ts_sessions.specs.Script.{SessionScript}
 use Rattle.par_run.specs.declared.workers.SessionWorker.{SessionWorker}
 use Rattle.par_run.specs.Workers.{worker_script, IsReady}

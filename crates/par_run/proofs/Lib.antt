@@ -1,4 +1,4 @@
 pub mod ReplyLaws
 pub mod CrewLaws
-pub mod TextLaws
+pub mod OutputLaws
 pub mod RunLaws

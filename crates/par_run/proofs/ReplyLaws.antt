@@ -1,8 +1,11 @@
 -- How a session goes on line by line.
-use Rattle.std.proofs.Common.{◌≡◌, ℕ, ◌+◌, ◌<◌, ◌≤◌, Bool, List, [], ◌∷◌, ◌++◌, get_or, length, map, take, drop, arith, ap, subst, sym, ◌∙◌}
+use Rattle.std.proofs.Common.{◌≡◌, ℕ, ◌+◌, ◌<◌, ◌≤◌, Bool, false, List, [], ◌∷◌, ◌++◌, get_or, length, map, take, drop, Some, arith, ap, subst, sym, ◌∙◌}
+use Rattle.std.specs.Prelude.{Result, OnOk}
 use Rattle.std.proofs.lemmas.List.{length-drop, length-take-le, map_more, take_all}
+use Rattle.ts_schema.specs.declared.memory.NoMemory.{NoMemory}
 use Rattle.ts_model.specs.History.{position}
 use Rattle.ts_model.specs.States.{State}
+use Rattle.ts_sessions.specs.declared.replies.Reply.{Reply}
 use Rattle.ts_sessions.specs.declared.replies.StepEnd.{StepEnd}
 use Rattle.ts_sessions.specs.declared.replies.StepEnd.TheVariants as steps
 use Rattle.ts_sessions.specs.Held.{queued}
@@ -11,27 +14,49 @@ use Rattle.ts_sessions.specs.Places.{Places, no_places}
 use Rattle.ts_sessions.specs.Script.{SessionLine}
 use Rattle.ts_sessions.specs.Sessions.{Stepped}
 use Rattle.ts_sessions.specs.Step.{step}
-use Rattle.one_history.specs.Parallel.{SessionReplies, SessionExecuted, SessionExecutedTo}
-use Rattle.one_history.proofs.SessionSteps.{begun, executed_all, executed_more}
-use Rattle.session_lines.specs.declared.sessions.LinePlace.{LinePlace}
-use Rattle.session_lines.specs.Places.{line_at}
-use Rattle.par_run.specs.Replies.{Keeps, ExecutesNext, no_replies}
+use Rattle.par_laws.specs.Parallel.{SessionReplies, SessionExecuted, SessionExecutedTo}
+use Rattle.par_laws.proofs.SessionSteps.{begun, executed_all, executed_more, with_exchange}
+use Rattle.par_lines.specs.declared.sessions.LinePlace.{LinePlace}
+use Rattle.par_lines.specs.Places.{line_at}
+use Rattle.par_run.specs.declared.replies.Replies.{Replies}
+use Rattle.par_run.specs.Replies.{reply_in, said, ExecutesNext, Keeps, KeepsEnd}
+use Rattle.par_run.specs.Workers.{nothing_said}
+
+-- the reply with which a step ended was kept
+pub kept_end : (line : List ℕ) (end : StepEnd) (reply : Reply) (result : Result (Unit {0}) NoMemory) (old new : Replies) → Some reply ≡ reply_in end → OnOk result (Keeps line reply old new) → OnOk result (KeepsEnd line end old new)
+kept_end line (steps.Reply r) reply result old new is kept = subst (λ x. OnOk result (Keeps line x old new)) (let same : reply ≡ r = cc in same) kept
+kept_end line (steps.DiskFault r) reply result old new is kept = subst (λ x. OnOk result (Keeps line x old new)) (let same : reply ≡ r = cc in same) kept
+kept_end line steps.NoMemory reply result old new is kept = absurd cc
+
+-- what was said, with a line and its reply more
+said_more : (line name own : List ℕ) (reply : Reply) (old new : Replies) (before after : ℕ) → own ≡ name → Keeps line reply old new → with_exchange line reply after (said name old before) ≡ said own new after
+said_more line name own reply old new before after same kept = λ i. record {
+  name = sym same i;
+  exchanges = sym kept.exchanges i;
+  fault = sym kept.fault i;
+  reads = after;
+}
 
 -- a line was executed whose reply was kept
-pub next_executed : (alone : Bool) (name : List ℕ) (line : SessionLine) (old : State) (p : Places) (before : SessionReplies) (end : StepEnd) (new : State) (q : Places) (after : SessionReplies) (reads_before reads_after : ℕ)
-    → ReadsWithin p.block (position old.history) → Stepped alone old (step p line.text line.skip) name end new q reads_before reads_after → Keeps end before after → ExecutesNext alone name line old p before new q after
-next_executed alone name line old p before (steps.Reply r) new q after reads_before reads_after fits stepped kept =
-    λ lines s so_far. subst (λ replies. SessionExecutedTo alone (record { name = name; lines = lines ++ line ∷ [] }) s replies new q) (sym kept)
-    (executed_more alone _ name lines s before old p line r new q reads_before reads_after so_far fits stepped)
-next_executed alone name line old p before (steps.DiskFault r) new q after reads_before reads_after fits stepped kept =
-    λ lines s so_far. subst (λ replies. SessionExecutedTo alone (record { name = name; lines = lines ++ line ∷ [] }) s replies new q) (sym kept)
-    (executed_more alone _ name lines s before old p line r new q reads_before reads_after so_far fits stepped)
-next_executed alone name line old p before steps.NoMemory new q after reads_before reads_after fits stepped kept = absurd kept
+pub next_executed : (alone : Bool) (name own : List ℕ) (line : SessionLine) (old : State) (p : Places) (olds : Replies) (end : StepEnd) (new : State) (q : Places) (news : Replies) (before after : ℕ)
+    → own ≡ name → ReadsWithin p.block (position old.history) → Stepped alone old (step p line.text line.skip) name end new q before after → KeepsEnd line.text end olds news
+    → ExecutesNext alone name line old p (said name olds before) new q (said own news after)
+next_executed alone name own line old p olds (steps.Reply r) new q news before after same fits stepped kept =
+    λ lines s so_far. subst (λ replies. SessionExecutedTo alone (record { name = name; lines = lines ++ line ∷ [] }) s replies new q) (said_more line.text name own r olds news before after same kept)
+    (executed_more alone _ name lines s (said name olds before) old p line r new q after so_far fits stepped)
+next_executed alone name own line old p olds (steps.DiskFault r) new q news before after same fits stepped kept =
+    λ lines s so_far. subst (λ replies. SessionExecutedTo alone (record { name = name; lines = lines ++ line ∷ [] }) s replies new q) (said_more line.text name own r olds news before after same kept)
+    (executed_more alone _ name lines s (said name olds before) old p line r new q after so_far fits stepped)
+next_executed alone name own line old p olds steps.NoMemory new q news before after same fits stepped kept = absurd kept
+
+-- nothing was said where nothing was kept
+pub said_nothing : (name : List ℕ) (replies : Replies) (reads : ℕ) → replies.exchanges.items ≡ [] → replies.fault ≡ false → reads ≡ 0 → said name replies reads ≡ nothing_said name
+said_nothing name replies reads none no_fault zero = λ i. record { name = name; exchanges = none i; fault = no_fault i; reads = zero i }
 
 -- ---- lines by their places in an input
 
 -- a session before its first line
-pub begun_fresh : (alone : Bool) (name : List ℕ) (s : State) (replies : SessionReplies) (p : Places) → replies ≡ no_replies → p ≡ no_places → SessionExecutedTo alone (record { name = name; lines = [] }) s replies s p
+pub begun_fresh : (alone : Bool) (name : List ℕ) (s : State) (replies : SessionReplies) (p : Places) → replies ≡ nothing_said name → p ≡ no_places → SessionExecutedTo alone (record { name = name; lines = [] }) s replies s p
 begun_fresh alone name s replies p silent fresh =
     subst (λ q. SessionExecutedTo alone (record { name = name; lines = [] }) s replies s q) (sym fresh)
     (subst (λ r. SessionExecutedTo alone (record { name = name; lines = [] }) s r s no_places) (sym silent) (begun alone name s))

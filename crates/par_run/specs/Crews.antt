@@ -1,13 +1,14 @@
 -- The workers of a run.
-use Rattle.std.specs.Prelude.{◌≡◌, ◌<◌, ◌≤◌, ℕ, Bool, List, All, length, map}
+use Rattle.std.specs.Prelude.{◌≡◌, ◌<◌, ◌≤◌, ℕ, List, ◌++◌, All, length, map}
 use Rattle.ts_model.specs.History.{History}
 use Rattle.ts_model.specs.States.{State}
-use Rattle.crew_run.specs.Slots.{Slot, workers_of}
+use Rattle.par_workers.specs.Slots.{Slot, workers_of}
 use Rattle.ts_sessions.specs.Script.{SessionScript, most_sessions}
-use Rattle.one_history.specs.Parallel.{RanInParallel}
-use Rattle.session_lines.specs.Sorted.{Sorted, at_once, final, only, setup}
+use Rattle.par_laws.specs.Parallel.{RanInParallel, SessionReplies}
+use Rattle.par_lines.specs.Sorted.{Sorted, at_once, final, only, setup}
 use Rattle.par_run.specs.declared.crews.Crews.{Crews}
 use Rattle.par_run.specs.declared.workers.SessionWorker.{SessionWorker}
+use Rattle.par_run.specs.Outputs.{Output, Says}
 use Rattle.par_run.specs.Workers.{worker_script, IsReady}
 use Rattle.ts_model.specs.declared.snapshots.Shown.{Ghosts as Shown}
 
@@ -47,14 +48,26 @@ module _ {B G T J : Type 0} where
     pub at_once_have : length crews.at_once.items < shares
     pub last_has : length crews.last.items < shares
 
-  -- over an opening history they ran, and left a state, this text, and whether a reply is a FAULT
-  abbrev pub CrewsRan : History → Crews B G T J → State → List ℕ → Bool → Type 0
-  CrewsRan opening crews new text fault =
-      RanInParallel opening crews.refusals.items (scripts_in crews.setup.items) (scripts_in crews.at_once.items)
-      (scripts_in crews.last.items) new text fault
+-- over an opening history first the sessions of `setup` ran, then `others` all at once, then those of `final`, beside
+-- lines that were refused with a text. They left a state and this output, and so many stored rows were looked at
+pub record RanTo (opening : History) (refusals : List ℕ) (setup others final : List SessionScript) (new : State)
+    (out : Output) (reads : ℕ) : Type 0 where
+  -- what the sessions of each phase replied
+  pub before : List SessionReplies
+  pub between : List SessionReplies
+  pub after : List SessionReplies
+  pub ran : RanInParallel opening setup others final new before between after
+  pub says : Says refusals (before ++ between ++ after) out reads
+  pub names : out.names ≡ map (λ session. session.name) (setup ++ others ++ final)
 
--- the same of the sorted lines of an input
-abbrev pub LinesRan : History → Sorted → State → List ℕ → Bool → Type 0
-LinesRan opening lines new text fault =
-    RanInParallel opening lines.refusals (only setup lines.sessions) (at_once lines.sessions)
-    (only final lines.sessions) new text fault
+-- workers did so
+abbrev pub CrewsRan : {B G T J : Type 0} → History → Crews B G T J → State → Output → ℕ → Type 0
+CrewsRan opening crews new out reads =
+    RanTo opening crews.refusals.items (scripts_in crews.setup.items) (scripts_in crews.at_once.items)
+    (scripts_in crews.last.items) new out reads
+
+-- the sessions of the sorted lines of an input did
+abbrev pub LinesRan : History → Sorted → State → Output → ℕ → Type 0
+LinesRan opening lines new out reads =
+    RanTo opening lines.refusals (only setup lines.sessions) (at_once lines.sessions) (only final lines.sessions) new
+    out reads

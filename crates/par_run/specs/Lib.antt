@@ -1,4 +1,5 @@
 pub mod Replies
+pub mod Outputs
 pub mod Workers
 pub mod Crews
 pub mod Ends

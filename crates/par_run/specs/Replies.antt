@@ -1,40 +1,39 @@
--- What a session has replied, and how it executes its next line.
-use Rattle.std.specs.Prelude.{◌≡◌, ℕ, Bool, false, ◌||◌, List, [], ◌∷◌, ◌++◌}
+-- What a session has replied so far, and how it executes its next line.
+use Rattle.std.specs.Prelude.{◌≡◌, ℕ, Bool, ◌||◌, List, [], ◌∷◌, ◌++◌, Option, Some, None}
 use Rattle.ts_model.specs.States.{State}
 use Rattle.ts_sessions.specs.declared.replies.Reply.{Reply as ReplyMade}
 use Rattle.ts_sessions.specs.declared.replies.StepEnd.{StepEnd}
 use Rattle.ts_sessions.specs.declared.replies.StepEnd.TheVariants as steps
 use Rattle.ts_sessions.specs.Places.{Places}
 use Rattle.ts_sessions.specs.Script.{SessionLine}
-use Rattle.one_history.specs.Parallel.{SessionReplies, SessionExecutedTo, all_texts, any_fault}
+use Rattle.par_laws.specs.Parallel.{SessionReplies, SessionExecutedTo}
 use Rattle.par_run.specs.declared.replies.Replies.{Replies}
 
--- what was kept of the replies of a session
-abbrev pub replies_in : Replies → SessionReplies
-replies_in replies = record { text = replies.text.items; fault = replies.fault }
+-- the reply with which a step ended, unless there was no memory
+abbrev pub reply_in : StepEnd → Option ReplyMade
+reply_in (steps.Reply r) = Some r
+reply_in (steps.DiskFault r) = Some r
+reply_in steps.NoMemory = None
 
--- a session that has replied nothing
-abbrev pub no_replies : SessionReplies
-no_replies = record { text = []; fault = false }
+-- a line and its reply were kept last
+pub record Keeps (line : List ℕ) (reply : ReplyMade) (old new : Replies) : Type 0 where
+  pub exchanges : new.exchanges.items ≡ old.exchanges.items ++ record { line = line; reply = reply.text } ∷ []
+  pub fault : new.fault ≡ (old.fault || reply.fault)
 
--- a reply comes last in what a session has replied
-abbrev pub with_reply : ReplyMade → SessionReplies → SessionReplies
-with_reply reply replies = record { text = replies.text ++ reply.text; fault = replies.fault || reply.fault }
+-- so were a line and the reply with which its step ended
+abbrev pub KeepsEnd : List ℕ → StepEnd → Replies → Replies → Type 0
+KeepsEnd line (steps.Reply r) old new = Keeps line r old new
+KeepsEnd line (steps.DiskFault r) old new = Keeps line r old new
+KeepsEnd line steps.NoMemory old new = ⊥
 
--- so do those of another session
-abbrev pub with_replies : SessionReplies → SessionReplies → SessionReplies
-with_replies others replies = record { text = replies.text ++ others.text; fault = replies.fault || others.fault }
-
--- and those of several
-abbrev pub with_all : List SessionReplies → SessionReplies → SessionReplies
-with_all sessions replies =
-    record { text = replies.text ++ all_texts sessions; fault = replies.fault || any_fault sessions }
-
--- the reply with which a step ended comes last
-abbrev pub Keeps : StepEnd → SessionReplies → SessionReplies → Type 0
-Keeps (steps.Reply r) old new = new ≡ with_reply r old
-Keeps (steps.DiskFault r) old new = new ≡ with_reply r old
-Keeps steps.NoMemory old new = ⊥
+-- what the session with a name has said and was replied, where these replies were kept and so many stored rows read
+abbrev pub said : List ℕ → Replies → ℕ → SessionReplies
+said name replies reads = record {
+  name = name;
+  exchanges = replies.exchanges.items;
+  fault = replies.fault;
+  reads = reads;
+}
 
 -- whatever lines a session with a name had executed from a state on, it has executed one line more
 abbrev pub ExecutesNext :

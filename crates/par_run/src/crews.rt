@@ -2,13 +2,13 @@
 ghost use Rattle.std.specs.Prelude.{◌≡◌, ◌≤◌, All, length, IfOk};
 ghost use Rattle.std.specs.Option.{option_to_list};
 ghost use Rattle.ts_io.specs.declared.limits.TheConstants.{INPUT_LIMIT};
-ghost use Rattle.session_lines.specs.Places.{scripts_of, IsWithin};
-ghost use Rattle.session_lines.specs.Sorted.{sorted};
+ghost use Rattle.par_lines.specs.Places.{scripts_of, IsWithin};
+ghost use Rattle.par_lines.specs.Sorted.{sorted};
 ghost use Rattle.par_run.specs.Crews.{AreFew, AreOf, AreReady, IsCrew};
 
 use crate::workers::SessionWorker;
-use crew_run::Slot;
-use session_lines::{SessionLines, into_phases, sort_lines};
+use par_workers::Slot;
+use par_lines::{SessionLines, into_phases, sort_lines};
 use std::alloc::Global;
 use ts_model::{Backend, Gate, Shown};
 use ts_schema::NoMemory;

@@ -1,5 +1,5 @@
 //! How a run ends.
-use ts_schema::Seq;
+use ts_schema::{Name, Seq};
 
 /// How a run ended.
 #[derive(Clone, Copy, Debug, PartialEq, Eq)]
@@ -12,18 +12,37 @@ pub enum ParStop {
     NoMemory,
 }
 
+/// A line that a session executed, with its reply.
+#[derive(Drop, Debug, PartialEq, Eq)]
+pub struct ParLine {
+    /// The place of its session among the names, from 0.
+    pub session: u32,
+    /// The line up to its comment, without its line end.
+    pub line: Seq<u8>,
+    /// The whole text of its reply.
+    pub reply: Seq<u8>,
+}
+
 /// What a run left.
 #[derive(Drop)]
 pub struct ParEnd<B> {
     /// The store.
     pub backend: B,
+    /// The position at which it began.
+    pub start: u64,
     /// The refusals of lines that no session answers, in the order of lines, and then the replies of
     /// `setup`, of the other sessions in order of appearance, and of `final`. Empty where there was no
     /// memory.
     pub text: Seq<u8>,
     /// Whether a reply is a FAULT. False where there was no memory.
     pub fault: bool,
-    /// How many stored rows all answers and snapshots looked at.
+    /// The names of the sessions, in the order of their replies in the text. Empty where there was no
+    /// memory.
+    pub names: Seq<Name>,
+    /// Each line that a session answered with its reply, in the order of the text. Empty where there was
+    /// no memory.
+    pub lines: Seq<ParLine>,
+    /// How many stored rows all answers and snapshots looked at. It stands still at its type's end.
     pub reads: u64,
     /// How it ended.
     pub stop: ParStop,

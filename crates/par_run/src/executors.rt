@@ -3,12 +3,13 @@ ghost use Rattle.std.specs.Prelude.{◌≡◌, ◌+◌, ◌≤◌, All, length, 
 ghost use Rattle.std.specs.Thread.{IsSync};
 ghost use Rattle.ts_sessions.specs.Held.{HoldsOf, most_queued, places_in, queued, waiting_bytes};
 ghost use Rattle.ts_sessions.specs.Places.{no_places};
-ghost use Rattle.one_history.specs.Parallel.{SessionExecuted};
-ghost use Rattle.session_lines.specs.Places.{line_at, IsLineWithin};
-ghost use Rattle.par_run.specs.Replies.{no_replies, replies_in, ExecutesNext};
+ghost use Rattle.par_laws.specs.Parallel.{SessionExecuted};
+ghost use Rattle.par_lines.specs.Places.{line_at, IsLineWithin};
+ghost use Rattle.par_run.specs.Replies.{ExecutesNext};
+ghost use Rattle.par_run.specs.Workers.{nothing_said, said_by};
 
 use crate::replies::Replies;
-use session_lines::LinePlace;
+use par_lines::LinePlace;
 use std::alloc::Global;
 use std::thread::Threads;
 use ts_model::{Backend, Gate, Shown};
@@ -54,10 +55,10 @@ where
         requires room { sum_by (λ line. line.len) lines.now ≤ most_queued }
         requires fresh { places_in self.old.session ≡ no_places }
         requires holds { HoldsOf T.Shown self.old.session (B.state backend.old) }
-        requires no_replies { replies_in self.old.replies ≡ no_replies }
+        requires unanswered { said_by self.old ≡ nothing_said self.old.session.name }
         ensures executed { OnOk result (SessionExecuted B.alone
             (record { name = self.old.session.name; lines = map (line_at input.now) lines.now })
-            (B.state backend.old) (replies_in self.new.replies) (B.state backend.new)) }
+            (B.state backend.old) (said_by self.new) (B.state backend.new)) }
         ensures name { self.new.session.name ≡ self.old.session.name }
         ensures kin { B.kin backend.new ≡ B.kin backend.old }
     {
@@ -83,8 +84,8 @@ where
         requires holds { HoldsOf T.Shown self.old.session (B.state backend.old) }
         ensures executed { OnOk result (ExecutesNext B.alone self.old.session.name
             (record { text = text.now; skip = skip })
-            (B.state backend.old) (places_in self.old.session) (replies_in self.old.replies)
-            (B.state backend.new) (places_in self.new.session) (replies_in self.new.replies)) }
+            (B.state backend.old) (places_in self.old.session) (said_by self.old)
+            (B.state backend.new) (places_in self.new.session) (said_by self.new)) }
         ensures name { self.new.session.name ≡ self.old.session.name }
         ensures holds { HoldsOf T.Shown self.new.session (B.state backend.new) }
         ensures queued { waiting_bytes self.new.session ≤ waiting_bytes self.old.session + length text.now }
@@ -99,7 +100,7 @@ where
             skip,
             &mut self.steps,
         );
-        self.replies.keep(end)?;
+        self.replies.keep(self.alloc, text, end)?;
         self.gate.answered(self.session.number);
         Ok(())
     }

@@ -4,7 +4,7 @@
 //! - `runs`: the run.
 //! - `ends`: how a run ends.
 //! - `crews`: the workers of a run.
-//! - `texts`: what all workers have replied.
+//! - `outputs`: what all workers have replied.
 //! - `workers`: a session that executes its lines of an input at a store.
 //! - `executors`: a session that executes lines one after the other.
 //! - `replies`: what a session replies.
@@ -13,10 +13,10 @@
 mod crews;
 mod ends;
 mod executors;
+mod outputs;
 mod replies;
 mod runs;
-mod texts;
 mod workers;
 
-pub use ends::{ParEnd, ParStop};
+pub use ends::{ParEnd, ParLine, ParStop};
 pub use runs::par;

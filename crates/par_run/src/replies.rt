@@ -1,56 +1,62 @@
-//! What a session replies.
-ghost use Rattle.std.specs.Prelude.{◌≡◌, OnOk};
-ghost use Rattle.par_run.specs.Replies.{no_replies, replies_in, with_replies, with_reply, Keeps};
+//! What a session has replied so far.
+ghost use Rattle.std.specs.Prelude.{◌≡◌, [], false, OnOk};
+ghost use Rattle.par_run.specs.Replies.{reply_in, Keeps, KeepsEnd};
 
+use par_laws::Exchange;
 use std::alloc::Global;
-use ts_schema::NoMemory;
+use ts_schema::{NoMemory, Seq};
 use ts_sessions::{Reply, StepEnd};
 
-/// What a session has replied.
+/// What a session has replied so far.
 #[derive(Drop)]
 pub(crate) struct Replies {
-    /// The text of its replies, in order.
-    pub text: Vec<u8>,
-    /// Whether one of them is a FAULT.
+    /// Its lines with their replies, in order.
+    pub exchanges: Vec<Exchange>,
+    /// Whether one of the replies is a FAULT.
     pub fault: bool,
 }
 
 impl Replies {
     /// No reply yet. It takes no memory.
     pub fn new(alloc: Global) -> Replies
-        ensures { replies_in result ≡ no_replies }
+        ensures exchanges { result.exchanges.items ≡ [] }
+        ensures fault { result.fault ≡ false }
     {
         Replies {
-            text: Vec::new(alloc),
+            exchanges: Vec::new(alloc),
             fault: false,
         }
     }
 
-    /// Keeps the reply with which a step ended. A disk fault has one too: the session goes on after it.
-    pub fn keep(&mut self, end: StepEnd) -> Result<(), NoMemory>
-        ensures { OnOk result (Keeps end (replies_in self.old) (replies_in self.new)) }
+    /// Keeps the reply to a line with which a step ended. A disk fault has one too: the session goes on
+    /// after it.
+    pub fn keep(&mut self, alloc: Global, line: &[u8], end: StepEnd) -> Result<(), NoMemory>
+        ensures { OnOk result (KeepsEnd line.now end self.old self.new) }
     {
-        match end {
-            StepEnd::Reply(reply) => self.append(reply),
-            StepEnd::DiskFault(reply) => self.append(reply),
-            StepEnd::NoMemory => Err(NoMemory),
+        match reply_of(end) {
+            Some(reply) => self.append(alloc, line, reply),
+            None => Err(NoMemory),
         }
     }
 
-    fn append(&mut self, reply: Reply) -> Result<(), NoMemory>
-        ensures { OnOk result (replies_in self.new ≡ with_reply reply (replies_in self.old)) }
+    fn append(&mut self, alloc: Global, line: &[u8], reply: Reply) -> Result<(), NoMemory>
+        ensures { OnOk result (Keeps line.now reply self.old self.new) }
     {
-        self.text.extend_from_slice(reply.text.items())?;
-        self.fault |= reply.fault;
+        let line = Seq::of(Vec::from_slice(alloc, line)?);
+        let Reply { text, fault, .. } = reply;
+        self.exchanges.push(Exchange { line, reply: text })?;
+        self.fault |= fault;
         Ok(())
     }
+}
 
-    /// Appends what another session has replied.
-    pub fn append_all(&mut self, others: &Replies) -> Result<(), NoMemory>
-        ensures { OnOk result (replies_in self.new ≡ with_replies (replies_in others.now) (replies_in self.old)) }
-    {
-        self.text.extend_from_slice(others.text.as_slice())?;
-        self.fault |= others.fault;
-        Ok(())
+/// The reply with which a step ended, unless there was no memory.
+fn reply_of(end: StepEnd) -> Option<Reply>
+    ensures { result ≡ reply_in end }
+{
+    match end {
+        StepEnd::Reply(reply) => Some(reply),
+        StepEnd::DiskFault(reply) => Some(reply),
+        StepEnd::NoMemory => None,
     }
 }

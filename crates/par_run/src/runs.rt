@@ -3,23 +3,23 @@ ghost use Rattle.std.specs.Prelude.{◌≡◌, ◌≢◌, ◌<◌, ◌≤◌, fa
 ghost use Rattle.std.specs.Thread.{IsSync};
 ghost use mathlib.Core.List.{IsPrefix};
 ghost use Rattle.ts_io.specs.declared.limits.TheConstants.{INPUT_LIMIT};
+ghost use Rattle.ts_model.specs.History.{position};
 ghost use Rattle.ts_model.specs.States.{stands_still};
 ghost use Rattle.turn_lock.specs.Pass.{shares_of, seen_of, StaysIn};
 ghost use Rattle.shared_store.specs.Making.{IsFirstPass};
 ghost use Rattle.shared_store.specs.Stores.{IsPassOf};
 ghost use Rattle.shared_store.specs.Wrapped.{GoesOn};
-ghost use Rattle.crew_run.specs.Slots.{workers_of};
-ghost use Rattle.crew_run.specs.Outcomes.{Ran};
-ghost use Rattle.session_lines.specs.Sorted.{sorted};
-ghost use Rattle.par_run.specs.Replies.{replies_in};
+ghost use Rattle.par_workers.specs.Slots.{workers_of};
+ghost use Rattle.par_workers.specs.Outcomes.{Ran};
+ghost use Rattle.par_lines.specs.Sorted.{sorted};
 ghost use Rattle.par_run.specs.Crews.{AreFew, AreReady, CrewsRan, HaveShares, LinesRan};
 ghost use Rattle.par_run.specs.Ends.{is_disk_fault, stop_by};
+ghost use Rattle.par_run.specs.Outputs.{output_in, output_of};
 
 use crate::crews::{Crews, make_crews};
 use crate::ends::{ParEnd, ParStop};
-use crate::replies::Replies;
-use crate::texts::{all_reads, all_replies, had_memory};
-use crew_run::{Slot, Worker, run_at_once};
+use crate::outputs::{Output, all_reads, all_replies, had_memory};
+use par_workers::{Slot, Worker, run_at_once};
 use shared_store::{MadeStore, Pass, SharedStore};
 use std::alloc::Global;
 use std::sync::Wait;
@@ -31,10 +31,10 @@ use ts_schema::{NoMemory, Seq};
 /// `setup` alone, then all other sessions at once, each in a thread of its own, then `final` alone. It
 /// gives the store back on each ending, and may wait, as the workers take turns at the store.
 ///
-/// The text and the store are as if each line had been answered over the one history that the store then
-/// holds, at positions that never fall from one line of a session to its next. After a disk fault the store
-/// stands still, and the sessions go on. Where there is no memory for a line, its session ends there, and
-/// no other begins any more.
+/// The replies and the store are as if each line had been answered over the one history that the store
+/// then holds, at positions that never fall from one line of a session to its next. After a disk fault the
+/// store stands still, and the sessions go on. Where there is no memory for a line, its session ends there,
+/// and no phase begins any more.
 pub fn par<B, R, G>(rt: &R, alloc: Global, backend: B, input: &[u8], gate: &G) -> ParEnd<B>
 where
     B: Backend + Send,
@@ -47,20 +47,28 @@ where
     requires going { stands_still (B.state backend) ≡ false }
     requires within { length input.now ≤ INPUT_LIMIT }
     ensures ran { result.stop ≢ ParStop.NoMemory → LinesRan (B.state backend).history (sorted input.now)
-        (B.state result.backend) result.text result.fault }
+        (B.state result.backend) (output_of result) result.reads }
+    ensures start { result.start ≡ position (B.state backend).history }
     ensures stop { result.stop ≢ ParStop.NoMemory
         → stands_still (B.state result.backend) ≡ is_disk_fault result.stop }
     ensures goes_on { GoesOn (B.state backend) (B.state result.backend) }
     ensures kin { B.kin result.backend ≡ B.kin backend }
 {
+    let start = backend.position();
     match make_crews(alloc, input, gate) {
-        Ok(crews) => run_over(rt, alloc, backend, crews),
-        Err(NoMemory) => ended(alloc, backend, Err(NoMemory), 0),
+        Ok(crews) => run_over(rt, alloc, backend, start, crews),
+        Err(NoMemory) => ended(alloc, backend, start, Err(NoMemory), 0),
     }
 }
 
 /// Shares a store among the workers, and runs them.
-fn run_over<B, R, G>(rt: &R, alloc: Global, backend: B, crews: Crews<'_, B, G>) -> ParEnd<B>
+fn run_over<B, R, G>(
+    rt: &R,
+    alloc: Global,
+    backend: B,
+    start: u64,
+    crews: Crews<'_, B, G>,
+) -> ParEnd<B>
 where
     B: Backend + Send,
     B::Shot: Send,
@@ -73,7 +81,8 @@ where
     requires few { AreFew crews }
     requires ready { AreReady B.Shot.Shown crews }
     ensures ran { result.stop ≢ ParStop.NoMemory → CrewsRan (B.state backend).history crews.entry
-        (B.state result.backend) result.text result.fault }
+        (B.state result.backend) (output_of result) result.reads }
+    ensures start { result.start ≡ start }
     ensures stop { result.stop ≢ ParStop.NoMemory
         → stands_still (B.state result.backend) ≡ is_disk_fault result.stop }
     ensures goes_on { GoesOn (B.state backend) (B.state result.backend) }
@@ -82,8 +91,8 @@ where
     // Each worker that runs has one share, and one stays with the first pass.
     let shares = crews.at_once.len() as u32 + 2;
     match SharedStore::new(alloc, backend, shares) {
-        MadeStore::Made { store, pass } => run_crews(rt, alloc, store, pass, crews),
-        MadeStore::NoMemory(backend) => ended(alloc, backend, Err(NoMemory), 0),
+        MadeStore::Made { store, pass } => run_crews(rt, alloc, store, pass, start, crews),
+        MadeStore::NoMemory(backend) => ended(alloc, backend, start, Err(NoMemory), 0),
     }
 }
 
@@ -93,6 +102,7 @@ fn run_crews<B, R, G>(
     alloc: Global,
     store: SharedStore<B>,
     pass: Pass<B>,
+    start: u64,
     crews: Crews<'_, B, G>,
 ) -> ParEnd<B>
 where
@@ -105,9 +115,11 @@ where
     requires alone { IsTrue B.alone }
     requires first { IsFirstPass store.opened.value store.shares store pass }
     requires shares { HaveShares store.shares crews }
+    requires few { AreFew crews }
     requires ready { AreReady B.Shot.Shown crews }
     ensures ran { result.stop ≢ ParStop.NoMemory → CrewsRan (B.state store.opened.value).history crews.entry
-        (B.state result.backend) result.text result.fault }
+        (B.state result.backend) (output_of result) result.reads }
+    ensures start { result.start ≡ start }
     ensures stop { result.stop ≢ ParStop.NoMemory
         → stands_still (B.state result.backend) ≡ is_disk_fault result.stop }
     ensures goes_on { GoesOn (B.state store.opened.value) (B.state result.backend) }
@@ -123,7 +135,7 @@ where
     // A look at the store tells that all its events were allowed. The snapshot itself isn't needed.
     let _ = backend.snap();
     let reads = all_reads(&crews);
-    ended(alloc, backend, all_replies(crews), reads)
+    ended(alloc, backend, start, all_replies(alloc, crews), reads)
 }
 
 /// Lets the workers of a crew work at once, where there was memory so far.
@@ -148,6 +160,8 @@ where
     ensures shares { shares_of result ≡ shares_of all }
     ensures begins { IsPrefix (seen_of all) (seen_of result) }
     ensures stays { StaysIn result all }
+    ensures each { length crew.new.items ≡ length crew.old.items }
+    ensures idle { enough ≡ false → (result ≡ all) × (crew.new.items ≡ crew.old.items) }
     ensures ran { enough ≡ true → Ran B.state store.now W.did all result
         (workers_of crew.old.items) (workers_of crew.new.items) }
 {
@@ -158,34 +172,48 @@ where
     }
 }
 
-/// The end of a run, whose workers have replied so.
+/// The end of a run that began at a position, and whose workers have replied so.
 fn ended<B: Backend>(
     alloc: Global,
     backend: B,
-    replies: Result<Replies, NoMemory>,
+    start: u64,
+    replied: Result<Output, NoMemory>,
     reads: u64,
 ) -> ParEnd<B>
     ensures backend { result.backend ≡ backend }
-    ensures stop { MatchResult replies (λ _. result.stop ≡ stop_by (stands_still (B.state backend)))
+    ensures start { result.start ≡ start }
+    ensures reads { result.reads ≡ reads }
+    ensures stop { MatchResult replied (λ _. result.stop ≡ stop_by (stands_still (B.state backend)))
         (λ _. result.stop ≡ ParStop.NoMemory) }
-    ensures replies { IfOk replies (λ r. replies_in r ≡ record { text = result.text; fault = result.fault }) }
+    ensures output { IfOk replied (λ output. output_in output ≡ output_of result) }
 {
-    match replies {
-        Ok(replies) => {
+    match replied {
+        Ok(output) => {
             let stop = stop_at(&backend);
-            let Replies { text, fault } = replies;
+            let Output {
+                text,
+                fault,
+                names,
+                lines,
+            } = output;
             ParEnd {
                 backend,
+                start,
                 text: Seq::of(text),
                 fault,
+                names: Seq::of(names),
+                lines: Seq::of(lines),
                 reads,
                 stop,
             }
         }
         Err(NoMemory) => ParEnd {
             backend,
+            start,
             text: Seq::new(alloc),
             fault: false,
+            names: Seq::new(alloc),
+            lines: Seq::new(alloc),
             reads,
             stop: ParStop::NoMemory,
         },

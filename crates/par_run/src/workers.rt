@@ -1,12 +1,12 @@
 //! A session that executes its lines of an input at a store.
 ghost use Rattle.std.specs.Prelude.{◌≡◌, ◌≤◌, length};
 ghost use Rattle.ts_io.specs.declared.limits.TheConstants.{INPUT_LIMIT};
-ghost use Rattle.session_lines.specs.Places.{script_of, IsWithin};
+ghost use Rattle.par_lines.specs.Places.{script_of, IsWithin};
 
 use crate::executors::{Executor, Reads};
 use crate::replies::Replies;
-use crew_run::Worker;
-use session_lines::{LinePlace, SessionLines};
+use par_workers::Worker;
+use par_lines::{LinePlace, SessionLines};
 use std::alloc::Global;
 use std::thread::Threads;
 use ts_model::{Backend, Gate, Shown};
@@ -35,6 +35,7 @@ where
 {
     ghost use Rattle.par_run.specs.Workers.{worker_script, IsReady};
 
+    #[tactic(auto, using(crate::proofs::ReplyLaws::said_nothing))]
     /// A session before the first of its lines of an input. It takes no memory.
     pub fn new(
         alloc: Global,
@@ -71,7 +72,7 @@ impl<'a, T: Shown + Drop, G: Gate> Worker for SessionWorker<'a, T, G>
 where
     T::Job: Drop,
 {
-    ghost use Rattle.one_history.specs.Calls.{Worked};
+    ghost use Rattle.par_laws.specs.Calls.{Worked};
     ghost use Rattle.par_run.specs.Workers.{ran_out, replies_of, worker_script, IsReady};
 
     type Shot = T;

@@ -73,3 +73,28 @@ fn replies_stand_in_the_order_of_phases(rt: HostRuntime) -> Result<(), Fail> {
     }
     Ok(())
 }
+
+#[test]
+fn each_line_stands_with_its_reply(rt: HostRuntime) -> Result<(), Fail> {
+    let end = run(
+        &rt,
+        b"final: SELECT * FROM m\nSELECT\n a: BEGIN -- here\na: COMMIT\n",
+        &NoGate,
+    )?;
+    let lines: [(u32, &[u8], &[u8]); 3] = [
+        (0, b" a: BEGIN ", b"a: BEGIN\n"),
+        (0, b"a: COMMIT", b"a: COMMIT EMPTY\n"),
+        (
+            1,
+            b"final: SELECT * FROM m",
+            b"final: FAULT E06 no_relation @0\n",
+        ),
+    ];
+    assert_eq!(rt; (end.start, end.names.len(), end.lines.len()), (0, 2, 3));
+    for (line, (session, text, reply)) in end.lines.items().iter().zip(lines.iter()) {
+        assert_eq!(rt; line.session, *session);
+        assert!(rt; line.line.items() == *text);
+        assert!(rt; line.reply.items() == *reply);
+    }
+    Ok(())
+}

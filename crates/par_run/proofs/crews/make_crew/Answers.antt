@@ -2,7 +2,7 @@ use Rattle.std.proofs.Common.{◌∙◌, ◌+◌, None, length, sym, ap, subst, 
 use Rattle.std.proofs.lemmas.List.{length_push}
 use Rattle.std.proofs.lemmas.Iterator.Consumers.{YieldsList-end, YieldsList-turn}
 use Rattle.std.proofs.lemmas.Iterator.Adapters.{YieldsList-from_vec}
-use Rattle.session_lines.specs.Places.{scripts_of, IsWithin}
+use Rattle.par_lines.specs.Places.{scripts_of, IsWithin}
 use Rattle.par_run.specs.Crews.{IsCrew}
 use Rattle.par_run.proofs.CrewLaws.{crew_begun, crew_more}
 use Rattle.par_run.proofs.crews.make_crew.Goals as goal

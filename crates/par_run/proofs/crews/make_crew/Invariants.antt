@@ -1,5 +1,5 @@
 use Rattle.std.proofs.Common.{◌≡◌, length}
-use Rattle.session_lines.specs.Places.{scripts_of}
+use Rattle.par_lines.specs.Places.{scripts_of}
 use Rattle.par_run.specs.Crews.{IsCrew}
 use Rattle.par_run.proofs.crews.make_crew.Given as goal
 

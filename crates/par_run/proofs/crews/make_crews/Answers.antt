@@ -1,6 +1,6 @@
 use Rattle.std.proofs.Common.{length, refl, arith, ap}
 use Rattle.std.specs.Option.{option_to_list}
-use Rattle.session_lines.specs.Sorted.{at_once, final, only, setup}
+use Rattle.par_lines.specs.Sorted.{at_once, final, only, setup}
 use Rattle.par_run.proofs.CrewLaws.{of_phase, one_listed, within_listed}
 use Rattle.par_run.proofs.crews.make_crews.Goals as goal
 

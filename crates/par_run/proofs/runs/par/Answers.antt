@@ -1,8 +1,9 @@
 use Rattle.std.proofs.Common.{subst, sym}
 use Rattle.shared_store.specs.Wrapped.{GoesOn}
 use Rattle.shared_store.proofs.GoesOnLaws.{goes_nowhere}
-use Rattle.session_lines.specs.Sorted.{at_once, final, only, setup, sorted}
+use Rattle.par_lines.specs.Sorted.{at_once, final, only, setup, sorted}
 use Rattle.par_run.specs.Crews.{scripts_in}
+use Rattle.par_run.specs.Outputs.{output_of}
 use Rattle.par_run.proofs.RunLaws.{ran_of_same}
 use Rattle.par_run.proofs.runs.par.Goals as goal
 use Rattle.ts_schema.proofs.Cases.{none_there}
@@ -17,7 +18,7 @@ returns-in-Ok-clause-ran g c = λ other.
     let end = c.run_over.result in
     ran_of_same (g.B.Backend.state c.args.backend).history crews.refusals.items sorted_input.refusals
     (scripts_in crews.setup.items) (only setup sorted_input.sessions) (scripts_in crews.at_once.items) (at_once sorted_input.sessions) (scripts_in crews.last.items) (only final sorted_input.sessions)
-    (g.B.Backend.state end.backend) end.text end.fault
+    (g.B.Backend.state end.backend) (output_of end) end.reads
     c.in-Ok.ensures.lines.refusals c.in-Ok.ensures.lines.setup_is c.in-Ok.ensures.lines.at_once_are c.in-Ok.ensures.lines.last_is (c.run_over.ensures.ran other)
 
 pub returns-in-Err-clause-goes_on : goal.returns-in-Err-clause-goes_on

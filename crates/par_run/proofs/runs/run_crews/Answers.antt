@@ -1,15 +1,16 @@
-use Rattle.std.proofs.Common.{◌≡◌, ◌≢◌, ◌∙◌, true, false, map, length, nat_lt, ap, refl, sym, subst, true≢false}
+use Rattle.std.proofs.Common.{◌≡◌, ◌≢◌, ◌∙◌, true, false, map, ap, refl, sym, subst, true≢false}
 use Rattle.std.specs.List.{list_any}
 use Rattle.ts_model.specs.States.{stands_still}
 use Rattle.shared_store.specs.Wrapped.{GoesOn}
-use Rattle.crew_run.specs.Slots.{workers_of}
-use Rattle.one_history.proofs.OneHistory.{one_history, looked_allowed}
+use Rattle.par_workers.specs.Slots.{workers_of}
+use Rattle.par_laws.proofs.OneHistory.{par_laws, looked_allowed}
 use Rattle.par_run.specs.declared.ends.ParStop.TheVariants.{NoMemory}
 use Rattle.par_run.specs.Crews.{scripts_in, CrewsRan}
 use Rattle.par_run.specs.Ends.{is_disk_fault, stop_by}
-use Rattle.par_run.specs.Replies.{replies_in, with_all}
+use Rattle.par_run.specs.Outputs.{output_in, output_of, refusals_only, with_sessions}
 use Rattle.par_run.specs.Workers.{ran_out, replies_of, worker_script}
-use Rattle.par_run.proofs.RunLaws.{HasReplied, enough_is, goes_on_looked, has_replied, stop_is}
+use Rattle.par_run.proofs.OutputLaws.{reads_replied, says}
+use Rattle.par_run.proofs.RunLaws.{HasReplied, enough_is, goes_on_looked, has_replied, names_of_three, stop_is}
 use Rattle.par_run.proofs.runs.run_crews.Goals as goal
 use Rattle.par_run.proofs.runs.run_crews.Goals.{then-enough, else-enough}
 
@@ -17,9 +18,9 @@ use Rattle.par_run.proofs.runs.run_crews.Goals.{then-enough, else-enough}
 replied : (g : _) (c : goal.After-ended g) → c.ended.result.stop ≢ NoMemory
     → HasReplied (list_any ran_out (workers_of c.run_crew-pass.new.crew.items) ≡ false) (list_any ran_out (workers_of c.run_crew-pass-2.new.crew.items) ≡ false) (list_any ran_out (workers_of c.run_crew-pass-3.new.crew.items) ≡ false)
     (c.ended.result.stop ≡ stop_by (stands_still (g.B.Backend.state c.snap.new.self)))
-    (λ r. replies_in r ≡ with_all (map replies_of (workers_of c.run_crew-pass-3.new.crew.items)) (with_all (map replies_of (workers_of c.run_crew-pass-2.new.crew.items)) (with_all (map replies_of (workers_of c.run_crew-pass.new.crew.items)) (record { text = c.args.crews.refusals.items; fault = nat_lt 0 (length c.args.crews.refusals.items) }))))
-    (λ r. replies_in r ≡ record { text = c.ended.result.text; fault = c.ended.result.fault })
-replied g c other = has_replied _ _ _ _ _ _ (c.ended.result.stop ≡ NoMemory) c.all_replies.result c.all_replies.ensures.setup c.all_replies.ensures.at_once c.all_replies.ensures.last c.ended.ensures.stop c.all_replies.ensures.replies c.ended.ensures.replies other
+    (λ o. output_in o ≡ with_sessions (map replies_of (workers_of c.run_crew-pass-3.new.crew.items)) (with_sessions (map replies_of (workers_of c.run_crew-pass-2.new.crew.items)) (with_sessions (map replies_of (workers_of c.run_crew-pass.new.crew.items)) (refusals_only c.args.crews.refusals.items))))
+    (λ o. output_in o ≡ output_of c.ended.result)
+replied g c other = has_replied _ _ _ _ _ _ (c.ended.result.stop ≡ NoMemory) c.all_replies.result c.all_replies.ensures.setup c.all_replies.ensures.at_once c.all_replies.ensures.last c.ended.ensures.stop c.all_replies.ensures.output c.ended.ensures.output other
 
 pub returns-clause-ran : goal.returns-clause-ran
 returns-clause-ran g c = λ other.
@@ -35,9 +36,12 @@ returns-clause-ran g c = λ other.
       | then-enough w ↦ w.enough-is ∙ enough_is w.as_slice-then-enough.result.now two.new.crew.items w.had_memory-enough-then-enough.result w.had_memory-enough-then-enough.ensures w.as_slice-then-enough.ensures.value r.at_once
       | else-enough w ↦ absurd (true≢false (sym first ∙ w.if-enough.false))
     ] in
-    let same = sym r.ends ∙ r.are in
-    subst (λ b. CrewsRan (state c.args.store.opened.value).history crews (state b) c.ended.result.text c.ended.result.fault) (sym c.ended.ensures.backend)
-    (one_history worker_script replies_of ran_out state c.args.store g.B.Backend.alone crews.refusals.items (scripts_in crews.setup.items) (scripts_in crews.at_once.items) (scripts_in crews.last.items) (state c.snap.new.self) c.ended.result.text c.ended.result.fault
+    let before = map replies_of (workers_of one.new.crew.items) in
+    let between = map replies_of (workers_of two.new.crew.items) in
+    let after = map replies_of (workers_of three.new.crew.items) in
+    let counted = reads_replied (workers_of one.new.crew.items) (workers_of two.new.crew.items) (workers_of three.new.crew.items) c.ended.result.reads (c.ended.ensures.reads ∙ c.all_reads-reads.ensures) in
+    let ran =
+    par_laws worker_script replies_of ran_out state c.args.store g.B.Backend.alone (scripts_in crews.setup.items) (scripts_in crews.at_once.items) (scripts_in crews.last.items) (state c.snap.new.self) before between after
     (record {
       start = c.args.pass;
       middle = one.result;
@@ -60,9 +64,20 @@ returns-clause-ran g c = λ other.
       made = c.close-backend.ensures.made;
       is_alone = c.requires.alone;
       looked = looked_allowed g.B.Backend.alone (state c.close-backend.result) (state c.snap.new.self) c.snap.ensures.looked;
-      text_is = ap (λ x. x.text) same;
-      fault_is = ap (λ x. x.fault) same;
-    }))
+      before_is = refl;
+      between_is = refl;
+      after_is = refl;
+    }) in
+    let told = says crews.refusals.items before between after (output_of c.ended.result) c.ended.result.reads (sym r.ends ∙ r.are) counted in
+    subst (λ b. CrewsRan (state c.args.store.opened.value).history crews (state b) (output_of c.ended.result) c.ended.result.reads) (sym c.ended.ensures.backend)
+    (record {
+      before = before;
+      between = between;
+      after = after;
+      ran = ran;
+      says = told;
+      names = names_of_three (state c.args.store.opened.value).history (scripts_in crews.setup.items) (scripts_in crews.at_once.items) (scripts_in crews.last.items) (state c.snap.new.self) before between after c.ended.result.names ran told.names;
+    })
 
 pub returns-clause-stop : goal.returns-clause-stop
 returns-clause-stop g c = λ other.

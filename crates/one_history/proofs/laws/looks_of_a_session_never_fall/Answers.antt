@@ -1,5 +1,0 @@
-use Rattle.one_history.proofs.NumberLaws.{looks_never_fall}
-use Rattle.one_history.proofs.laws.looks_of_a_session_never_fall.Goals as goal
-
-pub returns : goal.returns
-returns g c = looks_never_fall

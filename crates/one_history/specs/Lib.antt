@@ -1,7 +1,0 @@
-pub mod Walked
-pub mod Answered
-pub mod Phases
-pub mod Parallel
-pub mod Calls
-pub mod Stopped
-pub mod Laws

@@ -1,0 +1,83 @@
+-- The laws, each in one sentence.
+use Rattle.std.specs.Prelude.{◌≡◌, ◌≤◌, ℕ, Bool, true, false, List, [], Option}
+use Rattle.ts_model.specs.declared.events.Event.{Event}
+use Rattle.ts_model.specs.Allowed.{all_allowed}
+use Rattle.ts_model.specs.History.{History, Begins, base_position}
+use Rattle.ts_model.specs.States.{State, stop_of}
+use Rattle.ts_sessions.specs.Gives.{AreEvents, Gives, StopsLater, numbers}
+use Rattle.ts_sessions.specs.Made.{made_in}
+use Rattle.ts_sessions.specs.Places.{Places, Turn}
+use Rattle.ts_sessions.specs.Procedures.{Procedure}
+use Rattle.ts_sessions.specs.Replies.{reply_to}
+use Rattle.ts_sessions.specs.Script.{SessionLine, SessionScript}
+use Rattle.ts_sessions.specs.Steady.{Steady}
+use Rattle.ts_sessions.specs.Walks.{Walks}
+use Rattle.shared_store.specs.Stores.{Shared}
+use Rattle.par_laws.specs.Answered.{LineAnswer, looks_of, given_by, last_in, NeverFall, Answered, IsAnswered}
+use Rattle.par_laws.specs.Calls.{RanOverStore}
+use Rattle.par_laws.specs.Parallel.{SessionReplies, RanInParallel}
+use Rattle.par_laws.specs.Stopped.{ReplyStopsAt}
+use Rattle.par_laws.specs.Walked.{Walked}
+
+-- ---- lines
+
+module _ {P A : Type 0} (does reply : P → List ℕ → ℕ → Procedure A) where
+  -- what walked a line walked its reply, where the history that it left is allowed
+  abbrev pub WalksAreReplies : Type 0
+  WalksAreReplies =
+      (alone failed : Bool) (old : State) (p : P) (text : List ℕ) (skip : ℕ) (new : State) (y : A)
+      → all_allowed new.history ≡ true → Walks alone failed old (does p text skip) new y
+      → Walks alone failed old (reply p text skip) new y
+
+-- the replies to all lines are steady from a history on
+abbrev pub AreSteady : {P A : Type 0} → (P → List ℕ → ℕ → Procedure A) → P → History → Type 0
+AreSteady reply p base = (text : List ℕ) (skip : ℕ) → Steady false base (reply p text skip)
+
+-- lines that were walked one after the other, while others changed the store too, are answered by their replies over
+-- each longer history that is allowed, also over one whose store stopped later
+abbrev pub WalkedLinesAreAnswered : (P A : Type 0) → Type 0
+WalkedLinesAreAnswered P A =
+    (does reply : P → List ℕ → ℕ → Procedure A) (next : A → P) (alone : Bool) (all : History) (later : Option ℕ)
+    (s : State) (p : P) (lines : List SessionLine) (ys : List A) (new : State) (q : P)
+    → WalksAreReplies does reply → all_allowed all ≡ true → Begins new.history all → StopsLater (stop_of new) later
+    → Walked does next (AreSteady reply) alone s p lines ys new q → IsAnswered reply next all later s new p lines ys
+
+-- the printed looks of a session never fall from one line to the next
+abbrev pub LooksNeverFall : (P A : Type 0) → Type 0
+LooksNeverFall P A =
+    (reply : P → List ℕ → ℕ → Procedure A) (next : A → P) (all : History) (stop : Option ℕ) (at : ℕ) (p : P)
+    (lines : List SessionLine) (answers : List (LineAnswer A))
+    → Answered reply next all stop at p lines answers → NeverFall at (looks_of answers) (last_in at answers)
+
+-- the events that the lines of a session made are those of the history with their numbers, in their order
+abbrev pub AnswersGiveEvents : (P A : Type 0) → Type 0
+AnswersGiveEvents P A =
+    (reply : P → List ℕ → ℕ → Procedure A) (next : A → P) (all : History) (stop : Option ℕ) (at : ℕ) (p : P)
+    (lines : List SessionLine) (answers : List (LineAnswer A))
+    → Answered reply next all stop at p lines answers → AreEvents all at (given_by answers) (last_in at answers)
+
+-- a reply is E24 only where the store had stopped, with that position; the session had looked at what the history
+-- begins with, or later
+abbrev pub OnlyStopsAreReported : Type 0
+OnlyStopsAreReported =
+    (all : History) (stop : Option ℕ) (at : ℕ) (p : Places) (text : List ℕ) (skip : ℕ) (looks : List (Option ℕ))
+    (last : ℕ) (given : List (ℕ × Event)) (y : Turn Places)
+    → base_position all ≤ at → Gives all stop at [] (reply_to p text skip) looks last given y → ReplyStopsAt stop y
+
+-- a reply names exactly the events that its line made, in order
+abbrev pub RepliesNameTheirEvents : Type 0
+RepliesNameTheirEvents =
+    (all : History) (stop : Option ℕ) (at : ℕ) (p : Places) (text : List ℕ) (skip : ℕ) (looks : List (Option ℕ))
+    (last : ℕ) (given : List (ℕ × Event)) (y : Turn Places)
+    → base_position all ≤ at → Gives all stop at [] (reply_to p text skip) looks last given y
+    → numbers given ≡ made_in y.said
+
+-- ---- sessions
+
+-- sessions that ran over one store, some at once, came to what their lines mean over the one history that was left
+abbrev pub ParallelRunsHaveOneHistory : (W : Type 0) {B : Type 0} → Bool → (B → State) → Type 0
+ParallelRunsHaveOneHistory W {B} alone state =
+    (session_of : W → SessionScript) (replies_of : W → SessionReplies) (ran_out : W → Bool) (store : Shared B)
+    (setup others final : List SessionScript) (new : State) (before between after : List SessionReplies)
+    → RanOverStore session_of replies_of ran_out state store alone setup others final new before between after
+    → RanInParallel (state store.opened.value).history setup others final new before between after

@@ -1,0 +1,15 @@
+-- Replies that name the events of their lines.
+use Rattle.std.specs.Prelude.{◌≡◌, List}
+use Rattle.std.specs.List.{AllByRecursion}
+use Rattle.ts_sessions.specs.Gives.{numbers}
+use Rattle.ts_sessions.specs.Made.{made_in}
+use Rattle.ts_sessions.specs.Places.{Places, Turn}
+use Rattle.par_laws.specs.Answered.{LineAnswer}
+
+-- a reply names the numbers of the events that its line made, in order
+abbrev pub NamesEvents : LineAnswer (Turn Places) → Type 0
+NamesEvents answer = numbers answer.given ≡ made_in answer.end.said
+
+-- so does each reply of several sessions
+abbrev pub RepliesNameEvents : List (List (LineAnswer (Turn Places))) → Type 0
+RepliesNameEvents sessions = AllByRecursion (λ answers. AllByRecursion NamesEvents answers) sessions

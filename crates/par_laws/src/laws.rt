@@ -1,0 +1,36 @@
+//! Laws of sessions that share a store. Each is the clause of a function that does nothing.
+ghost use Rattle.par_laws.specs.Laws.{AnswersGiveEvents, LooksNeverFall, ParallelRunsHaveOneHistory, OnlyStopsAreReported, RepliesNameTheirEvents, WalkedLinesAreAnswered};
+
+use ts_model::Backend;
+
+/// Lines that were walked one after the other, while others changed the store too, are answered over each
+/// longer history, also over one whose store stopped later.
+pub fn walked_lines_are_answered<P, A>()
+    ensures { WalkedLinesAreAnswered P A }
+{}
+
+/// The printed looks of a session never fall from one line to the next.
+pub fn looks_of_a_session_never_fall<P, A>()
+    ensures { LooksNeverFall P A }
+{}
+
+/// The events that the lines of a session made are those of the history with their numbers, in their order.
+pub fn answers_give_events_of_the_history<P, A>()
+    ensures { AnswersGiveEvents P A }
+{}
+
+/// A reply is `E24` only where the store had stopped, with that position.
+pub fn only_stops_are_reported()
+    ensures { OnlyStopsAreReported }
+{}
+
+/// A reply names exactly the events that its line made, in order.
+pub fn replies_name_their_events()
+    ensures { RepliesNameTheirEvents }
+{}
+
+/// Sessions that ran over one store, some at once, came to what their lines mean over the one history
+/// that was left.
+pub fn parallel_runs_have_one_history<W, B: Backend>()
+    ensures { ParallelRunsHaveOneHistory W B.alone B.state }
+{}

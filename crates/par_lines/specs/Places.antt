@@ -1,0 +1,47 @@
+-- What stands at the places of sorted lines.
+use Rattle.std.specs.Prelude.{ℕ, ◌+◌, ◌≤◌, List, map, take, drop, sum_by}
+use Rattle.std.specs.List.{All}
+use Rattle.std.specs.Option.{IfSome}
+use Rattle.ts_sessions.specs.Script.{SessionLine, SessionScript, line_limit}
+use Rattle.par_lines.specs.declared.sessions.LinePlace.{LinePlace}
+use Rattle.par_lines.specs.declared.sessions.SessionLines.{SessionLines}
+use Rattle.par_lines.specs.declared.phases.Phases.{Phases}
+use Rattle.par_lines.specs.declared.sorting.SortedLines.{SortedLines}
+use Rattle.par_lines.specs.Sorted.{Sorted}
+
+-- ---- what stands there in an input
+
+-- a line
+abbrev pub line_at : List ℕ → LinePlace → SessionLine
+line_at input place = record { text = take place.len (drop place.from input); skip = place.skip }
+
+-- the lines of a session
+abbrev pub script_of : List ℕ → SessionLines → SessionScript
+script_of input session = record { name = session.name; lines = map (line_at input) session.lines.items }
+
+-- those of sessions
+abbrev pub scripts_of : List ℕ → List SessionLines → List SessionScript
+scripts_of input sessions = map (script_of input) sessions
+
+-- all that was sorted
+abbrev pub sorted_of : List ℕ → SortedLines → Sorted
+sorted_of input lines = record { refusals = lines.refusals.items; sessions = scripts_of input lines.sessions.items }
+
+-- ---- how much it is
+
+-- the line stands within the first n bytes, and its statement within its text, which has at most 65,536 bytes
+pub record IsLineWithin (n : ℕ) (place : LinePlace) : Type 0 where
+  pub inside : place.from + place.len ≤ n
+  pub statement : place.skip ≤ place.len
+  pub short : place.len ≤ line_limit
+
+-- the lines of a session stand within the first n bytes, and have no more bytes together
+pub record IsWithin (n : ℕ) (session : SessionLines) : Type 0 where
+  pub each : All (IsLineWithin n) session.lines.items
+  pub together : sum_by (λ place. place.len) session.lines.items ≤ n
+
+-- so do those of each session of each phase
+pub record AreWithin (n : ℕ) (phases : Phases) : Type 0 where
+  pub setup : IfSome phases.setup (IsWithin n)
+  pub at_once : All (IsWithin n) phases.at_once.items
+  pub last : IfSome phases.last (IsWithin n)

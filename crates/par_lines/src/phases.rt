@@ -1,0 +1,54 @@
+//! Which sessions run alone, and which all at once.
+ghost use Rattle.std.specs.Prelude.{◌≡◌, ◌≢◌, ◌≤◌, ℕ, List, not, filter, length};
+ghost use Rattle.std.specs.List.{All, AllPairs};
+ghost use Rattle.std.specs.Option.{option_to_list};
+ghost use Rattle.ts_model.specs.Roster.{same_name};
+ghost use Rattle.par_lines.specs.Sorted.{setup, final, only, at_once};
+ghost use Rattle.par_lines.specs.Places.{scripts_of, AreWithin, IsWithin};
+
+use crate::sessions::{SessionLines, place_of};
+
+/// The sessions of an input, by who runs when.
+#[derive(Drop, Debug)]
+pub struct Phases {
+    /// The session `setup`, which runs alone before all others.
+    pub setup: Option<SessionLines>,
+    /// Those that run all at once, each by a worker of its own.
+    pub at_once: Vec<SessionLines>,
+    /// The session `final`, which runs alone after all others.
+    pub last: Option<SessionLines>,
+}
+
+/// Parts sessions by who runs when. Those that run at once stay in order.
+pub fn into_phases(sessions: Vec<SessionLines>) -> Phases
+    requires apart { AllPairs (λ one other. one.name ≢ other.name) sessions.items }
+    ensures setup { (input : List ℕ) → scripts_of input (option_to_list result.setup)
+        ≡ only setup (scripts_of input sessions.items) }
+    ensures at_once { (input : List ℕ) → scripts_of input result.at_once.items
+        ≡ at_once (scripts_of input sessions.items) }
+    ensures last { (input : List ℕ) → scripts_of input (option_to_list result.last)
+        ≡ only final (scripts_of input sessions.items) }
+    ensures few { length result.at_once.items ≤ length sessions.items }
+    ensures within { (n : ℕ) → All (IsWithin n) sessions.items → AreWithin n result }
+{
+    let mut at_once = sessions;
+    let setup = take_named(&mut at_once, b"setup");
+    let last = take_named(&mut at_once, b"final");
+    Phases {
+        setup,
+        at_once,
+        last,
+    }
+}
+
+/// Takes the session with a name out of the others, which stay in order.
+fn take_named(sessions: &mut Vec<SessionLines>, name: &[u8]) -> Option<SessionLines>
+    requires apart { AllPairs (λ one other. one.name ≢ other.name) sessions.old.items }
+    ensures taken { option_to_list result ≡ filter (λ session. same_name session.name name.now) sessions.old.items }
+    ensures others { sessions.new.items
+        ≡ filter (λ session. not (same_name session.name name.now)) sessions.old.items }
+    ensures apart { AllPairs (λ one other. one.name ≢ other.name) sessions.new.items }
+{
+    let place = place_of(sessions, name)?;
+    Some(sessions.remove(place))
+}

@@ -1,0 +1,12 @@
+use Rattle.std.proofs.Common.{subst}
+use Rattle.ts_io.specs.Whole.{AppendsPart}
+use Rattle.transcript.specs.Sending.{Sends}
+use Rattle.transcript.proofs.SendingParts.{sessions_parts}
+use Rattle.transcript.proofs.Sequel.{first_failed, then_sent}
+use Rattle.transcript.proofs.sending.send_after_head.Goals as goal
+
+pub returns-in-Err-clause-sent : goal.returns-in-Err-clause-sent
+returns-in-Err-clause-sent g c = subst (AppendsPart _ _) (sessions_parts c.args.transcript.now _ c.items.ensures.items) (first_failed _ _ _ _ c.in-Err.ensures.sent)
+
+pub returns-in-Ok-clause-sent : goal.returns-in-Ok-clause-sent
+returns-in-Ok-clause-sent g c = subst (Sends c.send_start.result _ _) (sessions_parts c.args.transcript.now _ c.items.ensures.items) (then_sent _ _ _ _ _ c.send_start.result c.in-Ok.ensures.sent c.send_start.ensures.sent)

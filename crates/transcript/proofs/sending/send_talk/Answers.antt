@@ -1,0 +1,12 @@
+use Rattle.std.proofs.Common.{refl, subst}
+use Rattle.ts_io.specs.Whole.{AppendsPart}
+use Rattle.transcript.specs.Sending.{Sends}
+use Rattle.transcript.proofs.SendingParts.{talk_parts}
+use Rattle.transcript.proofs.Sequel.{first_failed, then_sent}
+use Rattle.transcript.proofs.sending.send_talk.Goals as goal
+
+pub returns-in-Err-clause-sent : goal.returns-in-Err-clause-sent
+returns-in-Err-clause-sent g c = subst (AppendsPart _ _) (talk_parts c.args.talk.now c.args.later _ _ c.items.ensures.items refl) (first_failed _ _ _ _ c.in-Err.ensures.sent)
+
+pub returns-in-Ok-clause-sent : goal.returns-in-Ok-clause-sent
+returns-in-Ok-clause-sent g c = subst (Sends c.send_talk_rest.result _ _) (talk_parts c.args.talk.now c.args.later _ _ c.items.ensures.items c.items-in-Ok.ensures.items) (then_sent _ _ _ _ _ c.send_talk_rest.result c.in-Ok.ensures.sent c.send_talk_rest.ensures.sent)

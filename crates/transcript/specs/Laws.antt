@@ -1,0 +1,26 @@
+-- What the text of a transcript is read as, and which lines a session of a transcript may have.
+use Rattle.std.specs.Prelude.{◌≡◌, ◌≤◌, ◌<◌, ◌^◌, ℕ, List, length, take, IsTrue}
+use Rattle.stmt_reader.specs.Limits.{longest_line}
+use Rattle.stmt_reader.specs.Lines.{line_kind, session_name}
+use Rattle.stmt_reader.specs.declared.lines.LineKind.TheVariants.{Stmt}
+use Rattle.transcript.specs.Reading.{IsReading}
+use Rattle.transcript.specs.Shape.{is_session_name, is_one_line, is_line_of, is_sound}
+use Rattle.transcript.specs.Text.{transcript_text, IsWritable}
+use Rattle.transcript.specs.declared.transcripts.Transcript.{Transcript}
+
+-- the text of a sound transcript, whose lines and replies are UTF-8, is read as that transcript
+abbrev pub ReadsBack : Type 0
+ReadsBack = (t : Transcript) → t.start < 2 ^ 64 → IsWritable t → IsTrue (is_sound t) → IsReading (transcript_text t) t
+
+-- a text is read as one transcript at most
+abbrev pub ReadsAsOne : Type 0
+ReadsAsOne = (text : List ℕ) (t u : Transcript) → IsReading text t → IsReading text u → t ≡ u
+
+-- where a session speaks in a line of an input, its name is a good one, and the line up to its comment is a line of
+-- that session
+abbrev pub LinesAreSound : Type 0
+LinesAreSound =
+    (line : List ℕ) (len skip end : ℕ) → length line ≤ longest_line → IsTrue (is_one_line line)
+    → line_kind line ≡ Stmt len skip end
+    → IsTrue (is_session_name (session_name line len skip))
+    × IsTrue (is_line_of (session_name line len skip) (take end line))

@@ -1,0 +1,14 @@
+//! Laws of transcripts. Each is the clause of a function that does nothing.
+ghost use Rattle.transcript.specs.Laws.{LinesAreSound, ReadsBack, ReadsAsOne};
+
+/// The text of a sound transcript is read as that transcript, and as no other.
+pub fn text_law()
+    ensures back { ReadsBack }
+    ensures one { ReadsAsOne }
+{}
+
+/// Where a session speaks in a line of an input, its name is a good one for a transcript, and the line up
+/// to its comment is one of that session's lines.
+pub fn lines_law()
+    ensures { LinesAreSound }
+{}
