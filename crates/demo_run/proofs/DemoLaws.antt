@@ -1,7 +1,7 @@
 -- All demonstrations look at the same number of stored rows, and no reply to one is a FAULT.
 use Rattle.std.proofs.Common.{◌≡◌, ℕ, false, ap}
 use Rattle.ts_schema.specs.Counts.{raised_by}
-use Rattle.demo_reads.proofs.ScriptLaws.{demonstrations_read_the_same}
+use Rattle.demo_laws.proofs.ScriptLaws.{demonstrations_read_the_same}
 use Rattle.demo_run.specs.Demos.{is_refused_demo, reads_of_demo}
 
 pub reads_alike : (number : ℕ) → reads_of_demo number ≡ 39600

@@ -11,6 +11,3 @@ mod runs;
 mod sums;
 
 pub use demos::{Demonstration, demo};
-
-#[cfg(test)]
-mod tests;

@@ -14,11 +14,12 @@ use ts_top::{Status, run_words};
 /// No input has as many bytes.
 pub(crate) const ALL: usize = 65_536;
 
-/// How a call ended, what it printed, and the disk that it left.
+/// How a call ended, what it printed, how many stored rows it looked at, and the disk that it left.
 #[derive(Drop)]
 pub(crate) struct Ran {
     pub(crate) status: Status,
     pub(crate) text: Vec<u8>,
+    pub(crate) reads: u64,
     pub(crate) disk: FailDisk,
 }
 
@@ -48,6 +49,7 @@ pub(crate) fn call<R: Threads + Wait + Sync + AllocGlobal>(
     Ok(Ran {
         status: ended.status,
         text: sink.bytes().to_vec(alloc)?,
+        reads: ended.reads,
         disk: ended.disk,
     })
 }

@@ -7,6 +7,7 @@
 //! - `ends`: a read or a write that fails.
 //! - `disks`: a call of the disk that fails, a disk that stops, and what a crash leaves of it.
 //! - `journals`: journals that are cut or changed.
+//! - `reads`: how many stored rows a run looks at, which no reply tells.
 #![tactic(auto)]
 
 #[cfg(test)]
@@ -17,5 +18,7 @@ mod disks;
 mod ends;
 #[cfg(test)]
 mod journals;
+#[cfg(test)]
+mod reads;
 #[cfg(test)]
 mod script;

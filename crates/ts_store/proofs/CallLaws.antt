@@ -1,7 +1,7 @@
 -- What the calls of a store do to its state.
 use Rattle.std.proofs.Common.{◌≡◌, ℕ, suc, ◌≤◌, true, List, [], ◌∷◌, ◌++◌, Option, Some, None, refl, sym, ◌∙◌, ap, subst, arith}
 use Rattle.std.specs.Prelude.{IsTrue, is_some}
-use Rattle.std.proofs.lemmas.Bool.{le-ltb, cond-false}
+use Rattle.std.proofs.lemmas.Bool.{le-ltb, cond-false, cond-true}
 use Rattle.ts_schema.specs.Faults.{Rose}
 use Rattle.ts_model.specs.declared.events.Event.{Event}
 use Rattle.ts_model.specs.declared.outcomes.Committed.{Committed}
@@ -9,15 +9,16 @@ use Rattle.ts_model.specs.declared.outcomes.Outcome.{Outcome}
 use Rattle.ts_model.specs.declared.outcomes.Outcome.TheVariants.{Done, DiskFault, NoMemory, Refused}
 use Rattle.ts_model.specs.declared.outcomes.Refusal.{Refusal}
 use Rattle.ts_model.specs.Allowed.{allowed}
-use Rattle.ts_model.specs.Calls.{Act, Answered, Looked, making, makes, refusal, refuses, returns, stopped}
+use Rattle.ts_model.specs.Calls.{Act, Answered, Looked, history_full, making, makes, refusal, refuses, returns, stopped}
 use Rattle.ts_model.specs.History.{History, ◌▸◌, position, prefix, same}
+use Rattle.ts_model.specs.Timely.{has_room}
 use Rattle.ts_model.specs.States.{State, Found, Keeps, Makes, Fails, stands_still}
 use Rattle.ts_model.proofs.HistoryLaws.{prefix_further}
 use Rattle.event_check.specs.Checks.{call_refusal}
 use Rattle.engine_core.specs.Acts.{making_event, unless}
 use Rattle.engine_core.specs.Effects.{effect_of}
 use Rattle.engine_core.specs.Histories.{history_of}
-use Rattle.engine_core.proofs.ActLaws.{free_where_allowed}
+use Rattle.engine_core.proofs.ActLaws.{free_where_allowed, room_where_free}
 use Rattle.engine_core.proofs.EventLaws.{position_of}
 use Rattle.engine_core.proofs.StoreLaws.{kept_by_any, history_push}
 use Rattle.ts_store.specs.Stores.{StoreValue, Does, IsKept, numbers_above, seen, state_of}
@@ -101,7 +102,10 @@ module _ {D : Type 0} (bytes : D → Option (List ℕ)) (may_leave : D → List 
 
   -- no call refuses an event that is allowed
   makes_allowed : (h : History) (e : Event) → allowed h e ≡ true → making_event e h ≡ makes e (effect_of h e)
-  makes_allowed h e fits = ap (λ o. unless o (making h e (effect_of h e))) (free_where_allowed h e fits)
+  makes_allowed h e fits =
+      let free = free_where_allowed h e fits in
+      ap (λ o. unless o (making h e (effect_of h e))) free
+      ∙ cond-true (has_room h) (makes e (effect_of h e)) (refuses (refusal history_full h 0)) (room_where_free h e free)
 
   pub does_made : (old new : StoreValue D) (e : Event) (effect : Committed) → Kept old → allowed (seen old) e ≡ true → effect ≡ effect_of (seen old) e → Makes e (state old) (state new)
       → Does faults moment (making_event e) old (Done effect) new

@@ -5,7 +5,7 @@ use Rattle.std.proofs.lemmas.Bool.{and_from}
 use Rattle.std.proofs.lemmas.List.{append-nil}
 use Rattle.ts_model.specs.declared.events.Event.{Event}
 use Rattle.ts_model.specs.Allowed.{allowed, all_allowed}
-use Rattle.ts_model.specs.History.{History, start, ◌▸◌, position, Begins, same, further}
+use Rattle.ts_model.specs.History.{History, start, resumed, ◌▸◌, Begins, same, further}
 use Rattle.ts_model.proofs.AllowedLaws.{allowed_begins}
 use Rattle.event_codec.specs.Formed.{IsFormed}
 use Rattle.event_codec.specs.Spelling as spelling
@@ -48,6 +48,9 @@ spelled_once d e fd fe is = sym (no_prefix e d [] fe fd (is ∙ sym (append-nil 
 
 -- two histories whose events have the same bytes are one
 pub payloads_once : (g h : History) → AllFormed g → AllFormed h → payloads_of g ≡ payloads_of h → g ≡ h
+payloads_once (resumed i) h fg fh is = absurd fg
+payloads_once start (resumed i) fg fh is = absurd fh
+payloads_once (g ▸ d) (resumed i) fg fh is = absurd fh
 payloads_once start start fg fh is = refl
 payloads_once start (h ▸ e) fg fh is = absurd (omega (arith, ap length is, length-append (payloads_of h) (spelling.event e ∷ [])))
 payloads_once (g ▸ d) start fg fh is = absurd (omega (arith, ap length is, length-append (payloads_of g) (spelling.event d ∷ [])))
@@ -60,8 +63,3 @@ payloads_once (g ▸ d) (h ▸ e) fg fh is =
 -- a payload is the bytes of one event, so where that one may not come next, no other may
 pub no_other : (h : History) (e : Event) → IsFormed e → (allowed h e ≡ true → ⊥) → IsNoEvent h (spelling.event e)
 no_other h e formed refused d next = refused (subst (λ (x : Event). allowed h x ≡ true) (sym (spelled_once e d formed next.formed next.spelled)) next.fits)
-
--- there are as many payloads as events
-pub length_payloads : (h : History) → length (payloads_of h) ≡ position h
-length_payloads start = refl
-length_payloads (h ▸ e) = omega (arith, length-append (payloads_of h) (spelling.event e ∷ []), length_payloads h)

@@ -3,7 +3,7 @@ use Rattle.std.proofs.Common.{◌≡◌, ◌⊎◌, inl, inr, ⊎_elim, ℕ, ◌
 use Rattle.std.proofs.lemmas.List.{append-nil}
 use Rattle.std.proofs.lemmas.Bool.{and_parts}
 use Rattle.ts_model.specs.Allowed.{all_allowed, allowed}
-use Rattle.ts_model.specs.History.{History, start, ◌▸◌, Begins, same, further}
+use Rattle.ts_model.specs.History.{History, start, resumed, ◌▸◌, Begins, same, further}
 use Rattle.event_codec.specs.Spelling as spelling
 use Rattle.txn_journal.specs.Frames.{IsDamaged, front, frames, magic}
 use Rattle.txn_journal.proofs.UniqueLaws.{stands_once, damaged_or_not, damaged_once, begin_all, compared, begins_magic}
@@ -33,12 +33,13 @@ pub record HasFront (h : History) (xs : List (List ℕ)) : Type 0 where
   pub begins : Begins part h
   pub payloads : payloads_of part ≡ xs
 
+none_of : (xs more : List (List ℕ)) → [] ≡ xs ++ more → [] ≡ xs
+none_of [] more is = refl
+none_of (x ∷ xs) more is = absurd (cc is)
+
 front_of : (h : History) (xs more : List (List ℕ)) → payloads_of h ≡ xs ++ more → HasFront h xs
 front_of start xs more is = record { part = start; begins = same; payloads = none_of xs more is }
-  where
-    none_of : (xs more : List (List ℕ)) → [] ≡ xs ++ more → [] ≡ xs
-    none_of [] more is = refl
-    none_of (x ∷ xs) more is = absurd (cc is)
+front_of (resumed i) xs more is = record { part = resumed i; begins = same; payloads = none_of xs more is }
 front_of (h ▸ e) xs more is = ⊎_elim
     (λ none. record { part = h ▸ e; begins = same; payloads = is ∙ ap (λ (l : List (List ℕ)). xs ++ l) none ∙ append-nil xs })
     (λ some.
@@ -49,6 +50,7 @@ front_of (h ▸ e) xs more is = ⊎_elim
 
 -- a history of these payloads and one more has an event of that one, which came next
 no_front : (g h : History) (w : List ℕ) → IsSound g → IsSound h → payloads_of g ≡ payloads_of h ++ w ∷ [] → IsNoEvent h w → ⊥
+no_front (resumed i) h w sg sh is none = absurd sg.formed
 no_front start h w sg sh is none = absurd (omega (arith, ap length is, length-append (payloads_of h) (w ∷ [])))
 no_front (g ▸ e) h w sg sh is none =
     let parts = last_apart (payloads_of g) (payloads_of h) (spelling.event e) w is in

@@ -2,7 +2,7 @@
 use Rattle.std.specs.Prelude.{◌≡◌, ◌⊎◌, ℕ, true, List, [], ◌∷◌, ◌++◌, length, IsTrue, ⊤}
 use Rattle.ts_model.specs.declared.events.Event.{Event}
 use Rattle.ts_model.specs.Allowed.{allowed, all_allowed}
-use Rattle.ts_model.specs.History.{History, start, ◌▸◌}
+use Rattle.ts_model.specs.History.{History, start, resumed, ◌▸◌}
 use Rattle.event_codec.specs.Formed.{IsFormed}
 use Rattle.event_codec.specs.Spelling as spelling
 use Rattle.txn_journal.specs.Frames.{AllFit, StandsFor, IsDamaged, front}
@@ -12,14 +12,17 @@ use Rattle.txn_journal.specs.Frames.{AllFit, StandsFor, IsDamaged, front}
 -- the bytes of each event of a history, the oldest first
 abbrev pub payloads_of : History → List (List ℕ)
 payloads_of start = []
+payloads_of (resumed i) = []
 payloads_of (h ▸ e) = payloads_of h ++ (spelling.event e ∷ [])
 
--- all parts of each event are in the range of their fields
+-- a history begins with no image, and all parts of each event are in the range of their fields
 abbrev pub AllFormed : History → Type 0
 AllFormed start = ⊤
+AllFormed (resumed i) = ⊥
 AllFormed (h ▸ e) = AllFormed h × IsFormed e
 
--- a history may stand in a journal: each event was allowed after those before it, and has a spelling
+-- a history may stand in a journal: it begins with no image, each event was allowed after those before it, and has a
+-- spelling
 pub record IsSound (h : History) : Type 0 where
   pub allowed : all_allowed h ≡ true
   pub formed : AllFormed h

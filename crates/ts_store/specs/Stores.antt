@@ -4,7 +4,7 @@ use Rattle.ts_schema.specs.Faults.{Rose}
 use Rattle.ts_model.specs.declared.events.Event.{Event}
 use Rattle.ts_model.specs.declared.outcomes.Outcome.{Outcome}
 use Rattle.ts_model.specs.Calls.{Act, Called}
-use Rattle.ts_model.specs.History.{History, start, ◌▸◌, position, prefix}
+use Rattle.ts_model.specs.History.{History, start, resumed, ◌▸◌, position, prefix}
 use Rattle.ts_model.specs.States.{Origin, State}
 use Rattle.engine_core.specs.Histories.{history_of}
 use Rattle.engine_core.specs.Values.{EngineValue}
@@ -55,6 +55,7 @@ opening s = prefix (seen s) s.opened
 -- the numbers of the events of a history above a position, in order
 abbrev pub numbers_above : ℕ → History → List ℕ
 numbers_above p start = []
+numbers_above p (resumed i) = []
 numbers_above p (h ▸ e) = cond (nat_lt (position h) p) [] (numbers_above p h ++ (suc (position h) ∷ []))
 
 -- the moment of its origin is that of the disk at the start, and its count of faults is the disk's

@@ -3,9 +3,8 @@ use Rattle.std.proofs.Common.{◌≡◌, inl, inr, ℕ, List, Option, false, ref
 use Rattle.ts_top.specs.declared.endings.Status.{Status}
 use Rattle.ts_top.specs.declared.endings.Status.TheVariants.{Done, Refused, BadWords, ReadFault, WriteFault, DiskFault, Damaged, NoMemory, InputLong}
 use Rattle.ts_top.specs.Endings.{is_read_fault, is_write_fault}
-use Rattle.ts_top.specs.Openings.{HeaderFailed, NotOpened}
-use Rattle.ts_top.specs.Outcomes.{IfReading, Outside, RanTo, Untouched}
-use Rattle.ts_top.proofs.OutcomeLaws.{stopped_at_header}
+use Rattle.ts_top.specs.Openings.{NotOpened}
+use Rattle.ts_top.specs.Outcomes.{IfReading, Outside, RanTo}
 
 module _ (durable : Type 0) (left : List ℕ → Type 0) (before after : Option (List ℕ)) where
   -- where the header was reached the disk needn't be as it was
@@ -56,18 +55,14 @@ module _ (durable : Type 0) (left : List ℕ → Type 0) (before after : Option 
   not_opened_header InputLong kept P n = absurd n
 
 -- a run that opened no journal
-module _ (durable : Type 0) (left : List ℕ → Type 0) (o : Outside) (unread unprinted kept : Type 0) (same : o.written ≡ o.written_before) (none : o.reads ≡ 0) (still : unread × unprinted) where
-  header_failed : HeaderFailed durable left o.file_before o.file → RanTo DiskFault durable left (Untouched unread unprinted kept) o
-  header_failed f = stopped_at_header durable left (Untouched unread unprinted kept) o f.opening f.stood same none f.holds f.images
-
-  pub not_opened_run : (status : Status) → NotOpened status durable left kept o.file_before o.file → RanTo status durable left (Untouched unread unprinted kept) o
+module _ (durable : Type 0) (left : List ℕ → Type 0) (o : Outside) (unread unprinted kept : Type 0) (still : unread × unprinted) where
+  pub not_opened_run : (status : Status) → NotOpened status durable left kept o.file_before o.file → RanTo status durable left unread unprinted kept o
   not_opened_run Done n = absurd n
   not_opened_run Refused n = absurd n
   not_opened_run BadWords n = absurd n
   not_opened_run ReadFault n = absurd n
   not_opened_run WriteFault n = absurd n
-  not_opened_run DiskFault (inl same_disk) = inl (still.0, still.1, same_disk)
-  not_opened_run DiskFault (inr failed) = header_failed failed
+  not_opened_run DiskFault n = inl (still.0, still.1, n)
   not_opened_run (Damaged at) n = ((still.0, still.1, n.0), n.1)
   not_opened_run NoMemory n = inl (still.0, still.1, n)
   not_opened_run InputLong n = absurd n

@@ -70,7 +70,7 @@ file_failed from seen to e failed file fails began next (inr stands) = record { 
 abbrev pub left_of : State → Outside → Left
 left_of s o = record { store = s; written_before = o.written_before; written = o.written; read_before = 0; read = o.reads }
 
-module _ (durable : Type 0) (left : List ℕ → Type 0) (untouched : Type 0) (o : Outside) (h : History) (s : State) (closed : Closed durable left h s o.file) where
+module _ (durable : Type 0) (left : List ℕ → Type 0) (unread unprinted kept : Type 0) (o : Outside) (h : History) (s : State) (closed : Closed durable left h s o.file) where
   holds_all : (to : History) → s.failed ≡ None → s.history ≡ to → durable → Holds o.file to
   holds_all to none is d = some_also o.file (StandsForEither s.history (latest s.history s.failed)) (λ file. Stands file to) (λ file either. subst (λ g. Stands file g) is (the_one s.history s.failed file none either)) (closed.shown d)
 
@@ -137,7 +137,7 @@ module _ (durable : Type 0) (left : List ℕ → Type 0) (untouched : Type 0) (o
       }
 
   -- what the call has done whose script ended so
-  pub told_run : (end : RunEnd) → stands_still s ≡ is_disk_fault_of end → IfSome o.file_before (λ file. Stands file h) → IfSome o.input (λ input. RanScript end session_semantics h input o.rest (left_of s o)) → RanTo (status_of end) durable left untouched o
+  pub told_run : (end : RunEnd) → stands_still s ≡ is_disk_fault_of end → IfSome o.file_before (λ file. Stands file h) → IfSome o.input (λ input. RanScript end session_semantics h input o.rest (left_of s o)) → RanTo (status_of end) durable left unread unprinted kept o
   told_run ends.Done still stood ran =
       record { opening = h; stood = stood; ran = if_some o.input _ _ (λ input r. (r.0, r.2, ran_whole (executed input) (none_there s.failed still) r.1)) ran }
   told_run ends.Refused still stood ran =
@@ -164,18 +164,18 @@ headed ends.NoMemory P there = tt
 headed ends.InputLong P there = there refl
 
 -- a run that did something is one that did something or nothing
-pub ran_or_not : (status : Status) (durable : Type 0) (left : List ℕ → Type 0) (untouched : Type 0) (o : Outside) → RanTo status durable left ⊥ o → RanTo status durable left untouched o
-ran_or_not Done durable left untouched o ran = ran
-ran_or_not Refused durable left untouched o ran = ran
-ran_or_not BadWords durable left untouched o ran = ran
-ran_or_not ReadFault durable left untouched o ran = ran
-ran_or_not WriteFault durable left untouched o ran = ran
-ran_or_not DiskFault durable left untouched o (inl never) = absurd never
-ran_or_not DiskFault durable left untouched o (inr ran) = inr ran
-ran_or_not (Damaged at) durable left untouched o ran = absurd ran.0
-ran_or_not NoMemory durable left untouched o (inl never) = absurd never
-ran_or_not NoMemory durable left untouched o (inr ran) = inr ran
-ran_or_not InputLong durable left untouched o ran = ran
+pub ran_or_not : (status : Status) (durable : Type 0) (left : List ℕ → Type 0) (unread unprinted kept : Type 0) (o : Outside) → RanTo status durable left ⊥ ⊥ ⊥ o → RanTo status durable left unread unprinted kept o
+ran_or_not Done durable left unread unprinted kept o ran = ran
+ran_or_not Refused durable left unread unprinted kept o ran = ran
+ran_or_not BadWords durable left unread unprinted kept o ran = ran
+ran_or_not ReadFault durable left unread unprinted kept o ran = ran
+ran_or_not WriteFault durable left unread unprinted kept o ran = ran
+ran_or_not DiskFault durable left unread unprinted kept o (inl never) = absurd never.0
+ran_or_not DiskFault durable left unread unprinted kept o (inr ran) = inr ran
+ran_or_not (Damaged at) durable left unread unprinted kept o ran = absurd ran.0.0
+ran_or_not NoMemory durable left unread unprinted kept o (inl never) = absurd never.0
+ran_or_not NoMemory durable left unread unprinted kept o (inr ran) = inr ran
+ran_or_not InputLong durable left unread unprinted kept o ran = ran
 
 -- the counts of faults are those of the script
 pub same_read_fault : (end : RunEnd) → is_read_fault_of end ≡ is_read_fault (status_of end)
@@ -204,32 +204,6 @@ same_disk_fault ends.WriteFault = refl
 same_disk_fault ends.DiskFault = refl
 same_disk_fault ends.NoMemory = refl
 same_disk_fault ends.InputLong = refl
-
--- a line makes a history go on
-begun_lines : (h : History) (lines : List (List ℕ)) → Begins h (history_after h (take 1 lines))
-begun_lines h [] = same
-begun_lines h (line ∷ lines) = line_begins session_semantics (opening_script_state h) 1 line
-
--- where only the header was being written: no line was run, and the disk stands for the opening history
-pub stopped_at_header : (durable : Type 0) (left : List ℕ → Type 0) (untouched : Type 0) (o : Outside) (h : History) → IfSome o.file_before (λ file. Stands file h) → o.written ≡ o.written_before → o.reads ≡ 0
-    → (durable → Holds o.file h) → (durable → (c : List ℕ) → left c → Stands c h) → RanTo DiskFault durable left untouched o
-stopped_at_header durable left untouched o h stood same_written none_read holds images = inr (record {
-  opening = h;
-  stood = stood;
-  ran = outcome o.input;
-})
-  where
-    outcome : (input : Option (List ℕ)) → IfSome input (λ bytes. RanWithin durable left h (executed bytes) o)
-    outcome None = tt
-    outcome (Some bytes) = record {
-      done = [];
-      rest = executed bytes;
-      split = refl;
-      wrote = subst (λ w. Appends o.written_before w []) (sym same_written) (Appends-nil o.written_before);
-      holds = λ d. some_also o.file (λ file. Stands file h) (StandsBetween h (history_after h (take 1 (executed bytes)))) (λ file stands. record { history = h; stands = stands; began = same; within = begun_lines h (executed bytes) }) (holds d);
-      images = λ d c image. record { history = h; stands = images d c image; began = same; within = begun_lines h (executed bytes) };
-      counted = omega (arith, none_read);
-    }
 
 -- ---- disks
 

@@ -8,13 +8,14 @@ use Rattle.ts_io.specs.declared.limits.TheConstants.{INPUT_LIMIT}
 use Rattle.script_run.specs.Runs.{ReadWhole}
 use Rattle.ts_model.specs.declared.events.Event.{Event}
 use Rattle.ts_model.specs.History.{History, position, Begins, same, further}
-use Rattle.ts_model.specs.States.{State, stands_still, stop_of}
+use Rattle.ts_model.specs.States.{State, stands_still}
 use Rattle.ts_model.proofs.HistoryLaws.{position_begins}
 use Rattle.shared_store.specs.Wrapped.{GoesOn}
 use Rattle.ts_store.specs.Images.{IsBetween, StandsForEither, StandsForMore, latest}
 use Rattle.ts_store.specs.Stands.{Stands}
-use Rattle.session_lines.specs.Sorted.{sorted, only, setup, final, at_once}
-use Rattle.one_history.specs.Parallel.{RanInParallel}
+use Rattle.par_lines.specs.Sorted.{sorted}
+use Rattle.par_run.specs.Crews.{LinesRan}
+use Rattle.par_run.specs.Outputs.{Output}
 use Rattle.par_run.specs.Ends.{is_disk_fault as is_disk_fault_of}
 use Rattle.par_run.specs.declared.ends.ParStop.{ParStop}
 use Rattle.par_run.specs.declared.ends.ParStop.TheVariants as stops
@@ -24,7 +25,7 @@ use Rattle.ts_top.specs.Calls.{CountedAfterDisk}
 use Rattle.ts_top.specs.Endings.{is_disk_fault, status_answered}
 use Rattle.ts_top.specs.Openings.{NotOpened}
 use Rattle.ts_top.specs.Outcomes.{Holds, Outside, Untouched}
-use Rattle.ts_top.specs.Parallel.{Any, ByWorkers, GaveUp, InputRan, InputTo, ParTo, PrintsReplies, RanNothing, status_given_up}
+use Rattle.ts_top.specs.Parallel.{Any, ByWorkers, CountedAfterWorkers, GaveUp, InputRan, InputTo, ParTo, PrintedUnless, PrintsReplies, RanNothing}
 use Rattle.ts_top.proofs.OutcomeLaws.{Closed, if_some}
 use Rattle.ts_schema.proofs.Cases.{none_there}
 use Rattle.ts_store.proofs.ImageLaws.{some_also}
@@ -56,15 +57,14 @@ either_more h seen failed file b (inr stands) = record { all = latest seen faile
 
 -- ---- the end of a run
 
-module _ (durable : Type 0) (left : List ℕ → Type 0) (h : History) (input : List ℕ) (before written file : Option (List ℕ)) (s : State) (text : List ℕ) (fault : Bool) (closed : Closed durable left h s file) where
+module _ (durable : Type 0) (left : List ℕ → Type 0) (sink_failed : Type 0) (h : History) (input : List ℕ) (reads : ℕ) (before written file : Option (List ℕ)) (s : State) (out : Output) (closed : Closed durable left h s file) where
   abbrev pub Ran : Type 0
-  Ran = let sessions = sorted input in RanInParallel h sessions.refusals (only setup sessions.sessions) (at_once sessions.sessions) (only final sessions.sessions) s text fault
+  Ran = LinesRan h (sorted input) s out reads
 
-  by_workers : (stopped : Bool) (Faulted : Bool → Type 0) (Wrote : List ℕ → Type 0) → Ran → stands_still s ≡ stopped → Faulted fault → Wrote text → ByWorkers durable left h input stopped Faulted Wrote file
+  by_workers : (stopped : Bool) (Faulted : Bool → Type 0) (Wrote : List ℕ → Type 0) → Ran → stands_still s ≡ stopped → Faulted out.fault → Wrote out.text → ByWorkers durable left h input reads stopped Faulted Wrote file
   by_workers stopped Faulted Wrote ran stops faulted wrote = record {
     state = s;
-    text = text;
-    fault = fault;
+    out = out;
     ran = ran;
     stops = stops;
     faulted = faulted;
@@ -80,20 +80,16 @@ module _ (durable : Type 0) (left : List ℕ → Type 0) (h : History) (input : 
     images = λ d c image. let i = closed.images d c image in record { all = i.history; stands = i.stands; begins = i.from };
   }
 
-  answered : Ran → stands_still s ≡ false → Appends before written text → (b : Bool) → fault ≡ b → InputTo (status_answered b) durable left h input before written file
+  answered : Ran → stands_still s ≡ false → Appends before written out.text → (b : Bool) → out.fault ≡ b → InputTo (status_answered b) durable left sink_failed h input reads before written file
   answered ran stops wrote true is = by_workers false (λ f. f ≡ true) (Appends before written) ran stops is wrote
   answered ran stops wrote false is = by_workers false (λ f. f ≡ false) (Appends before written) ran stops is wrote
 
-  given_up : Begins h s.history → written ≡ before → (b : Bool) → InputTo (status_given_up b) durable left h input before written file
-  given_up b none true = inr (gave_up b none)
-  given_up b none false = gave_up b none
-
   -- what the run of an input that stopped so has done, once its replies were printed
-  pub input_to : (stop : ParStop) (stopped : Bool) (status : Status) → PrintsReplies stop fault stopped text status before written → (stop ≢ stops.NoMemory → Ran) → (stop ≢ stops.NoMemory → stands_still s ≡ is_disk_fault_of stop) → Begins h s.history → InputTo status durable left h input before written file
-  input_to stops.Done stopped status (inl p) ran stop b = subst (λ x. InputTo x durable left h input before written file) (sym p.0) (answered (ran (λ e. cc e)) (stop (λ e. cc e)) p.1 fault refl)
-  input_to stops.Done stopped status (inr p) ran stop b = subst (λ x. InputTo x durable left h input before written file) (sym p.0) (by_workers false Any (AppendsPart before written) (ran (λ e. cc e)) (stop (λ e. cc e)) tt p.1)
-  input_to stops.DiskFault stopped status p ran stop b = subst (λ x. InputTo x durable left h input before written file) (sym p.0) (inl (by_workers true Any (AppendsPart before written) (ran (λ e. cc e)) (stop (λ e. cc e)) tt p.1))
-  input_to stops.NoMemory stopped status p ran stop b = subst (λ x. InputTo x durable left h input before written file) (sym p.0) (given_up b p.1 stopped)
+  pub input_to : (stop : ParStop) (status : Status) → PrintsReplies stop out.fault out.text status sink_failed before written → (stop ≢ stops.NoMemory → Ran) → (stop ≢ stops.NoMemory → stands_still s ≡ is_disk_fault_of stop) → Begins h s.history → InputTo status durable left sink_failed h input reads before written file
+  input_to stops.Done status (inl p) ran stop b = subst (λ x. InputTo x durable left sink_failed h input reads before written file) (sym p.0) (answered (ran (λ e. cc e)) (stop (λ e. cc e)) p.1 out.fault refl)
+  input_to stops.Done status (inr p) ran stop b = subst (λ x. InputTo x durable left sink_failed h input reads before written file) (sym p.0) (by_workers false Any (AppendsPart before written) (ran (λ e. cc e)) (stop (λ e. cc e)) tt p.1)
+  input_to stops.DiskFault status p ran stop b = subst (λ x. InputTo x durable left sink_failed h input reads before written file) (sym p.0) (by_workers true Any (PrintedUnless sink_failed before written) (ran (λ e. cc e)) (stop (λ e. cc e)) tt p.1)
+  input_to stops.NoMemory status p ran stop b = subst (λ x. InputTo x durable left sink_failed h input reads before written file) (sym p.0) (gave_up b p.1)
 
 -- ---- the input
 
@@ -113,7 +109,7 @@ too_long (Some xs) (Some ys) out p = p.0
 
 -- ---- the call
 
-module _ (durable : Type 0) (left : List ℕ → Type 0) (o : Outside) where
+module _ (durable : Type 0) (left : List ℕ → Type 0) (sink_failed : Type 0) (o : Outside) where
   module _ (h : History) (stood : IfSome o.file_before (λ file. Stands file h)) where
     -- no statement was run, over a journal that stands for the opening history
     pub ran_nothing : o.written ≡ o.written_before → (durable → Holds o.file h) → (durable → (c : List ℕ) → left c → Stands c h) → RanNothing durable left o
@@ -124,51 +120,50 @@ module _ (durable : Type 0) (left : List ℕ → Type 0) (o : Outside) where
     }
 
     module _ (input : List ℕ) (read : IfSome o.input (λ i. ReadWhole i o.rest × (i ≡ input))) where
-      over_input : (status : Status) → InputTo status durable left h input o.written_before o.written o.file → InputRan status durable left o
+      over_input : (status : Status) → InputTo status durable left sink_failed h input o.reads o.written_before o.written o.file → InputRan status durable left sink_failed o
       over_input status to = record {
         opening = h;
         stood = stood;
-        ran = if_some o.input (λ i. ReadWhole i o.rest × (i ≡ input)) (λ i. ReadWhole i o.rest × InputTo status durable left h i o.written_before o.written o.file)
-            (λ i r. (r.0, subst (λ x. InputTo status durable left h x o.written_before o.written o.file) (sym r.1) to)) read;
+        ran = if_some o.input (λ i. ReadWhole i o.rest × (i ≡ input)) (λ i. ReadWhole i o.rest × InputTo status durable left sink_failed h i o.reads o.written_before o.written o.file)
+            (λ i r. (r.0, subst (λ x. InputTo status durable left sink_failed h x o.reads o.written_before o.written o.file) (sym r.1) to)) read;
       }
 
-      pub input_par : (status : Status) → InputTo status durable left h input o.written_before o.written o.file → ParTo status durable left ⊥ o
+      pub input_par : (status : Status) → InputTo status durable left sink_failed h input o.reads o.written_before o.written o.file → ParTo status durable left sink_failed ⊥ ⊥ ⊥ o
       input_par Done to = over_input Done to
       input_par Refused to = over_input Refused to
       input_par BadWords to = absurd to
       input_par ReadFault to = absurd to
       input_par WriteFault to = over_input WriteFault to
-      input_par DiskFault to = inr (inr (over_input DiskFault to))
+      input_par DiskFault to = inr (over_input DiskFault to)
       input_par (Damaged at) to = absurd to
       input_par NoMemory to = inr (inr (over_input NoMemory to))
       input_par InputLong to = absurd to
 
   -- a call that did something is one that did something or nothing
-  pub par_or_not : (status : Status) (untouched : Type 0) → ParTo status durable left ⊥ o → ParTo status durable left untouched o
-  par_or_not Done untouched ran = ran
-  par_or_not Refused untouched ran = ran
-  par_or_not BadWords untouched ran = ran
-  par_or_not ReadFault untouched ran = ran
-  par_or_not WriteFault untouched ran = ran
-  par_or_not DiskFault untouched (inl never) = absurd never
-  par_or_not DiskFault untouched (inr ran) = inr ran
-  par_or_not (Damaged at) untouched ran = absurd ran.0
-  par_or_not NoMemory untouched (inl never) = absurd never
-  par_or_not NoMemory untouched (inr ran) = inr ran
-  par_or_not InputLong untouched ran = ran
+  pub par_or_not : (status : Status) (unread unprinted kept : Type 0) → ParTo status durable left sink_failed ⊥ ⊥ ⊥ o → ParTo status durable left sink_failed unread unprinted kept o
+  par_or_not Done unread unprinted kept ran = ran
+  par_or_not Refused unread unprinted kept ran = ran
+  par_or_not BadWords unread unprinted kept ran = ran
+  par_or_not ReadFault unread unprinted kept ran = ran
+  par_or_not WriteFault unread unprinted kept ran = ran
+  par_or_not DiskFault unread unprinted kept (inl never) = absurd never.0
+  par_or_not DiskFault unread unprinted kept (inr ran) = inr ran
+  par_or_not (Damaged at) unread unprinted kept ran = absurd ran.0.0
+  par_or_not NoMemory unread unprinted kept (inl never) = absurd never.0
+  par_or_not NoMemory unread unprinted kept (inr ran) = inr ran
+  par_or_not InputLong unread unprinted kept ran = ran
 
   -- one that opened no journal
-  pub not_opened_par : (unread unprinted kept : Type 0) → o.written ≡ o.written_before → unread × unprinted → (status : Status) → NotOpened status durable left kept o.file_before o.file → ParTo status durable left (Untouched unread unprinted kept) o
-  not_opened_par unread unprinted kept same_text still Done n = absurd n
-  not_opened_par unread unprinted kept same_text still Refused n = absurd n
-  not_opened_par unread unprinted kept same_text still BadWords n = absurd n
-  not_opened_par unread unprinted kept same_text still ReadFault n = absurd n
-  not_opened_par unread unprinted kept same_text still WriteFault n = absurd n
-  not_opened_par unread unprinted kept same_text still DiskFault (inl same_disk) = inl (still.0, still.1, same_disk)
-  not_opened_par unread unprinted kept same_text still DiskFault (inr f) = inr (inl (ran_nothing f.opening f.stood same_text f.holds f.images))
-  not_opened_par unread unprinted kept same_text still (Damaged at) n = ((still.0, still.1, n.0), n.1)
-  not_opened_par unread unprinted kept same_text still NoMemory n = inl (still.0, still.1, n)
-  not_opened_par unread unprinted kept same_text still InputLong n = absurd n
+  pub not_opened_par : (unread unprinted kept : Type 0) → unread × unprinted → (status : Status) → NotOpened status durable left kept o.file_before o.file → ParTo status durable left sink_failed unread unprinted kept o
+  not_opened_par unread unprinted kept still Done n = absurd n
+  not_opened_par unread unprinted kept still Refused n = absurd n
+  not_opened_par unread unprinted kept still BadWords n = absurd n
+  not_opened_par unread unprinted kept still ReadFault n = absurd n
+  not_opened_par unread unprinted kept still WriteFault n = absurd n
+  not_opened_par unread unprinted kept still DiskFault n = inl (still.0, still.1, n)
+  not_opened_par unread unprinted kept still (Damaged at) n = ((still.0, still.1, n.0), n.1)
+  not_opened_par unread unprinted kept still NoMemory n = inl (still.0, still.1, n)
+  not_opened_par unread unprinted kept still InputLong n = absurd n
 
 -- a call that opened no journal prints nothing, and so no fault of the sink is told
 pub not_opened_sink : (durable : Type 0) (left : List ℕ → Type 0) (before after : Option (List ℕ)) (status : Status) (kept : Type 0) (n : ℕ) → NotOpened status durable left kept before after → CountedAfterDisk status n n
@@ -184,31 +179,36 @@ not_opened_sink durable left before after InputLong kept n e = refl
 
 -- ---- counts of the disk's faults
 
--- how a call ended tells of a disk fault exactly where the store stands still
-pub tells_disk_fault : (stop : ParStop) (fault still : Bool) (text : List ℕ) (status : Status) (before written : Option (List ℕ)) → PrintsReplies stop fault still text status before written → (stop ≢ stops.NoMemory → still ≡ is_disk_fault_of stop) → is_disk_fault status ≡ still
-tells_disk_fault stops.Done fault still text status before written (inl p) is = ap is_disk_fault p.0 ∙ never fault ∙ sym (is (λ e. cc e))
-  where
-    never : (b : Bool) → is_disk_fault (status_answered b) ≡ false
-    never true = refl
-    never false = refl
-tells_disk_fault stops.Done fault still text status before written (inr p) is = ap is_disk_fault p.0 ∙ sym (is (λ e. cc e))
-tells_disk_fault stops.DiskFault fault still text status before written p is = ap is_disk_fault p.0 ∙ sym (is (λ e. cc e))
-tells_disk_fault stops.NoMemory fault still text status before written p is = ap is_disk_fault p.0 ∙ same_as still
-  where
-    same_as : (b : Bool) → is_disk_fault (status_given_up b) ≡ b
-    same_as true = refl
-    same_as false = refl
-
-pub counted_by : (first now : State) → GoesOn first now → Counted first.faults now.faults (stands_still now)
-counted_by first now g =
+pub counted_by_state : (first now : State) → GoesOn first now → Counted first.faults now.faults (stands_still now)
+counted_by_state first now g =
     elim (stands_still now) as (λ b. stands_still now ≡ b → Counted first.faults now.faults b) [
       | true ↦ λ is. g.fell is
       | false ↦ λ is. g.counted (none_there now.failed is)
     ] refl
 
-pub stop_is_there : (s : State) → is_some (stop_of s) ≡ stands_still s
-stop_is_there s = there (stands_still s)
+-- how a call ended tells of a disk fault exactly where the store stands still, but for want of memory
+pub counted_by : (stop : ParStop) (fault : Bool) (text : List ℕ) (status : Status) (sink_failed : Type 0) (before written : Option (List ℕ)) (first now : State) → PrintsReplies stop fault text status sink_failed before written → (stop ≢ stops.NoMemory → stands_still now ≡ is_disk_fault_of stop) → GoesOn first now → CountedAfterWorkers status first.faults now.faults
+counted_by stops.Done fault text status sink_failed before written first now (inl p) is g =
+    subst (λ x. CountedAfterWorkers x first.faults now.faults) (sym p.0) (answered fault)
   where
-    there : (b : Bool) → is_some (cond b (Some (position s.history)) None) ≡ b
-    there true = refl
-    there false = refl
+    answered : (b : Bool) → CountedAfterWorkers (status_answered b) first.faults now.faults
+    answered true = subst (λ b. Counted first.faults now.faults b) (is (λ e. cc e)) (counted_by_state first now g)
+    answered false = subst (λ b. Counted first.faults now.faults b) (is (λ e. cc e)) (counted_by_state first now g)
+counted_by stops.Done fault text status sink_failed before written first now (inr p) is g =
+    subst (λ x. CountedAfterWorkers x first.faults now.faults) (sym p.0) (subst (λ b. Counted first.faults now.faults b) (is (λ e. cc e)) (counted_by_state first now g))
+counted_by stops.DiskFault fault text status sink_failed before written first now p is g =
+    subst (λ x. CountedAfterWorkers x first.faults now.faults) (sym p.0) (subst (λ b. Counted first.faults now.faults b) (is (λ e. cc e)) (counted_by_state first now g))
+counted_by stops.NoMemory fault text status sink_failed before written first now p is g =
+    subst (λ x. CountedAfterWorkers x first.faults now.faults) (sym p.0) (stands_still now, counted_by_state first now g)
+
+-- one that opened no journal tells of the disk's fault as its parts do
+pub not_opened_disk : (status : Status) (before now : ℕ) → Counted before now (is_disk_fault status) → CountedAfterWorkers status before now
+not_opened_disk Done before now counted = counted
+not_opened_disk Refused before now counted = counted
+not_opened_disk BadWords before now counted = counted
+not_opened_disk ReadFault before now counted = counted
+not_opened_disk WriteFault before now counted = counted
+not_opened_disk DiskFault before now counted = counted
+not_opened_disk (Damaged at) before now counted = counted
+not_opened_disk NoMemory before now counted = (false, counted)
+not_opened_disk InputLong before now counted = counted

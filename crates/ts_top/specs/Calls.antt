@@ -8,10 +8,10 @@ use Rattle.ts_top.specs.declared.commands.Command.{Command}
 use Rattle.ts_top.specs.declared.commands.Command.TheVariants.{Run, Par, Demo, Print}
 use Rattle.ts_top.specs.declared.endings.Status.{Status}
 use Rattle.ts_top.specs.declared.endings.Status.TheVariants.{Done, BadWords, WriteFault, DiskFault, NoMemory}
-use Rattle.ts_top.specs.Endings.{is_write_fault}
+use Rattle.ts_top.specs.Endings.{is_disk_fault, is_write_fault}
 use Rattle.ts_top.specs.Logs.{text_of}
 use Rattle.ts_top.specs.Outcomes.{Outside, PrintedTo, RanTo, Untouched}
-use Rattle.ts_top.specs.Parallel.{ParTo}
+use Rattle.ts_top.specs.Parallel.{CountedAfterWorkers, ParTo}
 
 -- the demonstration with a number has printed its summary, or a part of it; no reply to its script is a FAULT, and it
 -- has looked at as many stored rows as all others
@@ -30,30 +30,40 @@ DemoTo demo other unprinted o = ⊥
 
 -- what a call with this command has done. One that prints, and the demonstration, read no input and leave the disk as
 -- it was
-abbrev pub Outcome : Command → Status → Type 0 → (List ℕ → Type 0) → Type 0 → Type 0 → Type 0 → Outside → Type 0
-Outcome Run status durable left unread unprinted kept o = RanTo status durable left (Untouched unread unprinted kept) o
-Outcome Par status durable left unread unprinted kept o = ParTo status durable left (Untouched unread unprinted kept) o
-Outcome (Demo demo) status durable left unread unprinted kept o = unread × kept × DemoTo demo status unprinted o
-Outcome (Print text) status durable left unread unprinted kept o =
+abbrev pub Outcome :
+    Command → Status → Type 0 → (List ℕ → Type 0) → Type 0 → Type 0 → Type 0 → Type 0 → Outside → Type 0
+Outcome Run status durable left sink_failed unread unprinted kept o =
+    RanTo status durable left unread unprinted kept o
+Outcome Par status durable left sink_failed unread unprinted kept o =
+    ParTo status durable left sink_failed unread unprinted kept o
+Outcome (Demo demo) status durable left sink_failed unread unprinted kept o =
+    unread × kept × DemoTo demo status unprinted o
+Outcome (Print text) status durable left sink_failed unread unprinted kept o =
     unread × kept × PrintedTo (text_of text) status unprinted o
 
 -- what a call with these words has done: where they ask for nothing, that is all
 abbrev pub OutcomeOf :
-    Option Command → Status → Type 0 → (List ℕ → Type 0) → Type 0 → Type 0 → Type 0 → Outside → Type 0
-OutcomeOf None status durable left unread unprinted kept o = (status ≡ BadWords) × Untouched unread unprinted kept
-OutcomeOf (Some command) status durable left unread unprinted kept o =
-    Outcome command status durable left unread unprinted kept o
+    Option Command → Status → Type 0 → (List ℕ → Type 0) → Type 0 → Type 0 → Type 0 → Type 0 → Outside → Type 0
+OutcomeOf None status durable left sink_failed unread unprinted kept o =
+    (status ≡ BadWords) × Untouched unread unprinted kept
+OutcomeOf (Some command) status durable left sink_failed unread unprinted kept o =
+    Outcome command status durable left sink_failed unread unprinted kept o
 
 -- P of a call that runs the lines of its input
 abbrev pub IfRuns : Option Command → Type 0 → Type 0
+IfRuns None P = ⊤
 IfRuns (Some Run) P = P
 IfRuns (Some Par) P = P
-IfRuns other P = ⊤
+IfRuns (Some (Demo demo)) P = ⊤
+IfRuns (Some (Print text)) P = ⊤
 
 -- P of a call that runs the demonstration
 abbrev pub IfDemo : Option Command → Type 0 → Type 0
+IfDemo None P = ⊤
+IfDemo (Some Run) P = ⊤
+IfDemo (Some Par) P = ⊤
 IfDemo (Some (Demo demo)) P = P
-IfDemo other P = ⊤
+IfDemo (Some (Print text)) P = ⊤
 
 -- the count of the sink's faults rises where the call tells of one, and else stays; but where the disk failed in a
 -- parallel run, its replies are printed all the same, and the sink may fail after that
@@ -63,5 +73,16 @@ CountedAfterDisk status before now = Counted before now (is_write_fault status)
 
 -- the count of the sink's faults rises where the call tells of one, and else stays
 abbrev pub SinkCounted : Option Command → Status → ℕ → ℕ → Type 0
+SinkCounted None status before now = Counted before now (is_write_fault status)
+SinkCounted (Some Run) status before now = Counted before now (is_write_fault status)
 SinkCounted (Some Par) status before now = CountedAfterDisk status before now
-SinkCounted other status before now = Counted before now (is_write_fault status)
+SinkCounted (Some (Demo demo)) status before now = Counted before now (is_write_fault status)
+SinkCounted (Some (Print text)) status before now = Counted before now (is_write_fault status)
+
+-- and so does the count of the disk's
+abbrev pub DiskCounted : Option Command → Status → ℕ → ℕ → Type 0
+DiskCounted None status before now = Counted before now (is_disk_fault status)
+DiskCounted (Some Run) status before now = Counted before now (is_disk_fault status)
+DiskCounted (Some Par) status before now = CountedAfterWorkers status before now
+DiskCounted (Some (Demo demo)) status before now = Counted before now (is_disk_fault status)
+DiskCounted (Some (Print text)) status before now = Counted before now (is_disk_fault status)

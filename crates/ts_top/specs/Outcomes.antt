@@ -104,27 +104,43 @@ OverScript o Ran = Over o (λ h. IfSome o.input (Ran h))
 abbrev pub Untouched : Type 0 → Type 0 → Type 0 → Type 0
 Untouched unread unprinted kept = unread × unprinted × kept
 
+-- the disk failed while the journal's header was written: it stands for the opening history as before, and so does
+-- what a crash might have left
+pub record HeaderFailed (durable : Type 0) (left : List ℕ → Type 0) (before after : Option (List ℕ)) : Type 0 where
+  pub opening : History
+  pub stood : IfSome before (λ file. Stands file opening)
+  pub holds : durable → Holds after opening
+  pub images : durable → (c : List ℕ) → left c → Stands c opening
+
+-- nothing was read and nothing printed, and the disk stayed as it was, or failed while the header was written
+abbrev pub NotBegun : Type 0 → (List ℕ → Type 0) → Type 0 → Type 0 → Type 0 → Outside → Type 0
+NotBegun durable left unread unprinted kept o =
+    unread × unprinted × (kept ⊎ HeaderFailed durable left o.file_before o.file)
+
 -- and this is where the file is damaged, so that it stands for no history
 abbrev pub IsDamaged : ℕ → Outside → Type 0
 IsDamaged at o = IfSome o.file_before (λ file. IsDamagedAt file at)
 
 -- what a run that ended so has done
-abbrev pub RanTo : Status → Type 0 → (List ℕ → Type 0) → Type 0 → Outside → Type 0
-RanTo Done durable left untouched o =
+abbrev pub RanTo : Status → Type 0 → (List ℕ → Type 0) → Type 0 → Type 0 → Type 0 → Outside → Type 0
+RanTo Done durable left unread unprinted kept o =
     OverScript o
     (λ h input. ReadWhole input o.rest × (is_faulted h input ≡ false) × RanWhole durable left h (executed input) o)
-RanTo Refused durable left untouched o =
+RanTo Refused durable left unread unprinted kept o =
     OverScript o
     (λ h input. ReadWhole input o.rest × (is_faulted h input ≡ true) × RanWhole durable left h (executed input) o)
-RanTo BadWords durable left untouched o = ⊥
-RanTo ReadFault durable left untouched o = OverScript o (λ h input. RanBefore durable left h (executed input) o)
-RanTo WriteFault durable left untouched o = OverScript o (λ h input. RanWriting durable left h (executed input) o)
-RanTo DiskFault durable left untouched o =
-    untouched ⊎ OverScript o (λ h input. RanWithin durable left h (executed input) o)
-RanTo (Damaged at) durable left untouched o = untouched × IsDamaged at o
-RanTo NoMemory durable left untouched o =
-    untouched ⊎ OverScript o (λ h input. RanWithin durable left h (executed input) o)
-RanTo InputLong durable left untouched o =
+RanTo BadWords durable left unread unprinted kept o = ⊥
+RanTo ReadFault durable left unread unprinted kept o =
+    OverScript o (λ h input. RanBefore durable left h (executed input) o)
+RanTo WriteFault durable left unread unprinted kept o =
+    OverScript o (λ h input. RanWriting durable left h (executed input) o)
+RanTo DiskFault durable left unread unprinted kept o =
+    NotBegun durable left unread unprinted kept o
+    ⊎ OverScript o (λ h input. RanWithin durable left h (executed input) o)
+RanTo (Damaged at) durable left unread unprinted kept o = Untouched unread unprinted kept × IsDamaged at o
+RanTo NoMemory durable left unread unprinted kept o =
+    Untouched unread unprinted kept ⊎ OverScript o (λ h input. RanWithin durable left h (executed input) o)
+RanTo InputLong durable left unread unprinted kept o =
     OverScript o (λ h input. (INPUT_LIMIT < length input) × RanWhole durable left h (executed input) o)
 
 -- P where the source was read

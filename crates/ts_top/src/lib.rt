@@ -23,10 +23,3 @@ mod scripts;
 pub use commands::{Command, Text, command_of};
 pub use endings::{Ended, Status};
 pub use run::run_words;
-
-#[cfg(test)]
-mod journals;
-#[cfg(test)]
-mod tests;
-#[cfg(test)]
-mod worked;

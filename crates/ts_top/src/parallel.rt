@@ -1,5 +1,6 @@
 //! Inputs that are run by a worker for each session, over the history of a journal.
-ghost use Rattle.std.specs.Prelude.{◌≡◌, ◌≤◌, ℕ, List, None, Option, false, true, is_some, length, IfSome, IsSomeAnd};
+ghost use Rattle.std.specs.Prelude.{◌≡◌, ◌≤◌, ℕ, List, None, Option, false, true, length, IfSome, IsSomeAnd};
+ghost use Rattle.ts_schema.specs.Faults.{Rose};
 ghost use Rattle.ts_disk.specs.Disk.{Keeps};
 ghost use Rattle.ts_io.specs.Faults.{Counted};
 ghost use Rattle.ts_io.specs.declared.limits.TheConstants.{INPUT_LIMIT};
@@ -7,9 +8,9 @@ ghost use Rattle.ts_store.specs.Images.{HasHeader, IsDurable};
 ghost use Rattle.ts_store.specs.Stands.{Stands};
 ghost use Rattle.ts_store.specs.Stores.{opening, seen};
 ghost use Rattle.ts_top.specs.Calls.{CountedAfterDisk};
-ghost use Rattle.ts_top.specs.Endings.{is_disk_fault, is_read_fault};
-ghost use Rattle.ts_top.specs.Outcomes.{Holds, Untouched, HeaderAfter};
-ghost use Rattle.ts_top.specs.Parallel.{InputTo, ParTo, PrintsReplies, status_given_up};
+ghost use Rattle.ts_top.specs.Endings.{is_read_fault};
+ghost use Rattle.ts_top.specs.Outcomes.{Holds, HeaderAfter};
+ghost use Rattle.ts_top.specs.Parallel.{CountedAfterWorkers, InputTo, ParTo, PrintsReplies};
 
 use crate::endings::{Ended, Status, status_answered};
 use crate::openings::open;
@@ -19,7 +20,7 @@ use std::sync::Wait;
 use std::thread::Threads;
 use ts_disk::Disk;
 use ts_io::{AllEnd, Sink, Source, WriteFault, read_all, write_whole};
-use ts_model::{Backend, Gate};
+use ts_model::Gate;
 use ts_store::Store;
 
 /// A call that ended so without a statement, over a store whose journal has its header.
@@ -43,14 +44,8 @@ fn closed<D: Disk>(store: Store<D>, status: Status) -> Ended<D>
 
 /// Prints the replies of a parallel run that stopped so, and tells how the call ends. A disk fault is told
 /// whatever the sink does after it. Where memory ran out there are none.
-fn print_replies<K: Sink>(
-    sink: &mut K,
-    text: &[u8],
-    fault: bool,
-    stop: ParStop,
-    stopped: Option<u64>,
-) -> Status
-    ensures prints { PrintsReplies stop fault (is_some stopped) text.now result
+fn print_replies<K: Sink>(sink: &mut K, text: &[u8], fault: bool, stop: ParStop) -> Status
+    ensures prints { PrintsReplies stop fault text.now result (Rose (K.faults sink.old) (K.faults sink.new))
         (K.written sink.old) (K.written sink.new) }
     ensures counted { CountedAfterDisk result (K.faults sink.old) (K.faults sink.new) }
 {
@@ -59,21 +54,11 @@ fn print_replies<K: Sink>(
             Ok(()) => status_answered(fault),
             Err(WriteFault) => Status::WriteFault,
         },
-        ParStop::DiskFault => {
-            let _written = write_whole(sink, text);
-            Status::DiskFault
-        }
-        ParStop::NoMemory => status_given_up(stopped),
-    }
-}
-
-/// How a call ends whose workers ran out of memory, over a store that stopped before or didn't.
-fn status_given_up(stopped: Option<u64>) -> Status
-    ensures { result ≡ status_given_up (is_some stopped) }
-{
-    match stopped {
-        Some(_) => Status::DiskFault,
-        None => Status::NoMemory,
+        ParStop::DiskFault => match write_whole(sink, text) {
+            Ok(()) => Status::DiskFault,
+            Err(WriteFault) => Status::DiskFault,
+        },
+        ParStop::NoMemory => Status::NoMemory,
     }
 }
 
@@ -98,10 +83,11 @@ where
     requires within { length input.now ≤ INPUT_LIMIT }
     ensures ran { InputTo result.status
         (IsDurable D.bytes D.may_leave store.begun) (D.left_since result.disk (D.moment store.begun))
-        (seen store) input.now (K.written sink.old) (K.written sink.new) (D.bytes result.disk) }
+        (Rose (K.faults sink.old) (K.faults sink.new)) (seen store) input.now result.reads
+        (K.written sink.old) (K.written sink.new) (D.bytes result.disk) }
     ensures header { HeaderAfter result.status (IsDurable D.bytes D.may_leave store.begun) (D.bytes result.disk) }
     ensures writes { CountedAfterDisk result.status (K.faults sink.old) (K.faults sink.new) }
-    ensures disk { Counted (D.faults store.journal.disk) (D.faults result.disk) (is_disk_fault result.status) }
+    ensures disk { CountedAfterWorkers result.status (D.faults store.journal.disk) (D.faults result.disk) }
 {
     let ParEnd {
         backend,
@@ -109,8 +95,9 @@ where
         fault,
         reads,
         stop,
+        ..
     } = run_in_parallel(rt, alloc, store, input, gate);
-    let status = print_replies(sink, text.items(), fault, stop, backend.stopped());
+    let status = print_replies(sink, text.items(), fault, stop);
     Ended {
         status,
         disk: backend.close(),
@@ -141,7 +128,8 @@ where
     ensures outcome { (before : Option (List ℕ)) → IfSome before (λ file. Stands file (seen store))
         → ParTo result.status
         (IsDurable D.bytes D.may_leave store.begun) (D.left_since result.disk (D.moment store.begun))
-        ⊥ (record {
+        (Rose (K.faults sink.old) (K.faults sink.new))
+        ⊥ ⊥ ⊥ (record {
           input = S.left source.old;
           rest = S.left source.new;
           written_before = K.written sink.old;
@@ -153,7 +141,7 @@ where
     ensures header { HeaderAfter result.status (IsDurable D.bytes D.may_leave store.begun) (D.bytes result.disk) }
     ensures reads { Counted (S.faults source.old) (S.faults source.new) (is_read_fault result.status) }
     ensures writes { CountedAfterDisk result.status (K.faults sink.old) (K.faults sink.new) }
-    ensures disk { Counted (D.faults store.journal.disk) (D.faults result.disk) (is_disk_fault result.status) }
+    ensures disk { CountedAfterWorkers result.status (D.faults store.journal.disk) (D.faults result.disk) }
 {
     let mut input = Vec::new(alloc);
     match read_all(source, &mut input) {
@@ -183,8 +171,8 @@ where
     requires untold { S.ended source.old ≡ false }
     ensures outcome { ParTo result.status
         (IsDurable D.bytes D.may_leave disk) (D.left_since result.disk (D.moment disk))
-        (Untouched (source.new ≡ source.old) (sink.new ≡ sink.old)
-        (Keeps D.bytes D.may_leave D.moment D.left_since disk result.disk))
+        (Rose (K.faults sink.old) (K.faults sink.new)) (source.new ≡ source.old) (sink.new ≡ sink.old)
+        (Keeps D.bytes D.may_leave D.moment D.left_since disk result.disk)
         (record {
           input = S.left source.old;
           rest = S.left source.new;
@@ -197,7 +185,7 @@ where
     ensures header { HeaderAfter result.status (IsDurable D.bytes D.may_leave disk) (D.bytes result.disk) }
     ensures reads { Counted (S.faults source.old) (S.faults source.new) (is_read_fault result.status) }
     ensures writes { CountedAfterDisk result.status (K.faults sink.old) (K.faults sink.new) }
-    ensures disk { Counted (D.faults disk) (D.faults result.disk) (is_disk_fault result.status) }
+    ensures disk { CountedAfterWorkers result.status (D.faults disk) (D.faults result.disk) }
 {
     match open(rt, alloc, disk) {
         Ok(store) => run_all(rt, alloc, source, sink, store, gate),

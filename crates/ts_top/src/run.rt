@@ -2,10 +2,11 @@
 ghost use Rattle.std.specs.Prelude.{◌≡◌, ◌↔◌, false, None, map, string_bytes};
 ghost use Rattle.ts_disk.specs.Disk.{Keeps};
 ghost use Rattle.ts_io.specs.Faults.{Counted};
+ghost use Rattle.ts_schema.specs.Faults.{Rose};
 ghost use Rattle.ts_store.specs.Images.{IsDurable};
 ghost use Rattle.ts_top.specs.Commands.{command_of};
-ghost use Rattle.ts_top.specs.Calls.{IfDemo, IfRuns, OutcomeOf, SinkCounted};
-ghost use Rattle.ts_top.specs.Endings.{is_disk_fault, is_read_fault};
+ghost use Rattle.ts_top.specs.Calls.{DiskCounted, IfDemo, IfRuns, OutcomeOf, SinkCounted};
+ghost use Rattle.ts_top.specs.Endings.{is_read_fault};
 ghost use Rattle.ts_top.specs.Outcomes.{HeaderAfter};
 
 use crate::commands::{Command, command_of};
@@ -46,7 +47,7 @@ where
     ensures words { (result.status ≡ Status.BadWords) ↔ (command_of (map string_bytes words.now) ≡ None) }
     ensures outcome { OutcomeOf (command_of (map string_bytes words.now)) result.status
         (IsDurable D.bytes D.may_leave disk) (D.left_since result.disk (D.moment disk))
-        (source.new ≡ source.old) (sink.new ≡ sink.old)
+        (Rose (K.faults sink.old) (K.faults sink.new)) (source.new ≡ source.old) (sink.new ≡ sink.old)
         (Keeps D.bytes D.may_leave D.moment D.left_since disk result.disk)
         (record {
           input = S.left source.old;
@@ -63,7 +64,8 @@ where
     ensures reads { Counted (S.faults source.old) (S.faults source.new) (is_read_fault result.status) }
     ensures writes { SinkCounted (command_of (map string_bytes words.now)) result.status
         (K.faults sink.old) (K.faults sink.new) }
-    ensures disk { Counted (D.faults disk) (D.faults result.disk) (is_disk_fault result.status) }
+    ensures disk { DiskCounted (command_of (map string_bytes words.now)) result.status
+        (D.faults disk) (D.faults result.disk) }
 {
     match command_of(words) {
         Some(Command::Run) => run(rt, alloc, source, sink, disk),

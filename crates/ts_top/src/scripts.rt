@@ -6,7 +6,7 @@ ghost use Rattle.ts_store.specs.Images.{IsDurable};
 ghost use Rattle.ts_store.specs.Stands.{Stands};
 ghost use Rattle.ts_store.specs.Stores.{opening, seen};
 ghost use Rattle.ts_top.specs.Endings.{is_disk_fault, is_read_fault, is_write_fault};
-ghost use Rattle.ts_top.specs.Outcomes.{RanTo, Untouched, HeaderAfter};
+ghost use Rattle.ts_top.specs.Outcomes.{RanTo, HeaderAfter};
 
 use crate::endings::{Ended, status_of};
 use crate::openings::open;
@@ -38,7 +38,7 @@ fn run_lines<R: Threads + Sync, S: Source, K: Sink, D: Disk>(
     ensures outcome { (before : Option (List ℕ)) → IfSome before (λ file. Stands file (seen store))
         → RanTo result.status
         (IsDurable D.bytes D.may_leave store.begun) (D.left_since result.disk (D.moment store.begun))
-        ⊥ (record {
+        ⊥ ⊥ ⊥ (record {
           input = S.left source.old;
           rest = S.left source.new;
           written_before = K.written sink.old;
@@ -74,8 +74,8 @@ pub(crate) fn run<R: Threads + Sync, S: Source, K: Sink, D: Disk>(
     requires untold { S.ended source.old ≡ false }
     ensures outcome { RanTo result.status
         (IsDurable D.bytes D.may_leave disk) (D.left_since result.disk (D.moment disk))
-        (Untouched (source.new ≡ source.old) (sink.new ≡ sink.old)
-        (Keeps D.bytes D.may_leave D.moment D.left_since disk result.disk))
+        (source.new ≡ source.old) (sink.new ≡ sink.old)
+        (Keeps D.bytes D.may_leave D.moment D.left_since disk result.disk)
         (record {
           input = S.left source.old;
           rest = S.left source.new;

@@ -1,8 +1,9 @@
 -- A journal that is read at once.
-use Rattle.std.specs.Prelude.{◌≡◌, ℕ, List, Option, ⊤}
+use Rattle.std.specs.Prelude.{◌≡◌, ◌≢◌, ℕ, List, Option, ⊤}
 use Rattle.ts_schema.specs.Faults.{Rose}
 use Rattle.txn_journal.specs.Calls.{IsAtRest}
 use Rattle.txn_journal.specs.Frames.{StandsFor, IsDamaged, placed, payloads_of}
+use Rattle.txn_journal.specs.declared.journals.Standing.TheVariants.{Still}
 use Rattle.txn_journal.specs.declared.recovery.Recovered.{Recovered}
 use Rattle.txn_journal.specs.declared.recovery.Recovered.TheVariants.{Ready, Damaged, DiskFault, NoMemory}
 
@@ -33,3 +34,10 @@ RestsAfter bytes may_leave (Ready journal payloads) = IsAtRest bytes may_leave j
 RestsAfter bytes may_leave (Damaged disk payloads at) = ⊤
 RestsAfter bytes may_leave (DiskFault disk) = ⊤
 RestsAfter bytes may_leave (NoMemory disk) = ⊤
+
+-- it didn't stop
+abbrev pub GoesOn : {D : Type 0} → Recovered D → Type 0
+GoesOn (Ready journal payloads) = journal.standing ≢ Still
+GoesOn (Damaged disk payloads at) = ⊤
+GoesOn (DiskFault disk) = ⊤
+GoesOn (NoMemory disk) = ⊤

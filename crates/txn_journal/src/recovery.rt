@@ -3,7 +3,7 @@ ghost use Rattle.std.specs.Prelude.{◌≡◌, ℕ, [], ◌∷◌, ◌++◌, Lis
 ghost use Rattle.ts_disk.specs.CrashImage.{Only};
 ghost use Rattle.ts_disk.specs.Disk.{Keeps};
 ghost use Rattle.txn_journal.specs.Reading.{HasRead};
-ghost use Rattle.txn_journal.specs.Recovering.{Recovers, RestsAfter, disk_of, CountsRecovered};
+ghost use Rattle.txn_journal.specs.Recovering.{CountsRecovered, GoesOn, Recovers, RestsAfter, disk_of};
 
 use crate::journals::Journal;
 use crate::openings::Opened;
@@ -38,6 +38,7 @@ pub fn recover<D: Disk>(alloc: Global, disk: D) -> Recovered<D>
     ensures recovers { (file : List ℕ) → D.bytes disk ≡ Some file → Recovers result file }
     ensures at_rest { (file : List ℕ) → D.bytes disk ≡ Some file → Only file (D.may_leave disk)
         → RestsAfter D.bytes D.may_leave result }
+    ensures goes_on { GoesOn result }
     ensures kept { Keeps D.bytes D.may_leave D.moment D.left_since disk (disk_of result) }
     ensures counted { CountsRecovered result (D.faults disk) (D.faults (disk_of result)) }
 {
@@ -57,6 +58,7 @@ fn read_all<D: Disk>(alloc: Global, reader: Reader<D>) -> Recovered<D>
     ensures recovers { (file : List ℕ) → HasRead D.bytes reader file [] → Recovers result file }
     ensures at_rest { (file : List ℕ) → HasRead D.bytes reader file [] → Only file (D.may_leave reader.disk)
         → RestsAfter D.bytes D.may_leave result }
+    ensures goes_on { GoesOn result }
     ensures kept { Keeps D.bytes D.may_leave D.moment D.left_since reader.disk (disk_of result) }
     ensures counted { CountsRecovered result (D.faults reader.disk) (D.faults (disk_of result)) }
 {

@@ -1,6 +1,7 @@
 -- What the reading of the input came to decides whether it is run.
 use Rattle.std.proofs.Common.{◌≡◌, inl, inr, ℕ, List, IfSome, refl, sym, subst}
 use Rattle.script_run.specs.Runs.{ReadWhole}
+use Rattle.ts_schema.specs.Faults.{Rose}
 use Rattle.ts_store.specs.Images.{IsDurable}
 use Rattle.ts_store.specs.Stores.{seen}
 use Rattle.ts_top.specs.Outcomes.{Outside}
@@ -16,7 +17,7 @@ returns-in-End-clause-outcome g c before stood =
     let end = c.run_input.result in
     let input = c.deref.result.now in
     let o : Outside = record { input = S.left c.args.source.now; rest = S.left c.read_all.new.source; written_before = K.written c.args.sink.now; written = K.written c.run_input.new.sink; file_before = before; file = D.bytes end.disk; reads = end.reads } in
-    input_par (IsDurable D.bytes D.may_leave c.args.store.begun) (D.left_since end.disk (D.moment c.args.store.begun)) o (seen c.args.store) stood input
+    input_par (IsDurable D.bytes D.may_leave c.args.store.begun) (D.left_since end.disk (D.moment c.args.store.begun)) (Rose (K.faults c.args.sink.now) (K.faults c.run_input.new.sink)) o (seen c.args.store) stood input
     (subst (λ out. IfSome o.input (λ i. ReadWhole i o.rest × (i ≡ out))) (sym c.deref.ensures.value) (read_whole o.input o.rest c.read_all.new.out.items c.in-End.ensures.read.0 c.in-End.ensures.read.1 c.read_all.ensures.within)) end.status c.run_input.ensures.ran
 
 pub returns-in-InputLong-clause-outcome : goal.returns-in-InputLong-clause-outcome
@@ -28,8 +29,8 @@ returns-in-InputLong-clause-outcome g c before stood =
     let o : Outside = record { input = S.left c.args.source.now; rest = S.left c.read_all.new.source; written_before = K.written c.args.sink.now; written = K.written c.args.sink.now; file_before = before; file = D.bytes end.disk; reads = end.reads } in
     let durable : Type 0 = IsDurable D.bytes D.may_leave c.args.store.begun in
     let left : List ℕ → Type 0 = D.left_since end.disk (D.moment c.args.store.begun) in
-    subst (λ status. ParTo status durable left ⊥ o) (sym c.closed.ensures.status)
-    (ran_nothing durable left o (seen c.args.store) stood refl c.closed.ensures.holds c.closed.ensures.images, too_long o.input o.rest c.read_all.new.out.items c.in-InputLong.ensures.read)
+    subst (λ status. ParTo status durable left (Rose (K.faults c.args.sink.now) (K.faults c.args.sink.now)) ⊥ ⊥ ⊥ o) (sym c.closed.ensures.status)
+    (ran_nothing durable left (Rose (K.faults c.args.sink.now) (K.faults c.args.sink.now)) o (seen c.args.store) stood refl c.closed.ensures.holds c.closed.ensures.images, too_long o.input o.rest c.read_all.new.out.items c.in-InputLong.ensures.read)
 
 pub returns-in-ReadFault-clause-outcome : goal.returns-in-ReadFault-clause-outcome
 returns-in-ReadFault-clause-outcome g c before stood =
@@ -40,8 +41,8 @@ returns-in-ReadFault-clause-outcome g c before stood =
     let o : Outside = record { input = S.left c.args.source.now; rest = S.left c.read_all.new.source; written_before = K.written c.args.sink.now; written = K.written c.args.sink.now; file_before = before; file = D.bytes end.disk; reads = end.reads } in
     let durable : Type 0 = IsDurable D.bytes D.may_leave c.args.store.begun in
     let left : List ℕ → Type 0 = D.left_since end.disk (D.moment c.args.store.begun) in
-    subst (λ status. ParTo status durable left ⊥ o) (sym c.closed-in-ReadFault.ensures.status)
-    (ran_nothing durable left o (seen c.args.store) stood refl c.closed-in-ReadFault.ensures.holds c.closed-in-ReadFault.ensures.images)
+    subst (λ status. ParTo status durable left (Rose (K.faults c.args.sink.now) (K.faults c.args.sink.now)) ⊥ ⊥ ⊥ o) (sym c.closed-in-ReadFault.ensures.status)
+    (ran_nothing durable left (Rose (K.faults c.args.sink.now) (K.faults c.args.sink.now)) o (seen c.args.store) stood refl c.closed-in-ReadFault.ensures.holds c.closed-in-ReadFault.ensures.images)
 
 pub returns-clause-outcome : goal.returns-clause-outcome
 returns-clause-outcome g c before stood =
@@ -52,5 +53,5 @@ returns-clause-outcome g c before stood =
     let o : Outside = record { input = S.left c.args.source.now; rest = S.left c.read_all.new.source; written_before = K.written c.args.sink.now; written = K.written c.args.sink.now; file_before = before; file = D.bytes end.disk; reads = end.reads } in
     let durable : Type 0 = IsDurable D.bytes D.may_leave c.args.store.begun in
     let left : List ℕ → Type 0 = D.left_since end.disk (D.moment c.args.store.begun) in
-    subst (λ status. ParTo status durable left ⊥ o) (sym c.closed-in-NoMemory.ensures.status)
-    (inr (inl (ran_nothing durable left o (seen c.args.store) stood refl c.closed-in-NoMemory.ensures.holds c.closed-in-NoMemory.ensures.images)))
+    subst (λ status. ParTo status durable left (Rose (K.faults c.args.sink.now) (K.faults c.args.sink.now)) ⊥ ⊥ ⊥ o) (sym c.closed-in-NoMemory.ensures.status)
+    (inr (inl (ran_nothing durable left (Rose (K.faults c.args.sink.now) (K.faults c.args.sink.now)) o (seen c.args.store) stood refl c.closed-in-NoMemory.ensures.holds c.closed-in-NoMemory.ensures.images)))

@@ -1,18 +1,17 @@
 -- Where its disk may cross threads, a store may too; what its run left is told by the closed store.
 use Rattle.std.proofs.Common.{◌≡◌, ℕ, List, sym, ap, ◌∙◌, subst}
-use Rattle.std.specs.Prelude.{is_some}
 use denote.Exit.{no}
 use denote.Param.Send.{arg_send, param_send}
-use Rattle.ts_io.specs.Faults.{Counted}
-use Rattle.ts_model.specs.States.{State, stands_still}
+use Rattle.ts_schema.specs.Faults.{Rose}
+use Rattle.ts_model.specs.States.{State}
+use Rattle.par_run.specs.Outputs.{output_of}
 use Rattle.ts_store.specs.Images.{IsBetween, IsDurable}
 use Rattle.ts_store.specs.Stores.{opening, seen, state_of}
 use Rattle.ts_top.specs.contracts.parallel.run_input.{D-row}
 use Rattle.ts_store.proofs.Crossing.{shot_send, store_send}
-use Rattle.ts_top.specs.Endings.{is_disk_fault}
-use Rattle.ts_top.specs.Parallel.{PrintsReplies}
+use Rattle.ts_top.specs.Parallel.{CountedAfterWorkers, PrintsReplies}
 use Rattle.ts_top.proofs.OutcomeLaws.{Closed}
-use Rattle.ts_top.proofs.ParallelLaws.{counted_by, input_to, stop_is_there, tells_disk_fault}
+use Rattle.ts_top.proofs.ParallelLaws.{counted_by, input_to}
 use Rattle.ts_top.proofs.parallel.run_input.Goals as goal
 
 pub par-backend-requires-send-B : goal.par-backend-requires-send-B
@@ -37,8 +36,9 @@ returns-clause-ran g c =
       shown = λ d. c.close.ensures.shown (still_durable d);
       images = λ d x image. subst (λ h. IsBetween h (seen new) new.failed x) from (c.close.ensures.images (still_durable d) x (subst (λ disk. D.left_since c.close.result (D.moment disk) x) (sym begun) image));
     } in
-    input_to durable left (seen old) c.args.input.now (g.K.Sink.written c.args.sink.now) (g.K.Sink.written c.print_replies-status.new.sink) (D.bytes c.close.result) state end.text end.fault closed
-    end.stop (is_some c.stopped.result) c.print_replies-status.result (subst (λ text. PrintsReplies end.stop end.fault (is_some c.stopped.result) text c.print_replies-status.result (g.K.Sink.written c.args.sink.now) (g.K.Sink.written c.print_replies-status.new.sink)) c.items.ensures.items c.print_replies-status.ensures.prints) c.par-backend.ensures.ran c.par-backend.ensures.stop c.par-backend.ensures.goes_on.begins
+    let failed : Type 0 = Rose (g.K.Sink.faults c.args.sink.now) (g.K.Sink.faults c.print_replies-status.new.sink) in
+    input_to durable left failed (seen old) c.args.input.now end.reads (g.K.Sink.written c.args.sink.now) (g.K.Sink.written c.print_replies-status.new.sink) (D.bytes c.close.result) state (output_of end) closed
+    end.stop c.print_replies-status.result (subst (λ text. PrintsReplies end.stop end.fault text c.print_replies-status.result failed (g.K.Sink.written c.args.sink.now) (g.K.Sink.written c.print_replies-status.new.sink)) c.items.ensures.items c.print_replies-status.ensures.prints) c.par-backend.ensures.ran c.par-backend.ensures.stop c.par-backend.ensures.goes_on.begins
 
 pub returns-clause-disk : goal.returns-clause-disk
 returns-clause-disk g c =
@@ -47,8 +47,7 @@ returns-clause-disk g c =
     let new = end.backend in
     let old = c.args.store in
     let state : State = state_of D.faults D.moment new in
-    let same_stop : is_some c.stopped.result ≡ stands_still state = ap is_some c.stopped.ensures ∙ stop_is_there state in
-    let prints = subst (λ text. PrintsReplies end.stop end.fault (is_some c.stopped.result) text c.print_replies-status.result (g.K.Sink.written c.args.sink.now) (g.K.Sink.written c.print_replies-status.new.sink)) c.items.ensures.items c.print_replies-status.ensures.prints in
-    let tells = tells_disk_fault end.stop end.fault (is_some c.stopped.result) end.text c.print_replies-status.result _ _ prints (λ some. same_stop ∙ c.par-backend.ensures.stop some) in
-    subst (λ disk. Counted (D.faults old.journal.disk) (D.faults disk) (is_disk_fault c.print_replies-status.result)) (sym c.close.ensures.disk)
-    (subst (λ b. Counted (D.faults old.journal.disk) (D.faults new.journal.disk) b) (sym (tells ∙ same_stop)) (counted_by (state_of D.faults D.moment old) state c.par-backend.ensures.goes_on))
+    let failed : Type 0 = Rose (g.K.Sink.faults c.args.sink.now) (g.K.Sink.faults c.print_replies-status.new.sink) in
+    let prints = subst (λ text. PrintsReplies end.stop end.fault text c.print_replies-status.result failed (g.K.Sink.written c.args.sink.now) (g.K.Sink.written c.print_replies-status.new.sink)) c.items.ensures.items c.print_replies-status.ensures.prints in
+    subst (λ disk. CountedAfterWorkers c.print_replies-status.result (D.faults old.journal.disk) (D.faults disk)) (sym c.close.ensures.disk)
+    (counted_by end.stop end.fault end.text c.print_replies-status.result failed _ _ (state_of D.faults D.moment old) state prints c.par-backend.ensures.stop c.par-backend.ensures.goes_on)

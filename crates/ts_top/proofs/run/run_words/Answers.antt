@@ -1,6 +1,8 @@
 -- A call that prints reads no input, and ends as printing does.
-use Rattle.std.proofs.Common.{None, refl, sym, ap, ◌∙◌, subst}
+use Rattle.std.proofs.Common.{None, Some, refl, sym, ap, ◌∙◌, subst}
 use Rattle.ts_io.specs.Faults.{Counted}
+use Rattle.ts_top.specs.Calls.{DiskCounted}
+use Rattle.ts_top.specs.Endings.{is_disk_fault}
 use Rattle.ts_top.proofs.DemoLaws.{not_bad_words as demo_words, no_read_fault as demo_reads, no_disk_fault as demo_disk}
 use Rattle.ts_top.proofs.PrintLaws.{not_bad_words, no_read_fault}
 use Rattle.ts_top.proofs.run.run_words.Goals as goal
@@ -18,4 +20,8 @@ pub returns-in-Some-Demo-clause-reads : goal.returns-in-Some-Demo-clause-reads
 returns-in-Some-Demo-clause-reads g c = subst (λ fault. Counted (g.S.Source.faults c.args.source.now) (g.S.Source.faults c.args.source.now) fault) (sym (demo_reads _ _ _ c.print_demo.result.status (c.print_demo.ensures.outcome None None None None))) refl
 
 pub returns-in-Some-Demo-clause-disk : goal.returns-in-Some-Demo-clause-disk
-returns-in-Some-Demo-clause-disk g c = subst (λ fault. Counted (g.D.Disk.faults c.args.disk) (g.D.Disk.faults c.print_demo.result.disk) fault) (sym (demo_disk _ _ _ c.print_demo.result.status (c.print_demo.ensures.outcome None None None None))) (ap g.D.Disk.faults c.print_demo.ensures.disk)
+returns-in-Some-Demo-clause-disk g c =
+    let D = g.D.Disk in
+    let status = c.print_demo.result.status in
+    let counted : Counted (D.faults c.args.disk) (D.faults c.print_demo.result.disk) (is_disk_fault status) = subst (λ fault. Counted (D.faults c.args.disk) (D.faults c.print_demo.result.disk) fault) (sym (demo_disk _ _ _ status (c.print_demo.ensures.outcome None None None None))) (ap D.faults c.print_demo.ensures.disk) in
+    subst (λ asked. DiskCounted asked status (D.faults c.args.disk) (D.faults c.print_demo.result.disk)) (sym (sym c.command_of.ensures ∙ c.in-Some-Demo.is ∙ ap Some c.in-Some-Demo.field-0-is)) counted

@@ -30,8 +30,8 @@ returns-in-Ok-clause-outcome g c =
     let end = c.run_lines.result in
     let o : Outside = record { input = S.left c.args.source.now; rest = S.left c.run_lines.new.source; written_before = K.written c.args.sink.now; written = K.written c.run_lines.new.sink; file_before = D.bytes c.args.disk; file = D.bytes end.disk; reads = end.reads } in
     let stood : IfSome (D.bytes c.args.disk) (λ file. Stands file (seen store)) = if_known (D.bytes c.args.disk) (λ file. Stands file (seen store)) c.in-Ok.ensures.stands in
-    ran_or_not end.status (IsDurable D.bytes D.may_leave c.args.disk) (D.left_since end.disk (D.moment c.args.disk)) _ o
-    (subst (λ b. RanTo end.status (IsDurable D.bytes D.may_leave b) (D.left_since end.disk (D.moment b)) ⊥ o) c.in-Ok.ensures.begun
+    ran_or_not end.status (IsDurable D.bytes D.may_leave c.args.disk) (D.left_since end.disk (D.moment c.args.disk)) _ _ _ o
+    (subst (λ b. RanTo end.status (IsDurable D.bytes D.may_leave b) (D.left_since end.disk (D.moment b)) ⊥ ⊥ ⊥ o) c.in-Ok.ensures.begun
     (c.run_lines.ensures.outcome (D.bytes c.args.disk) stood))
 
 pub returns-in-Ok-clause-header : goal.returns-in-Ok-clause-header
@@ -55,7 +55,7 @@ returns-in-Err-clause-outcome g c =
     let S = g.S.Source in
     let end = c.in-Err.ended in
     let o : Outside = record { input = S.left c.args.source.now; rest = S.left c.args.source.now; written_before = K.written c.args.sink.now; written = K.written c.args.sink.now; file_before = D.bytes c.args.disk; file = D.bytes end.disk; reads = end.reads } in
-    not_opened_run (IsDurable D.bytes D.may_leave c.args.disk) (D.left_since end.disk (D.moment c.args.disk)) o _ _ (Keeps D.bytes D.may_leave D.moment D.left_since c.args.disk end.disk) refl c.in-Err.ensures.unread (refl, refl) end.status c.in-Err.ensures.ended
+    not_opened_run (IsDurable D.bytes D.may_leave c.args.disk) (D.left_since end.disk (D.moment c.args.disk)) o _ _ (Keeps D.bytes D.may_leave D.moment D.left_since c.args.disk end.disk) (refl, refl) end.status c.in-Err.ensures.ended
 
 pub returns-in-Err-clause-header : goal.returns-in-Err-clause-header
 returns-in-Err-clause-header g c = not_opened_header _ _ _ _ c.in-Err.ended.status _ _ c.in-Err.ensures.ended

@@ -33,7 +33,7 @@ returns-clause-outcome g c before stood =
     let o : Outside = record { input = S.left c.args.source.now; rest = S.left c.run-end.new.source; written_before = K.written c.args.sink.now; written = K.written c.run-end.new.sink; file_before = before; file = D.bytes c.close.result; reads = c.count.result } in
     let RanFrom : ℕ → ℕ → Type 0 = λ r s. IfSome o.input (λ input. RanScript c.run-end.result session_semantics (seen old) input o.rest (record { store = state; written_before = o.written_before; written = o.written; read_before = r; read = s })) in
     let ran : RanFrom 0 c.count.result = subst (λ s. RanFrom 0 s) (sym c.count.ensures.count) (subst (λ r. RanFrom r c.run-end.new.steps) c.new-steps.ensures.zero c.run-end.ensures.ran) in
-    subst (λ status. RanTo status durable left ⊥ o) (sym c.status_of.ensures) (told_run durable left ⊥ o (seen old) state closed c.run-end.result c.run-end.ensures.still stood ran)
+    subst (λ status. RanTo status durable left ⊥ ⊥ ⊥ o) (sym c.status_of.ensures) (told_run durable left ⊥ ⊥ ⊥ o (seen old) state closed c.run-end.result c.run-end.ensures.still stood ran)
 
 pub returns-clause-header : goal.returns-clause-header
 returns-clause-header g c =

@@ -7,7 +7,6 @@ use Rattle.ts_model.specs.Calls.{cutting, refusal}
 use Rattle.ts_model.specs.History.{position}
 use Rattle.ts_model.specs.Roster.{roster, view_of}
 use Rattle.ts_model.specs.Windows.{window}
-use Rattle.ts_model.proofs.MadeLaws.{calls_make_allowed}
 use Rattle.engine_core.specs.Acts.{making_event}
 use Rattle.engine_core.specs.Histories.{history_of}
 use Rattle.engine_core.specs.Values.{EngineValue}
@@ -27,9 +26,7 @@ pub make-outcome-requires-clause-sound : goal.make-outcome-requires-clause-sound
 make-outcome-requires-clause-sound g c =
     let h = seen c.args.self.now in
     let covers = subst (λ (e : EngineValue). IfSome (view_of (roster (history_of e.events)) c.args.view) (λ def. c.window.result ≡ window c.args.view def (history_of e.events) c.args.lo c.args.hi)) c.engine.ensures.engine c.window.ensures.window in
-    cut_sound c.args.view c.args.lo c.args.hi h c.in-Whole.span
-    (cut_by_window c.args.view c.args.lo c.args.hi h c.window.result (Whole c.in-Whole.span) c.requires.view covers c.in-Whole.is)
-    (calls_make_allowed.cuts c.args.view c.args.lo c.args.hi h c.store_law.ensures.kept.sound.allowed c.requires.high)
+    cut_sound c.args.view c.args.lo c.args.hi h c.window.result c.in-Whole.span c.store_law.ensures.kept.sound.allowed c.requires.view covers c.in-Whole.is c.requires.high
 
 pub returns-in-Whole-clause-called : goal.returns-in-Whole-clause-called
 returns-in-Whole-clause-called g c =

@@ -1,8 +1,0 @@
-mod Bounds
-mod CleanTexts
-mod ClosedLines
-pub mod LineLaws
-mod NumberedLines
-mod PassLaws
-mod Rows
-mod TokenLaws

@@ -1,0 +1,28 @@
+//! Laws of the lines of a demonstration. Each is the clause of a function that does nothing.
+ghost use Rattle.demo_laws.specs.ReadLaws.{DefinitionsReadNothing, DemonstrationsReadTheSame};
+ghost use Rattle.demo_laws.specs.ReadLaws.{InsertsReadNothing, QueriesReadARound, RefreshesReadAChunk};
+
+/// What is made looks at no row.
+pub fn definitions_read_nothing()
+    ensures { DefinitionsReadNothing }
+{}
+
+/// Nor do inserts.
+pub fn inserts_read_nothing()
+    ensures { InsertsReadNothing }
+{}
+
+/// The refresh of a round looks at the rows in the chunk of the times before.
+pub fn refreshes_read_a_chunk()
+    ensures { RefreshesReadAChunk }
+{}
+
+/// A query looks at the rows of the last round that came in time.
+pub fn queries_read_a_round()
+    ensures { QueriesReadARound }
+{}
+
+/// Every demonstration looks at 39,600 stored rows, and no reply to it is a FAULT.
+pub fn demonstrations_read_the_same()
+    ensures { DemonstrationsReadTheSame }
+{}
