@@ -173,6 +173,7 @@ impl<T: Clone + Drop> BlockList<T> {
     pub fn reserve(&mut self) -> Result<(), NoMemory>
         requires faithful { (x y : T) → T.is_clone x y → x ≡ y }
         ensures room { OnOk result (1 ≤ self.new.room) }
+        ensures kept { self.old.room ≤ self.new.room }
         ensures items { self.new.items ≡ self.old.items }
     {
         if self.own.len() < BLOCK_LEN {

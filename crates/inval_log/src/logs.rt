@@ -82,6 +82,7 @@ impl InvalLog {
     /// Makes room for one entry.
     pub fn reserve(&mut self) -> Result<(), NoMemory>
         ensures room { OnOk result (1 ≤ self.new.room) }
+        ensures kept { self.old.room ≤ self.new.room }
         ensures threshold { self.new.threshold ≡ self.old.threshold }
         ensures entries { self.new.entries ≡ self.old.entries }
     {

@@ -319,21 +319,6 @@ changed_with_as log es s f q r pieces found h whole qs rs fs values rising =
 
 -- ---- refreshes against a snapshot
 
--- ranges of the buckets that a rule of the last refresh gives a value
-pub by_last_as : {E : Type 0} (log : LogValue) (s : SpanValue) (rule : Option ℕ → Option ℕ) (test : Option ℕ → Bool) (f : ℤ → Option ℕ) (pieces : List Piece) (found : Result (List SpanValue) E) → IsInStep log.width (pending_at log) (last_at log) → IsWholeSpan log.width s → ((v : Option ℕ) → is_some (rule v) ≡ test v) → ((t : ℤ) → cond (in_span s t) (f t) None ≡ cond (in_span s t) (rule (last_at log t)) None) → ((t : ℤ) → piece_at pieces t ≡ cond (in_span s t) (f t) None) → ArePieces s.lo s.hi pieces → IfOk found (λ ranges. ranges ≡ joined None pieces) → IfOk found (AreRanges log.width s (λ b. test (last_at log b)))
-by_last_as log s rule test f pieces found h whole says is values rising =
-    IfOk-weaker found _ _ (λ ranges e. subst (AreRanges w s (λ b. test (last_at log b))) (sym e)
-    (AreRanges-same w s s (λ b. is_some (rule (last_at log b))) (λ b. test (last_at log b)) (joined None pieces) (λ b q. ap (λ c. is_asked w s b && c) (says (last_at log b)))
-    (some_ranges w (λ t. rule (last_at log t)) s pieces h.bounds (λ t. ap rule (h.one_refreshed t)) whole (λ t. values t ∙ is t) rising)))
-  where
-    w : WidthValue
-    w = log.width
-
--- what is left of a value within a span, above a snapshot
-pub above_within : (i : Bool) (snap : ℕ) (v : Option ℕ) → cond i (cond i (above snap (cond i v None)) (cond i v None)) None ≡ cond i (above snap v) None
-above_within true snap v = refl
-above_within false snap v = refl
-
 some_not_below : (snap : ℕ) (v : Option ℕ) → is_some (combined_by NotBelow v (Some snap)) ≡ not (is_above snap v)
 some_not_below snap None = refl
 some_not_below snap (Some p) = by (nat_le p snap) (nat_lt snap p) refl refl

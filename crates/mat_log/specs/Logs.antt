@@ -42,6 +42,11 @@ pub record HasRoom (log : LogValue) : Type 0 where
   pub for_entry : 3 * (piece_count_of log.refreshed + 1) ≤ log.pending.room
   pub for_refresh : 3 + piece_count_of log.refreshed ≤ log.refreshed.room
 
+-- room doesn't shrink
+pub record KeepsRoom (old new : LogValue) : Type 0 where
+  pub for_entry : old.pending.room ≤ new.pending.room
+  pub for_refresh : old.refreshed.room ≤ new.refreshed.room
+
 -- the same of every bucket: what is pending there, and its last refresh
 pub record IsSame (old new : LogValue) : Type 0 where
   pub width : new.width ≡ old.width

@@ -11,7 +11,7 @@ ghost use Rattle.ts_bucket.specs.Ranges.{AreRanges, IsWholeRange, lies_in};
 ghost use Rattle.ts_bucket.specs.WholeSpans.{IsWholeSpan, IsWithin, IsMark, whole_span};
 ghost use Rattle.mat_log.specs.Feeding.{AreWithin, IsFed, are_rising, is_changed_with, is_dirty_with, is_redone_with, is_stale_with, pending_with};
 ghost use Rattle.mat_log.specs.Touching.{pending_or_fresh};
-ghost use Rattle.mat_log.specs.Logs.{pending_at, last_at, is_dirty, is_refreshed_after, is_renewed, is_stale, HasRoom, IsSame};
+ghost use Rattle.mat_log.specs.Logs.{pending_at, last_at, is_dirty, is_renewed, is_stale, HasRoom, IsSame, KeepsRoom};
 ghost use Rattle.span_map.specs.Functions.{ChangesWithin, IsPart};
 
 use crate::held::HeldMap;
@@ -95,6 +95,7 @@ impl MatLog {
     /// settled.
     pub fn reserve(&mut self) -> Result<(), NoMemory>
         ensures room { OnOk result (HasRoom self.new) }
+        ensures kept { KeepsRoom self.old self.new }
         ensures same { IsSame self.old self.new }
     {
         let pieces = self.refreshed.map().len();
@@ -286,20 +287,6 @@ impl MatLog {
         let refreshed = self.refreshed.map().within(span)?;
         let renewed = refreshed.combined(&all, Rule::NotBelow)?;
         join_pieces(renewed.ranges(span)?)
-    }
-
-    /// The buckets of a span of whole buckets whose last refresh is above a snapshot, as ranges that
-    /// are as long as can be.
-    pub fn refreshed_after(&self, span: Span, snap: u64) -> Result<Seq<Span>, NoMemory>
-        requires { IsWholeSpan self.now.width span }
-        ensures ranges { IfOk result (AreRanges self.now.width span (is_refreshed_after self.now snap)) }
-    {
-        // Reading the width tells that the two maps are in step.
-        let _width = self.width;
-        let mut refreshed = self.refreshed.map().within(span)?;
-        refreshed.reserve(2)?;
-        refreshed.clear_upto(span, snap);
-        join_pieces(refreshed.ranges(span)?)
     }
 
     /// The buckets of a span of whole buckets that a refresh with this snapshot, done again, makes

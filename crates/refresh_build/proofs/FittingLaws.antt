@@ -1,14 +1,17 @@
 -- A job that fits a history fits every history that begins with it, and may finish its refresh.
-use Rattle.std.proofs.Common.{◌≡◌, ℕ, suc, Bool, true, false, ◌&&◌, cond, ◌==◌, List, ℤ, Option, Some, None, sym, refl, ap, ◌∙◌, subst}
+use Rattle.std.proofs.Common.{◌≡◌, ℕ, suc, Bool, true, false, ◌&&◌, cond, nat_le, ◌==◌, List, [], ◌∷◌, ℤ, Option, Some, None, sym, refl, ap, ◌∙◌, subst}
 use Rattle.std.specs.Prelude.{IsTrue}
 use Rattle.std.proofs.lemmas.Bool.{and_from, le-leb}
 use Rattle.ts_bucket.specs.Positions.{is_above}
 use Rattle.ts_bucket.specs.declared.spans.Span.{Span}
 use Rattle.partial_agg.specs.declared.groups.Group.{Group}
 use Rattle.ts_model.specs.declared.events.Event.TheVariants.{Table, Hyper, View, Mode, Commit, Cut, Built}
-use Rattle.ts_model.specs.declared.refreshes.Pending.TheVariants.{Waiting}
+use Rattle.ts_model.specs.declared.images.Finished.{Finished as FinishedRefresh}
+use Rattle.ts_model.specs.declared.refreshes.Pending.TheVariants.{Waiting, Unknown}
+use Rattle.ts_model.specs.declared.refreshes.Waiting.{Waiting as WaitingRefresh}
+use Rattle.ts_model.specs.Saved.{span_among, pending_among}
 use Rattle.ts_model.specs.declared.views.ViewDef.{ViewDef}
-use Rattle.ts_model.specs.History.{History, start, ◌▸◌, position, prefix, Begins, same, further}
+use Rattle.ts_model.specs.History.{History, start, resumed, ◌▸◌, position, prefix, Begins, same, further}
 use Rattle.ts_model.specs.Roster.{roster, view_of, set_only}
 use Rattle.ts_model.specs.Pending.{pending, is_known}
 use Rattle.ts_model.specs.Refreshes.{span_of_cut}
@@ -47,11 +50,30 @@ pub job_fits_on : (job : Job) (g h : History) → Begins g h → JobFits g job �
 job_fits_on job g h q f = fits_view_on (view_of (roster g) job.view) job g h q refl f
 
 -- a refresh whose span is known was cut
+among_known : (n : ℕ) (ws : List WaitingRefresh) (fs : List FinishedRefresh) (k : ℕ) (span : Span) → span_among n ws k ≡ Some span → is_known (pending_among ws fs k) ≡ true
+among_known n [] fs k span e = absurd (none_apart span e)
+  where
+    none_apart : (span : Span) → (let none : Option Span = None in none ≡ Some span) → ⊥
+    none_apart span e = cc
+among_known n (w ∷ ws) fs k span e =
+    elim (k == w.cut) as (λ t. cond (t && w.view == n) (Some w.span) (span_among n ws k) ≡ Some span → is_known (cond t (Waiting w.view) (pending_among ws fs k)) ≡ true) [
+      | true ↦ λ _. refl
+      | false ↦ λ f. among_known n ws fs k span f
+    ] e
+
 pub cut_known : (n : ℕ) (h : History) (k : ℕ) (span : Span) → span_of_cut n h k ≡ Some span → is_known (pending h k) ≡ true
 cut_known n start k span e = absurd (none_apart span e)
   where
     none_apart : (span : Span) → None ≡ Some span → ⊥
     none_apart span e = cc
+cut_known n (resumed i) k span e =
+    elim (nat_le k i.pos) as (λ t. cond t (span_among n i.waiting k) None ≡ Some span → is_known (cond t (pending_among i.waiting i.done k) Unknown) ≡ true) [
+      | true ↦ λ f. among_known n i.waiting i.done k span f
+      | false ↦ λ f. absurd (none_here span f)
+    ] e
+  where
+    none_here : (span : Span) → (let none : Option Span = None in none ≡ Some span) → ⊥
+    none_here span e = cc
 cut_known n (h ▸ Table def) k span e = cut_known n h k span e
 cut_known n (h ▸ Hyper t hyper) k span e = cut_known n h k span e
 cut_known n (h ▸ View def) k span e = cut_known n h k span e

@@ -88,6 +88,7 @@ impl SpanMap {
     /// Makes the spare room at least `n`. The values stay.
     pub fn reserve(&mut self, n: usize) -> Result<(), NoMemory>
         ensures room { OnOk result (n ≤ self.new.room) }
+        ensures kept { self.old.room ≤ self.new.room }
         ensures values { (t : ℤ) → at self.new t ≡ at self.old t }
         ensures pieces { piece_count_of self.new ≡ piece_count_of self.old }
         ensures small { self.new.room < 2 ^ 63 }

@@ -61,36 +61,6 @@ fn lines_are_the_same_however_the_source_cuts_them(rt: HostRuntime) -> Result<()
 }
 
 #[test]
-fn a_line_may_have_65536_bytes(rt: HostRuntime) -> Result<(), Fail> {
-    for (len, want) in [
-        (65_535, LineEnd::Line),
-        (65_536, LineEnd::Line),
-        (65_537, LineEnd::LineLong),
-        (131_071, LineEnd::LineLong),
-        (131_072, LineEnd::LineLong),
-        (500_000, LineEnd::LineLong),
-    ] {
-        let mut text = vec![in rt.alloc(); b'x'; len]?;
-        text.extend_from_slice(b"\nnext\n")?;
-        text.extend_from_slice(vec![in rt.alloc(); b'y'; len]?.as_slice())?;
-        for most in [997, 65_536, usize::MAX] {
-            let none = Vec::new(rt.alloc());
-            let (mut source, mut lines) = start(rt.alloc(), text.clone()?, most, none)?;
-            let first = lines.next(&mut source);
-            assert_eq!(rt; first, want, "{len} bytes, at most {most} a call");
-            if first == LineEnd::Line {
-                assert_eq!(rt; lines.line().len(), len);
-            }
-            assert!(rt; first == LineEnd::Line || first == LineEnd::LineLong);
-            takes(&rt, &mut lines, &mut source, b"next");
-            let last = lines.next(&mut source);
-            assert_eq!(rt; last, want, "{len} bytes at the end, at most {most} a call");
-        }
-    }
-    Ok(())
-}
-
-#[test]
 fn an_input_may_have_67108864_bytes_of_lines(rt: HostRuntime) -> Result<(), Fail> {
     // 1,024 lines of 65,536 bytes with their line ends, and the bytes that follow.
     let line = vec![in rt.alloc(); b'x'; LINE_LIMIT - 1]?;
