@@ -1,0 +1,35 @@
+-- The same statements as in spelled_plainly, in other case and spacing and with what may be left out: replies and log are the same.
+a:	CREATE TABLE M(Time BIGINT NOT NULL,V BIGINT)  ; 
+a:SELECT Create_Hypertable ( 'M' ,'TIME',CHUNK_TIME_INTERVAL=>00100 ) ;
+a: CREATE MATERIALIZED VIEW C WITH(TIMESCALEDB . CONTINUOUS=TRUE)AS SELECT TIME_BUCKET(10,TIME)AS B,COUNT ( * )FROM M GROUP BY 1
+a:Create Materialized View d With (timescaledb.continuous = true, timescaledb.materialized_only=true) As Select time_bucket(1,time),sum(v) From m Group By 1 With No Data;
+a:ALTER MATERIALIZED VIEW c SET(timescaledb.materialized_only=FALSE);
+a:CREATE TABLE e(time BIGINT NOT NULL,dev BIGINT,v BIGINT)
+a:SELECT create_hypertable('e','time',chunk_time_interval=>100);
+a:INSERT INTO e VALUES(01,NULL,-3),(2,4,5);
+a:INSERT INTO m(v,time)VALUES(7,1)
+a:SELECT*FROM m
+a:DELETE FROM m ;
+a:CREATE TABLE w(time BIGINT NOT NULL,v BIGINT,w BIGINT,x BIGINT,y BIGINT);
+a:SELECT create_hypertable('w','time',chunk_time_interval=>100)
+a:INSERT INTO w VALUES(1,1,0,NULL,0),(2,1,-2,NULL,0),(3,1,0,0,0),(4,1,0,NULL,NULL),(5,2,0,NULL,0)
+a:DELETE FROM w WHERE v=1 AND w!=-2 AND x IS NULL AND y IS NOT NULL
+a:DELETE FROM w WHERE v<2 AND w<=0 AND time>2 AND time>=3
+a:SELECT  *  FROM  W ;
+a:SELECT DROP_CHUNKS('m',5);
+a:CALL REFRESH_CONTINUOUS_AGGREGATE('c',NULL,7)
+a:REFRESH CUT 'C',-1,NULL;
+a:INSERT INTO m VALUES (0015,8)
+a:REFRESH CUT 'C',-1,NULL;
+a:REFRESH SNAP 20;
+a:REFRESH FINISH;
+a:BEGIN ;
+a:	COMMIT	;
+a:BEGIN READ ONLY;
+a:Rollback;
+a:SELECT time_bucket(10,time,3)AS b,dev,avg(v)AS x,max(v),min(v),count(v) FROM e WHERE dev=4 GROUP BY 1,02;
+a:CREATE TABLE ABCDEFGHIJKLMNOPQRSTUVWXYZ_0123456789_ABCDEFGHIJKLMNOPQRSTUVWXY(TIME BIGINT NOT NULL)
+a:SELECT create_hypertable('ABCDEFGHIJKLMNOPQRSTUVWXYZ_0123456789_ABCDEFGHIJKLMNOPQRSTUVWXY','TIME',chunk_time_interval=>7)
+a:DELETE FROM ABCDEFGHIJKLMNOPQRSTUVWXYZ_0123456789_ABCDEFGHIJKLMNOPQRSTUVWXY
+a:	REFRESH	CUT'ABCDEFGHIJKLMNOPQRSTUVWXYZ_0123456789_ABCDEFGHIJKLMNOPQRSTUVWXY',01,002
+a:SELECT * FROM C WHERE B>=10;

@@ -1,0 +1,38 @@
+# CSV files as INSERTs by tools/tsq: dates, decimals and NULL, rows that come late, and cells that are no numbers.
+set -euo pipefail
+tsq="$(dirname "$0")/../tools/tsq"
+
+cat >readings.csv <<'END'
+when,place,device,celsius
+2024-01-01T00:00:00Z,cellar,1,20.5
+2024-01-01T00:01:00Z,cellar,1,-3.25
+2024-01-01T02:02:00+02:00,attic,2,
+2023-12-31T12:00:00Z,attic,2,1e1
+2024-01-01T00:03:00Z,attic,2,21
+END
+load=("$tsq" load readings.csv --table readings --header --columns time,,device,celsius --times s)
+"${load[@]}" --scale celsius=2 2>&1
+"${load[@]}" --scale celsius=1 2>&1 || echo "status $?"
+
+echo "1,2" | "$tsq" load - --table m --columns time 2>&1 || echo "status $?"
+echo "1,two" | "$tsq" load - --table m --columns time,v 2>&1 || echo "status $?"
+echo ",2" | "$tsq" load - --table m --columns time,v 2>&1 || echo "status $?"
+echo "1,9223372036854775808" | "$tsq" load - --table m --columns time,v 2>&1 || echo "status $?"
+echo "4611686018427387904;1" | "$tsq" load - --table m --columns time,v --delimiter ";" 2>&1 || echo "status $?"
+
+# As many rows as fit into a statement: 1,000 here, and fewer where they are long.
+seq -f "%.0f,1" 1 2500 >many.csv
+"$tsq" load many.csv --table m --columns time,v | awk '{ print gsub(/\(/, "") - 1, length($0) <= 65536 }'
+seq -f "4611686018427%.0f,-9223372036854775807,-9223372036854775807,-9223372036854775807" 100000 102000 >long.csv
+"$tsq" load long.csv --table m --columns time,a,b,c | awk '{ print gsub(/\(/, "") - 1, length($0) <= 65536 }'
+
+# Late rows that lie close together share a statement.
+printf '%s,1\n' 100 110 120 50 130 55 10 140 105 >late.csv
+"$tsq" load late.csv --table m --columns time,v 2>&1
+"$tsq" load late.csv --table m --columns time,v --gap 100 2>/dev/null
+
+# What is no CSV, and what the words ask for.
+printf '1,"2\n' | "$tsq" load - --table m --columns time,v 2>&1 || echo "status $?"
+echo "1,2" | "$tsq" load - --table m --columns time,v --session "x y" 2>&1 || echo "status $?"
+echo "1,2" | "$tsq" load - --table m --columns time,v --time v --scale w=1 2>&1 || echo "status $?"
+printf '1;2\r\n\r\n3;4\r\n' | "$tsq" load - --table m --columns time,v --delimiter ";" --time v

@@ -1,0 +1,21 @@
+# Journals, whole and damaged, by the reader of tools/tsq: it prints what `tsctl log` prints, and ends as it does. Those
+# that differ are named.
+set -uo pipefail
+examples="$(dirname "$0")"
+tsq="$examples/../tools/tsq"
+
+for journal in "$examples"/journals/*.journal; do
+  name="${journal%.journal}"
+  wanted="$(cat "$name.status" 2>/dev/null || echo 0)"
+  "$tsq" log "$journal" >log 2>said
+  status=$?
+  [ "$status" = "$wanted" ] && cmp -s <(cat log; sed "s/^tsq: /tsctl: /" said) "$name.out" || echo "$(basename "$name"): status $status, $(cat said)"
+done
+"$tsq" log "$examples/journals/column_that_is_not_there.journal" 2>&1 || echo "status $?"
+
+# The journals of the examples have each kind of event.
+for script in "$examples"/*.sql; do
+  mkdir run
+  (cd run && tsctl run <"$script" >/dev/null; tsctl log | cmp - <("$tsq" log)) || echo "$(basename "$script") differs"
+  rm -r run
+done

@@ -1,0 +1,55 @@
+# The replies to a script by tools/tsq: answers as tables, refusals explained; and answers for other programs.
+set -euo pipefail
+tsq="$(dirname "$0")/../tools/tsq"
+
+cat >script.sql <<'END'
+feed: CREATE TABLE load (time BIGINT NOT NULL, host BIGINT, busy BIGINT)
+feed: SELECT create_hypertable('load', 'time', chunk_time_interval => 86400)
+feed: INSERT INTO load VALUES (1704067200, 1, 40), (1704067205, 1, 41), (1704067230, 1, 43), (1704067290, 2, NULL)
+feed: CREATE MATERIALIZED VIEW minutes WITH (timescaledb.continuous) AS SELECT time_bucket(60, time) AS minute, host, avg(busy) AS mean, max(time) FROM load GROUP BY minute, host
+feed: INSERT INTO load VALUES (1704067210, 1, 90)
+wall: SELECT * FROM minutes
+-- Blank lines and comments have no reply.
+
+wall: SELECT * FROM load WHERE host = 2
+wall: SELECT time_bucket(3600, time), sum(busy), sum(host), avg(busy) FROM load GROUP BY 1
+wall: SELECT * FROM load WHERE time < 0
+wall: SELECT * FROM load ORDER BY time
+wall: SELECT * FROM nothing
+END
+"$tsq" run --in . script.sql || echo "status $?"
+
+# The next run goes on with the journal, which knows the names of the columns.
+echo "wall: SELECT * FROM minutes" >ask.sql
+"$tsq" run ask.sql --times s
+"$tsq" run ask.sql --csv --times s 2>&1
+"$tsq" run ask.sql --json --fractions 2>/dev/null
+"$tsq" run ask.sql --places 1 | tail -n 4
+
+# A script with Windows line ends; replies that were kept; sessions at once.
+mkdir other
+sed 's/$/\r/' script.sql >windows.sql
+(cd other && tsctl run <../windows.sql >../replies || true)
+"$tsq" run windows.sql --replies replies --csv 2>/dev/null | tail -n 2
+mkdir par
+cat >par.sql <<'END'
+final: SELECT * FROM load
+setup: CREATE TABLE load (time BIGINT NOT NULL, host BIGINT, busy BIGINT)
+setup: SELECT create_hypertable('load', 'time', chunk_time_interval => 86400)
+b: COMMIT
+no session
+a: INSERT INTO load VALUES (1704067200, 1, 40)
+END
+"$tsq" run --par --in par par.sql || echo "status $?"
+
+# An answer of 16,000 rows.
+mkdir many
+cd many
+seq -f "%.0f,1" 0 15999 >many.csv
+{
+  echo "a: CREATE TABLE m (time BIGINT NOT NULL, v BIGINT)"
+  echo "a: SELECT create_hypertable('m', 'time', chunk_time_interval => 100000)"
+  "$tsq" load many.csv --table m --columns time,v
+  echo "a: SELECT * FROM m"
+} >many.sql
+"$tsq" run many.sql --csv | cksum

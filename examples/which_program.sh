@@ -1,0 +1,62 @@
+# Which program bin/tsctl runs, and what it says of it: tried in a copy of bin/ whose toolchain and programs only say
+# who they are, so that nothing is built here.
+set -uo pipefail
+said() { sed "s|$PWD|HERE|g"; }
+mkdir -p kit copy/bench copy/crates/tsctl/src
+cp -r "$TSCTL_TOP/bin" copy/
+echo "tsctl: low" >copy/crates.txt
+echo "low:" >>copy/crates.txt
+touch copy/crates/tsctl/src/main.rt copy/crates/tsctl/src/Lib.antt
+cat >copy/bench/unproved <<'END'
+#!/bin/sh
+printf '#!/bin/sh\necho "without proofs: $*"\n' >"$1"
+chmod +x "$1"
+END
+cat >kit/rt <<'END'
+#!/bin/sh
+echo "$*" >>"$CALLS"
+case "$*" in
+  "all check "*)
+    printf '== low\nproved\n== tsctl\n%s\n== summary\n' "$SAYS"
+    [ "$SAYS" = proved ] ;;
+  "run -- check")
+    printf '#!/bin/sh\necho "proved: $*"\n' >out/tsctl
+    chmod +x out/tsctl ;;
+esac
+END
+chmod +x copy/bench/unproved kit/rt
+export CALLS="$PWD/calls" SAYS=proved
+tsctl() { copy/bin/tsctl "$@" 2>&1 | said; }
+
+PATH="$PWD/kit:$PATH"
+
+echo "# a fresh clone"
+tsctl --proved run
+tsctl --help | head -n 1
+tsctl run
+tsctl run
+tsctl --unproved run
+
+copy/bin/tsctl run 2>&-
+
+echo "# a proof that fails, and one that doesn't"
+SAYS=refused copy/bin/prove --jobs 2 2>&1 | said
+copy/bin/prove --jobs 2 2>&1 | said
+cat calls
+tsctl run
+tsctl --proved log
+tsctl --unproved par
+
+echo "# after a change of a proof, and of a source"
+touch copy/crates/tsctl/src/Lib.antt
+tsctl run
+touch copy/crates/tsctl/src/main.rt
+tsctl run
+tsctl --proved run
+
+echo "# the call becomes the program: a signal reaches it, and its status is the call's"
+printf '#!/bin/sh\necho $$\nexec sleep 60\n' >copy/crates/tsctl/out/unproved
+copy/bin/tsctl --unproved run >number &
+until [ -s number ]; do sleep 0.05; done
+[ "$(cat number)" = "$!" ] && kill -TERM "$!"
+wait "$!" || echo "status $?"

@@ -1,0 +1,38 @@
+# `tsctl why` says why a run in a folder ends with a disk fault, and changes nothing.
+set -uo pipefail
+# What it says, without what differs from one machine to the next.
+why() {
+  tsctl "$@" why | sed "s|$PWD|HERE|g; s|^rights: [^ ]* |rights: USER |; s|; [0-9]* KiB are free||; s| (process [0-9]*)||"
+  echo "status ${PIPESTATUS[0]}"
+}
+
+mkdir data
+why --in data
+echo "a: CREATE TABLE load (time BIGINT)" | tsctl --in data run
+cp data/tsctl.journal before
+why --in data
+cmp before data/tsctl.journal && ls -A data
+
+# While another run holds the journal:
+mkfifo lines
+tsctl --in data run <lines >replies &
+exec 3>lines
+echo "feed: CREATE TABLE more (time BIGINT)" >&3
+until grep -q TABLE replies; do sleep 0.05; done
+tsctl --in data run </dev/null 2>&1; echo "status $?"
+why --in data
+exec 3>&-
+wait
+
+# Where the journal is no file, or a link to nothing:
+mkdir -p other/tsctl.journal
+tsctl --in other run </dev/null 2>&1; echo "status $?"
+why --in other
+rmdir other/tsctl.journal
+ln -s gone/tsctl.journal other/tsctl.journal
+tsctl --in other run </dev/null 2>&1; echo "status $?"
+why --in other
+
+# Where a file may not grow as far as the journal does:
+mkdir small
+(ulimit -f 64; why --in small)

@@ -1,0 +1,55 @@
+"""What a journal comes to: its tables and aggregates, the rows that are left, and what was refreshed."""
+import operator
+
+from .history import follow
+from .journal import Built, Commit, Insert
+
+COMPARE = {
+    "=": operator.eq, "<>": operator.ne, "<": operator.lt, "<=": operator.le, ">": operator.gt, ">=": operator.ge,
+}  # fmt: skip
+
+
+def passes(row, test):
+    """Whether a row passes a test. A comparison with NULL isn't true."""
+    value = row[test.column]
+    if "NULL" in test.comparison:
+        return (value is None) == (test.comparison == "IS NULL")
+    return value is not None and COMPARE[test.comparison](value, test.number)
+
+
+class Content:
+    """What a journal comes to: its history, the rows by their tables, and the windows of finished refreshes by their
+    aggregates."""
+
+    def __init__(self, file):
+        self.history = None
+        self.rows = {}
+        self.windows = {}
+        self.has_removed = False
+        for self.history, event, _ in follow(file):
+            if isinstance(event, Commit):
+                self.commit(event)
+            elif isinstance(event, Built):
+                cut = self.history.cuts[event.cut]
+                self.windows.setdefault(cut.view, []).append((cut.start, cut.end))
+
+    def commit(self, event):
+        """Lets the operations of a commit take effect, one after the other."""
+        for operation in event.operations:
+            rows = self.rows.setdefault(operation.table, [])
+            if isinstance(operation, Insert):
+                rows += operation.rows
+                continue
+            kept = [row for row in rows if not all(passes(row, test) for test in operation.tests)]
+            self.has_removed |= len(kept) < len(rows)
+            self.rows[operation.table] = kept
+
+    def refreshed(self, view):
+        """The windows of an aggregate in order, those that touch or overlap as one."""
+        merged = []
+        for start, end in sorted(self.windows.get(view, [])):
+            if merged and start <= merged[-1][1]:
+                merged[-1][1] = max(merged[-1][1], end)
+            else:
+                merged.append([start, end])
+        return merged

@@ -1,0 +1,146 @@
+"""Follows the events of a journal: which one may come next, what `tsctl log` prints of it, and what there is."""
+from .journal import Built, Commit, Cut, Damaged, Hyper, Insert, Mode, Table, View, Wrong, event, payloads
+
+MOST_RELATIONS, MOST_COLUMNS = 64, 16
+MOST_WIDTH, MOST_INTERVAL = 2**40, 2**50
+
+
+def require(holds):
+    """Ends as Wrong where something that must hold doesn't."""
+    if not holds:
+        raise Wrong
+
+
+def item(items, number):
+    """The item of this number, which must be there."""
+    require(number < len(items))
+    return items[number]
+
+
+def apart(names):
+    """Whether no two of the names are the same."""
+    return len(set(names)) == len(names)
+
+
+class Relation:
+    """A table: its definition, and its event `hyper` once it is a hypertable."""
+
+    def __init__(self, table):
+        self.name = table.name
+        self.columns = table.columns
+        self.hyper = None
+
+    def numbered(self):
+        """The columns of a hypertable by their numbers: the time column, then the others in declared order."""
+        others = [column for place, column in enumerate(self.columns) if place != self.hyper.place]
+        return [self.columns[self.hyper.place], *others]
+
+
+class History:
+    """Tables and aggregates by their numbers, and the refreshes that were cut and finished."""
+
+    def __init__(self):
+        self.position = 0
+        self.tables = []
+        self.views = []
+        self.cuts = {}
+        self.finished = set()
+
+    def add(self, new):
+        """Takes one more event, and gives its line in the log."""
+        adders = {
+            Table: self.add_table, Hyper: self.add_hyper, View: self.add_view, Mode: self.add_mode,
+            Commit: self.add_commit, Cut: self.add_cut, Built: self.add_built,
+        }  # fmt: skip
+        line = adders[type(new)](new)
+        self.position += 1
+        return f"@{self.position} {line}"
+
+    def hypertable(self, number):
+        """The hypertable of this number, which must be there."""
+        table = item(self.tables, number)
+        require(table.hyper)
+        return table
+
+    def require_free(self, name, relations):
+        """A new relation has a name of its own, and there is room for one more of its kind."""
+        require(len(relations) < MOST_RELATIONS)
+        require(all(name != relation.name for relation in [*self.tables, *self.views]))
+
+    def add_table(self, new):
+        self.require_free(new.name, self.tables)
+        require(1 <= len(new.columns) <= MOST_COLUMNS and apart([name for name, _ in new.columns]))
+        self.tables.append(Relation(new))
+        return f"TABLE {new.name} " + " ".join(name + "!" * must for name, must in new.columns)
+
+    def add_hyper(self, new):
+        table = item(self.tables, new.table)
+        require(not table.hyper and 1 <= new.interval <= MOST_INTERVAL)
+        time, _ = item(table.columns, new.place)
+        table.hyper = new
+        return f"HYPER {table.name} {time} {new.interval}"
+
+    def add_view(self, new):
+        self.require_free(new.name, self.views)
+        table = self.hypertable(new.table)
+        require(1 <= new.width <= MOST_WIDTH and 0 <= new.offset < new.width)
+        columns = [*new.keys, *(it.column for it in new.functions), *(test.column for test in new.tests)]
+        require(all(column < len(table.columns) for column in columns))
+        require(new.functions and len(new.names) == 1 + len(new.keys) + len(new.functions) <= MOST_COLUMNS)
+        require(apart(new.names))
+        self.views.append(new)
+        return f"VIEW {new.name} {table.name} {new.width} {new.offset}"
+
+    def add_mode(self, new):
+        view = item(self.views, new.view)
+        self.views[new.view] = view._replace(only=new.only)
+        return f"MODE {view.name} {int(new.only)}"
+
+    def add_commit(self, new):
+        require(new.operations)
+        for operation in new.operations:
+            table = self.hypertable(operation.table)
+            if isinstance(operation, Insert):
+                self.require_rows(table, operation.rows)
+            else:
+                require(all(test.column < len(table.columns) for test in operation.tests))
+        return f"COMMIT ops {len(new.operations)}"
+
+    @staticmethod
+    def require_rows(table, rows):
+        """There are rows, and their values are those that the table takes."""
+        musts = [must for _, must in table.numbered()]
+        require(rows)
+        for row in rows:
+            require(len(row) == len(musts))
+            require(all(value is not None or not must for value, must in zip(row, musts)))
+
+    def span(self, cut):
+        """The aggregate and the window of a refresh, as they are printed."""
+        view = self.views[cut.view]
+        return f"{view.name} {'min' if cut.start == view.first() else cut.start}..{cut.end}"
+
+    def add_cut(self, new):
+        view = item(self.views, new.view)
+        require(view.first() <= new.start < new.end)
+        require((new.start - view.offset) % view.width == 0 == (new.end - view.offset) % view.width)
+        self.cuts[self.position + 1] = new
+        return f"CUT {self.span(new)}"
+
+    def add_built(self, new):
+        require(new.cut in self.cuts and new.cut not in self.finished)
+        require(new.cut <= new.snapshot <= self.position)
+        self.finished.add(new.cut)
+        return f"BUILT {new.cut} snap {new.snapshot}"
+
+
+def follow(file):
+    """Each event of a file's bytes: the history with it, the event, and its line in the log."""
+    history = History()
+    for gate, payload in payloads(file):
+        try:
+            new = event(payload)
+            line = history.add(new)
+        except Wrong:
+            raise Damaged(gate) from None
+        yield history, new, line

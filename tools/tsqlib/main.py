@@ -1,0 +1,160 @@
+"""The words of the command line."""
+import argparse
+import os
+import sys
+
+from .export import export
+from .load import load
+from .log import log
+from .plot import plot
+from .programs import Trouble
+from .prompt import prompt
+from .run import run, say
+
+MOST_POWER = 30
+TROUBLE = 2
+WRITE_FAULT = 4
+INTERRUPTED = 130
+
+
+def folder_option(parser):
+    parser.add_argument("--in", dest="folder", metavar="FOLDER", help="the folder of the journal, instead of this one")
+
+
+def times_option(parser, meaning):
+    parser.add_argument("--times", choices=["s", "ms", "us"], help=meaning)
+
+
+def scale(text):
+    """A column and a power of ten, as `temp=2`."""
+    name, _, power = text.partition("=")
+    if not name or not power.isdecimal() or int(power) > MOST_POWER:
+        raise argparse.ArgumentTypeError(f"{text}: wanted is NAME=N, with N from 0 to {MOST_POWER}")
+    return name, int(power)
+
+
+def character(text):
+    """A single character."""
+    if len(text) != 1:
+        raise argparse.ArgumentTypeError("wanted is one character")
+    return text
+
+
+def scale_option(parser, meaning):
+    parser.add_argument("--scale", type=scale, action="append", default=[], metavar="NAME=N", help=meaning)
+
+
+def style_options(parser):
+    forms = parser.add_mutually_exclusive_group()
+    forms.add_argument("--csv", dest="form", action="store_const", const="csv", help="answers as CSV")
+    forms.add_argument("--json", dest="form", action="store_const", const="json", help="answers as JSON")
+    times_option(parser, "print times as dates in UTC; times are seconds, milliseconds or microseconds since 1970")
+    parser.add_argument("--places", type=int, metavar="N", help="digits behind the point of an average")
+    parser.add_argument("--fractions", action="store_true", help="in CSV and JSON, averages as fractions too")
+    scale_option(parser, "divide a column by 10 so many times, as mean=2; may stand several times")
+    folder_option(parser)
+
+
+def add_run(commands):
+    parser = commands.add_parser("run", help="run a script, and print its answers as tables (the default)")
+    parser.add_argument("script", nargs="?", metavar="SCRIPT", help="a file; without it standard input")
+    parser.add_argument("--replies", metavar="FILE", help="run nothing: this is what tsctl printed for the script")
+    parser.add_argument("--par", action="store_true", help="by `tsctl par`")
+    style_options(parser)
+    parser.set_defaults(call=run)
+
+
+def add_prompt(commands):
+    parser = commands.add_parser("prompt", help="answer statements as they are typed (the default at a terminal)")
+    style_options(parser)
+    parser.set_defaults(call=prompt)
+
+
+def add_load(commands):
+    parser = commands.add_parser("load", help="print INSERTs of the rows of a CSV file")
+    parser.add_argument("file", metavar="FILE", help="the CSV file, or - for standard input")
+    parser.add_argument("--table", required=True, help="the hypertable")
+    columns = "its columns, in the order of the file's; a file's column without a name here is left out"
+    parser.add_argument("--columns", required=True, metavar="NAME,..", help=columns)
+    parser.add_argument("--time", metavar="NAME", help="the time column; without it the first one")
+    parser.add_argument("--header", action="store_true", help="the first line holds names, and isn't a row")
+    scale_option(parser, "multiply a column by 10 so many times, as temp=2; may stand several times")
+    times_option(parser, "times are dates, as 2024-01-31T12:00:00Z, and become seconds, milliseconds or microseconds")
+    gap = "late rows that lie further apart get statements of their own; without it the greatest step in the file"
+    parser.add_argument("--gap", type=int, metavar="N", help=gap)
+    parser.add_argument("--session", default="load", help="the session that puts them in")
+    delimiter = "what stands between the cells, instead of a comma"
+    parser.add_argument("--delimiter", type=character, default=",", metavar="CHARACTER", help=delimiter)
+    parser.set_defaults(call=load)
+
+
+def add_plot(commands):
+    parser = commands.add_parser("plot", help="draw the columns of an aggregate, stale ranges shaded")
+    parser.add_argument("view", metavar="AGGREGATE")
+    parser.add_argument("--columns", metavar="NAME,..", help="what is drawn; without it every function's column")
+    parser.add_argument("--where", metavar="TESTS", help="tests on the bucket, as `minute >= 0 AND minute < 600`")
+    parser.add_argument("--out", metavar="NAME", help="writes NAME.png and NAME.svg; without it the aggregate's name")
+    parser.add_argument("--script", action="store_true", help="print the script for gnuplot, and draw nothing")
+    scale_option(parser, "divide a column by 10 so many times, as mean=2; may stand several times")
+    times_option(parser, "times are seconds, milliseconds or microseconds since 1970, and are drawn as dates")
+    folder_option(parser)
+    parser.set_defaults(call=plot)
+
+
+def add_export(commands):
+    parser = commands.add_parser("export", help="print a journal as SQL for TimescaleDB")
+    parser.add_argument("journal", nargs="?", default="tsctl.journal", metavar="JOURNAL")
+    parser.add_argument("--plain", action="store_true", help="for PostgreSQL without TimescaleDB")
+    stale = "also what aggregates show of stale buckets, as tsctl answers it, into tables NAME_stale"
+    parser.add_argument("--stale", action="store_true", help=stale)
+    parser.set_defaults(call=export)
+
+
+def add_log(commands):
+    parser = commands.add_parser("log", help="print what `tsctl log` prints, by a reader of its own")
+    parser.add_argument("journal", nargs="?", default="tsctl.journal", metavar="JOURNAL")
+    parser.set_defaults(call=log)
+
+
+def parser_of_words():
+    parser = argparse.ArgumentParser(prog="tsq", description="A companion of tsctl; docs/TSQ.md says more.")
+    commands = parser.add_subparsers(required=True, metavar="COMMAND")
+    for add in (add_run, add_prompt, add_load, add_plot, add_export, add_log):
+        add(commands)
+    return parser, commands.choices
+
+
+def with_command(words, commands):
+    """The words with the command that is meant where none is named: at a terminal the prompt, else `run`."""
+    if words[:1] in (["-h"], ["--help"]) or words and words[0] in commands:
+        return words
+    has_script = not sys.stdin.isatty() or any(os.path.isfile(word) for word in words)
+    return ["run" if has_script else "prompt", *words]
+
+
+def done(options):
+    """Does what the options ask for, and gives the exit status."""
+    try:
+        status = options.call(options)
+        sys.stdout.flush()
+        return status
+    except Trouble as trouble:
+        say(str(trouble))
+        return TROUBLE
+    except KeyboardInterrupt:
+        return INTERRUPTED
+
+
+def main(words):
+    """Does what the words ask for, and gives the exit status."""
+    # What a terminal can't show is no reason to end.
+    sys.stdout.reconfigure(errors="replace")
+    parser, commands = parser_of_words()
+    options = parser.parse_args(with_command(words, commands))
+    try:
+        return done(options)
+    except OSError as error:
+        # What is still to be written goes nowhere, now and when Python ends.
+        os.dup2(os.open(os.devnull, os.O_WRONLY), sys.stdout.fileno())
+        say(f"write fault: {error.strerror}")
+        return WRITE_FAULT

@@ -1,0 +1,80 @@
+"""Parts what tsctl printed into the replies to the lines of a script."""
+import re
+from itertools import islice
+from typing import NamedTuple
+
+from .statements import Line
+
+ANSWER = re.compile(r"ANSWER @\d+ rows (\d+) stale (\d+)")
+FAULT = re.compile(r"FAULT (E\d\d) (\w+)(?: at (\d+))?")
+STALE = re.compile(r"stale (min|-?\d+)\.\.(-?\d+)")
+
+
+class Mismatch(Exception):
+    """The replies aren't those of the script."""
+
+
+class Reply(NamedTuple):
+    """The reply to a line: its lines that begin with the session, the cells of its rows, and its stale ranges.
+
+    A stale range is a pair of its bounds, where the first one is None for `min`.
+    """
+
+    line: Line
+    heads: list
+    rows: list = []
+    stale: list = []
+
+    def texts(self):
+        """The heads without the session."""
+        return [head.split(": ", 1)[1] for head in self.heads]
+
+    def is_answer(self):
+        """Whether it has rows, or could have."""
+        return self.texts()[0].startswith("ANSWER ")
+
+    def fault(self):
+        """The number, the word and the place of the refusal, where it is one."""
+        found = FAULT.match(self.texts()[-1])
+        return found and found.groups()
+
+
+def goes_on(tokens, text):
+    """Whether another line of the reply follows one that begins with the session."""
+    if text.startswith("VIEW "):
+        return tokens[-3:] != ["with", "no", "data"]
+    return text.startswith("CUT ") and tokens[:1] != ["refresh"]
+
+
+def heads_of(line, output):
+    """The lines of a reply that begin with the session, and none where the output has ended."""
+    heads = []
+    for head in output:
+        if not head.startswith((f"{line.session}: ", f"line {line.number}: ")):
+            raise Mismatch(f"line {line.number} of the script has another reply: {head}")
+        heads.append(head)
+        if not goes_on(line.tokens(), head.split(": ", 1)[1]):
+            break
+    return heads
+
+
+def range_of(text):
+    """The bounds of a line `stale lo..hi`."""
+    found = STALE.fullmatch(text)
+    if not found:
+        raise Mismatch(f"no stale range: {text}")
+    low, high = found.groups()
+    return None if low == "min" else int(low), int(high)
+
+
+def replies_of(lines, output):
+    """The replies to these lines, in order, from the lines of an output. It may end early."""
+    output = iter(output)
+    for line in lines:
+        heads = heads_of(line, output)
+        if not heads:
+            return
+        found = ANSWER.match(heads[0].split(": ", 1)[1])
+        rows, stale = map(int, found.groups()) if found else (0, 0)
+        cells = [row.split("|") for row in islice(output, rows)]
+        yield Reply(line, heads, cells, [range_of(text) for text in islice(output, stale)])
