@@ -10,6 +10,8 @@ use Rattle.ts_bucket.specs.declared.widths.Width.{Width}
 use Rattle.ts_schema.specs.declared.rows.Row.{Row}
 use Rattle.ts_schema.specs.declared.conditions.Test.{Test}
 use Rattle.ts_schema.specs.Conditions.{passes_all}
+use Rattle.ts_model.specs.declared.events.Event.TheVariants.{Commit}
+use Rattle.ts_model.specs.declared.events.Op.{Op}
 use Rattle.ts_model.specs.declared.queries.Query.{Query}
 use Rattle.ts_model.specs.declared.queries.Query.TheVariants.{Rows, Buckets, Aggregate}
 use Rattle.ts_model.specs.declared.queries.Answer.{Answer}
@@ -17,7 +19,7 @@ use Rattle.ts_model.specs.declared.rosters.Roster.{Roster}
 use Rattle.ts_model.specs.declared.tables.Hyper.{Hyper}
 use Rattle.ts_model.specs.declared.views.Fold.{Fold}
 use Rattle.ts_model.specs.declared.views.ViewDef.{ViewDef}
-use Rattle.ts_model.specs.History.{History}
+use Rattle.ts_model.specs.History.{History, ◌▸◌}
 use Rattle.ts_model.specs.Roster.{roster, table_of, hyper_of, of_table, view_of}
 use Rattle.ts_model.specs.Rows.{rows}
 use Rattle.ts_model.specs.Scratch.{scratch, fold_rows}
@@ -93,6 +95,11 @@ abbrev pub answer : Query → History → Answer
 answer (Rows t tests) h = record { rows = passing_rows (rows t h) tests (hyper_of (roster h) t); stale = [] }
 answer (Buckets t fold) h = record { rows = fold_rows fold (rows t h); stale = [] }
 answer (Aggregate n starts) h = answer_of_view n h starts (view_of (roster h) n)
+
+-- a history with a queue of operations as one commit on top, where there are any
+abbrev pub with_queue : List Op → History → History
+with_queue [] h = h
+with_queue (op ∷ ops) h = h ▸ Commit (op ∷ ops)
 
 -- ---- what may be asked
 

@@ -1,9 +1,10 @@
 //! Snapshots of a history.
+use crate::events::Op;
 use crate::queries::{Answer, Query};
 use crate::refreshes::Pending;
 use crate::rosters::Roster;
 use std::thread::Threads;
-use ts_schema::{NoMemory, Steps};
+use ts_schema::{NoMemory, Seq, Steps};
 
 /// A snapshot of a history. It need not store one: that it stands for a history is a relation between
 /// what it holds and that history, and each of its promises is for every history that it stands for.
@@ -14,7 +15,8 @@ pub trait Shown {
     ghost use Rattle.ts_model.specs.declared.events.Event.TheVariants.{Built};
     ghost use Rattle.ts_model.specs.History.{History, position, Begins};
     ghost use Rattle.ts_model.specs.Roster.{roster};
-    ghost use Rattle.ts_model.specs.Answers.{answer, can_ask};
+    ghost use Rattle.ts_model.specs.Answers.{answer, can_ask, with_queue};
+    ghost use Rattle.ts_model.specs.Allowed.{QueueFits};
     ghost use Rattle.ts_model.specs.Pending.{is_waiting, pending};
     ghost use Rattle.ts_model.specs.Sound.{sound};
     ghost use Rattle.ts_model.specs.Reads.{reads, job_reads};
@@ -53,6 +55,24 @@ pub trait Shown {
         requires asks { (h : History) → stands self.now h → IsTrue (can_ask (roster h) query.now) }
         ensures shown { (h : History) → stands self.now h → IfOk result (λ a. a ≡ answer query.now h) }
         ensures read { (h : History) → stands self.now h → Ticks result (reads query.now h) steps.old steps.new };
+
+    /// What the query would show directly after one commit of these operations, and with none of them
+    /// what it shows. Nothing is committed, and the snapshot stays as it is. It counts one step for
+    /// each stored row that it looks at, those of the operations among them.
+    fn answer_with<R: Threads + Sync, L>(
+        &self,
+        rt: &R,
+        ops: &Seq<Op>,
+        query: &Query,
+        steps: &mut Steps<L>,
+    ) -> Result<Answer, NoMemory>
+        requires sync { IsSync R.row }
+        requires asks { (h : History) → stands self.now h → IsTrue (can_ask (roster h) query.now) }
+        requires fits { (h : History) → stands self.now h → QueueFits ops.now h }
+        ensures shown { (h : History) → stands self.now h
+            → IfOk result (λ a. a ≡ answer query.now (with_queue ops.now h)) }
+        ensures read { (h : History) → stands self.now h
+            → Ticks result (reads query.now (with_queue ops.now h)) steps.old steps.new };
 
     /// A job for the refresh with this number, which waits, from the rows of this snapshot. It counts
     /// one step for each stored row that it looks at.
