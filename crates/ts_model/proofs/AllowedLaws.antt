@@ -24,8 +24,9 @@ use Rattle.ts_model.specs.Refreshes.{span_of_cut, last_touch, last_touch_at, was
 use Rattle.ts_model.specs.Answers.{answer}
 use Rattle.ts_model.specs.Groups.{groups_of}
 use Rattle.ts_model.specs.Windows.{last_end}
-use Rattle.ts_model.specs.Sound.{op_fits, hyper_fits, view_fits, span_fits, finish_fits, sound_in, sound_at}
-use Rattle.ts_model.specs.Allowed.{all_allowed}
+use Rattle.ts_model.specs.Timely.{has_room, timely, timely_at}
+use Rattle.ts_model.specs.Sound.{sound, op_fits, hyper_fits, view_fits, span_fits, finish_fits, sound_in, sound_at}
+use Rattle.ts_model.specs.Allowed.{all_allowed, all_consistent, allowed, consistent}
 use Rattle.ts_model.specs.Pending.{finished_by, pending, is_known}
 use Rattle.ts_model.specs.Jobs.{rows_of_spans, job_rows}
 use Rattle.ts_model.specs.Laws.{KeepsHyper, KeepsTable, KeepsView, KeepsRelations, SoundStays, AnswersStay, FitsStays}
@@ -122,6 +123,24 @@ sound_stays g h e q s =
 pub allowed_begins : {g h : History} → Begins g h → all_allowed h ≡ true → all_allowed g ≡ true
 allowed_begins same ok = ok
 allowed_begins (further {h = h} q) ok = allowed_begins q (and_parts (all_allowed h) _ ok).0
+
+-- an allowed event is consistent, and so is an allowed history, which has room besides
+pub consistent_next : (h : History) (e : Event) → allowed h e ≡ true → consistent h e ≡ true
+consistent_next h e ok =
+    let parts = and_parts (sound h e) (timely h e) ok in
+    and_from _ _ parts.0 (and_parts (timely_at h e) (has_room h) parts.1).0
+
+pub consistent_of : (h : History) → all_allowed h ≡ true → all_consistent h ≡ true
+consistent_of start ok = refl
+consistent_of (resumed i) ok = ok
+consistent_of (h ▸ e) ok =
+    let parts = and_parts (all_allowed h) (allowed h e) ok in
+    and_from _ _ (consistent_of h parts.0) (consistent_next h e parts.1)
+
+-- whatever a consistent history begins with is consistent
+pub consistent_begins : {g h : History} → Begins g h → all_consistent h ≡ true → all_consistent g ≡ true
+consistent_begins same ok = ok
+consistent_begins (further {h = h} q) ok = consistent_begins q (and_parts (all_consistent h) _ ok).0
 
 -- ---- answers stay
 

@@ -1,4 +1,4 @@
--- A span clipped to bounds between which all chunks lie is near the same rows, and the chunks of allowed histories lie near the range of times.
+-- A span clipped to bounds between which all chunks lie is near the same rows, and the chunks of consistent histories lie near the range of times.
 use Rattle.std.proofs.Common.{◌≡◌, ℕ, Bool, true, false, ◌&&◌, ◌||◌, cond, [], ◌∷◌, ℤ, pos, ◌+ℤ◌, ◌-ℤ◌, ◌≤ℤ◌, ◌<ℤ◌, int_le, int_lt, Option, Some, None, sym, refl, ap, ◌∙◌, subst, arith}
 use Rattle.std.specs.Prelude.{◌+◌, option_and_then}
 use Rattle.std.specs.Int.{int_min, int_max, int_rem_euclid}
@@ -54,7 +54,7 @@ clipping_keeps_near low high interval (row ∷ stored) span e =
     ∙ ap (λ m. cond (near span row) 1 0 + m) (clipping_keeps_near low high interval stored span parts.1)
     ∙ sym (count_cons (near span) row stored)
 
--- ---- chunks of allowed histories
+-- ---- chunks of consistent histories
 
 chunk_near : (interval t : ℤ) → pos 0 <ℤ interval → interval ≤ℤ max_interval → is_time t ≡ true → (int_le (min_time -ℤ max_interval) (chunk_of interval t).lo && int_le (chunk_of interval t).hi (max_time +ℤ max_interval)) ≡ true
 chunk_near interval t positive bounded time =

@@ -13,7 +13,7 @@ use Rattle.ts_model.specs.Refreshes.{span_of_cut, is_covered, is_by, is_pos, wai
 use Rattle.ts_model.specs.Saved.{span_among, saved_last}
 use Rattle.ts_model.specs.Pending.{pending, is_known}
 use Rattle.ts_model.specs.Sound.{span_fits, finish_fits, sound_in, sound}
-use Rattle.ts_model.specs.Allowed.{all_allowed, allowed}
+use Rattle.ts_model.specs.Allowed.{all_consistent, consistent}
 use Rattle.ts_model.specs.RefreshLaws.{CutsFit, BucketsWereCut, LastsAreLast}
 use Rattle.ts_model.specs.declared.views.Fold.{Fold}
 use Rattle.ts_model.specs.declared.views.ViewDef.{ViewDef}
@@ -22,7 +22,7 @@ use Rattle.ts_model.proofs.RosterLaws.{relations_further, is_of_before}
 use Rattle.ts_model.proofs.AllowedLaws.{sound_in_stays}
 use Rattle.ts_model.proofs.RefreshLaws.{later_is, covered_snap}
 
--- ---- cuts of an allowed history fit its aggregates
+-- ---- cuts of a consistent history fit its aggregates
 
 this_cut : (n : ℕ) (h : History) (k v : ℕ) (span other : Span) (c : Bool) → (k == suc (position h) && v == n) ≡ c → sound_in (roster h) (Cut v other) ≡ true → (span_of_cut n h k ≡ Some span → sound_in (roster h) (Cut n span) ≡ true) → cond c (Some other) (span_of_cut n h k) ≡ Some span → sound_in (roster h) (Cut n span) ≡ true
 this_cut n h k v span other true t fits before e =
@@ -33,15 +33,15 @@ this_cut n h k v span other true t fits before e =
     subst P same_view (subst Q same_span fits)
 this_cut n h k v span other false t fits before e = before e
 
-pub cut_sound : (n : ℕ) (h : History) (k : ℕ) (span : Span) → all_allowed h ≡ true → span_of_cut n h k ≡ Some span → sound_in (roster h) (Cut n span) ≡ true
+pub cut_sound : (n : ℕ) (h : History) (k : ℕ) (span : Span) → all_consistent h ≡ true → span_of_cut n h k ≡ Some span → sound_in (roster h) (Cut n span) ≡ true
 cut_sound n start k span ok e = absurd (cc)
 cut_sound n (resumed i) k span ok e = (among_at i n k span ok (span_within i n k span e).1).fits
 cut_sound n (h ▸ Cut v other) k span ok e =
-    let parts = and_parts (all_allowed h) (allowed h (Cut v other)) ok in
+    let parts = and_parts (all_consistent h) (consistent h (Cut v other)) ok in
     let fits = (and_parts (sound_in (roster h) (Cut v other)) _ (and_parts (sound h (Cut v other)) _ parts.1).0).0 in
     this_cut n h k v span other (k == suc (position h) && v == n) refl fits (cut_sound n h k span parts.0) e
 cut_sound n (h ▸ x) k span ok e =
-    sound_in_stays (roster h) (roster (h ▸ x)) (Cut n span) (relations_further (roster h) x) (cut_sound n h k span (and_parts (all_allowed h) _ ok).0 e)
+    sound_in_stays (roster h) (roster (h ▸ x)) (Cut n span) (relations_further (roster h) x) (cut_sound n h k span (and_parts (all_consistent h) _ ok).0 e)
 
 pub cuts_fit : CutsFit
 cuts_fit n def h k span ok there e = ap (span_fits span) (sym there) ∙ cut_sound n h k span ok e
@@ -84,7 +84,7 @@ covered_was_cut n h k s b e l = by_span (span_of_cut n h k) refl e
     by_span None is inside = absurd (true≢false (sym inside))
     by_span (Some span) is inside = span_was_cut n h k s span b is inside l
 
-pub cut_before : (h : History) (cut snap : ℕ) → allowed h (Built cut snap) ≡ true → cut ≤ snap
+pub cut_before : (h : History) (cut snap : ℕ) → consistent h (Built cut snap) ≡ true → cut ≤ snap
 cut_before h cut snap e =
     let is_sound = and_parts (finish_fits h cut snap) _ (and_parts (sound h (Built cut snap)) _ e).0 in
     let taken = and_parts _ (nat_le snap (position h)) is_sound.0 in
@@ -95,19 +95,19 @@ last_by : (o : Option ℕ) (s : ℕ) → o ≡ Some s → is_by s o ≡ true
 last_by None s e = absurd (cc)
 last_by (Some p) s e = let same : p ≡ s = cc in le-leb p s (omega arith)
 
-pub last_was_cut : (n : ℕ) (h : History) (b : ℤ) (s : ℕ) → all_allowed h ≡ true → last n h b ≡ Some s → was_cut n h b s ≡ true
+pub last_was_cut : (n : ℕ) (h : History) (b : ℤ) (s : ℕ) → all_consistent h ≡ true → last n h b ≡ Some s → was_cut n h b s ≡ true
 last_was_cut n start b s ok e = absurd (cc)
 last_was_cut n (resumed i) b s ok e = or_left _ _ (last_by (saved_last n i b) s e)
 last_was_cut n (h ▸ Built cut snap) b s ok e =
-    let parts = and_parts (all_allowed h) (allowed h (Built cut snap)) ok in
+    let parts = and_parts (all_consistent h) (consistent h (Built cut snap)) ok in
     ⊎_elim
     (λ before. last_was_cut n h b s parts.0 before)
     (λ now.
     let this = covered_snap (is_covered b (span_of_cut n h cut)) snap s now in
     subst (λ k. was_cut n h b k ≡ true) this.1 (covered_was_cut n h cut snap b this.0 (cut_before h cut snap parts.1)))
     (later_is (last n h b) (cond (is_covered b (span_of_cut n h cut)) (Some snap) None) s e)
-last_was_cut n (h ▸ Cut v span) b s ok e = or_left _ _ (last_was_cut n h b s (and_parts (all_allowed h) _ ok).0 e)
-last_was_cut n (h ▸ x) b s ok e = last_was_cut n h b s (and_parts (all_allowed h) _ ok).0 e
+last_was_cut n (h ▸ Cut v span) b s ok e = or_left _ _ (last_was_cut n h b s (and_parts (all_consistent h) _ ok).0 e)
+last_was_cut n (h ▸ x) b s ok e = last_was_cut n h b s (and_parts (all_consistent h) _ ok).0 e
 
 pub buckets_were_cut : BucketsWereCut
 buckets_were_cut = record { spans = span_was_cut; lasts = last_was_cut }
@@ -179,16 +179,16 @@ fits_of : (def : ViewDef) (span : Span) (o : Option ViewDef) → IsOf def o → 
 fits_of def span None is e = absurd (true≢false (sym e))
 fits_of def span (Some found) is e = subst (λ (f : Fold). span_fits span (Some (record found { fold = f })) ≡ true) is.1 e
 
-pub last_spanned : (n : ℕ) (def : ViewDef) (h : History) (b : ℤ) (s : ℕ) → IsOf def (view_of (roster h) n) → all_allowed h ≡ true → last n h b ≡ Some s → IsSpanned def b
+pub last_spanned : (n : ℕ) (def : ViewDef) (h : History) (b : ℤ) (s : ℕ) → IsOf def (view_of (roster h) n) → all_consistent h ≡ true → last n h b ≡ Some s → IsSpanned def b
 last_spanned n def start b s is ok e = absurd (cc)
 last_spanned n def (resumed i) b s is ok e = let l = (kept_facts n def i ok is).lasts b s e in record { span = l.last.span; inside = l.inside; fits = l.fits }
 last_spanned n def (h ▸ Built cut snap) b s is ok e =
     ⊎_elim
-    (λ before. last_spanned n def h b s is (and_parts (all_allowed h) _ ok).0 before)
+    (λ before. last_spanned n def h b s is (and_parts (all_consistent h) _ ok).0 before)
     (λ now. by_span (span_of_cut n h cut) refl (covered_snap _ snap s now).0)
     (later_is (last n h b) (cond (is_covered b (span_of_cut n h cut)) (Some snap) None) s e)
   where
     by_span : (o : Option Span) → span_of_cut n h cut ≡ o → is_covered b o ≡ true → IsSpanned def b
     by_span None at inside = absurd (true≢false (sym inside))
-    by_span (Some span) at inside = record { span = span; inside = inside; fits = fits_of def span (view_of (roster h) n) is (cut_sound n h cut span (and_parts (all_allowed h) _ ok).0 at) }
-last_spanned n def (h ▸ x) b s is ok e = last_spanned n def h b s (is_of_before def h x n is) (and_parts (all_allowed h) _ ok).0 e
+    by_span (Some span) at inside = record { span = span; inside = inside; fits = fits_of def span (view_of (roster h) n) is (cut_sound n h cut span (and_parts (all_consistent h) _ ok).0 at) }
+last_spanned n def (h ▸ x) b s is ok e = last_spanned n def h b s (is_of_before def h x n is) (and_parts (all_consistent h) _ ok).0 e

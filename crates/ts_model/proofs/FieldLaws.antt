@@ -1,4 +1,4 @@
--- Each count and each number of a sound event of an allowed history fits its field in a journal.
+-- Each count and each number of a sound event of a consistent history fits its field in a journal.
 use Rattle.std.proofs.Common.{◌≡◌, ℕ, suc, ◌+◌, ◌*◌, ◌<◌, ◌≤◌, true, ◌&&◌, nat_lt, nat_le, List, [], ◌∷◌, map, length, length-append, length-take, length-drop, take, drop, pos, int_lt, int_le, Option, Some, None, sym, refl, arith}
 use Rattle.std.specs.Prelude.{◌==◌, remove, is_some, sum_by}
 use Rattle.std.specs.List.{list_all, fold}

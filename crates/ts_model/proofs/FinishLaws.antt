@@ -31,7 +31,7 @@ use Rattle.ts_model.specs.Refreshes.{span_of_cut, is_covered, was_refreshed, tou
 use Rattle.ts_bucket.specs.Positions.{is_above}
 use Rattle.std.specs.Prelude.{is_some}
 use Rattle.ts_model.specs.Windows.{last_end}
-use Rattle.ts_model.specs.Allowed.{all_allowed, allowed}
+use Rattle.ts_model.specs.Allowed.{all_consistent, consistent}
 use Rattle.ts_model.specs.Jobs.{rows_of_spans, is_part_of, Fits}
 use Rattle.ts_bucket.specs.WholeSpans.{IsMark}
 use Rattle.ts_model.specs.RefreshLaws.{FinishesMark}
@@ -55,11 +55,11 @@ none_covered n def h b snap (Some span) width bucket covered e = none_above def.
 rows_further : (t : ℕ) (h : History) (x : Event) (r : ℕ) → r ≤ position h → rows_at t (h ▸ x) r ≡ rows_at t h r
 rows_further t h x r l = ap (rows t) (prefix_further h x r l)
 
-refreshed_bounded : (n : ℕ) (h : History) (b : ℤ) (r : ℕ) → all_allowed h ≡ true → was_refreshed n h b r ≡ true → r ≤ position h
+refreshed_bounded : (n : ℕ) (h : History) (b : ℤ) (r : ℕ) → all_consistent h ≡ true → was_refreshed n h b r ≡ true → r ≤ position h
 refreshed_bounded n start b r ok e = absurd (true≢false (sym e))
 refreshed_bounded n (resumed i) b r ok e = omega (arith, lasts_below n i ok b r (pos_is (saved_last n i b) r e))
 refreshed_bounded n (h ▸ Built cut snap) b r ok e =
-    let parts = and_parts (all_allowed h) (allowed h (Built cut snap)) ok in
+    let parts = and_parts (all_consistent h) (consistent h (Built cut snap)) ok in
     let bound : snap ≤ position h = built_bounds h cut snap parts.1 in
     elim (was_refreshed n h b r) as (λ t. was_refreshed n h b r ≡ t → (t || (snap == r && is_covered b (span_of_cut n h cut))) ≡ true → r ≤ position (h ▸ Built cut snap)) [
       | true ↦ λ before _. omega (arith, refreshed_bounded n h b r parts.0 before)
@@ -67,11 +67,11 @@ refreshed_bounded n (h ▸ Built cut snap) b r ok e =
           let is : snap ≡ r = eqb-true snap r (and_parts (snap == r) _ now).0 in
           omega arith
     ] refl e
-refreshed_bounded n (h ▸ x) b r ok e = omega (arith, refreshed_bounded n h b r (and_parts (all_allowed h) _ ok).0 e)
+refreshed_bounded n (h ▸ x) b r ok e = omega (arith, refreshed_bounded n h b r (and_parts (all_consistent h) _ ok).0 e)
 
-none_built : (n : ℕ) (def : ViewDef) (h : History) (cut snap : ℕ) (b : ℤ) (r : ℕ) → IsWidth def.fold.width → is_bucket def.fold.width b ≡ true → all_allowed (h ▸ Built cut snap) ≡ true → was_refreshed n (h ▸ Built cut snap) b r ≡ true → is_below b (watermark n def (h ▸ Built cut snap)) ≡ false → (was_refreshed n h b r ≡ true → is_below b (watermark n def h) ≡ false → bucket_rows def.fold b (rows_at def.table h r) ≡ []) → bucket_rows def.fold b (rows_at def.table (h ▸ Built cut snap) r) ≡ []
+none_built : (n : ℕ) (def : ViewDef) (h : History) (cut snap : ℕ) (b : ℤ) (r : ℕ) → IsWidth def.fold.width → is_bucket def.fold.width b ≡ true → all_consistent (h ▸ Built cut snap) ≡ true → was_refreshed n (h ▸ Built cut snap) b r ≡ true → is_below b (watermark n def (h ▸ Built cut snap)) ≡ false → (was_refreshed n h b r ≡ true → is_below b (watermark n def h) ≡ false → bucket_rows def.fold b (rows_at def.table h r) ≡ []) → bucket_rows def.fold b (rows_at def.table (h ▸ Built cut snap) r) ≡ []
 none_built n def h cut snap b r width bucket ok e mark before =
-    let parts = and_parts (all_allowed h) (allowed h (Built cut snap)) ok in
+    let parts = and_parts (all_consistent h) (consistent h (Built cut snap)) ok in
     let marks = or_parts _ _ (sym (is_below-greater b (watermark n def h) (top_of def h snap (span_of_cut n h cut))) ∙ mark) in
     elim (was_refreshed n h b r) as (λ t. was_refreshed n h b r ≡ t → (t || (snap == r && is_covered b (span_of_cut n h cut))) ≡ true → bucket_rows def.fold b (rows_at def.table (h ▸ Built cut snap) r) ≡ []) [
       | true ↦ λ earlier _. ap (bucket_rows def.fold b) (rows_further def.table h (Built cut snap) r (refreshed_bounded n h b r parts.0 earlier)) ∙ before earlier marks.0
@@ -89,16 +89,16 @@ none_kept n def i b r width bucket facts e apart mark =
     let clean : is_dirty n i b ≡ false = elim (is_dirty n i b) as (λ t. is_above r (cond t (Some i.pos) None) ≡ false → t ≡ false) [ true ↦ λ f. absurd (true≢false (sym below ∙ f)) | false ↦ λ _. refl ] apart in
     facts.rows_below b width bucket (ap is_some e) clean mark
 
-none_refreshed : (n : ℕ) (def : ViewDef) (h : History) (b : ℤ) (r : ℕ) → IsWidth def.fold.width → is_bucket def.fold.width b ≡ true → IsOf def (view_of (roster h) n) → touched n def (root h) b r ≡ false → all_allowed h ≡ true → was_refreshed n h b r ≡ true → is_below b (watermark n def h) ≡ false → bucket_rows def.fold b (rows_at def.table h r) ≡ []
+none_refreshed : (n : ℕ) (def : ViewDef) (h : History) (b : ℤ) (r : ℕ) → IsWidth def.fold.width → is_bucket def.fold.width b ≡ true → IsOf def (view_of (roster h) n) → touched n def (root h) b r ≡ false → all_consistent h ≡ true → was_refreshed n h b r ≡ true → is_below b (watermark n def h) ≡ false → bucket_rows def.fold b (rows_at def.table h r) ≡ []
 none_refreshed n def start b r width bucket is apart ok e mark = absurd (true≢false (sym e))
 none_refreshed n def (resumed i) b r width bucket is apart ok e mark = none_kept n def i b r width bucket (kept_facts n def i ok is) (pos_is (saved_last n i b) r e) apart mark
-none_refreshed n def (h ▸ Built cut snap) b r width bucket is apart ok e mark = none_built n def h cut snap b r width bucket ok e mark (λ earlier below. none_refreshed n def h b r width bucket is apart (and_parts (all_allowed h) _ ok).0 earlier below)
+none_refreshed n def (h ▸ Built cut snap) b r width bucket is apart ok e mark = none_built n def h cut snap b r width bucket ok e mark (λ earlier below. none_refreshed n def h b r width bucket is apart (and_parts (all_consistent h) _ ok).0 earlier below)
 none_refreshed n def (h ▸ x) b r width bucket is apart ok e mark =
-    let before = (and_parts (all_allowed h) _ ok).0 in
+    let before = (and_parts (all_consistent h) _ ok).0 in
     ap (bucket_rows def.fold b) (rows_further def.table h x r (refreshed_bounded n h b r before e)) ∙ none_refreshed n def h b r width bucket (is_of_before def h x n is) apart before e mark
 
 -- so a bucket outside a fitting job's spans is below the watermark, or has no row at the job's snapshot
-outside_empty : (n : ℕ) (def : ViewDef) (h : History) (cut snap : ℕ) (span : Span) (spans : List Span) (groups : List Group) (top : Option ℤ) → all_allowed h ≡ true → IsWidth def.fold.width → IsOf def (view_of (roster h) n) → Fits n def h cut snap span spans groups top → (b : ℤ) → is_bucket def.fold.width b ≡ true → in_span span b ≡ true → lies_in spans b ≡ false → is_below b (watermark n def h) ≡ false → bucket_rows def.fold b (rows_at def.table h snap) ≡ []
+outside_empty : (n : ℕ) (def : ViewDef) (h : History) (cut snap : ℕ) (span : Span) (spans : List Span) (groups : List Group) (top : Option ℤ) → all_consistent h ≡ true → IsWidth def.fold.width → IsOf def (view_of (roster h) n) → Fits n def h cut snap span spans groups top → (b : ℤ) → is_bucket def.fold.width b ≡ true → in_span span b ≡ true → lies_in spans b ≡ false → is_below b (watermark n def h) ≡ false → bucket_rows def.fold b (rows_at def.table h snap) ≡ []
 outside_empty n def h cut snap span spans groups top ok width is f b bucket inside apart mark =
     let other = f.others b bucket inside apart in
     let r = other.0 in

@@ -1,4 +1,4 @@
--- Rows of allowed histories fit their tables: they have times, and the columns of each fold that may be asked for.
+-- Rows of consistent histories fit their tables: they have times, and the columns of each fold that may be asked for.
 use Rattle.std.proofs.Common.{◌≡◌, ℕ, suc, ◌≤◌, Bool, true, false, ◌&&◌, not, cond, nat_lt, nat_le, List, [], ◌∷◌, ◌++◌, length, length-append, length-take, length-drop, take, drop, filter, ℤ, Option, Some, None, sym, refl, ap, ◌∙◌, subst, arith}
 use Rattle.std.specs.Prelude.{◌==◌, remove}
 use Rattle.std.specs.List.{list_all, AllByRecursion}
@@ -34,12 +34,12 @@ use Rattle.ts_model.specs.Answers.{columns_are_there, can_ask}
 use Rattle.ts_model.specs.Reads.{inserted}
 use Rattle.ts_model.specs.Limits.{most_columns}
 use Rattle.ts_model.specs.Sound.{are_names, agg_fits, test_fits, fold_fits, output_count, values_fit, row_fits, rows_fit, op_fits, view_fits, sound}
-use Rattle.ts_model.specs.Allowed.{all_allowed, allowed}
+use Rattle.ts_model.specs.Allowed.{all_consistent, consistent}
 use Rattle.ts_model.specs.Laws.{KeepsRelations, fits_table, RowsFitTables, RowsAreTimes, RowsHaveColumns}
 use Rattle.ts_model.proofs.ValidLaws.{valid_is}
 use Rattle.ts_model.proofs.HistoryLaws.{begins_prefix}
 use Rattle.ts_model.proofs.RosterLaws.{relations_further, relations_stay}
-use Rattle.ts_model.proofs.AllowedLaws.{table_stays, allowed_begins}
+use Rattle.ts_model.proofs.AllowedLaws.{table_stays, consistent_begins}
 use Rattle.ts_model.proofs.SoundLaws.{rosters_are_sound}
 
 -- ---- whatever holds of each row that was inserted holds of each that is there, and of each that is taken away
@@ -142,25 +142,25 @@ over_fit r low t (Commit (Insert u new ∷ []) ∷ es) e =
     all_joined (fits_table r t) (all_appended t (Insert u new ∷ [])) (appended_over t es) (appended_fit r t (Insert u new ∷ []) (and_from _ _ fits.1 refl)) (over_fit r (suc u) t es rest.1)
 over_fit r low t (x ∷ es) e = absurd (true≢false (sym e))
 
-commit_fits : (t : ℕ) (h : History) (ops : List Op) → allowed h (Commit ops) ≡ true → list_all (fits_table (roster h) t) (all_appended t ops) ≡ true
+commit_fits : (t : ℕ) (h : History) (ops : List Op) → consistent h (Commit ops) ≡ true → list_all (fits_table (roster h) t) (all_appended t ops) ≡ true
 commit_fits t h ops e =
     let is_sound = and_parts (sound h (Commit ops)) _ e in
     let parts = and_parts (nat_lt 0 (length ops) && list_all (op_fits (roster h)) ops) _ is_sound.0 in
     appended_fit (roster h) t ops (and_parts (nat_lt 0 (length ops)) _ parts.0).1
 
-pub inserted_fit : (t : ℕ) (h : History) → all_allowed h ≡ true → list_all (fits_table (roster h) t) (inserted t h) ≡ true
+pub inserted_fit : (t : ℕ) (h : History) → all_consistent h ≡ true → list_all (fits_table (roster h) t) (inserted t h) ≡ true
 inserted_fit t start ok = refl
 inserted_fit t (resumed i) ok = over_fit (image_roster i) 0 t i.rows (valid_is i ok).rows
 inserted_fit t (h ▸ Commit ops) ok =
-    let parts = and_parts (all_allowed h) (allowed h (Commit ops)) ok in
+    let parts = and_parts (all_consistent h) (consistent h (Commit ops)) ok in
     all_joined (fits_table (roster h) t) (inserted t h) (all_appended t ops) (inserted_fit t h parts.0) (commit_fits t h ops parts.1)
-inserted_fit t (h ▸ x) ok = fits_stays_in (roster h) (roster (h ▸ x)) (relations_further (roster h) x) t (inserted t h) (inserted_fit t h (and_parts (all_allowed h) _ ok).0)
+inserted_fit t (h ▸ x) ok = fits_stays_in (roster h) (roster (h ▸ x)) (relations_further (roster h) x) t (inserted t h) (inserted_fit t h (and_parts (all_consistent h) _ ok).0)
 
-pub rows_at_fit : (t : ℕ) (h : History) (s : ℕ) → all_allowed h ≡ true → list_all (fits_table (roster h) t) (rows_at t h s) ≡ true
+pub rows_at_fit : (t : ℕ) (h : History) (s : ℕ) → all_consistent h ≡ true → list_all (fits_table (roster h) t) (rows_at t h s) ≡ true
 rows_at_fit t h s ok =
     let g = prefix h s in
     let before = begins_prefix h s in
-    rows_hold (fits_table (roster h) t) t g (fits_stays_in (roster g) (roster h) (relations_stay g h before) t (inserted t g) (inserted_fit t g (allowed_begins before ok)))
+    rows_hold (fits_table (roster h) t) t g (fits_stays_in (roster g) (roster h) (relations_stay g h before) t (inserted t g) (inserted_fit t g (consistent_begins before ok)))
 
 pub rows_fit_tables : RowsFitTables
 rows_fit_tables = record { inserted = inserted_fit; rows = rows_at_fit }
@@ -265,7 +265,7 @@ asks_of_table : (def : ViewDef) (o : Option TableInfo) → of_table (view_fits d
 asks_of_table def None e = absurd (true≢false (sym e))
 asks_of_table def (Some info) e = asks_of_hyper def info.def info.hyper e
 
-pub view_asks : (n : ℕ) (def : ViewDef) (h : History) → all_allowed h ≡ true → view_of (roster h) n ≡ Some def → can_ask (roster h) (Buckets def.table def.fold) ≡ true
+pub view_asks : (n : ℕ) (def : ViewDef) (h : History) → all_consistent h ≡ true → view_of (roster h) n ≡ Some def → can_ask (roster h) (Buckets def.table def.fold) ≡ true
 view_asks n def h ok there = asks_of_table def (table_of (roster h) def.table) ((rosters_are_sound h ok).views n def there)
 
 pub rows_have_columns : RowsHaveColumns

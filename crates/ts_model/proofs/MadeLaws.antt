@@ -24,7 +24,7 @@ use Rattle.ts_model.specs.History.{History, position}
 use Rattle.ts_model.specs.Roster.{roster, hyper_of, view_of, is_taken}
 use Rattle.ts_model.specs.Rows.{rows}
 use Rattle.ts_model.specs.Refreshes.{watermark}
-use Rattle.ts_model.specs.Allowed.{allowed, all_allowed}
+use Rattle.ts_model.specs.Allowed.{allowed, all_allowed, all_consistent}
 use Rattle.ts_model.specs.Limits.{most_relations, is_word}
 use Rattle.ts_model.specs.Timely.{timely_at, has_room}
 use Rattle.ts_model.specs.declared.outcomes.CutDone.TheVariants.{Cut as CutMade}
@@ -135,7 +135,7 @@ up_to_fits : (n : ℕ) (def : ViewDef) (h : History) (lo : Option ℤ) (end : Op
 up_to_fits n def h lo None there width ends = tt
 up_to_fits n def h lo (Some hi) there width ends = nonempty_fits n def h lo hi Nothing there width (near_end def.fold.width hi width ends) tt
 
-window_fits : (n : ℕ) (def : ViewDef) (h : History) (lo hi : Option ℤ) → all_allowed h ≡ true → view_of (roster h) n ≡ Some def → ForSome hi (λ t. IsTrue (is_time t)) → SoundCut n h (window n def h lo hi)
+window_fits : (n : ℕ) (def : ViewDef) (h : History) (lo hi : Option ℤ) → all_consistent h ≡ true → view_of (roster h) n ≡ Some def → ForSome hi (λ t. IsTrue (is_time t)) → SoundCut n h (window n def h lo hi)
 window_fits n def h lo (Some hi) ok there time = nonempty_fits n def h lo hi NoBucket there (view_width h n def ok there) (near_time hi (time hi refl)) tt
 window_fits n def h lo None ok there time =
     let width = view_width h n def ok there in
@@ -147,7 +147,7 @@ over_allowed n h (Whole span) e = made_allowed h (Cut n span) (CutMade (suc (pos
 over_allowed n h NoBucket e = tt
 over_allowed n h Nothing e = tt
 
-cut_allowed : (n : ℕ) (lo hi : Option ℤ) (h : History) → all_allowed h ≡ true → ForSome hi (λ t. IsTrue (is_time t)) → MakesAllowed h (cutting n lo hi h)
+cut_allowed : (n : ℕ) (lo hi : Option ℤ) (h : History) → all_consistent h ≡ true → ForSome hi (λ t. IsTrue (is_time t)) → MakesAllowed h (cutting n lo hi h)
 cut_allowed n lo hi h ok time = of_view (view_of (roster h) n) refl
   where
     of_view : (o : Option ViewDef) → view_of (roster h) n ≡ o → MakesAllowed h (cut_of_view n lo hi h o)

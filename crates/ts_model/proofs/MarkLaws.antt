@@ -20,7 +20,7 @@ use Rattle.ts_model.specs.Roster.{IsOf, roster, view_of}
 use Rattle.ts_model.specs.Rows.{rows, rows_at}
 use Rattle.ts_model.specs.Refreshes.{span_of_cut, top_in, top_of, watermark}
 use Rattle.ts_model.specs.Windows.{last_end}
-use Rattle.ts_model.specs.Allowed.{all_allowed, allowed}
+use Rattle.ts_model.specs.Allowed.{all_consistent, consistent}
 use Rattle.ts_model.specs.Laws.{MarksAreEnds}
 use Rattle.ts_bucket.specs.WholeSpans.{IsMark}
 use Rattle.ts_model.proofs.ValidLaws.{kept_facts}
@@ -69,23 +69,23 @@ last_end_ends w (row ∷ xs) width e =
     let parts = and_parts (is_time row.at) (list_all (λ row. is_time row.at) xs) e in
     greater_some (IsMark w) (Some (bucket_of w row.at +ℤ w.step)) (last_end w xs) (end_of w row.at width parts.0) (last_end_ends w xs width parts.1)
 
-top_of_ends : (def : ViewDef) (h : History) (s : ℕ) (o : Option Span) → IsWidth def.fold.width → all_allowed h ≡ true → IfSome (top_of def h s o) (IsMark def.fold.width)
+top_of_ends : (def : ViewDef) (h : History) (s : ℕ) (o : Option Span) → IsWidth def.fold.width → all_consistent h ≡ true → IfSome (top_of def h s o) (IsMark def.fold.width)
 top_of_ends def h s None width ok = tt
 top_of_ends def h s (Some span) width ok = top_ends def.fold span (rows_at def.table h s) width (rows_are_times.rows def.table h s ok)
 
 -- the watermark of an aggregate whose mode may have changed
-pub watermark_ends : (n : ℕ) (def : ViewDef) (h : History) → IsWidth def.fold.width → IsOf def (view_of (roster h) n) → all_allowed h ≡ true → IfSome (watermark n def h) (IsMark def.fold.width)
+pub watermark_ends : (n : ℕ) (def : ViewDef) (h : History) → IsWidth def.fold.width → IsOf def (view_of (roster h) n) → all_consistent h ≡ true → IfSome (watermark n def h) (IsMark def.fold.width)
 watermark_ends n def start width is ok = tt
 watermark_ends n def (resumed i) width is ok = (kept_facts n def i ok is).marked
 watermark_ends n def (h ▸ Built cut snap) width is ok =
-    let before = (and_parts (all_allowed h) (allowed h (Built cut snap)) ok).0 in
+    let before = (and_parts (all_consistent h) (consistent h (Built cut snap)) ok).0 in
     greater_some (IsMark def.fold.width) (watermark n def h) (top_of def h snap (span_of_cut n h cut)) (watermark_ends n def h width is before) (top_of_ends def h snap (span_of_cut n h cut) width before)
-watermark_ends n def (h ▸ x) width is ok = watermark_ends n def h width (is_of_before def h x n is) (and_parts (all_allowed h) _ ok).0
+watermark_ends n def (h ▸ x) width is ok = watermark_ends n def h width (is_of_before def h x n is) (and_parts (all_consistent h) _ ok).0
 
-rows_times : (t : ℕ) (h : History) → all_allowed h ≡ true → list_all (λ row. is_time row.at) (rows t h) ≡ true
+rows_times : (t : ℕ) (h : History) → all_consistent h ≡ true → list_all (λ row. is_time row.at) (rows t h) ≡ true
 rows_times t h ok = ap (λ g. list_all (λ row. is_time row.at) (rows t g)) (sym (prefix_end h (position h) (omega arith))) ∙ rows_are_times.rows t h (position h) ok
 
-pub window_ends : (n : ℕ) (def : ViewDef) (h : History) → IsWidth def.fold.width → IsOf def (view_of (roster h) n) → all_allowed h ≡ true → IfSome (greater (watermark n def h) (last_end def.fold.width (rows def.table h))) (IsMark def.fold.width)
+pub window_ends : (n : ℕ) (def : ViewDef) (h : History) → IsWidth def.fold.width → IsOf def (view_of (roster h) n) → all_consistent h ≡ true → IfSome (greater (watermark n def h) (last_end def.fold.width (rows def.table h))) (IsMark def.fold.width)
 window_ends n def h width is ok = greater_some (IsMark def.fold.width) (watermark n def h) (last_end def.fold.width (rows def.table h)) (watermark_ends n def h width is ok) (last_end_ends def.fold.width (rows def.table h) width (rows_times def.table h ok))
 
 pub marks_are_ends : MarksAreEnds

@@ -25,7 +25,7 @@ use Rattle.ts_model.specs.Scratch.{bucket_rows, group_rows, scratch}
 use Rattle.ts_model.specs.Groups.{bucket_groups, groups_in, cells_of, stood, scratch_at}
 use Rattle.ts_model.specs.Refreshes.{span_of_cut, last, is_covered, top_in, top_at, top_of, watermark, is_over, threshold}
 use Rattle.ts_bucket.specs.WholeSpans.{is_below}
-use Rattle.ts_model.specs.Allowed.{allowed, all_allowed}
+use Rattle.ts_model.specs.Allowed.{consistent, all_consistent}
 use Rattle.ts_model.specs.Sound.{finish_fits, sound}
 use Rattle.ts_model.specs.Laws.{NothingAboveWatermark, WatermarkNeverFalls, ThresholdNeverFalls}
 use Rattle.ts_model.proofs.ValidLaws.{KeptFacts, kept_facts, lasts_below}
@@ -91,14 +91,14 @@ none_at n def h s span b from_base width bucket inside e = scratch_at_is n def h
 
 -- ---- the last refresh
 
--- a snapshot of an allowed finish is not after the history
-pub built_bounds : (h : History) (cut snap : ℕ) → allowed h (Built cut snap) ≡ true → snap ≤ position h
+-- a snapshot of a consistent finish is not after the history
+pub built_bounds : (h : History) (cut snap : ℕ) → consistent h (Built cut snap) ≡ true → snap ≤ position h
 built_bounds h cut snap e =
     let is_sound = and_parts (finish_fits h cut snap) _ (and_parts (sound h (Built cut snap)) _ e).0 in
     leb-true snap (position h) (and_parts _ (nat_le snap (position h)) is_sound.0).1
 
 -- nor before the base
-pub built_from_base : (h : History) (cut snap : ℕ) → allowed h (Built cut snap) ≡ true → base_position h ≤ snap
+pub built_from_base : (h : History) (cut snap : ℕ) → consistent h (Built cut snap) ≡ true → base_position h ≤ snap
 built_from_base h cut snap e =
     let is_sound = and_parts (finish_fits h cut snap) _ (and_parts (sound h (Built cut snap)) _ e).0 in
     let taken = and_parts _ (nat_le snap (position h)) is_sound.0 in
@@ -109,7 +109,7 @@ covered_snap true snap s e = (refl, cc)
 covered_snap false snap s e = absurd (cc)
 
 -- the last refresh of a bucket is not after the history
-pub last_bounded : (n : ℕ) (h : History) (b : ℤ) (s : ℕ) → all_allowed h ≡ true → last n h b ≡ Some s → s ≤ position h
+pub last_bounded : (n : ℕ) (h : History) (b : ℤ) (s : ℕ) → all_consistent h ≡ true → last n h b ≡ Some s → s ≤ position h
 last_bounded n start b s ok e = absurd (cc)
 last_bounded n (resumed i) b s ok e = omega (arith, lasts_below n i ok b s e)
 last_bounded n (h ▸ Built cut snap) b s ok e =
@@ -123,11 +123,11 @@ covering : (n : ℕ) (def : ViewDef) (h : History) (snap : ℕ) (b : ℤ) (o : O
 covering n def h snap b None from_base width bucket covered e = absurd (true≢false (sym covered))
 covering n def h snap b (Some span) from_base width bucket covered e = none_at n def h snap span b from_base width bucket covered e
 
-nothing_above_further : (n : ℕ) (def : ViewDef) (h : History) (x : Event) (b : ℤ) (s : ℕ) → all_allowed (h ▸ x) ≡ true → last n h b ≡ Some s → scratch_at n def h s b ≡ [] → scratch_at n def (h ▸ x) s b ≡ []
+nothing_above_further : (n : ℕ) (def : ViewDef) (h : History) (x : Event) (b : ℤ) (s : ℕ) → all_consistent (h ▸ x) ≡ true → last n h b ≡ Some s → scratch_at n def h s b ≡ [] → scratch_at n def (h ▸ x) s b ≡ []
 nothing_above_further n def h x b s ok e before =
     scratch_at_further n def h x s b (last_bounded n h b s (and_parts _ _ ok).0 e) ∙ before
 
-nothing_above_built : (n : ℕ) (def : ViewDef) (h : History) (cut snap : ℕ) (b : ℤ) (s : ℕ) → IsWidth def.fold.width → is_bucket def.fold.width b ≡ true → all_allowed (h ▸ Built cut snap) ≡ true → last n (h ▸ Built cut snap) b ≡ Some s → is_below b (watermark n def (h ▸ Built cut snap)) ≡ false → (last n h b ≡ Some s → is_below b (watermark n def h) ≡ false → scratch_at n def h s b ≡ []) → scratch_at n def (h ▸ Built cut snap) s b ≡ []
+nothing_above_built : (n : ℕ) (def : ViewDef) (h : History) (cut snap : ℕ) (b : ℤ) (s : ℕ) → IsWidth def.fold.width → is_bucket def.fold.width b ≡ true → all_consistent (h ▸ Built cut snap) ≡ true → last n (h ▸ Built cut snap) b ≡ Some s → is_below b (watermark n def (h ▸ Built cut snap)) ≡ false → (last n h b ≡ Some s → is_below b (watermark n def h) ≡ false → scratch_at n def h s b ≡ []) → scratch_at n def (h ▸ Built cut snap) s b ≡ []
 nothing_above_built n def h cut snap b s width bucket ok e mark before =
     let marks = or_parts _ _ (sym (is_below-greater b (watermark n def h) (top_of def h snap (span_of_cut n h cut))) ∙ mark) in
     ⊎_elim
@@ -150,7 +150,7 @@ nothing_kept n def i b s width bucket facts e mark =
           ∙ ap (λ xs. map (cells_of def.fold) (bucket_groups def.fold b xs)) (facts.rows_below b width bucket (ap is_some e) clean mark)
     ] refl
 
-nothing_above : (n : ℕ) (def : ViewDef) (h : History) (b : ℤ) (s : ℕ) → IsWidth def.fold.width → is_bucket def.fold.width b ≡ true → IsOf def (view_of (roster h) n) → all_allowed h ≡ true → last n h b ≡ Some s → is_below b (watermark n def h) ≡ false → scratch_at n def h s b ≡ []
+nothing_above : (n : ℕ) (def : ViewDef) (h : History) (b : ℤ) (s : ℕ) → IsWidth def.fold.width → is_bucket def.fold.width b ≡ true → IsOf def (view_of (roster h) n) → all_consistent h ≡ true → last n h b ≡ Some s → is_below b (watermark n def h) ≡ false → scratch_at n def h s b ≡ []
 nothing_above n def start b s width bucket is ok e mark = refl
 nothing_above n def (resumed i) b s width bucket is ok e mark = nothing_kept n def i b s width bucket (kept_facts n def i ok is) e mark
 nothing_above n def (h ▸ Built cut snap) b s width bucket is ok e mark =

@@ -1,4 +1,4 @@
--- The roster of an allowed history is sound: all that it holds is there and in range.
+-- The roster of a consistent history is sound: all that it holds is there and in range.
 use Rattle.std.proofs.Common.{◌≡◌, ℕ, zero, suc, ◌+◌, ◌<◌, ◌≤◌, Bool, true, ◌&&◌, nat_lt, nat_le, ◌==◌, List, [], ◌∷◌, ◌++◌, length, length-append, pos, int_lt, int_le, Option, Some, None, ◌⊎◌, inl, inr, ⊎_elim, sym, refl, ap, ◌∙◌, subst, arith}
 use Rattle.std.specs.Prelude.{slice_get, unwrap_or}
 use Rattle.std.proofs.lemmas.Bool.{true≢false, and_parts, and_from, ltb-true}
@@ -16,9 +16,9 @@ use Rattle.ts_model.specs.History.{History, start, resumed, ◌▸◌}
 use Rattle.ts_model.specs.Roster.{no_relations, change_at, made_hyper, set_only, roster_after, roster_over, roster, table_of, of_hyper, of_table, view_of}
 use Rattle.ts_model.specs.Limits.{most_relations, most_columns}
 use Rattle.ts_model.specs.Sound.{are_names, fold_fits, output_count, hyper_fits, view_fits, sound_in, sound_at, sound}
-use Rattle.ts_model.specs.Timely.{has_room, timely_in, timely}
+use Rattle.ts_model.specs.Timely.{timely_in, timely_at}
 use Rattle.ts_model.specs.Valid.{may_follow, make_views, make_relations}
-use Rattle.ts_model.specs.Allowed.{all_allowed, allowed}
+use Rattle.ts_model.specs.Allowed.{all_consistent, consistent}
 use Rattle.ts_model.specs.Laws.{is_hyper_sound, is_table_sound, IsSoundRoster, RostersAreSound, WidthsAreSound}
 use Rattle.ts_model.proofs.ValidLaws.{valid_is}
 use Rattle.ts_model.proofs.RosterLaws.{relations_further, length-change_at}
@@ -171,7 +171,7 @@ no_relations_sound = record {
 
 -- ---- histories
 
--- an allowed event is sound and timely in the roster
+-- a consistent event is sound and timely in the roster
 pub sound_in_roster : (h : History) (e : Event) → sound_at h e ≡ true → sound_in (roster h) e ≡ true
 sound_in_roster h (Table def) s = s
 sound_in_roster h (Hyper t hyper) s = s
@@ -181,16 +181,21 @@ sound_in_roster h (Commit ops) s = s
 sound_in_roster h (Cut v span) s = s
 sound_in_roster h (Built cut snap) s = refl
 
-pub timely_in_roster : (h : History) (e : Event) → timely h e ≡ true → timely_in (roster h) e ≡ true
+pub timely_in_roster : (h : History) (e : Event) → timely_at h e ≡ true → timely_in (roster h) e ≡ true
+timely_in_roster h (Table def) s = s
+timely_in_roster h (Hyper t hyper) s = s
+timely_in_roster h (View def) s = s
+timely_in_roster h (Mode v only) s = s
+timely_in_roster h (Commit ops) s = s
+timely_in_roster h (Cut v span) s = s
 timely_in_roster h (Built cut snap) s = refl
-timely_in_roster h e s = (and_parts (timely_in (roster h) e) (has_room h) s).0
 
 pub rosters_are_sound : RostersAreSound
 rosters_are_sound start ok = no_relations_sound
 rosters_are_sound (resumed i) ok = relations_sound no_relations i.roster (valid_is i ok).relations no_relations_sound
 rosters_are_sound (h ▸ e) ok =
-    let parts = and_parts (all_allowed h) (allowed h e) ok in
-    let now = and_parts (sound h e) (timely h e) parts.1 in
+    let parts = and_parts (all_consistent h) (consistent h e) ok in
+    let now = and_parts (sound h e) (timely_at h e) parts.1 in
     let fits = sound_in_roster h e (and_parts (sound_at h e) _ now.0).0 in
     sound_after (roster h) e fits (timely_in_roster h e now.1) (rosters_are_sound h parts.0)
 

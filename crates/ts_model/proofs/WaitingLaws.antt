@@ -17,7 +17,7 @@ use Rattle.ts_model.specs.History.{History, start, resumed, ◌▸◌, position}
 use Rattle.ts_model.specs.declared.images.Finished.{Finished as FinishedRefresh}
 use Rattle.ts_model.specs.declared.images.Image.{Image}
 use Rattle.ts_model.specs.Saved.{span_among, finished_among, pending_among}
-use Rattle.ts_model.specs.Allowed.{all_allowed}
+use Rattle.ts_model.specs.Allowed.{all_consistent}
 use Rattle.ts_model.specs.Refreshes.{span_of_cut}
 use Rattle.ts_model.proofs.ValidLaws.{waiting_upto, waiting_rising}
 use Rattle.ts_model.specs.Pending.{finished_by, pending, waiting}
@@ -42,12 +42,12 @@ up_to_filtered : (p : ℕ) (test : WaitingRefresh → Bool) (rs : List WaitingRe
 up_to_filtered p test [] u = tt
 up_to_filtered p test (r ∷ rs) u = elim (test r) as (λ t. UpTo p (cond t (r ∷ filter test rs) (filter test rs))) [ true ↦ (u.0, up_to_filtered p test rs u.1) | false ↦ up_to_filtered p test rs u.1 ]
 
-waiting_up_to : (h : History) → all_allowed h ≡ true → UpTo (position h) (waiting h)
+waiting_up_to : (h : History) → all_consistent h ≡ true → UpTo (position h) (waiting h)
 waiting_up_to start ok = tt
 waiting_up_to (resumed i) ok = waiting_upto i ok
-waiting_up_to (h ▸ Cut v span) ok = up_to_pushed (suc (position h)) (waiting h) (record { cut = suc (position h); view = v; span = span }) (up_to_more (position h) (waiting h) (waiting_up_to h (and_parts (all_allowed h) _ ok).0)) (omega arith)
-waiting_up_to (h ▸ Built cut snap) ok = up_to_filtered (suc (position h)) (λ r. not (r.cut == cut)) (waiting h) (up_to_more (position h) (waiting h) (waiting_up_to h (and_parts (all_allowed h) _ ok).0))
-waiting_up_to (h ▸ x) ok = up_to_more (position h) (waiting h) (waiting_up_to h (and_parts (all_allowed h) _ ok).0)
+waiting_up_to (h ▸ Cut v span) ok = up_to_pushed (suc (position h)) (waiting h) (record { cut = suc (position h); view = v; span = span }) (up_to_more (position h) (waiting h) (waiting_up_to h (and_parts (all_consistent h) _ ok).0)) (omega arith)
+waiting_up_to (h ▸ Built cut snap) ok = up_to_filtered (suc (position h)) (λ r. not (r.cut == cut)) (waiting h) (up_to_more (position h) (waiting h) (waiting_up_to h (and_parts (all_consistent h) _ ok).0))
+waiting_up_to (h ▸ x) ok = up_to_more (position h) (waiting h) (waiting_up_to h (and_parts (all_consistent h) _ ok).0)
 
 abbrev cuts_of : List WaitingRefresh → List ℕ
 cuts_of rs = map (λ (r : WaitingRefresh). r.cut) rs
@@ -79,12 +79,12 @@ rises_filtered test (r ∷ rs) rising =
       | false ↦ rises_filtered test rs rising.1
     ]
 
-waiting_rises : (h : History) → all_allowed h ≡ true → Rises nat_cmp (cuts_of (waiting h))
+waiting_rises : (h : History) → all_consistent h ≡ true → Rises nat_cmp (cuts_of (waiting h))
 waiting_rises start ok = tt
 waiting_rises (resumed i) ok = waiting_rising i ok
-waiting_rises (h ▸ Cut v span) ok = rises_pushed (position h) (waiting h) (record { cut = suc (position h); view = v; span = span }) (omega arith) (waiting_up_to h (and_parts (all_allowed h) _ ok).0) (waiting_rises h (and_parts (all_allowed h) _ ok).0)
-waiting_rises (h ▸ Built cut snap) ok = rises_filtered (λ r. not (r.cut == cut)) (waiting h) (waiting_rises h (and_parts (all_allowed h) _ ok).0)
-waiting_rises (h ▸ x) ok = waiting_rises h (and_parts (all_allowed h) _ ok).0
+waiting_rises (h ▸ Cut v span) ok = rises_pushed (position h) (waiting h) (record { cut = suc (position h); view = v; span = span }) (omega arith) (waiting_up_to h (and_parts (all_consistent h) _ ok).0) (waiting_rises h (and_parts (all_consistent h) _ ok).0)
+waiting_rises (h ▸ Built cut snap) ok = rises_filtered (λ r. not (r.cut == cut)) (waiting h) (waiting_rises h (and_parts (all_consistent h) _ ok).0)
+waiting_rises (h ▸ x) ok = waiting_rises h (and_parts (all_consistent h) _ ok).0
 
 -- ---- the refresh with a number
 
@@ -110,7 +110,7 @@ same_over h v span k other Unknown = refl
 turned : (a b : ℕ) → (a == b) ≡ (b == a)
 turned a b = grind (arith, nat_tests)
 
-after_cut : (h : History) (v : ℕ) (span : Span) (k : ℕ) → all_allowed h ≡ true → numbered k (waiting h) ≡ waiting_as h k (pending h k) → numbered k (waiting (h ▸ Cut v span)) ≡ waiting_as (h ▸ Cut v span) k (pending (h ▸ Cut v span) k)
+after_cut : (h : History) (v : ℕ) (span : Span) (k : ℕ) → all_consistent h ≡ true → numbered k (waiting h) ≡ waiting_as h k (pending h k) → numbered k (waiting (h ▸ Cut v span)) ≡ waiting_as (h ▸ Cut v span) k (pending (h ▸ Cut v span) k)
 after_cut h v span k ok before =
     let new : WaitingRefresh = record { cut = suc (position h); view = v; span = span } in
     filter-append (λ r. r.cut == k) (waiting h) (new ∷ [])
@@ -226,7 +226,7 @@ as_image i k l (Waiting n) = ap (waiting_over k n) (sym (cond-true (nat_le k i.p
 as_image i k l (Finished f) = refl
 as_image i k l Unknown = refl
 
-pub waiting_exact : (h : History) (k : ℕ) → all_allowed h ≡ true → numbered k (waiting h) ≡ waiting_as h k (pending h k)
+pub waiting_exact : (h : History) (k : ℕ) → all_consistent h ≡ true → numbered k (waiting h) ≡ waiting_as h k (pending h k)
 waiting_exact start k ok = refl
 waiting_exact (resumed i) k ok =
     elim (nat_le k i.pos) as (λ t. nat_le k i.pos ≡ t → numbered k i.waiting ≡ waiting_as (resumed i) k (cond t (pending_among i.waiting i.done k) Unknown)) [
@@ -236,9 +236,9 @@ waiting_exact (resumed i) k ok =
   where
     above : (k p : ℕ) → nat_le k p ≡ false → p < k
     above k p e = grind (arith, nat_tests)
-waiting_exact (h ▸ Cut v span) k ok = after_cut h v span k (and_parts (all_allowed h) _ ok).0 (waiting_exact h k (and_parts (all_allowed h) _ ok).0)
-waiting_exact (h ▸ Built cut snap) k ok = after_built h cut snap k (waiting_exact h k (and_parts (all_allowed h) _ ok).0)
-waiting_exact (h ▸ x) k ok = waiting_exact h k (and_parts (all_allowed h) _ ok).0 ∙ same_spans (h ▸ x) h k (λ n. refl) (pending h k)
+waiting_exact (h ▸ Cut v span) k ok = after_cut h v span k (and_parts (all_consistent h) _ ok).0 (waiting_exact h k (and_parts (all_consistent h) _ ok).0)
+waiting_exact (h ▸ Built cut snap) k ok = after_built h cut snap k (waiting_exact h k (and_parts (all_consistent h) _ ok).0)
+waiting_exact (h ▸ x) k ok = waiting_exact h k (and_parts (all_consistent h) _ ok).0 ∙ same_spans (h ▸ x) h k (λ n. refl) (pending h k)
 
 -- ---- each refresh that waits has a span
 

@@ -39,7 +39,7 @@ use Rattle.ts_model.specs.Reads.{clipped, chunk_within, inserted, rows_near}
 use Rattle.ts_model.specs.declared.refreshes.Window.{Window}
 use Rattle.ts_model.specs.declared.refreshes.Window.TheVariants.{Whole, NoBucket, Nothing}
 use Rattle.ts_model.specs.Windows.{last_end, window}
-use Rattle.ts_model.specs.Allowed.{all_allowed, allowed}
+use Rattle.ts_model.specs.Allowed.{all_consistent, allowed}
 use Rattle.ts_model.specs.Fields.{fits_fields}
 use Rattle.ts_model.specs.Limits.{most_relations}
 use Rattle.ts_model.specs.Sound.{row_fits, hyper_fits, sound_in, sound}
@@ -85,7 +85,7 @@ pub record SpansKeepGroups : Type 0 where
 -- a bucket at or above the watermark that has a last refresh had no result row at that refresh's snapshot
 abbrev pub NothingAboveWatermark : Type 0
 NothingAboveWatermark =
-    (n : ℕ) (def : ViewDef) (h : History) (b : ℤ) (s : ℕ) → all_allowed h ≡ true → view_of (roster h) n ≡ Some def
+    (n : ℕ) (def : ViewDef) (h : History) (b : ℤ) (s : ℕ) → all_consistent h ≡ true → view_of (roster h) n ≡ Some def
     → is_bucket def.fold.width b ≡ true → last n h b ≡ Some s → is_below b (watermark n def h) ≡ false
     → scratch_at n def h s b ≡ []
 
@@ -144,48 +144,48 @@ pub record IsSoundRoster (r : Roster) : Type 0 where
   pub few_tables : length r.tables ≤ most_relations
   pub few_views : length r.views ≤ most_relations
 
--- the roster of an allowed history is sound
+-- the roster of a consistent history is sound
 abbrev pub RostersAreSound : Type 0
-RostersAreSound = (h : History) → all_allowed h ≡ true → IsSoundRoster (roster h)
+RostersAreSound = (h : History) → all_consistent h ≡ true → IsSoundRoster (roster h)
 
--- the width of an aggregate of an allowed history keeps its bounds
+-- the width of an aggregate of a consistent history keeps its bounds
 abbrev pub WidthsAreSound : Type 0
 WidthsAreSound =
-    (h : History) (n : ℕ) (def : ViewDef) → all_allowed h ≡ true → view_of (roster h) n ≡ Some def
+    (h : History) (n : ℕ) (def : ViewDef) → all_consistent h ≡ true → view_of (roster h) n ≡ Some def
     → IsWidth def.fold.width
 
 -- a row fits a table of a roster, which is a hypertable
 abbrev pub fits_table : Roster → ℕ → Row → Bool
 fits_table r t row = of_table (λ def hyper. row_fits def hyper row) (table_of r t)
 
--- each row that was ever inserted into a table of an allowed history fits the table, and so does each that it has at
+-- each row that was ever inserted into a table of a consistent history fits the table, and so does each that it has at
 -- a position
 pub record RowsFitTables : Type 0 where
-  pub inserted : (t : ℕ) (h : History) → all_allowed h ≡ true → list_all (fits_table (roster h) t) (inserted t h) ≡ true
+  pub inserted : (t : ℕ) (h : History) → all_consistent h ≡ true → list_all (fits_table (roster h) t) (inserted t h) ≡ true
   pub rows :
-      (t : ℕ) (h : History) (s : ℕ) → all_allowed h ≡ true → list_all (fits_table (roster h) t) (rows_at t h s) ≡ true
+      (t : ℕ) (h : History) (s : ℕ) → all_consistent h ≡ true → list_all (fits_table (roster h) t) (rows_at t h s) ≡ true
 
 -- so each has a time
 pub record RowsAreTimes : Type 0 where
-  pub inserted : (t : ℕ) (h : History) → all_allowed h ≡ true → list_all (λ row. is_time row.at) (inserted t h) ≡ true
+  pub inserted : (t : ℕ) (h : History) → all_consistent h ≡ true → list_all (λ row. is_time row.at) (inserted t h) ≡ true
   pub rows :
-      (t : ℕ) (h : History) (s : ℕ) → all_allowed h ≡ true → list_all (λ row. is_time row.at) (rows_at t h s) ≡ true
+      (t : ℕ) (h : History) (s : ℕ) → all_consistent h ≡ true → list_all (λ row. is_time row.at) (rows_at t h s) ≡ true
 
 -- and the columns of each fold that may be asked of the table, which the fold of each of its aggregates may
 pub record RowsHaveColumns : Type 0 where
-  pub inserted : (t : ℕ) (fold : Fold) (h : History) → all_allowed h ≡ true → can_ask (roster h) (Buckets t fold) ≡ true
+  pub inserted : (t : ℕ) (fold : Fold) (h : History) → all_consistent h ≡ true → can_ask (roster h) (Buckets t fold) ≡ true
       → RowsFit fold (inserted t h)
   pub rows :
-      (t : ℕ) (fold : Fold) (h : History) (s : ℕ) → all_allowed h ≡ true → can_ask (roster h) (Buckets t fold) ≡ true
+      (t : ℕ) (fold : Fold) (h : History) (s : ℕ) → all_consistent h ≡ true → can_ask (roster h) (Buckets t fold) ≡ true
       → RowsFit fold (rows_at t h s)
-  pub views : (n : ℕ) (def : ViewDef) (h : History) → all_allowed h ≡ true → view_of (roster h) n ≡ Some def
+  pub views : (n : ℕ) (def : ViewDef) (h : History) → all_consistent h ≡ true → view_of (roster h) n ≡ Some def
       → can_ask (roster h) (Buckets def.table def.fold) ≡ true
 
--- a watermark of an allowed history, and where a window without an end ends, are ends of buckets that hold a time
+-- a watermark of a consistent history, and where a window without an end ends, are ends of buckets that hold a time
 pub record MarksAreEnds : Type 0 where
-  pub marks : (n : ℕ) (def : ViewDef) (h : History) → all_allowed h ≡ true → view_of (roster h) n ≡ Some def
+  pub marks : (n : ℕ) (def : ViewDef) (h : History) → all_consistent h ≡ true → view_of (roster h) n ≡ Some def
       → IfSome (watermark n def h) (IsMark def.fold.width)
-  pub ends : (n : ℕ) (def : ViewDef) (h : History) → all_allowed h ≡ true → view_of (roster h) n ≡ Some def
+  pub ends : (n : ℕ) (def : ViewDef) (h : History) → all_consistent h ≡ true → view_of (roster h) n ≡ Some def
       → IfSome (greater (watermark n def h) (last_end def.fold.width (rows def.table h))) (IsMark def.fold.width)
 
 -- an event whose parts are there and in range stays so as a history grows
@@ -226,9 +226,9 @@ pub record CallsMakeAllowed : Type 0 where
   pub modes :
       (n : ℕ) (only : Bool) (h : History) → sound h (Mode n only) ≡ true → MakesAllowed h (setting_mode n only h)
   pub commits : (ops : List Op) (h : History) → sound h (Commit ops) ≡ true → MakesAllowed h (committing ops h)
-  pub cuts : (n : ℕ) (lo hi : Option ℤ) (h : History) → all_allowed h ≡ true → ForSome hi (λ t. IsTrue (is_time t))
+  pub cuts : (n : ℕ) (lo hi : Option ℤ) (h : History) → all_consistent h ≡ true → ForSome hi (λ t. IsTrue (is_time t))
       → MakesAllowed h (cutting n lo hi h)
-  pub windows : (n : ℕ) (def : ViewDef) (h : History) (lo hi : Option ℤ) → all_allowed h ≡ true
+  pub windows : (n : ℕ) (def : ViewDef) (h : History) (lo hi : Option ℤ) → all_consistent h ≡ true
       → view_of (roster h) n ≡ Some def → ForSome hi (λ t. IsTrue (is_time t)) → SoundCut n h (window n def h lo hi)
   pub finishes : (cut snap : ℕ) (h : History) → sound h (Built cut snap) ≡ true → MakesAllowed h (finishing cut snap h)
 
@@ -292,9 +292,9 @@ ClippingKeepsNear =
 -- the chunks of all rows that were ever inserted lie at most the longest interval outside the range of times
 abbrev pub ChunksAreWithin : Type 0
 ChunksAreWithin =
-    (t : ℕ) (hyper : Hyper) (h : History) → all_allowed h ≡ true → hyper_of (roster h) t ≡ Some hyper
+    (t : ℕ) (hyper : Hyper) (h : History) → all_consistent h ≡ true → hyper_of (roster h) t ≡ Some hyper
     → list_all (chunk_within (min_time -ℤ max_interval) (max_time +ℤ max_interval) hyper.interval) (inserted t h) ≡ true
 
--- each count and each number of a sound event of an allowed history fits its field in a journal
+-- each count and each number of a sound event of a consistent history fits its field in a journal
 abbrev pub CountsFit : Type 0
-CountsFit = (h : History) (e : Event) → all_allowed h ≡ true → sound h e ≡ true → fits_fields e ≡ true
+CountsFit = (h : History) (e : Event) → all_consistent h ≡ true → sound h e ≡ true → fits_fields e ≡ true

@@ -18,14 +18,14 @@ use Rattle.ts_model.specs.Groups.{groups_at}
 use Rattle.ts_model.specs.Refreshes.{span_of_cut, was_cut, last, was_refreshed, last_touch, watermark, invalid, stale}
 use Rattle.ts_model.specs.Pending.{pending, waiting}
 use Rattle.ts_model.specs.Sound.{span_fits}
-use Rattle.ts_model.specs.Allowed.{all_allowed}
+use Rattle.ts_model.specs.Allowed.{all_consistent}
 use Rattle.ts_model.specs.Jobs.{Fits}
 use Rattle.ts_model.specs.Laws.{Rises}
 
--- the span of a cut of an allowed history is one of whole buckets of its aggregate, from the first on
+-- the span of a cut of a consistent history is one of whole buckets of its aggregate, from the first on
 abbrev pub CutsFit : Type 0
 CutsFit =
-    (n : ℕ) (def : ViewDef) (h : History) (k : ℕ) (span : Span) → all_allowed h ≡ true
+    (n : ℕ) (def : ViewDef) (h : History) (k : ℕ) (span : Span) → all_consistent h ≡ true
     → view_of (roster h) n ≡ Some def → span_of_cut n h k ≡ Some span → span_fits span (Some def) ≡ true
 
 -- a bucket of the span of a cut was cut, and so was one with a last refresh, by a cut at or before that one's snapshot
@@ -34,7 +34,7 @@ pub record BucketsWereCut : Type 0 where
       (n : ℕ) (h : History) (k s : ℕ) (span : Span) (b : ℤ) → span_of_cut n h k ≡ Some span → in_span span b ≡ true
       → k ≤ s → was_cut n h b s ≡ true
   pub lasts :
-      (n : ℕ) (h : History) (b : ℤ) (s : ℕ) → all_allowed h ≡ true → last n h b ≡ Some s → was_cut n h b s ≡ true
+      (n : ℕ) (h : History) (b : ℤ) (s : ℕ) → all_consistent h ≡ true → last n h b ≡ Some s → was_cut n h b s ≡ true
 
 -- a bucket was refreshed at its last refresh, and its last refresh is at or after each snapshot at which it was
 -- refreshed
@@ -62,9 +62,9 @@ has_span h k Unknown = true
 -- the refreshes that wait are, for each number, what pending says of it, they come in rising order of their cuts, and
 -- each has a span
 pub record WaitingIsPending : Type 0 where
-  pub exact : (h : History) (k : ℕ) → all_allowed h ≡ true
+  pub exact : (h : History) (k : ℕ) → all_consistent h ≡ true
       → filter (λ r. r.cut == k) (waiting h) ≡ waiting_as h k (pending h k)
-  pub rising : (h : History) → all_allowed h ≡ true → Rises nat_cmp (map (λ (r : WaitingRefresh). r.cut) (waiting h))
+  pub rising : (h : History) → all_consistent h ≡ true → Rises nat_cmp (map (λ (r : WaitingRefresh). r.cut) (waiting h))
   pub spans : (h : History) (k : ℕ) → has_span h k (pending h k) ≡ true
 
 -- a finish of a job that fits raises the watermark to the job's top
@@ -72,7 +72,7 @@ abbrev pub FinishesMark : Type 0
 FinishesMark =
     (n : ℕ) (def : ViewDef) (h : History) (cut snap : ℕ) (span : Span) (spans : List Span) (groups : List Group)
     (top : Option ℤ)
-    → all_allowed h ≡ true → view_of (roster h) n ≡ Some def → Fits n def h cut snap span spans groups top
+    → all_consistent h ≡ true → view_of (roster h) n ≡ Some def → Fits n def h cut snap span spans groups top
     → watermark n def (h ▸ Built cut snap) ≡ greater (watermark n def h) top
 
 -- m is the end of a bucket that a finished refresh covers and that had a result row at its snapshot: before its finish
@@ -92,7 +92,7 @@ pub record EndsARow (n : ℕ) (def : ViewDef) (h : History) (m : ℤ) : Type 0 w
 -- the watermark is the one with which the history begins, or the end of such a bucket
 abbrev pub MarksEndRows : Type 0
 MarksEndRows =
-    (n : ℕ) (def : ViewDef) (h : History) → all_allowed h ≡ true → view_of (roster h) n ≡ Some def
+    (n : ℕ) (def : ViewDef) (h : History) → all_consistent h ≡ true → view_of (roster h) n ≡ Some def
     → IfSome (watermark n def h) (λ m. (watermark n def (root h) ≡ Some m) ⊎ EndsARow n def h m)
 
 -- whether an aggregate shows materialised rows only plays no part in what is stale, nor in what stood in a bucket

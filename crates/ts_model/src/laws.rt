@@ -98,38 +98,38 @@ pub fn positions_have_their_prefix()
     ensures { AtPositions }
 {}
 
-/// All that the roster of an allowed history holds is there and in range.
+/// All that the roster of a consistent history holds is there and in range.
 pub fn rosters_are_sound()
     ensures { RostersAreSound }
 {}
 
-/// The width of an aggregate of an allowed history keeps its bounds.
+/// The width of an aggregate of a consistent history keeps its bounds.
 pub fn widths_are_sound()
     ensures { WidthsAreSound }
 {}
 
-/// Each row that was ever inserted into a table of an allowed history fits the table, and so does each that
+/// Each row that was ever inserted into a table of a consistent history fits the table, and so does each that
 /// it has at a position.
 pub fn rows_fit_their_tables()
     ensures { RowsFitTables }
 {}
 
-/// Each row of an allowed history has a time.
+/// Each row of a consistent history has a time.
 pub fn rows_are_of_times()
     ensures { RowsAreTimes }
 {}
 
-/// Each row of an allowed history has the columns of each fold that may be asked of its table.
+/// Each row of a consistent history has the columns of each fold that may be asked of its table.
 pub fn rows_have_columns()
     ensures { RowsHaveColumns }
 {}
 
-/// A watermark of an allowed history is the end of a bucket that holds a time.
+/// A watermark of a consistent history is the end of a bucket that holds a time.
 pub fn marks_are_ends()
     ensures { MarksAreEnds }
 {}
 
-/// The span of a cut of an allowed history is one of whole buckets of its aggregate.
+/// The span of a cut of a consistent history is one of whole buckets of its aggregate.
 pub fn cuts_fit_their_aggregates()
     ensures { CutsFit }
 {}
@@ -176,12 +176,12 @@ pub fn clipped_spans_are_near_the_same()
     ensures { ClippingKeepsNear }
 {}
 
-/// The chunks of an allowed history lie at most the longest interval outside the range of times.
+/// The chunks of a consistent history lie at most the longest interval outside the range of times.
 pub fn chunks_are_near_times()
     ensures { ChunksAreWithin }
 {}
 
-/// Each count and each number of a sound event of an allowed history fits its field in a journal.
+/// Each count and each number of a sound event of a consistent history fits its field in a journal.
 pub fn counts_fit_their_fields()
     ensures { CountsFit }
 {}
