@@ -11,7 +11,7 @@ use Rattle.ts_model.specs.declared.views.ViewDef.{ViewDef}
 use Rattle.ts_model.specs.History.{History, start, resumed, ◌▸◌, position}
 use Rattle.ts_model.specs.Roster.{roster, view_of}
 use Rattle.ts_model.specs.Refreshes.{span_of_cut, is_covered, was_cut, last, is_by, waits_over, touches, last_touch}
-use Rattle.ts_model.specs.Allowed.{allowed, all_allowed}
+use Rattle.ts_model.specs.Allowed.{consistent, all_consistent}
 use Rattle.ts_model.specs.Sound.{span_fits, sound}
 use Rattle.ts_model.specs.Laws.{KeepsView}
 use Rattle.ts_model.proofs.RosterLaws.{relations_further}
@@ -53,11 +53,11 @@ pub no_cut : (before mine inside late : Bool) → mine ≡ false → (before || 
 no_cut true mine inside late e = refl
 no_cut false mine inside late e = ap (λ t. t && inside && late) e
 
-pub cut_view : (h : History) (v : ℕ) (span : Span) → allowed h (Cut v span) ≡ true → span_fits span (view_of (roster h) v) ≡ true
+pub cut_view : (h : History) (v : ℕ) (span : Span) → consistent h (Cut v span) ≡ true → span_fits span (view_of (roster h) v) ≡ true
 cut_view h v span e = (and_parts (span_fits span (view_of (roster h) v)) _ (and_parts (sound h (Cut v span)) _ e).0).0
 
 -- it was never cut
-never_here : (n : ℕ) (h : History) (v : ℕ) (span : Span) → allowed h (Cut v span) ≡ true → view_of (roster h) n ≡ None → (v == n) ≡ false
+never_here : (n : ℕ) (h : History) (v : ℕ) (span : Span) → consistent h (Cut v span) ≡ true → view_of (roster h) n ≡ None → (v == n) ≡ false
 never_here n h v span ok none = by_view (v == n) refl
   where
     by_view : (t : Bool) → (v == n) ≡ t → t ≡ false
@@ -66,7 +66,7 @@ never_here n h v span ok none = by_view (v == n) refl
         absurd (true≢false (sym (cut_view h v span ok) ∙ ap (span_fits span) absent))
     by_view false e = refl
 
-pub never_cut : (n : ℕ) (h : History) (k : ℕ) → all_allowed h ≡ true → view_of (roster h) n ≡ None → span_of_cut n h k ≡ None
+pub never_cut : (n : ℕ) (h : History) (k : ℕ) → all_consistent h ≡ true → view_of (roster h) n ≡ None → span_of_cut n h k ≡ None
 never_cut n start k ok none = refl
 never_cut n (resumed i) k ok none = by_span (span_of_cut n (resumed i) k) refl
   where
@@ -74,9 +74,9 @@ never_cut n (resumed i) k ok none = by_span (span_of_cut n (resumed i) k) refl
     by_span None e = refl
     by_span (Some span) e = absurd (true≢false (sym (among_at i n k span ok (span_within i n k span e).1).fits ∙ ap (span_fits span) none))
 never_cut n (h ▸ Cut v span) k ok none =
-    let parts = and_parts (all_allowed h) (allowed h (Cut v span)) ok in
+    let parts = and_parts (all_consistent h) (consistent h (Cut v span)) ok in
     other_cut (k == suc (position h)) (v == n) span (span_of_cut n h k) (never_here n h v span parts.1 none) ∙ never_cut n h k parts.0 none
-never_cut n (h ▸ x) k ok none = never_cut n h k (and_parts (all_allowed h) _ ok).0 (absent_before h x n none)
+never_cut n (h ▸ x) k ok none = never_cut n h k (and_parts (all_consistent h) _ ok).0 (absent_before h x n none)
 
 never_waits : (r : Roster) (p n : ℕ) (b : ℤ) (s : ℕ) (ws : List WaitingRefresh) → list_all (λ (w : WaitingRefresh). is_number p w.cut && span_fits w.span (view_of r w.view)) ws ≡ true → view_of r n ≡ None → waits_over n b s ws ≡ false
 never_waits r p n b s [] e none = refl
@@ -89,19 +89,19 @@ never_waits r p n b s (w ∷ ws) e none =
     other true e fits = absurd (true≢false (sym fits ∙ ap (span_fits w.span) (ap (view_of r) (eqb-true w.view n e) ∙ none)))
     other false e fits = refl
 
-pub never_was_cut : (n : ℕ) (h : History) (b : ℤ) (s : ℕ) → all_allowed h ≡ true → view_of (roster h) n ≡ None → was_cut n h b s ≡ false
+pub never_was_cut : (n : ℕ) (h : History) (b : ℤ) (s : ℕ) → all_consistent h ≡ true → view_of (roster h) n ≡ None → was_cut n h b s ≡ false
 never_was_cut n start b s ok none = refl
 never_was_cut n (resumed i) b s ok none = or_from _ _ (ap (λ v. is_by s (pos_in v.lasts b)) (absent_kept n i ok none)) (never_waits (image_roster i) i.pos n b s i.waiting (and_parts (list_all (λ (w : WaitingRefresh). is_number i.pos w.cut && span_fits w.span (view_of (image_roster i) w.view)) i.waiting) _ (valid_is i ok).waiting).0 none)
 never_was_cut n (h ▸ Cut v span) b s ok none =
-    let parts = and_parts (all_allowed h) (allowed h (Cut v span)) ok in
+    let parts = and_parts (all_consistent h) (consistent h (Cut v span)) ok in
     no_cut (was_cut n h b s) (v == n) (in_span span b) (nat_le (suc (position h)) s) (never_here n h v span parts.1 none) ∙ never_was_cut n h b s parts.0 none
-never_was_cut n (h ▸ x) b s ok none = never_was_cut n h b s (and_parts (all_allowed h) _ ok).0 (absent_before h x n none)
+never_was_cut n (h ▸ x) b s ok none = never_was_cut n h b s (and_parts (all_consistent h) _ ok).0 (absent_before h x n none)
 
 -- and never refreshed
-pub never_refreshed : (n : ℕ) (h : History) (b : ℤ) → all_allowed h ≡ true → view_of (roster h) n ≡ None → last n h b ≡ None
+pub never_refreshed : (n : ℕ) (h : History) (b : ℤ) → all_consistent h ≡ true → view_of (roster h) n ≡ None → last n h b ≡ None
 never_refreshed n start b ok none = refl
 never_refreshed n (resumed i) b ok none = ap (λ v. pos_in v.lasts b) (absent_kept n i ok none)
 never_refreshed n (h ▸ Built cut snap) b ok none =
-    ap (λ p. later p (cond (is_covered b (span_of_cut n h cut)) (Some snap) None)) (never_refreshed n h b (and_parts (all_allowed h) _ ok).0 none)
-    ∙ ap (λ o. cond (is_covered b o) (Some snap) None) (never_cut n h cut (and_parts (all_allowed h) _ ok).0 none)
-never_refreshed n (h ▸ x) b ok none = never_refreshed n h b (and_parts (all_allowed h) _ ok).0 (absent_before h x n none)
+    ap (λ p. later p (cond (is_covered b (span_of_cut n h cut)) (Some snap) None)) (never_refreshed n h b (and_parts (all_consistent h) _ ok).0 none)
+    ∙ ap (λ o. cond (is_covered b o) (Some snap) None) (never_cut n h cut (and_parts (all_consistent h) _ ok).0 none)
+never_refreshed n (h ▸ x) b ok none = never_refreshed n h b (and_parts (all_consistent h) _ ok).0 (absent_before h x n none)

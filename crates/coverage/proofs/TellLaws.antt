@@ -13,7 +13,7 @@ use Rattle.ts_model.specs.History.{History}
 use Rattle.ts_model.specs.Roster.{roster, view_of}
 use Rattle.ts_model.specs.Refreshes.{last, last_touch, watermark, is_invalid, invalid}
 use Rattle.ts_bucket.specs.WholeSpans.{is_below}
-use Rattle.ts_model.specs.Allowed.{all_allowed}
+use Rattle.ts_model.specs.Allowed.{all_consistent}
 use Rattle.coverage.specs.Notes.{Notes, fed_at, all_fed}
 use Rattle.coverage.specs.Coverage.{pending_position, IsCovered}
 use Rattle.coverage.specs.Laws.{CoveredTells, FeedsTell, CoveredTellsFed}
@@ -23,7 +23,7 @@ use Rattle.coverage.proofs.StepLaws.{feeds_keep}
 use Rattle.ts_model.proofs.CutLaws.{last_was_cut}
 
 -- the pending position of a bucket with a last refresh
-tells_touched : (n : ℕ) (def : ViewDef) (h : History) (notes : Notes) (b : ℤ) (s : ℕ) → all_allowed h ≡ true → IsCovered n def h notes → is_bucket def.fold.width b ≡ true → last n h b ≡ Some s → pending_position def.fold.width notes b ≡ above s (last_touch n def h b)
+tells_touched : (n : ℕ) (def : ViewDef) (h : History) (notes : Notes) (b : ℤ) (s : ℕ) → all_consistent h ≡ true → IsCovered n def h notes → is_bucket def.fold.width b ≡ true → last n h b ≡ Some s → pending_position def.fold.width notes b ≡ above s (last_touch n def h b)
 tells_touched n def h notes b s ok covered bucket e =
     let low : is_above s (last n h b) ≡ false = ap (is_above s) e ∙ is_above-at s s (omega arith) in
     let it : notes.refreshed b ≡ Some s = covered.refreshed b bucket ∙ e in
@@ -48,7 +48,7 @@ dirty_is : (last p q : Option ℕ) → (is_some last || is_some p) ≡ true → 
 dirty_is None p q e = sym (is_some-later p q ∙ or_left _ _ e)
 dirty_is (Some s) p q e = sym (is_some-later p q)
 
-tells_exactly : (n : ℕ) (def : ViewDef) (h : History) (notes : Notes) (b : ℤ) → all_allowed h ≡ true → is_some (view_of (roster h) n) ≡ true → IsCovered n def h notes → is_bucket def.fold.width b ≡ true → in_span (whole_span def.fold.width) b ≡ true → is_some (pending_position def.fold.width notes b) ≡ invalid n def h b
+tells_exactly : (n : ℕ) (def : ViewDef) (h : History) (notes : Notes) (b : ℤ) → all_consistent h ≡ true → is_some (view_of (roster h) n) ≡ true → IsCovered n def h notes → is_bucket def.fold.width b ≡ true → in_span (whole_span def.fold.width) b ≡ true → is_some (pending_position def.fold.width notes b) ≡ invalid n def h b
 tells_exactly n def h notes b ok there covered bucket inside =
     tells_invalid n def h notes b (last n h b) (λ e. tells_never n def h notes b there covered bucket inside e) (λ s e. tells_touched n def h notes b s ok covered bucket e)
 
@@ -69,7 +69,7 @@ covered_tells n def h notes ok there covered = record {
 pub feeds_tell : FeedsTell
 feeds_tell w notes b = some-fed w b (notes.refreshed b) (notes.pending b) notes.log
 
-fed_touched : (n : ℕ) (def : ViewDef) (h : History) (notes : Notes) (b : ℤ) (s : ℕ) → all_allowed h ≡ true → IsCovered n def h notes → is_bucket def.fold.width b ≡ true → last n h b ≡ Some s → fed_at def.fold.width notes b ≡ above s (last_touch n def h b)
+fed_touched : (n : ℕ) (def : ViewDef) (h : History) (notes : Notes) (b : ℤ) (s : ℕ) → all_consistent h ≡ true → IsCovered n def h notes → is_bucket def.fold.width b ≡ true → last n h b ≡ Some s → fed_at def.fold.width notes b ≡ above s (last_touch n def h b)
 fed_touched n def h notes b s ok covered bucket e =
     sym (pending-alone (notes.refreshed b) (fed_at def.fold.width notes b))
     ∙ tells_touched n def h (all_fed def.fold.width notes) b s ok (feeds_keep n def h notes covered) bucket e

@@ -20,7 +20,7 @@ use Rattle.ts_model.specs.declared.views.ViewDef.{ViewDef}
 use Rattle.ts_model.specs.History.{History, start, resumed, ◌▸◌, position}
 use Rattle.ts_model.specs.Roster.{IsOf, roster, view_of}
 use Rattle.ts_model.specs.Refreshes.{is_over, threshold}
-use Rattle.ts_model.specs.Allowed.{allowed, all_allowed}
+use Rattle.ts_model.specs.Allowed.{consistent, all_consistent}
 use Rattle.ts_model.specs.Limits.{is_word}
 use Rattle.ts_model.proofs.SoundLaws.{view_width}
 use Rattle.ts_model.proofs.CutLaws.{cuts_fit, span_was_cut}
@@ -36,9 +36,9 @@ use Rattle.coverage.proofs.TellLaws.{covered_tells}
 use Rattle.ts_schema.proofs.Cases.{int_lt-true}
 use Rattle.ts_num.proofs.EndLaws.{int_max_assoc}
 
--- ---- each allowed event
+-- ---- each consistent event
 
-view_keeps : (n : ℕ) (def : ViewDef) (h : History) (made : ViewDef) (notes : Notes) → all_allowed h ≡ true → IsCovered n def h notes → IsCovered n def (h ▸ View made) (notes_after n def h (View made) notes)
+view_keeps : (n : ℕ) (def : ViewDef) (h : History) (made : ViewDef) (notes : Notes) → all_consistent h ≡ true → IsCovered n def h notes → IsCovered n def (h ▸ View made) (notes_after n def h (View made) notes)
 view_keeps n def h made notes ok covered =
     elim (length (roster h).views == n) as (λ t. (length (roster h).views == n) ≡ t → IsCovered n def (h ▸ View made) (cond t (begun def.fold.width (suc (position h)) notes) notes)) [
       | true ↦ λ this.
@@ -78,7 +78,7 @@ not_same : (t : Bool) → t ≢ true → not t ≡ true
 not_same true e = absurd (e refl)
 not_same false e = refl
 
-cut_keeps : (n : ℕ) (def : ViewDef) (h : History) (v : ℕ) (span : Span) (notes : Notes) → all_allowed h ≡ true → span_fits span (view_of (roster h) v) ≡ true → IsOf def (view_of (roster h) n) → IsCovered n def h notes → IsCovered n def (h ▸ Cut v span) (notes_after n def h (Cut v span) notes)
+cut_keeps : (n : ℕ) (def : ViewDef) (h : History) (v : ℕ) (span : Span) (notes : Notes) → all_consistent h ≡ true → span_fits span (view_of (roster h) v) ≡ true → IsOf def (view_of (roster h) n) → IsCovered n def h notes → IsCovered n def (h ▸ Cut v span) (notes_after n def h (Cut v span) notes)
 cut_keeps n def h v span notes ok fits i covered =
     let mine : (v == n) ≡ true → EndsWhole def.fold.width span × (is_over def.table (view_of (roster h) v) ≡ true) = λ e.
     let it : v ≡ n = eqb-true v n e in
@@ -90,10 +90,10 @@ cut_keeps n def h v span notes ok fits i covered =
     ] refl
 
 pub events_keep : EventsKeep
-events_keep n def h (View made) notes ok i covered = view_keeps n def h made notes (and_parts (all_allowed h) _ ok).0 covered
+events_keep n def h (View made) notes ok i covered = view_keeps n def h made notes (and_parts (all_consistent h) _ ok).0 covered
 events_keep n def h (Commit ops) notes ok i covered = commits_keep n def h ops notes covered
 events_keep n def h (Cut v span) notes ok i covered =
-    let parts = and_parts (all_allowed h) (allowed h (Cut v span)) ok in
+    let parts = and_parts (all_consistent h) (consistent h (Cut v span)) ok in
     cut_keeps n def h v span notes parts.0 (cut_view h v span parts.1) i covered
 events_keep n def h (Built cut snap) notes ok i covered = finishes_keep n def h cut snap notes covered
 events_keep n def h x notes ok i covered = quiet_keeps n def h x notes refl covered
@@ -112,12 +112,12 @@ start_covered n def = record {
   log_past = refl;
 }
 
-covered_so_far : (n : ℕ) (def : ViewDef) (h : History) → all_allowed h ≡ true → IsOf def (view_of (roster h) n) → IsCovered n def h (notes_of n def h)
+covered_so_far : (n : ℕ) (def : ViewDef) (h : History) → all_consistent h ≡ true → IsOf def (view_of (roster h) n) → IsCovered n def h (notes_of n def h)
 covered_so_far n def start ok i = start_covered n def
 covered_so_far n def (resumed image) ok i = image_covered n def image ok i
 covered_so_far n def (h ▸ e) ok i =
     let before = is_of_before def h e n i in
-    events_keep n def h e (notes_of n def h) ok before (covered_so_far n def h (and_parts (all_allowed h) _ ok).0 before)
+    events_keep n def h e (notes_of n def h) ok before (covered_so_far n def h (and_parts (all_consistent h) _ ok).0 before)
 
 pub histories_covered : HistoriesCovered
 histories_covered n def h ok there = covered_so_far n def h ok (is_of_itself def (view_of (roster h) n) there)

@@ -8,7 +8,7 @@ use Rattle.ts_model.specs.declared.events.Event.TheVariants.{Table, Hyper, View,
 use Rattle.ts_model.specs.declared.events.Op.TheVariants.{Insert}
 use Rattle.ts_model.specs.declared.views.ViewDef.{ViewDef}
 use Rattle.ts_model.specs.History.{History, start, ◌▸◌}
-use Rattle.ts_model.specs.Allowed.{all_allowed}
+use Rattle.ts_model.specs.Allowed.{all_consistent}
 use Rattle.coverage.specs.Notes.{notes_of}
 use Rattle.coverage.specs.Coverage.{pending_position}
 
@@ -40,8 +40,8 @@ overlapping = cut ▸ put 12 ▸ Cut 0 (record { lo = pos 0; hi = pos 30 }) ▸ 
 abbrev finished : History
 finished = overlapping ▸ Built 7 7 ▸ Built 5 5
 
-finished_allowed : all_allowed finished ≡ true
-finished_allowed = refl
+finished_consistent : all_consistent finished ≡ true
+finished_consistent = refl
 
 -- the second touch is pending until the newer refresh, which has seen it, is finished
 pending_before : pending_position tens (notes_of 0 counts overlapping) (pos 10) ≡ Some 6

@@ -1,4 +1,4 @@
--- The laws: each event keeps the notes covering, so those of every allowed history cover, and what that means.
+-- The laws: each event keeps the notes covering, so those of every consistent history cover, and what that means.
 use Rattle.std.specs.Prelude.{◌≡◌, ℕ, suc, Bool, true, false, not, ◌&&◌, ◌==◌, length, List, ℤ, ◌+ℤ◌, ◌≤ℤ◌, int_le, Option, Some, None, is_some, is_none, ◌||◌}
 use Rattle.std.specs.Int.{int_max}
 use Rattle.ts_bucket.specs.Bucket.{IsWidth, is_bucket, first_of, min_time, max_time}
@@ -18,7 +18,7 @@ use Rattle.ts_model.specs.Roster.{IsOf, roster, view_of, set_only}
 use Rattle.ts_model.specs.Rows.{rows}
 use Rattle.ts_model.specs.Effect.{hull_of_ops}
 use Rattle.ts_model.specs.Refreshes.{span_of_cut, last, last_touch, watermark, invalid, stale, threshold}
-use Rattle.ts_model.specs.Allowed.{all_allowed}
+use Rattle.ts_model.specs.Allowed.{all_consistent}
 use Rattle.coverage.specs.Notes.{Notes, number_of, begun, noted, fed_at, all_fed, cut_to, settled, notes_after, notes_of, AreSame}
 use Rattle.coverage.specs.Coverage.{is_upto, pending_position, IsCovered}
 
@@ -66,14 +66,14 @@ QuietKeeps =
 -- the event that makes the aggregate, on any log of its table whose positions are not after the history
 abbrev pub BeginningsCover : Type 0
 BeginningsCover =
-    (n : ℕ) (def : ViewDef) (h : History) (made : ViewDef) (notes : Notes) → all_allowed h ≡ true
+    (n : ℕ) (def : ViewDef) (h : History) (made : ViewDef) (notes : Notes) → all_consistent h ≡ true
     → view_of (roster h) n ≡ None → is_upto (position h) notes.log ≡ true
     → IsCovered n def (h ▸ View made) (begun def.fold.width (suc (position h)) notes)
 
--- any allowed event
+-- any consistent event
 abbrev pub EventsKeep : Type 0
 EventsKeep =
-    (n : ℕ) (def : ViewDef) (h : History) (e : Event) (notes : Notes) → all_allowed (h ▸ e) ≡ true
+    (n : ℕ) (def : ViewDef) (h : History) (e : Event) (notes : Notes) → all_consistent (h ▸ e) ≡ true
     → IsOf def (view_of (roster h) n) → IsCovered n def h notes
     → IsCovered n def (h ▸ e) (notes_after n def h e notes)
 
@@ -97,10 +97,10 @@ ModesKeep =
 
 -- ---- what a note may ask for
 
--- the hull of an allowed commit goes from a time to a time at or above it
+-- the hull of a consistent commit goes from a time to a time at or above it
 abbrev pub HullsAreOfTimes : Type 0
 HullsAreOfTimes =
-    (t : ℕ) (h : History) (ops : List Op) (hull : Hull) → all_allowed (h ▸ Commit ops) ≡ true
+    (t : ℕ) (h : History) (ops : List Op) (hull : Hull) → all_consistent (h ▸ Commit ops) ≡ true
     → hull_of_ops t ops (rows t h) ≡ Some hull
     → (min_time ≤ℤ hull.least) × (hull.least ≤ℤ hull.most) × (hull.most ≤ℤ max_time)
 
@@ -130,10 +130,10 @@ pub record Tells (n : ℕ) (def : ViewDef) (h : History) (notes : Notes) : Type 
   pub stale : (b : ℤ) → is_bucket def.fold.width b ≡ true → in_span (whole_span def.fold.width) b ≡ true
       → (is_below b (watermark n def h) && is_some (pending_position def.fold.width notes b)) ≡ stale n def h b
 
--- notes that cover an aggregate of an allowed history tell all of this
+-- notes that cover an aggregate of a consistent history tell all of this
 abbrev pub CoveredTells : Type 0
 CoveredTells =
-    (n : ℕ) (def : ViewDef) (h : History) (notes : Notes) → all_allowed h ≡ true
+    (n : ℕ) (def : ViewDef) (h : History) (notes : Notes) → all_consistent h ≡ true
     → is_some (view_of (roster h) n) ≡ true → IsCovered n def h notes → Tells n def h notes
 
 -- what is pending after all that is logged was fed: exactly what was pending, or is noted after the last refresh
@@ -159,7 +159,7 @@ pub record TellsFed (n : ℕ) (def : ViewDef) (h : History) (notes : Notes) : Ty
 
 abbrev pub CoveredTellsFed : Type 0
 CoveredTellsFed =
-    (n : ℕ) (def : ViewDef) (h : History) (notes : Notes) → all_allowed h ≡ true
+    (n : ℕ) (def : ViewDef) (h : History) (notes : Notes) → all_consistent h ≡ true
     → is_some (view_of (roster h) n) ≡ true → IsCovered n def h notes → TellsFed n def h notes
 
 -- after a finish, no bucket of its span has a pending position at or below the snapshot, whichever refreshes were
@@ -181,16 +181,16 @@ AllBucketsAre =
 
 -- ---- whole histories
 
--- the notes of each aggregate of every allowed history cover it
+-- the notes of each aggregate of every consistent history cover it
 abbrev pub HistoriesCovered : Type 0
 HistoriesCovered =
-    (n : ℕ) (def : ViewDef) (h : History) → all_allowed h ≡ true → view_of (roster h) n ≡ Some def
+    (n : ℕ) (def : ViewDef) (h : History) → all_consistent h ≡ true → view_of (roster h) n ≡ Some def
     → IsCovered n def h (notes_of n def h)
 
 -- so they tell what is pending
 abbrev pub HistoriesTell : Type 0
 HistoriesTell =
-    (n : ℕ) (def : ViewDef) (h : History) → all_allowed h ≡ true → view_of (roster h) n ≡ Some def
+    (n : ℕ) (def : ViewDef) (h : History) → all_consistent h ≡ true → view_of (roster h) n ≡ Some def
     → Tells n def h (notes_of n def h)
 
 -- the noted threshold is that of the table
@@ -200,6 +200,6 @@ ThresholdsAre = (n : ℕ) (def : ViewDef) (h : History) → (notes_of n def h).t
 -- it is at or above the end of each span that was cut of any aggregate over the table
 abbrev pub ThresholdsReach : Type 0
 ThresholdsReach =
-    (n v : ℕ) (def other : ViewDef) (h : History) (k : ℕ) (span : Span) → all_allowed h ≡ true
+    (n v : ℕ) (def other : ViewDef) (h : History) (k : ℕ) (span : Span) → all_consistent h ≡ true
     → view_of (roster h) v ≡ Some other → other.table ≡ def.table → span_of_cut v h k ≡ Some span
     → span.hi ≤ℤ (notes_of n def h).threshold

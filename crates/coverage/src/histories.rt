@@ -1,8 +1,8 @@
-//! Laws over whole histories, made by any list of allowed events. Each is the clause of a function that
+//! Laws over whole histories, made by any list of consistent events. Each is the clause of a function that
 //! does nothing.
 ghost use Rattle.coverage.specs.Laws.{AllBucketsAre, HistoriesCovered, HistoriesTell, HullsAreOfTimes, ThresholdsAre, ThresholdsReach};
 
-/// The notes of each aggregate of an allowed history cover it, however many refreshes overlap.
+/// The notes of each aggregate of a consistent history cover it, however many refreshes overlap.
 pub fn histories_are_covered()
     ensures { HistoriesCovered }
 {}
@@ -29,7 +29,7 @@ pub fn all_buckets_are_marked()
     ensures { AllBucketsAre }
 {}
 
-/// The hull of an allowed commit goes from a time to a time.
+/// The hull of a consistent commit goes from a time to a time.
 pub fn hulls_are_of_times()
     ensures { HullsAreOfTimes }
 {}

@@ -27,7 +27,7 @@ pub fn beginnings_cover()
     ensures { BeginningsCover }
 {}
 
-/// Each allowed event keeps coverage.
+/// Each consistent event keeps coverage.
 pub fn events_keep_coverage()
     ensures { EventsKeep }
 {}

@@ -251,6 +251,6 @@ formed h (events.Built cut snap) p at s k =
     (omega (arith, above, below, p), omega (arith, above, p))
 
 pub sound_formed : SoundAreFormed
-sound_formed h e allowed p s =
+sound_formed h e ok p s =
     let parts = and_parts (sound_at h e) (nat_lt (event_bytes e) bytes_limit) s in
-    formed h e p parts.0 (sound_in_roster h e parts.0) (counts_fit h e allowed s)
+    formed h e p parts.0 (sound_in_roster h e parts.0) (counts_fit h e ok s)

@@ -1,6 +1,6 @@
 -- Laws of the bytes of events, each in one sentence.
 use Rattle.std.specs.Prelude.{◌≡◌, ℕ, ◌<◌, ◌^◌, true, List, [], ◌++◌, length}
-use Rattle.ts_model.specs.Allowed.{all_allowed}
+use Rattle.ts_model.specs.Allowed.{all_consistent}
 use Rattle.ts_model.specs.Bytes.{event_bytes}
 use Rattle.ts_model.specs.History.{History, position}
 use Rattle.ts_model.specs.Sound.{sound}
@@ -18,6 +18,6 @@ NoneBeginsAnother =
     (d e : Event) (more : List ℕ) → IsFormed d → IsFormed e → spelling.event e ≡ spelling.event d ++ more
     → (d ≡ e) × (more ≡ [])
 
--- each sound event of an allowed history whose position has 64 bits has a spelling
+-- each sound event of a consistent history whose position has 64 bits has a spelling
 abbrev pub SoundAreFormed : Type 0
-SoundAreFormed = (h : History) (e : Event) → all_allowed h ≡ true → position h < 2 ^ 64 → sound h e ≡ true → IsFormed e
+SoundAreFormed = (h : History) (e : Event) → all_consistent h ≡ true → position h < 2 ^ 64 → sound h e ≡ true → IsFormed e

@@ -13,7 +13,7 @@ use Rattle.ts_model.specs.History.{History, ◌▸◌, position, prefix}
 use Rattle.ts_model.specs.Roster.{roster, hyper_of}
 use Rattle.ts_model.specs.Rows.{in_order, rows}
 use Rattle.ts_model.specs.Reads.{inserted, rows_near}
-use Rattle.ts_model.specs.Allowed.{all_allowed}
+use Rattle.ts_model.specs.Allowed.{all_consistent}
 use Rattle.ts_model.specs.Windows.{last_end}
 use Rattle.seg_rows.specs.Versions.{rows_of, latest_at, latest_of}
 use Rattle.ts_model.specs.Effect.{all_appended}
@@ -34,7 +34,7 @@ is_commit (Built cut snap) = false
 -- a table without versions holds a table that isn't a hypertable, or is only now made one
 abbrev pub TablesBegin : Type 0
 TablesBegin =
-    (t : ℕ) (h : History) (table : ChunksValue) → all_allowed h ≡ true → hyper_of (roster h) t ≡ None
+    (t : ℕ) (h : History) (table : ChunksValue) → all_consistent h ≡ true → hyper_of (roster h) t ≡ None
     → table.versions ≡ [] → Holds t h table
 
 -- a table that holds a history may be given the operations of the next commit at the next position
@@ -45,7 +45,7 @@ pub record Asks (t : ℕ) (h : History) (ops : List Op) (table : ChunksValue) : 
 abbrev pub CommitsFit : Type 0
 CommitsFit =
     (t : ℕ) (h : History) (ops : List Op) (table : ChunksValue) → Holds t h table
-    → all_allowed (h ▸ Commit ops) ≡ true → Asks t h ops table
+    → all_consistent (h ▸ Commit ops) ≡ true → Asks t h ops table
 
 -- what they make of it there holds the history with the commit
 abbrev pub CommitsAreHeld : Type 0

@@ -1,12 +1,12 @@
 //! Laws that join tables to histories. Each is the clause of a function that does nothing.
 ghost use Rattle.row_versions.specs.Laws.{CommitsAreHeld, CommitsFit, EffectsAreOfCommits, HeldTablesTell, OthersAreHeld, TablesBegin, UnnamedAreHeld};
 
-/// A new table holds a table of an allowed history that isn't a hypertable yet.
+/// A new table holds a table of a consistent history that isn't a hypertable yet.
 pub fn tables_begin()
     ensures { TablesBegin }
 {}
 
-/// What `apply` asks for, at the next position and for the operations of a commit that is allowed next.
+/// What `apply` asks for, at the next position and for the operations of a commit that is consistent with it.
 pub fn commits_fit()
     ensures { CommitsFit }
 {}
