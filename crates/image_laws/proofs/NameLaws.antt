@@ -19,10 +19,11 @@ use Rattle.ts_model.specs.Limits.{most_relations}
 use Rattle.ts_model.specs.Laws.{is_hyper_sound, is_table_sound, IsSoundRoster}
 use Rattle.ts_model.specs.Allowed.{allowed, all_allowed}
 use Rattle.ts_model.specs.Sound.{all_apart, hyper_fits, sound_in, sound}
-use Rattle.ts_model.specs.Timely.{timely_in, timely}
+use Rattle.ts_model.specs.Timely.{timely_in, timely_at}
 use Rattle.ts_model.specs.Valid.{may_follow, make_views, make_relations}
 use Rattle.image_laws.specs.Images.{hyper_events, table_events, roster_events}
 use Rattle.ts_model.proofs.ValidLaws.{valid_is}
+use Rattle.ts_model.proofs.AllowedLaws.{consistent_next, consistent_of}
 use Rattle.ts_model.proofs.SoundLaws.{timely_in_roster, rosters_are_sound}
 use Rattle.ts_model.proofs.UntouchedLaws.{list_any-append}
 
@@ -149,7 +150,7 @@ names_apart start ok = refl
 names_apart (resumed i) ok = relations_apart no_relations i.roster (valid_is i ok).relations refl
 names_apart (h ▸ e) ok =
     let parts = and_parts (all_allowed h) (allowed h e) ok in
-    names_after (roster h) e (timely_in_roster h e (and_parts (sound h e) (timely h e) parts.1).1) (names_apart h parts.0)
+    names_after (roster h) e (timely_in_roster h e (and_parts (sound h e) (timely_at h e) (consistent_next h e parts.1)).1) (names_apart h parts.0)
 
 -- ---- the events that make a roster
 

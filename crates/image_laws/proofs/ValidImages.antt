@@ -37,7 +37,7 @@ use Rattle.ts_model.proofs.ValidLaws.{image_rows, kept_of}
 use Rattle.ts_model.proofs.HistoryLaws.{begins_prefix, prefix_end}
 use Rattle.ts_model.proofs.GroupLaws.{cells_are_scratch}
 use Rattle.ts_model.proofs.RosterLaws.{relations_stay, is_of_itself}
-use Rattle.ts_model.proofs.AllowedLaws.{allowed_begins}
+use Rattle.ts_model.proofs.AllowedLaws.{allowed_begins, consistent_of}
 use Rattle.ts_model.proofs.FitLaws.{rows_fit_tables}
 use Rattle.ts_model.proofs.MarkLaws.{watermark_ends}
 use Rattle.ts_model.proofs.RefreshLaws.{nothing_above_watermark}
@@ -222,7 +222,7 @@ images_are_valid h i ok few is =
     let r : image_roster i ≡ roster h = ap (roster_over no_relations) is.relations ∙ roster_again (roster h) in
     let held : (t : ℕ) → image_rows i t ≡ rows t h = λ t. ap (λ es. in_order (appended_over t es)) is.held ∙ rows_again t h ok in
     let position_ok = ap (λ p. nat_le p last_position) is.pos ∙ position_fits h ok in
-    let relations_ok = ap (make_relations no_relations) is.relations ∙ roster_follows (roster h) (rosters_are_sound h ok) (names_apart h ok) in
+    let relations_ok = ap (make_relations no_relations) is.relations ∙ roster_follows (roster h) (rosters_are_sound h (consistent_of h ok)) (names_apart h ok) in
     let rows_ok = (λ j. hold_rows (r j) 0 (is.held j)) ∙ rows_are_held h 0 (length (roster h).tables) ok 0 (omega arith) in
     let views_ok = (λ j. views_kept (is.pos j) (λ t. held t j) (r j).views i.views) ∙ views_from (position h) (λ t. rows t h) (roster h).views i.views is.as_many (λ n def there. view_is_kept n def h (saved n i) ok few there (is.views n def there)) in
     let waiting_ok = (λ j. waiting_fits (r j) (is.pos j) (is.waits j)) ∙ waiting_is_fit h ok in

@@ -21,9 +21,10 @@ use Rattle.ts_model.specs.History.{History}
 use Rattle.ts_model.specs.Limits.{most_relations}
 use Rattle.ts_model.specs.Roster.{roster, same_name, table_named, table_of, view_named, is_taken as name_is_taken, of_table, of_hyper}
 use Rattle.ts_model.specs.Sound.{all_apart, fold_fits, hyper_fits, output_count as columns_out, sound, sound_at, view_fits}
+use Rattle.ts_model.proofs.AllowedLaws.{consistent_next}
 use Rattle.ts_model.proofs.SoundLaws.{timely_in_roster}
 use Rattle.ts_bucket.specs.Bucket.{is_width}
-use Rattle.ts_model.specs.Timely.{timely}
+use Rattle.ts_model.specs.Timely.{timely_at}
 use Rattle.ts_model.specs.Allowed.{allowed}
 use Rattle.ts_catalog.specs.Columns.{column_from, column_of}
 use Rattle.ts_catalog.specs.Relations.{found_in, or_else, table_from, table_kind, view_from}
@@ -166,7 +167,7 @@ columns_ready p count before (c ∷ cols) e few =
 table_ready : (h : History) (p : ℕ) (name : List ℕ) (cols : List Column) → allowed h (events.Table (record { name = name; cols = cols })) ≡ true → refusal_of p (roster h) (stmts.Table name cols) ≡ None
 table_ready h p name cols e =
     let def : TableDef = record { name = name; cols = cols } in
-    let parts = and_parts (sound h (events.Table def)) (timely h (events.Table def)) e in
+    let parts = and_parts (sound h (events.Table def)) (timely_at h (events.Table def)) (consistent_next h (events.Table def) e) in
     let fits = (and_parts (is_name name) _ (and_parts (sound_at h (events.Table def)) _ parts.0).0).1 in
     let counts = (and_parts (nat_lt 0 (length cols) && nat_le (length cols) 16) _ fits).0 in
     let few : length cols ≤ 16 = leb-true _ _ (and_parts (nat_lt 0 (length cols)) _ counts).1 in
@@ -196,7 +197,7 @@ hyper_ready : (h : History) (p : ℕ) (table : List ℕ) (n : ℕ) (info : Table
 hyper_ready h p table n info at c interval named is col e =
     let r = roster h in
     let hyper : HyperInfo = record { at = at; interval = interval } in
-    let parts = and_parts (sound h (events.Hyper n hyper)) (timely h (events.Hyper n hyper)) e in
+    let parts = and_parts (sound h (events.Hyper n hyper)) (timely_at h (events.Hyper n hyper)) (consistent_next h (events.Hyper n hyper) e) in
     let fits = subst (λ (o : Option TableInfo). hyper_fits hyper o ≡ true) is (and_parts (sound_at h (events.Hyper n hyper)) _ parts.0).0 in
     let plain : is_some info.hyper ≡ false = not_yet info.hyper (subst (λ (o : Option TableInfo). is_none (option_and_then (λ (i : TableInfo). i.hyper) o) ≡ true) is (timely_in_roster h (events.Hyper n hyper) parts.1)) in
     let what : found_in r table ≡ found.Plain n = found_table r table n info named is ∙ kind_is info n false plain in
@@ -309,7 +310,7 @@ view_ready : (h : History) (p : ℕ) (name : List ℕ) (only filled : Bool) (f :
 view_ready h p name only filled f n info named is columns e =
     let r = roster h in
     let def : ViewDef = record { name = name; table = n; fold = fold_of info f; names = output_names f; only = only } in
-    let parts = and_parts (sound h (events.View def)) (timely h (events.View def)) e in
+    let parts = and_parts (sound h (events.View def)) (timely_at h (events.View def)) (consistent_next h (events.View def) e) in
     let fits = subst (λ (o : Option TableInfo). of_table (view_fits def) o ≡ true) is (and_parts (sound_at h (events.View def)) _ parts.0).0 in
     let hyper = over_hyper info.hyper fits in
     let what : found_in r f.table ≡ found.Hyper n = found_table r f.table n info named is ∙ kind_is info n true hyper.0 in

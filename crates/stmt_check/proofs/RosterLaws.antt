@@ -20,6 +20,7 @@ use Rattle.ts_bucket.specs.Bucket.{is_width}
 use Rattle.ts_model.specs.Limits.{most_columns}
 use Rattle.ts_model.specs.Roster.{of_hyper, of_table}
 use Rattle.ts_model.specs.Laws.{is_hyper_sound, is_table_sound}
+use Rattle.ts_model.proofs.AllowedLaws.{consistent_of}
 use Rattle.ts_model.proofs.SoundLaws.{rosters_are_sound}
 use Rattle.stmt_check.specs.Check.{interval_of}
 use Rattle.stmt_check.specs.Tables.{is_interval}
@@ -90,7 +91,7 @@ view_is_sound def (Some info) e = of_hypertable info.def info.hyper e
 
 pub roster_is_sound : (h : History) → all_allowed h ≡ true → RosterIsSound (roster h)
 roster_is_sound h e =
-    let r = rosters_are_sound h e in
+    let r = rosters_are_sound h (consistent_of h e) in
     record {
       few_tables = r.few_tables;
       few_views = r.few_views;

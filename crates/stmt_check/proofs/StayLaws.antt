@@ -17,8 +17,9 @@ use Rattle.ts_model.specs.Allowed.{all_allowed, allowed}
 use Rattle.ts_model.specs.Laws.{KeepsHyper}
 use Rattle.ts_model.specs.Limits.{most_relations}
 use Rattle.ts_model.specs.Sound.{sound}
-use Rattle.ts_model.specs.Timely.{timely}
+use Rattle.ts_model.specs.Timely.{timely_at}
 use Rattle.ts_model.proofs.RosterLaws.{relations_stay}
+use Rattle.ts_model.proofs.AllowedLaws.{consistent_next}
 use Rattle.ts_model.proofs.SoundLaws.{timely_in_roster}
 use Rattle.ts_catalog.specs.Relations.{found_in, or_else, table_from, table_kind, view_from}
 use Rattle.ts_catalog.specs.declared.relations.Found.{Found}
@@ -227,7 +228,7 @@ another_name h def name n ok e =
     elim (same_name def.name name) as (λ b. same_name def.name name ≡ b → b ≡ false) [
       | true ↦ λ is.
           let one : def.name ≡ name = (bytes_eq-Decides def.name name).0 is in
-          let free : name_is_taken (roster h) def.name ≡ false = not-true _ (and_parts (not (name_is_taken (roster h) def.name)) (nat_lt (length (roster h).tables) most_relations) (timely_in_roster h (Table def) (and_parts (sound h (Table def)) (timely h (Table def)) ok).1)).0 in
+          let free : name_is_taken (roster h) def.name ≡ false = not-true _ (and_parts (not (name_is_taken (roster h) def.name)) (nat_lt (length (roster h).tables) most_relations) (timely_in_roster h (Table def) (and_parts (sound h (Table def)) (timely_at h (Table def)) (consistent_next h (Table def) ok)).1)).0 in
           let taken : name_is_taken (roster h) name ≡ true = found_is_taken (roster h) name ∙ ap (λ f. not (finds_nothing f)) e in
           sym taken ∙ ap (name_is_taken (roster h)) (sym one) ∙ free
       | false ↦ λ is. refl
