@@ -31,7 +31,7 @@ use Rattle.image_laws.specs.Alike.{AlikeView, Alike, is_from, are_from, AlikeSta
 use Rattle.ts_model.proofs.HistoryLaws.{begins_followed, prefix_end, prefix_further, base_below}
 use Rattle.ts_model.proofs.GroupLaws.{groups_at_is}
 use Rattle.ts_model.proofs.RosterLaws.{is_of_before}
-use Rattle.ts_model.proofs.AllowedLaws.{allowed_begins, cut_bounded}
+use Rattle.ts_model.proofs.AllowedLaws.{allowed_begins, consistent_of, consistent_next, cut_bounded}
 use Rattle.ts_model.proofs.RefreshLaws.{later_is, covered_snap, last_bounded, built_bounds}
 use Rattle.ts_model.proofs.UntouchedLaws.{untouched_groups}
 
@@ -66,7 +66,7 @@ groups_further n def h e s b l = ap (λ g. stood n def g s b) (prefix_further h 
 -- what is left in a bucket that was touched, after an event that leaves its last refresh
 left_further : (n : ℕ) (def : ViewDef) (g h : History) (e : Event) (b : ℤ) (s : ℕ) → all_allowed g ≡ true → all_allowed h ≡ true → last n g b ≡ Some s → last n h b ≡ Some s → groups_at n def g s b ≡ groups_at n def h s b → groups_at n def (g ▸ e) s b ≡ groups_at n def (h ▸ e) s b
 left_further n def g h e b s ok_g ok_h last_g last_h left =
-    groups_further n def g e s b (last_bounded n g b s ok_g last_g) ∙ left ∙ sym (groups_further n def h e s b (last_bounded n h b s ok_h last_h))
+    groups_further n def g e s b (last_bounded n g b s (consistent_of g ok_g) last_g) ∙ left ∙ sym (groups_further n def h e s b (last_bounded n h b s (consistent_of h ok_h) last_h))
 
 -- an event that touches nothing and finishes nothing
 record IsQuiet (e : Event) : Type 0 where
@@ -226,7 +226,7 @@ views_same p g h (Commit ops) ok_g ok_h from a n def v = view_commit n def g h o
 views_same p g h (Built cut snap) ok_g ok_h from a n def v =
     let parts_g = and_parts (all_allowed g) (allowed g (Built cut snap)) ok_g in
     let parts_h = and_parts (all_allowed h) (allowed h (Built cut snap)) ok_h in
-    view_built p n def g h cut snap a (leb-true p snap from) parts_g.0 parts_h.0 (a.now.spans n cut (finish_waits g cut snap parts_g.1)) (built_bounds g cut snap parts_g.1) (built_bounds h cut snap parts_h.1) v
+    view_built p n def g h cut snap a (leb-true p snap from) parts_g.0 parts_h.0 (a.now.spans n cut (finish_waits g cut snap parts_g.1)) (built_bounds g cut snap (consistent_next g (Built cut snap) parts_g.1)) (built_bounds h cut snap (consistent_next h (Built cut snap) parts_h.1)) v
 views_same p g h (Table made) ok_g ok_h from a n def v = view_quiet n def g h (Table made) (record { marks = λ n def h. refl; lasts = λ n h b. refl; touch = λ n def h b. refl }) (and_parts (all_allowed g) _ ok_g).0 (and_parts (all_allowed h) _ ok_h).0 v
 views_same p g h (Hyper t hyper) ok_g ok_h from a n def v = view_quiet n def g h (Hyper t hyper) (record { marks = λ n def h. refl; lasts = λ n h b. refl; touch = λ n def h b. refl }) (and_parts (all_allowed g) _ ok_g).0 (and_parts (all_allowed h) _ ok_h).0 v
 views_same p g h (View made) ok_g ok_h from a n def v = view_quiet n def g h (View made) (record { marks = λ n def h. refl; lasts = λ n h b. refl; touch = λ n def h b. refl }) (and_parts (all_allowed g) _ ok_g).0 (and_parts (all_allowed h) _ ok_h).0 v

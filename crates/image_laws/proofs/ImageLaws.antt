@@ -45,7 +45,7 @@ use Rattle.image_laws.specs.Images.{hyper_events, table_events, roster_events, h
 use Rattle.ts_model.proofs.ValidLaws.{span_told, known_among, valid_is, among_at, absent_kept, lasts_below, waiting_rising}
 use Rattle.ts_model.proofs.HistoryLaws.{prefix_end}
 use Rattle.ts_model.proofs.RosterLaws.{relations_further}
-use Rattle.ts_model.proofs.AllowedLaws.{cut_bounded}
+use Rattle.ts_model.proofs.AllowedLaws.{consistent_next, consistent_of, cut_bounded}
 use Rattle.ts_model.proofs.CutLaws.{cut_sound}
 use Rattle.ts_model.proofs.FitLaws.{rows_fit_tables}
 use Rattle.ts_model.proofs.OrderLaws.{rows_stand_in_order}
@@ -145,7 +145,7 @@ rows_past : (t : ℕ) (h : History) → all_allowed h ≡ true → length (roste
 rows_past t h ok l = none (rows t h) fit
   where
     fit : list_all (fits_table (roster h) t) (rows t h) ≡ true
-    fit = ap (λ g. list_all (fits_table (roster h) t) (rows t g)) (sym (prefix_end h (position h) (omega arith))) ∙ rows_fit_tables.rows t h (position h) ok
+    fit = ap (λ g. list_all (fits_table (roster h) t) (rows t g)) (sym (prefix_end h (position h) (omega arith))) ∙ rows_fit_tables.rows t h (position h) (consistent_of h ok)
 
     absent : table_of (roster h) t ≡ None
     absent = slice_get_past (roster h).tables t l
@@ -430,10 +430,10 @@ pending_again h k ok = by_case (pending h k) refl
     by_case : (q : Pending) → pending h k ≡ q → q ≡ pending_among (waiting h) fs k
     by_case (Waiting m) is =
         let span = waiting_span h k m is in
-        let found : filter (λ (r : WaitingRefresh). r.cut == k) (waiting h) ≡ record { cut = k; view = m; span = span.0 } ∷ [] = waiting_exact h k ok ∙ ap (waiting_as h k) is ∙ ap (waiting_over k m) span.1 in
+        let found : filter (λ (r : WaitingRefresh). r.cut == k) (waiting h) ≡ record { cut = k; view = m; span = span.0 } ∷ [] = waiting_exact h k (consistent_of h ok) ∙ ap (waiting_as h k) is ∙ ap (waiting_over k m) span.1 in
         sym (first_waits k (waiting h) fs (record { cut = k; view = m; span = span.0 }) found)
-    by_case (Finished f) is = sym (first_none k (waiting h) fs (waiting_exact h k ok ∙ ap (waiting_as h k) is) ∙ unknown_or (Finished f) is refl refl)
-    by_case Unknown is = sym (first_none k (waiting h) fs (waiting_exact h k ok ∙ ap (waiting_as h k) is) ∙ unknown_or Unknown is refl refl)
+    by_case (Finished f) is = sym (first_none k (waiting h) fs (waiting_exact h k (consistent_of h ok) ∙ ap (waiting_as h k) is) ∙ unknown_or (Finished f) is refl refl)
+    by_case Unknown is = sym (first_none k (waiting h) fs (waiting_exact h k (consistent_of h ok) ∙ ap (waiting_as h k) is) ∙ unknown_or Unknown is refl refl)
 
 pending_upto : (h : History) (k : ℕ) → all_allowed h ≡ true → pending h k ≡ cond (nat_le k (position h)) (pending_among (waiting h) (finished_upto h (position h)) k) Unknown
 pending_upto h k ok =
@@ -464,7 +464,7 @@ span_again h n k ok w = by_case (pending h k) refl w
     by_case : (q : Pending) → pending h k ≡ q → is_waiting q ≡ true → span_of_cut n h k ≡ span_among n (waiting h) k
     by_case (Waiting m) is w =
         let span = waiting_span h k m is in
-        let found : filter (λ (r : WaitingRefresh). r.cut == k) (waiting h) ≡ record { cut = k; view = m; span = span.0 } ∷ [] = waiting_exact h k ok ∙ ap (waiting_as h k) is ∙ ap (waiting_over k m) span.1 in
+        let found : filter (λ (r : WaitingRefresh). r.cut == k) (waiting h) ≡ record { cut = k; view = m; span = span.0 } ∷ [] = waiting_exact h k (consistent_of h ok) ∙ ap (waiting_as h k) is ∙ ap (waiting_over k m) span.1 in
         by_view m is span.0 span.1 (m == n) refl ∙ sym (span_first n k (waiting h) ∙ ap (λ ws. span_among n ws k) found)
     by_case (Finished f) is w = absurd (true≢false (sym w))
     by_case Unknown is w = absurd (true≢false (sym w))
@@ -483,7 +483,7 @@ never_cut n h k ok none = by_span (span_of_cut n h k) refl
   where
     by_span : (o : Option Span) → span_of_cut n h k ≡ o → o ≡ None
     by_span None is = refl
-    by_span (Some span) is = absurd (true≢false (sym (cut_sound n h k span ok is) ∙ ap (span_fits span) none))
+    by_span (Some span) is = absurd (true≢false (sym (cut_sound n h k span (consistent_of h ok) is) ∙ ap (span_fits span) none))
 
 never_refreshed : (n : ℕ) (h : History) (b : ℤ) → all_allowed h ≡ true → view_of (roster h) n ≡ None → last n h b ≡ None
 never_refreshed n start b ok none = refl
@@ -559,7 +559,7 @@ last_before n (resumed i) b s ok e = lasts_below n i ok b s e
 last_before n (h ▸ Built cut snap) b s ok e =
     ⊎_elim
     (λ before. omega (arith, last_before n h b s (and_parts (all_allowed h) _ ok).0 before))
-    (λ now. let l : snap ≤ position h = built_bounds h cut snap (and_parts (all_allowed h) (allowed h (Built cut snap)) ok).1 in let is : snap ≡ s = (covered_snap _ snap s now).1 in omega arith)
+    (λ now. let l : snap ≤ position h = built_bounds h cut snap (consistent_next h (Built cut snap) (and_parts (all_allowed h) (allowed h (Built cut snap)) ok).1) in let is : snap ≡ s = (covered_snap _ snap s now).1 in omega arith)
     (later_is (last n h b) (cond (is_covered b (span_of_cut n h cut)) (Some snap) None) s e)
 last_before n (h ▸ x) b s ok e = omega (arith, last_before n h b s (and_parts (all_allowed h) _ ok).0 e)
 

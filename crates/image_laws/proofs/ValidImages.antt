@@ -125,7 +125,7 @@ no_found fold b (x ∷ xs) e = absurd (key_stays (once values_cmp (map (keys_of 
 
 module _ (n : ℕ) (def : ViewDef) (h : History) (v : SavedView) (ok : all_allowed h ≡ true) (few : AreFew h) (there : view_of (roster h) n ≡ Some def) (s : IsSavedView n def h v) where
   width : IsWidth def.fold.width
-  width = view_width h n def ok there
+  width = view_width h n def (consistent_of h ok) there
 
   is : IsOf def (view_of (roster h) n)
   is = is_of_itself def (view_of (roster h) n) there
@@ -139,16 +139,16 @@ module _ (n : ℕ) (def : ViewDef) (h : History) (v : SavedView) (ok : all_allow
       by_last (Some k) at some = (k, at)
 
   ranges : lasts_fit def (position h) v.lasts ≡ true
-  ranges = lasts_are_fit def (position h) v.lasts width s.lasts_whole s.lasts_rise (λ b k bucket e. let at : last n h b ≡ Some k = sym (s.lasts b bucket) ∙ e in (last_spanned n def h b k is ok at, last_before n h b k ok at))
+  ranges = lasts_are_fit def (position h) v.lasts width s.lasts_whole s.lasts_rise (λ b k bucket e. let at : last n h b ≡ Some k = sym (s.lasts b bucket) ∙ e in (last_spanned n def h b k is (consistent_of h ok) at, last_before n h b k ok at))
 
   dirt : dirty_fits def v.lasts v.dirty ≡ true
   dirt = dirty_is_fit def v.lasts v.dirty width s.dirty_whole s.dirty_rise (λ b bucket e.
       let k = left_last b (sym (s.dirty b bucket) ∙ e) in
-      (last_spanned n def h b k.0 is ok k.1, ap is_some (s.lasts b bucket ∙ k.1)))
+      (last_spanned n def h b k.0 is (consistent_of h ok) k.1, ap is_some (s.lasts b bucket ∙ k.1)))
 
   -- what was left in a bucket at or above the mark is nothing
   none_left : (b : ℤ) (k : ℕ) → is_bucket def.fold.width b ≡ true → last n h b ≡ Some k → is_below b v.mark ≡ false → groups_at n def h k b ≡ []
-  none_left b k bucket e above = no_groups def.fold (groups_at n def h k b) (nothing_above_watermark n def h b k ok there bucket e (ap (is_below b) (sym s.mark) ∙ above))
+  none_left b k bucket e above = no_groups def.fold (groups_at n def h k b) (nothing_above_watermark n def h b k (consistent_of h ok) there bucket e (ap (is_below b) (sym s.mark) ∙ above))
 
   abbrev Well : ℤ → Group → Bool
   Well b g = (was_left n def h b && is_below b v.mark) && (group_shape def.fold g && list_all is_few g.parts)
@@ -191,7 +191,7 @@ module _ (n : ℕ) (def : ViewDef) (h : History) (v : SavedView) (ok : all_allow
       (and_from _ _ (group_is_fit def v.dirty g bucket.0 (s.dirty g.start bucket.0 ∙ left.0) shape.0 shape.1) rest.0, and_from _ _ left.1 rest.1)
 
   marks : mark_fits def.fold.width v.mark ≡ true
-  marks = ap (mark_fits def.fold.width) s.mark ∙ mark_is_fit def.fold.width (watermark n def h) (watermark_ends n def h width is ok)
+  marks = ap (mark_fits def.fold.width) s.mark ∙ mark_is_fit def.fold.width (watermark n def h) (watermark_ends n def h width is (consistent_of h ok))
 
   -- a clean bucket at or above the mark has no row
   none_there : (b : ℤ) → is_bucket def.fold.width b ≡ true → is_some (pos_in v.lasts b) ≡ true → lies_in v.dirty b ≡ false → is_below b v.mark ≡ false → bucket_rows def.fold b (rows def.table h) ≡ []

@@ -39,7 +39,7 @@ use Rattle.image_laws.specs.Images.{held_events, row_events, finished_as, finish
 use Rattle.ts_model.proofs.ValidLaws.{known_among, valid_is}
 use Rattle.ts_model.proofs.HistoryLaws.{prefix_end}
 use Rattle.ts_model.proofs.RosterLaws.{relations_further}
-use Rattle.ts_model.proofs.AllowedLaws.{sound_in_stays}
+use Rattle.ts_model.proofs.AllowedLaws.{consistent_of, sound_in_stays}
 use Rattle.ts_model.proofs.FitLaws.{rows_fit_tables}
 use Rattle.ts_model.proofs.OrderLaws.{rows_stand_in_order}
 use Rattle.ts_model.proofs.WaitingLaws.{waiting_is_pending}
@@ -76,7 +76,7 @@ of_table_rows None row rest e = absurd (true≢false (sym e))
 of_table_rows (Some info) row rest e = of_hyper_rows info.def info.hyper row rest e
 
 pub rows_now : (t : ℕ) (h : History) → all_allowed h ≡ true → list_all (fits_table (roster h) t) (rows t h) ≡ true
-rows_now t h ok = ap (λ g. list_all (fits_table (roster h) t) (rows t g)) (sym (prefix_end h (position h) (omega arith))) ∙ rows_fit_tables.rows t h (position h) ok
+rows_now t h ok = ap (λ g. list_all (fits_table (roster h) t) (rows t g)) (sym (prefix_end h (position h) (omega arith))) ∙ rows_fit_tables.rows t h (position h) (consistent_of h ok)
 
 held_from : (r : Roster) (u low : ℕ) (xs : List Row) (more : List Event) → low ≤ u → list_all (fits_table r u) xs ≡ true → InOrder row_cmp xs → ((low : ℕ) → low ≤ suc u → hold_rows r low more ≡ true) → hold_rows r low (held_events u xs ++ more) ≡ true
 held_from r u low [] more l fit o rest = rest low (omega arith)
@@ -129,7 +129,7 @@ wait_well (h ▸ Mode v only) ok = wait_on h (Mode v only) (waiting h) (wait_wel
 wait_well (h ▸ Commit ops) ok = wait_on h (Commit ops) (waiting h) (wait_well h (and_parts (all_allowed h) _ ok).0)
 
 pub waiting_is_fit : (h : History) → all_allowed h ≡ true → waiting_fits (roster h) (position h) (waiting h) ≡ true
-waiting_is_fit h ok = and_from _ _ (wait_well h ok) (rise_is nat_cmp (map (λ (w : WaitingRefresh). w.cut) (waiting h)) (waiting_is_pending.rising h ok))
+waiting_is_fit h ok = and_from _ _ (wait_well h ok) (rise_is nat_cmp (map (λ (w : WaitingRefresh). w.cut) (waiting h)) (waiting_is_pending.rising h (consistent_of h ok)))
 
 -- ---- the finished ones
 
@@ -217,7 +217,7 @@ done_all h (suc q) ok l =
     (all_as (done_well (position h) (waiting h)) (suc q) (pending h (suc q)) (λ f is.
     let b = finished_after h (suc q) f ok is in
     and_from _ _ (and_from _ _ (and_from _ _ (and_from _ _ (lt-ltb 0 (suc q) (omega arith)) (le-leb (suc q) (position h) l)) (lt-ltb (suc q) f b.0)) (le-leb f (position h) b.1))
-    (ap not (none_any (suc q) (waiting h) (waiting_is_pending.exact h (suc q) ok ∙ ap (waiting_as h (suc q)) is)))))
+    (ap not (none_any (suc q) (waiting h) (waiting_is_pending.exact h (suc q) (consistent_of h ok) ∙ ap (waiting_as h (suc q)) is)))))
 
 -- their cuts rise
 cuts_upto : (h : History) (q : ℕ) → list_all (λ (f : FinishedRefresh). nat_le f.cut q) (finished_upto h q) ≡ true
