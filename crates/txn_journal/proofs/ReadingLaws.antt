@@ -77,8 +77,8 @@ within_size told Bare size at armed reading = absurd (armed refl)
 within_size told Ready size at armed reading = reading.0
 within_size told Still size at armed reading = absurd reading
 
-module _ {D : Type 0} (bytes : D → Option (List ℕ)) (old : Progress D) (disk : D) (file : List ℕ) (payloads : List (List ℕ))
-    (armed : old.standing ≢ Bare) (within : old.at < old.size) (has : HasRead bytes old file payloads) (same : bytes disk ≡ bytes old.disk) where
+module _ {D : Type 0} (bytes : D → Option (List ℕ)) (old : Progress D) (disk : D) (size : ℕ) (file : List ℕ) (payloads : List (List ℕ))
+    (armed : old.standing ≢ Bare) (within : old.at < old.size) (has : HasRead bytes old file payloads) (same : bytes disk ≡ bytes old.disk) (long : size ≡ length file) where
   is_ready : old.standing ≡ Ready
   is_ready = ready_of old.standing file old.at payloads armed has.read
 
@@ -88,26 +88,26 @@ module _ {D : Type 0} (bytes : D → Option (List ℕ)) (old : Progress D) (disk
   in_file : old.at < length file
   in_file = omega (arith, within, has.size)
 
-  pub step_closed : IsHead Closed file old.at → StandsFor file payloads × HasRead bytes (record old { disk = disk; is_done = true }) file payloads
+  pub step_closed : IsHead Closed file old.at → StandsFor file payloads × HasRead bytes (record old { disk = disk; size = size; is_done = true }) file payloads
   step_closed shut =
       let lies = closed_lies file old.at payloads ready_read in_file shut in (
         inr lies.0,
-        record { told = same ∙ has.told; size = has.size; read = has.read; done = λ is. subst (λ (s : Standing). LiesAs s file old.at payloads) (sym is_ready) lies },
+        record { told = same ∙ has.told; size = long; read = has.read; done = λ is. subst (λ (s : Standing). LiesAs s file old.at payloads) (sym is_ready) lies },
       )
 
-  pub step_short : IsHead Short file old.at → IsDamaged file payloads old.at × HasRead bytes (record old { disk = disk; is_done = false }) file payloads
+  pub step_short : IsHead Short file old.at → IsDamaged file payloads old.at × HasRead bytes (record old { disk = disk; size = size; is_done = false }) file payloads
   step_short short = (
     short_breaks file old.at payloads ready_read in_file short,
-    record { told = same ∙ has.told; size = has.size; read = has.read; done = λ is. absurd (cc is) },
+    record { told = same ∙ has.told; size = long; read = has.read; done = λ is. absurd (cc is) },
   )
 
   pub step_frame : (n later : ℕ) (payload : List ℕ) → IsHead (Frame n) file old.at → length payload ≡ n → payload ≡ take (length payload) (drop (old.at + 5) file) → later ≡ old.at + 5 + n
-      → (old.at ≡ length (front payloads)) × HasRead bytes (record old { disk = disk; at = later; payload = payload; is_done = false }) file (payloads ++ payload ∷ [])
+      → (old.at ≡ length (front payloads)) × HasRead bytes (record old { disk = disk; size = size; at = later; payload = payload; is_done = false }) file (payloads ++ payload ∷ [])
   step_frame n later payload head size is moves = (
     ready_read.1,
     record {
       told = same ∙ has.told;
-      size = has.size;
+      size = long;
       read = subst (λ (s : Standing). IsReadTo s file later (payloads ++ payload ∷ [])) (sym is_ready)
           (subst (λ (m : ℕ). IsReadTo Ready file m (payloads ++ payload ∷ [])) (sym moves)
           (frame_read file old.at payloads ready_read in_file n payload head size (is ∙ ap (λ (m : ℕ). take m (drop (old.at + 5) file)) size)));

@@ -3,6 +3,7 @@ use Rattle.std.specs.Prelude.{◌≡◌, ◌≢◌, ◌⊎◌, ℕ, ◌+◌, ◌
 use Rattle.std.specs.Int.{w32, from_le_bytes, to_le_bytes}
 use Rattle.ts_schema.specs.Faults.{Rose}
 use Rattle.ts_disk.specs.Disk.{IsRange}
+use Rattle.ts_disk.specs.declared.disks.TheConstants.{MOST_BYTES}
 use Rattle.txn_journal.specs.Calls.{LiesAs}
 use Rattle.txn_journal.specs.Frames.{AllFit, StandsFor, IsDamaged, IsShort, front, magic, header}
 use Rattle.txn_journal.specs.declared.heads.Head.{Head}
@@ -76,14 +77,14 @@ Steps bytes (Damaged at) file payloads old new = IsDamaged file payloads at × H
 Steps bytes DiskFault file payloads old new = HasRead bytes new file payloads
 Steps bytes NoMemory file payloads old new = HasRead bytes new file payloads
 
--- the place moves on by what a payload takes, and stays before the end of the file
+-- the place moves on by what a payload takes, and stays before the end of the file, which may have grown
 abbrev pub Moves : {D : Type 0} → Next → Progress D → Progress D → Type 0
 Moves (Payload at) old new =
-    (at ≡ old.at) × (new.at ≡ old.at + 5 + length new.payload) × (new.at < new.size) × (new.size ≡ old.size)
-Moves End old new = (new.at ≡ old.at) × (new.size ≡ old.size)
-Moves (Damaged at) old new = (at ≡ old.at) × (new.at ≡ old.at) × (new.size ≡ old.size)
-Moves DiskFault old new = (new.at ≡ old.at) × (new.size ≡ old.size)
-Moves NoMemory old new = (new.at ≡ old.at) × (new.size ≡ old.size)
+    (at ≡ old.at) × (new.at ≡ old.at + 5 + length new.payload) × (new.at < new.size) × (new.size ≤ MOST_BYTES)
+Moves End old new = new.at ≡ old.at
+Moves (Damaged at) old new = (at ≡ old.at) × (new.at ≡ old.at)
+Moves DiskFault old new = new.at ≡ old.at
+Moves NoMemory old new = new.at ≡ old.at
 
 -- the end was found
 abbrev pub is_end : Next → Bool

@@ -93,6 +93,42 @@ pub fn read_head<D: Disk>(disk: &mut D, at: u64, size: u64) -> Result<Head, Fail
     Ok(judge_head(&head, size - at))
 }
 
+/// What stands at a gate, and how many bytes the file has.
+#[derive(Clone, Copy)]
+pub struct Sighted {
+    pub head: Head,
+    pub size: u64,
+}
+
+/// What stands at the gate at place `at` of a file that had so many bytes. Another process may be
+/// writing the file: where a frame looks short, the length is asked for again until it doesn't grow.
+pub fn sight_head<D: Disk>(disk: &mut D, at: u64, size: u64) -> Result<Sighted, Failed>
+    requires within { at < size }
+    requires most { size ≤ MOST_BYTES }
+    requires size { HasLength (D.bytes disk.old) size }
+    ensures head { (file : List ℕ) → D.bytes disk.old ≡ Some file → IfOk result (λ seen. IsHead seen.head file at) }
+    ensures within { IfOk result (λ seen. EndsWithin seen.head at seen.size) }
+    ensures grown { IfOk result (λ seen. size ≤ seen.size) }
+    ensures most { IfOk result (λ seen. seen.size ≤ MOST_BYTES) }
+    ensures length { IfOk result (λ seen. HasLength (D.bytes disk.new) seen.size) }
+    ensures kept { Keeps D.bytes D.may_leave D.moment D.left_since disk.old disk.new }
+    ensures counted { Counted (D.faults disk.old) (D.faults disk.new) result }
+{
+    let mut size = size;
+    'longer: loop {
+        let head = read_head(disk, at, size)?;
+        let now = match head {
+            Head::Short => disk.len()?,
+            Head::Closed => size,
+            Head::Frame(_) => size,
+        };
+        if now <= size {
+            return Ok(Sighted { head, size });
+        }
+        size = now;
+    }
+}
+
 /// What stands at a gate with its first bytes, where so many bytes stand from it on.
 fn judge_head(head: &[u8; 5], left: u64) -> Head
     requires { 0 < left }

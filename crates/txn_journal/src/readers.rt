@@ -6,7 +6,7 @@ ghost use Rattle.txn_journal.specs.Calls.{IsAtRest};
 ghost use Rattle.txn_journal.specs.Places.{IsReading};
 ghost use Rattle.txn_journal.specs.Reading.{HasRead, Steps, Moves, Takes, IfTaken, CountsNext, CountsTaken, is_end, at_start};
 
-use crate::heads::{FIRST_GATE, Head, read_head};
+use crate::heads::{FIRST_GATE, Head, sight_head};
 use crate::journals::{Journal, Standing};
 use std::alloc::Global;
 use std::marker::Model;
@@ -18,7 +18,7 @@ pub struct Reader<D: Disk> {
     disk: D,
     /// How the file begins: bare or ready.
     standing: Standing,
-    /// How many bytes the file has.
+    /// How many bytes the file had when that was last asked for.
     size: u64,
     /// The place of the next gate.
     at: u64,
@@ -90,12 +90,16 @@ impl<D: Disk> Reader<D> {
             self.is_done = true;
             return Next::End;
         }
-        match read_head(&mut self.disk, self.at, self.size) {
-            Ok(Head::Closed) => {
+        let Ok(seen) = sight_head(&mut self.disk, self.at, self.size) else {
+            return Next::DiskFault;
+        };
+        self.size = seen.size;
+        match seen.head {
+            Head::Closed => {
                 self.is_done = true;
                 Next::End
             }
-            Ok(Head::Frame(length)) => {
+            Head::Frame(length) => {
                 match read_payload(&mut self.disk, self.at + 5, length, &mut self.payload) {
                     Taken::Done => {
                         let at = self.at;
@@ -106,8 +110,7 @@ impl<D: Disk> Reader<D> {
                     Taken::NoMemory => Next::NoMemory,
                 }
             }
-            Ok(Head::Short) => Next::Damaged(self.at),
-            Err(Failed) => Next::DiskFault,
+            Head::Short => Next::Damaged(self.at),
         }
     }
 

@@ -1,6 +1,7 @@
 use Rattle.std.proofs.Common.{◌≡◌, ◌-◌, List, ℕ, []}
 use Rattle.engine_core.specs.Histories.{history_of}
 use Rattle.ts_disk.specs.Disk.{Keeps}
+use Rattle.ts_disk.specs.declared.disks.TheConstants.{MOST_BYTES}
 use Rattle.txn_journal.specs.Reading.{HasRead}
 use Rattle.ts_store.specs.Stands.{IsSound, payloads_of}
 use Rattle.ts_store.proofs.replays.replay.Given as goal
@@ -14,4 +15,4 @@ invariant-events g l = record {
 }
 
 abbrev pub decreases-events : goal.decreases-events
-decreases-events g l = l.reader.size - l.reader.at
+decreases-events g l = MOST_BYTES - l.reader.at

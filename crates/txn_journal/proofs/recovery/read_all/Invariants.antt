@@ -1,5 +1,6 @@
 use Rattle.std.proofs.Common.{◌≡◌, ◌-◌, List, ℕ, []}
 use Rattle.ts_disk.specs.Disk.{Keeps}
+use Rattle.ts_disk.specs.declared.disks.TheConstants.{MOST_BYTES}
 use Rattle.txn_journal.specs.Frames.{placed, payloads_of}
 use Rattle.txn_journal.specs.Reading.{HasRead}
 use Rattle.txn_journal.proofs.recovery.read_all.Given as goal
@@ -12,4 +13,4 @@ invariant-payloads g l = record {
 }
 
 abbrev pub decreases-payloads : goal.decreases-payloads
-decreases-payloads g l = l.reader.size - l.reader.at
+decreases-payloads g l = MOST_BYTES - l.reader.at
