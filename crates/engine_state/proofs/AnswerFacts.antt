@@ -85,17 +85,17 @@ table_tells h t s table st at =
         let held : Holds t h table.rows = stands.rows in
         let hyper_is : hyper_of (roster h) t ≡ Some hyper = ap (option_and_then (λ i. i.hyper)) is ∙ info_hyper in
         let now : prefix h s.position ≡ h = ap (prefix h) st.position ∙ prefix_end h (position h) (omega arith) in
-        let sound = (and_parts _ (is_hyper_sound info info.hyper) ((rosters_are_sound h st.allowed).tables t info is)).1 in
+        let sound = (and_parts _ (is_hyper_sound info info.hyper) ((rosters_are_sound h st.consistent).tables t info is)).1 in
         let long : IsInterval hyper.interval = long_there h t info hyper sound info_hyper in
         let within : list_all (chunk_within (min_time -ℤ max_interval) (max_time +ℤ max_interval) hyper.interval) (stored_rows table) ≡ true =
-        same_all (chunk_within (min_time -ℤ max_interval) (max_time +ℤ max_interval) hyper.interval) (stored_rows table) (inserted t h) held.stored (chunks_are_within t hyper h st.allowed hyper_is) in
+        same_all (chunk_within (min_time -ℤ max_interval) (max_time +ℤ max_interval) hyper.interval) (stored_rows table) (inserted t h) held.stored (chunks_are_within t hyper h st.consistent hyper_is) in
         record {
           hyper = hyper;
           hyper_is = hyper_is;
           stands = stands;
           interval = subst IsInterval (sym stands.interval) long;
-          times = sym (all-in_order (λ row. is_time row.at) (seen_rows s.position table)) ∙ (ap (list_all (λ row. is_time row.at)) (held.seen s.position) ∙ rows_are_times.rows t h s.position st.allowed);
-          stored_times = same_all (λ row. is_time row.at) (stored_rows table) (inserted t h) held.stored (rows_are_times.inserted t h st.allowed);
+          times = sym (all-in_order (λ row. is_time row.at) (seen_rows s.position table)) ∙ (ap (list_all (λ row. is_time row.at)) (held.seen s.position) ∙ rows_are_times.rows t h s.position st.consistent);
+          stored_times = same_all (λ row. is_time row.at) (stored_rows table) (inserted t h) held.stored (rows_are_times.inserted t h st.consistent);
           near = subst (λ i. ChunksAreNear i (stored_rows table)) (sym stands.interval) within;
           rows_are = held.seen s.position ∙ ap (rows t) now;
           reads_are = λ spans. (held_tables_tell t h table.rows held).read table.rows.interval spans ∙ ap (λ i. rows_near i (inserted t h) spans) stands.interval;

@@ -1,4 +1,4 @@
--- What a state that stands for a history tells of a commit that is allowed next.
+-- What a state that stands for a history tells of a commit that may come next.
 use Rattle.std.proofs.Common.{◌≡◌, ℕ, suc, ◌+◌, ◌^◌, ◌≤◌, true, false, ◌&&◌, nat_lt, List, [], ◌∷◌, length, Option, Some, None, sym, refl, ap, ◌∙◌, subst, arith}
 use Rattle.std.specs.List.{list_all, slice_get}
 use Rattle.std.proofs.lemmas.Bool.{true≢false, and_parts, and_from}
@@ -13,7 +13,7 @@ use Rattle.ts_model.specs.Rows.{rows}
 use Rattle.ts_model.specs.Effect.{all_appended, all_taken, sum_below}
 use Rattle.ts_model.specs.Calls.{committed}
 use Rattle.ts_model.specs.Sound.{op_fits, row_fits, sound}
-use Rattle.ts_model.specs.Allowed.{all_allowed, allowed}
+use Rattle.ts_model.specs.Allowed.{all_consistent, consistent}
 use Rattle.ts_model.specs.Laws.{fits_table}
 use Rattle.ts_model.proofs.FitLaws.{appended_fit, moved_hold, rows_fit_tables}
 use Rattle.ts_model.proofs.HistoryLaws.{prefix_end}
@@ -29,21 +29,21 @@ use Rattle.engine_state.proofs.TableSteps.{table_asks, rows_are}
 
 pub tables_are_few : (h : History) (s : StateValue) → StandsFor h s → length s.tables ≤ 2 ^ 32
 tables_are_few h s st =
-    let few : length (roster h).tables ≤ 64 = (rosters_are_sound h st.allowed).few_tables in
+    let few : length (roster h).tables ≤ 64 = (rosters_are_sound h st.consistent).few_tables in
     let same : length (roster h).tables ≡ length s.tables = each_length (TableAt h) 0 (roster h).tables s.tables st.tables in
     omega arith
 
 -- ---- what the operations ask
 
-asks_from : (h : History) (ops : List Op) (i : ℕ) (infos : List TableInfo) (tables : List (Option TableValue)) → all_allowed (h ▸ Commit ops) ≡ true → EachFrom (TableAt h) i infos tables → AllFrom (AsksIf ops (suc (position h))) i tables
+asks_from : (h : History) (ops : List Op) (i : ℕ) (infos : List TableInfo) (tables : List (Option TableValue)) → all_consistent (h ▸ Commit ops) ≡ true → EachFrom (TableAt h) i infos tables → AllFrom (AsksIf ops (suc (position h))) i tables
 asks_from h ops i [] [] ok s = tt
 asks_from h ops i [] (table ∷ tables) ok s = absurd s
 asks_from h ops i (info ∷ infos) [] ok s = absurd s
 asks_from h ops i (info ∷ infos) (table ∷ tables) ok s = (table_asks h i ops info.hyper table ok s.0, asks_from h ops (suc i) infos tables ok s.1)
 
-pub commit_asks : (h : History) (ops : List Op) (s : StateValue) (pos : ℕ) → StandsFor h s → allowed h (Commit ops) ≡ true → pos ≡ suc s.position → AllFrom (AsksIf ops pos) 0 s.tables
+pub commit_asks : (h : History) (ops : List Op) (s : StateValue) (pos : ℕ) → StandsFor h s → consistent h (Commit ops) ≡ true → pos ≡ suc s.position → AllFrom (AsksIf ops pos) 0 s.tables
 commit_asks h ops s pos st fits is =
-    subst (λ p. AllFrom (AsksIf ops p) 0 s.tables) (sym (is ∙ ap suc st.position)) (asks_from h ops 0 (roster h).tables s.tables (and_from _ _ st.allowed fits) st.tables)
+    subst (λ p. AllFrom (AsksIf ops p) 0 s.tables) (sym (is ∙ ap suc st.position)) (asks_from h ops 0 (roster h).tables s.tables (and_from _ _ st.consistent fits) st.tables)
 
 -- ---- how many rows they move
 
@@ -55,7 +55,7 @@ no_rows o info [] is none ok = refl
 no_rows o info (x ∷ xs) is none ok =
     absurd (true≢false (sym (and_parts (of_table (λ def hyper. row_fits def hyper x) o) (list_all (λ row. of_table (λ def hyper. row_fits def hyper row) o) xs) ok).0 ∙ ap (of_table (λ def hyper. row_fits def hyper x)) is ∙ none_fits info x none))
 
-module _ (h : History) (ops : List Op) (ok : all_allowed h ≡ true) (fits : allowed h (Commit ops) ≡ true) where
+module _ (h : History) (ops : List Op) (ok : all_consistent h ≡ true) (fits : consistent h (Commit ops) ≡ true) where
   all_fit : list_all (op_fits (roster h)) ops ≡ true
   all_fit = (and_parts (nat_lt 0 (length ops)) _ (and_parts (nat_lt 0 (length ops) && list_all (op_fits (roster h)) ops) _ (and_parts (sound h (Commit ops)) _ fits).0).0).1
 
@@ -98,11 +98,11 @@ sums_match R f g same xs ys e =
     let end : 0 + length xs ≡ length xs = omega arith in
     from ∙ sums_are R f g same 0 xs ys e ∙ ap (λ n. sum_below n g) end
 
-pub commit_appends : (h : History) (ops : List Op) (s : StateValue) → StandsFor h s → allowed h (Commit ops) ≡ true → sum_from (appended_to ops) 0 s.tables ≡ (committed ops h).inserted
+pub commit_appends : (h : History) (ops : List Op) (s : StateValue) → StandsFor h s → consistent h (Commit ops) ≡ true → sum_from (appended_to ops) 0 s.tables ≡ (committed ops h).inserted
 commit_appends h ops s st fits =
-    sums_match (λ t info table. (slice_get (roster h).tables t ≡ Some info) × TableAt h t info table) (appended_to ops) (λ t. length (all_appended t ops)) (λ t info table e. appended_is h ops st.allowed fits t info table e.0 e.1) (roster h).tables s.tables (each_placed (TableAt h) (roster h).tables s.tables st.tables)
+    sums_match (λ t info table. (slice_get (roster h).tables t ≡ Some info) × TableAt h t info table) (appended_to ops) (λ t. length (all_appended t ops)) (λ t info table e. appended_is h ops st.consistent fits t info table e.0 e.1) (roster h).tables s.tables (each_placed (TableAt h) (roster h).tables s.tables st.tables)
 
-pub commit_takes : (h : History) (ops : List Op) (s : StateValue) (pos : ℕ) → StandsFor h s → allowed h (Commit ops) ≡ true → pos ≡ suc s.position → sum_from (taken_from ops pos) 0 s.tables ≡ (committed ops h).removed
+pub commit_takes : (h : History) (ops : List Op) (s : StateValue) (pos : ℕ) → StandsFor h s → consistent h (Commit ops) ≡ true → pos ≡ suc s.position → sum_from (taken_from ops pos) 0 s.tables ≡ (committed ops h).removed
 commit_takes h ops s pos st fits is =
     ap (λ p. sum_from (taken_from ops p) 0 s.tables) (is ∙ ap suc st.position)
-    ∙ sums_match (λ t info table. (slice_get (roster h).tables t ≡ Some info) × TableAt h t info table) (taken_from ops (suc (position h))) (λ t. length (all_taken t ops (rows t h))) (λ t info table e. taken_is h ops st.allowed fits t info table e.0 e.1) (roster h).tables s.tables (each_placed (TableAt h) (roster h).tables s.tables st.tables)
+    ∙ sums_match (λ t info table. (slice_get (roster h).tables t ≡ Some info) × TableAt h t info table) (taken_from ops (suc (position h))) (λ t. length (all_taken t ops (rows t h))) (λ t info table e. taken_is h ops st.consistent fits t info table e.0 e.1) (roster h).tables s.tables (each_placed (TableAt h) (roster h).tables s.tables st.tables)

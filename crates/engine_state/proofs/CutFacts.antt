@@ -1,4 +1,4 @@
--- What a state that stands for a history tells of a new hypertable and of a cut that are allowed next.
+-- What a state that stands for a history tells of a new hypertable and of a cut that may come next.
 use Rattle.std.proofs.Common.{◌≡◌, ℕ, zero, suc, ◌<◌, true, false, ◌&&◌, ◌==◌, nat_lt, List, [], ◌∷◌, length, get_or, pos, int_lt, int_le, Option, Some, None, sym, refl, ap, ◌∙◌, subst, arith}
 use Rattle.std.specs.Prelude.{IsSome}
 use Rattle.std.specs.List.{AllByRecursion, slice_get}
@@ -16,7 +16,7 @@ use Rattle.ts_model.specs.declared.views.ViewDef.{ViewDef}
 use Rattle.ts_model.specs.History.{History}
 use Rattle.ts_model.specs.Roster.{roster, table_of, view_of}
 use Rattle.ts_model.specs.Sound.{sound, sound_at, hyper_fits, span_fits}
-use Rattle.ts_model.specs.Allowed.{all_allowed, allowed}
+use Rattle.ts_model.specs.Allowed.{all_consistent, consistent}
 use Rattle.ts_model.proofs.SoundLaws.{view_width}
 use Rattle.engine_state.specs.Lists.{EachFrom}
 use Rattle.engine_state.specs.Tables.{TableValue, TableStands, table_at}
@@ -45,13 +45,13 @@ hyper_parts hyper (Some info) e =
     let high : int_le hyper.interval max_interval ≡ true = parts.1 in
     (info, refl, (grind (arith, ints), grind (arith, ints)))
 
-hyper_sound : (h : History) (t : ℕ) (hyper : HyperInfo) → allowed h (Hyper t hyper) ≡ true → hyper_fits hyper (table_of (roster h) t) ≡ true
+hyper_sound : (h : History) (t : ℕ) (hyper : HyperInfo) → consistent h (Hyper t hyper) ≡ true → hyper_fits hyper (table_of (roster h) t) ≡ true
 hyper_sound h t hyper fits = (and_parts (sound_at h (Hyper t hyper)) _ (and_parts (sound h (Hyper t hyper)) _ fits).0).0
 
-pub hyper_interval : (h : History) (t : ℕ) (hyper : HyperInfo) → allowed h (Hyper t hyper) ≡ true → IsInterval hyper.interval
+pub hyper_interval : (h : History) (t : ℕ) (hyper : HyperInfo) → consistent h (Hyper t hyper) ≡ true → IsInterval hyper.interval
 hyper_interval h t hyper fits = (hyper_parts hyper (table_of (roster h) t) (hyper_sound h t hyper fits)).2
 
-pub hyper_place : (h : History) (t : ℕ) (hyper : HyperInfo) (s : StateValue) → StandsFor h s → allowed h (Hyper t hyper) ≡ true → t < length s.tables
+pub hyper_place : (h : History) (t : ℕ) (hyper : HyperInfo) (s : StateValue) → StandsFor h s → consistent h (Hyper t hyper) ≡ true → t < length s.tables
 hyper_place h t hyper s st fits =
     let parts = hyper_parts hyper (table_of (roster h) t) (hyper_sound h t hyper fits) in
     let found = each_at (TableAt h) t (roster h).tables s.tables parts.0 st.tables parts.1 in
@@ -92,11 +92,11 @@ cut_fits : (span : Span) (o : Option ViewDef) → span_fits span o ≡ true → 
 cut_fits span None e = absurd (true≢false (sym e))
 cut_fits span (Some def) e = (def, refl)
 
-pub cut_view : (h : History) (v : ℕ) (span : Span) → allowed h (Cut v span) ≡ true → (def : ViewDef) × (view_of (roster h) v ≡ Some def)
+pub cut_view : (h : History) (v : ℕ) (span : Span) → consistent h (Cut v span) ≡ true → (def : ViewDef) × (view_of (roster h) v ≡ Some def)
 cut_view h v span fits = cut_fits span (view_of (roster h) v) (and_parts (sound_at h (Cut v span)) _ (and_parts (sound h (Cut v span)) _ fits).0).0
 
 -- aggregates over a table can hold the entries of its log
-takes_from : (h : History) (s : StateValue) (t : ℕ) (table : TableValue) (hyper : HyperInfo) → all_allowed h ≡ true → table_at s.tables t ≡ Some table → TableStands h t hyper table → (i : ℕ) (defs : List ViewDef) (views : List ViewValue) → EachFrom (λ n def view. (view_of (roster h) n ≡ Some def) × ViewAt h s.tables n def view) i defs views → AllByRecursion (λ view. TakesIf (view.table == t) table view) views
+takes_from : (h : History) (s : StateValue) (t : ℕ) (table : TableValue) (hyper : HyperInfo) → all_consistent h ≡ true → table_at s.tables t ≡ Some table → TableStands h t hyper table → (i : ℕ) (defs : List ViewDef) (views : List ViewValue) → EachFrom (λ n def view. (view_of (roster h) n ≡ Some def) × ViewAt h s.tables n def view) i defs views → AllByRecursion (λ view. TakesIf (view.table == t) table view) views
 takes_from h s t table hyper ok at stands i [] [] e = tt
 takes_from h s t table hyper ok at stands i [] (view ∷ views) e = absurd e
 takes_from h s t table hyper ok at stands i (def ∷ defs) [] e = absurd e
@@ -113,7 +113,7 @@ takes_from h s t table hyper ok at stands i (def ∷ defs) (view ∷ views) e = 
 pub cut_takes : (h : History) (s : StateValue) (t : ℕ) (table : TableValue) → StandsFor h s → table_at s.tables t ≡ Some table → AllByRecursion (λ view. TakesIf (view.table == t) table view) s.views
 cut_takes h s t table st at =
     let there = stands_there h (roster h).tables s.tables t table st.tables at in
-    takes_from h s t table there.0 st.allowed at there.1 0 (roster h).views s.views (each_placed (ViewAt h s.tables) (roster h).views s.views st.views)
+    takes_from h s t table there.0 st.consistent at there.1 0 (roster h).views s.views (each_placed (ViewAt h s.tables) (roster h).views s.views st.views)
 
 pub cuts_below : (h : History) (s : StateValue) (next : ℕ) → StandsFor h s → next ≡ suc s.position → CutsBelow next s.refreshes
 cuts_below h s next st is = subst (λ n. CutsBelow n s.refreshes) (sym (is ∙ ap suc st.position)) st.refreshes.past

@@ -23,16 +23,16 @@ use Rattle.ts_model.specs.declared.events.Event.{Event}
 use Rattle.ts_model.specs.declared.events.Event.TheVariants.{Table, Hyper, View, Mode, Commit, Cut, Built}
 use Rattle.ts_model.specs.declared.views.Fold.{Fold}
 use Rattle.ts_model.specs.declared.views.ViewDef.{ViewDef}
-use Rattle.ts_model.specs.History.{History, ◌▸◌, position, base_position, prefix}
+use Rattle.ts_model.specs.History.{History, ◌▸◌, position, base_position}
 use Rattle.ts_model.specs.Roster.{roster, view_of, set_only}
-use Rattle.ts_model.specs.Rows.{rows, rows_at}
-use Rattle.ts_model.specs.Allowed.{all_allowed}
+use Rattle.ts_model.specs.Rows.{rows_at}
+use Rattle.ts_model.specs.Allowed.{all_consistent}
 use Rattle.ts_model.specs.Scratch.{bucket_rows, occurring_buckets}
 use Rattle.ts_model.specs.Groups.{stood, groups_at, groups_in, groups_of, bucket_groups, group_at}
 use Rattle.ts_model.specs.Refreshes.{last, span_of_cut, is_covered, last_touch_at}
 use Rattle.ts_model.specs.Jobs.{Fits, job_rows, rows_of_spans}
 use Rattle.ts_model.specs.Windows.{last_end}
-use Rattle.ts_model.proofs.HistoryLaws.{prefix_further, prefix_prefix}
+use Rattle.ts_model.proofs.HistoryLaws.{prefix_further}
 use Rattle.ts_model.proofs.RefreshLaws.{last_bounded, is_below-greater}
 use Rattle.ts_model.proofs.ModeLaws.{mode_plays_no_part}
 use Rattle.ts_model.proofs.CutLaws.{last_latest}
@@ -55,7 +55,7 @@ left_further : (n : ℕ) (def : ViewDef) (h : History) (e : Event) (b : ℤ) (o 
 left_further n def h e b None bounded = refl
 left_further n def h e b (Some s) bounded = groups_at_further n def h e s b (bounded s refl)
 
-stays_left : (n : ℕ) (def : ViewDef) (h : History) (e : Event) (b : ℤ) → all_allowed h ≡ true → groups_left n def (h ▸ e) b (last n h b) ≡ groups_left n def h b (last n h b)
+stays_left : (n : ℕ) (def : ViewDef) (h : History) (e : Event) (b : ℤ) → all_consistent h ≡ true → groups_left n def (h ▸ e) b (last n h b) ≡ groups_left n def h b (last n h b)
 stays_left n def h e b ok = left_further n def h e b (last n h b) (λ s is. last_bounded n h b s ok is)
 
 abbrev pub is_built : Event → Bool
@@ -72,7 +72,7 @@ last_stays n h (Cut v span) b quiet = refl
 last_stays n h (Built cut snap) b quiet = absurd (true≢false quiet)
 
 -- every event but a finish leaves the groups as they are
-pub groups_stay : (n : ℕ) (def : ViewDef) (h : History) (e : Event) (mark : Option ℤ) (groups : List Group) → all_allowed h ≡ true → is_built e ≡ false → GroupsStand n def h mark groups → GroupsStand n def (h ▸ e) mark groups
+pub groups_stay : (n : ℕ) (def : ViewDef) (h : History) (e : Event) (mark : Option ℤ) (groups : List Group) → all_consistent h ≡ true → is_built e ≡ false → GroupsStand n def h mark groups → GroupsStand n def (h ▸ e) mark groups
 groups_stay n def h e mark groups ok quiet s = record {
   in_order = s.in_order;
   all = s.all;
@@ -80,7 +80,7 @@ groups_stay n def h e mark groups ok quiet s = record {
 }
 
 -- and so does a finish of another aggregate's refresh
-pub groups_unfinished : (n : ℕ) (def : ViewDef) (h : History) (cut snap : ℕ) (mark : Option ℤ) (groups : List Group) → all_allowed h ≡ true → span_of_cut n h cut ≡ None → GroupsStand n def h mark groups → GroupsStand n def (h ▸ Built cut snap) mark groups
+pub groups_unfinished : (n : ℕ) (def : ViewDef) (h : History) (cut snap : ℕ) (mark : Option ℤ) (groups : List Group) → all_consistent h ≡ true → span_of_cut n h cut ≡ None → GroupsStand n def h mark groups → GroupsStand n def (h ▸ Built cut snap) mark groups
 groups_unfinished n def h cut snap mark groups ok other s = record {
   in_order = s.in_order;
   all = s.all;
@@ -108,7 +108,7 @@ unfolding IsStrictlySortedBy
 nothing_in_order = tt
 
 -- before an aggregate is there, nothing is materialised
-pub groups_begin : (n : ℕ) (def : ViewDef) (h : History) (mark : Option ℤ) → all_allowed h ≡ true → view_of (roster h) n ≡ None → GroupsStand n def h mark []
+pub groups_begin : (n : ℕ) (def : ViewDef) (h : History) (mark : Option ℤ) → all_consistent h ≡ true → view_of (roster h) n ≡ None → GroupsStand n def h mark []
 groups_begin n def h mark ok none = record {
   in_order = nothing_in_order;
   all = refl;
@@ -229,7 +229,7 @@ later_upto : (snap : ℕ) (o : Option ℕ) → is_above snap o ≡ false → lat
 later_upto snap None e = refl
 later_upto snap (Some s) e = let l : s ≤ snap = ltb-false snap s e in let m : max s snap ≡ snap = omega arith in ap Some m
 
-module _ (n : ℕ) (def : ViewDef) (h : History) (cut snap : ℕ) (span : Span) (spans : List Span) (groups : List Group) (top : Option ℤ) (ok : all_allowed h ≡ true) (width : IsWidth def.fold.width) (f : Fits n def h cut snap span spans groups top) where
+module _ (n : ℕ) (def : ViewDef) (h : History) (cut snap : ℕ) (span : Span) (spans : List Span) (groups : List Group) (top : Option ℤ) (ok : all_consistent h ≡ true) (width : IsWidth def.fold.width) (f : Fits n def h cut snap span spans groups top) where
   -- a bucket of the span that isn't folded anew still has the groups that it had at the snapshot
   untouched_since : (b : ℤ) (r : ℕ) (o : Option ℕ) → is_before r o ≡ false → is_above r (last_touch_at n def h snap b) ≡ false → is_above snap o ≡ false → groups_left n def h b o ≡ groups_at n def h snap b
   untouched_since b r None before not_touched upto = absurd (true≢false before)

@@ -1,4 +1,4 @@
--- What a state that stands for a history tells of a finish that is allowed next, and of its job.
+-- What a state that stands for a history tells of a finish that may come next, and of its job.
 use Rattle.std.proofs.Common.{◌≡◌, Bool, true, false, not, ◌&&◌, List, [], ◌∷◌, ℤ, ◌≤ℤ◌, ◌<ℤ◌, int_le, int_lt, Option, Some, None, sym, refl, ap, ◌∙◌, subst, arith}
 use Rattle.std.specs.List.{AllByRecursion, list_all}
 use Rattle.std.proofs.lemmas.Bool.{and_parts, and_from}
@@ -19,7 +19,7 @@ use Rattle.ts_model.specs.Roster.{roster, view_of}
 use Rattle.ts_model.specs.Refreshes.{last}
 use Rattle.ts_model.specs.Jobs.{Fits, is_part_of}
 use Rattle.ts_model.specs.Sound.{span_fits}
-use Rattle.ts_model.specs.Allowed.{all_allowed}
+use Rattle.ts_model.specs.Allowed.{all_consistent}
 use Rattle.ts_model.proofs.CutLaws.{cut_sound}
 use Rattle.refresh_build.specs.declared.jobs.Job.{Job}
 use Rattle.refresh_build.specs.Fitting.{FitsView, JobFits}
@@ -53,7 +53,7 @@ whole_of_fit span def e =
     let low : int_le (first_of def.fold.width) span.lo ≡ true = first.1 in
     record { starts = ends.0; ends = ends.1; from_first = grind (arith, ints) }
 
-pub job_whole : (h : History) (job : Job) (def : ViewDef) → all_allowed h ≡ true → view_of (roster h) job.view ≡ Some def → Fits job.view def h job.cut job.snap job.span job.spans job.groups job.top → IsWholeSpan def.fold.width job.span
+pub job_whole : (h : History) (job : Job) (def : ViewDef) → all_consistent h ≡ true → view_of (roster h) job.view ≡ Some def → Fits job.view def h job.cut job.snap job.span job.spans job.groups job.top → IsWholeSpan def.fold.width job.span
 job_whole h job def ok there f = whole_of_fit job.span def (ap (span_fits job.span) (sym there) ∙ cut_sound job.view h job.cut job.span ok f.cut_is)
 
 part_whole : (w : Width) (whole part : Span) → is_part_of w whole part ≡ true → IsWholeRange w part

@@ -15,19 +15,19 @@ use Rattle.ts_model.specs.declared.events.Event.TheVariants.{Cut, Built}
 use Rattle.ts_model.specs.declared.views.ViewDef.{ViewDef}
 use Rattle.ts_model.specs.History.{History, start, resumed, ◌▸◌, position}
 use Rattle.ts_model.specs.Roster.{roster, view_of}
-use Rattle.ts_model.specs.Allowed.{all_allowed}
+use Rattle.ts_model.specs.Allowed.{all_consistent}
 use Rattle.ts_model.specs.Refreshes.{watermark, span_of_cut, top_of}
 use Rattle.ts_model.proofs.AllowedLaws.{cut_bounded}
 use Rattle.coverage.proofs.ModelLaws.{absent_before, never_cut}
 
-pub never_marked : (n : ℕ) (def : ViewDef) (h : History) → all_allowed h ≡ true → view_of (roster h) n ≡ None → watermark n def h ≡ None
+pub never_marked : (n : ℕ) (def : ViewDef) (h : History) → all_consistent h ≡ true → view_of (roster h) n ≡ None → watermark n def h ≡ None
 never_marked n def start ok none = refl
 never_marked n def (resumed i) ok none = ap (λ v. v.mark) (absent_kept n i ok none)
 never_marked n def (h ▸ Built cut snap) ok none =
-    let before = (and_parts (all_allowed h) _ ok).0 in
+    let before = (and_parts (all_consistent h) _ ok).0 in
     ap (λ m. greater m (top_of def h snap (span_of_cut n h cut))) (never_marked n def h before none)
     ∙ ap (λ o. greater None (top_of def h snap o)) (never_cut n h cut before none)
-never_marked n def (h ▸ x) ok none = never_marked n def h (and_parts (all_allowed h) _ ok).0 (absent_before h x n none)
+never_marked n def (h ▸ x) ok none = never_marked n def h (and_parts (all_consistent h) _ ok).0 (absent_before h x n none)
 
 less_apart : (c k d : ℕ) → c ≡ k → is_lt (nat_cmp c d) ≡ true → (k == d) ≡ false
 less_apart c k d e f =
@@ -35,7 +35,7 @@ less_apart c k d e f =
     grind (arith, nat_tests)
 
 -- the cut that is made now is of its aggregate
-cut_now : (n : ℕ) (h : History) (k v : ℕ) (s span : Span) → all_allowed h ≡ true → (k == suc (position h)) ≡ true → cond (v == n) (Some s) (span_of_cut n h k) ≡ Some span → v ≡ n
+cut_now : (n : ℕ) (h : History) (k v : ℕ) (s span : Span) → all_consistent h ≡ true → (k == suc (position h)) ≡ true → cond (v == n) (Some s) (span_of_cut n h k) ≡ Some span → v ≡ n
 cut_now n h k v s span ok number e =
     elim (v == n) as (λ t. (v == n) ≡ t → cond t (Some s) (span_of_cut n h k) ≡ Some span → v ≡ n) [
       | true ↦ λ same _. eqb-true v n same
@@ -70,18 +70,18 @@ among_one n m (w ∷ ws) k span other r e f =
           | false ↦ λ _ g. absurd (let none : span_among n ws k ≡ None = later_apart n k w.cut ws (eqb-true k w.cut here) r.0 in let apart : (let nothing : Option Span = None in nothing ≡ Some s) = sym none ∙ g in none_some apart)
         ] refl a
 
-pub cut_of_one : (n m : ℕ) (h : History) (k : ℕ) (span other : Span) → all_allowed h ≡ true → span_of_cut n h k ≡ Some span → span_of_cut m h k ≡ Some other → n ≡ m
+pub cut_of_one : (n m : ℕ) (h : History) (k : ℕ) (span other : Span) → all_consistent h ≡ true → span_of_cut n h k ≡ Some span → span_of_cut m h k ≡ Some other → n ≡ m
 cut_of_one n m start k span other ok e f = absurd (cc)
 cut_of_one n m (resumed i) k span other ok e f = among_one n m i.waiting k span other (waiting_rising i ok) (span_within i n k span e).1 (span_within i m k other f).1
 cut_of_one n m (h ▸ Cut v s) k span other ok e f =
     elim (k == suc (position h)) as (λ t. (k == suc (position h)) ≡ t → cond (t && v == n) (Some s) (span_of_cut n h k) ≡ Some span → cond (t && v == m) (Some s) (span_of_cut m h k) ≡ Some other → n ≡ m) [
-      | true ↦ λ number a b. sym (cut_now n h k v s span (and_parts (all_allowed h) _ ok).0 number a) ∙ cut_now m h k v s other (and_parts (all_allowed h) _ ok).0 number b
-      | false ↦ λ _ a b. cut_of_one n m h k span other (and_parts (all_allowed h) _ ok).0 a b
+      | true ↦ λ number a b. sym (cut_now n h k v s span (and_parts (all_consistent h) _ ok).0 number a) ∙ cut_now m h k v s other (and_parts (all_consistent h) _ ok).0 number b
+      | false ↦ λ _ a b. cut_of_one n m h k span other (and_parts (all_consistent h) _ ok).0 a b
     ] refl e f
-cut_of_one n m (h ▸ x) k span other ok e f = cut_of_one n m h k span other (and_parts (all_allowed h) _ ok).0 e f
+cut_of_one n m (h ▸ x) k span other ok e f = cut_of_one n m h k span other (and_parts (all_consistent h) _ ok).0 e f
 
 -- so it is no cut of another
-pub cut_of_no_other : (n m : ℕ) (h : History) (k : ℕ) (span : Span) → all_allowed h ≡ true → span_of_cut n h k ≡ Some span → (m ≡ n → ⊥) → span_of_cut m h k ≡ None
+pub cut_of_no_other : (n m : ℕ) (h : History) (k : ℕ) (span : Span) → all_consistent h ≡ true → span_of_cut n h k ≡ Some span → (m ≡ n → ⊥) → span_of_cut m h k ≡ None
 cut_of_no_other n m h k span ok e differs = by_span (span_of_cut m h k) refl
   where
     by_span : (o : Option Span) → span_of_cut m h k ≡ o → span_of_cut m h k ≡ None

@@ -19,7 +19,7 @@ use Rattle.ts_model.specs.Jobs.{Fits}
 use Rattle.ts_model.specs.Refreshes.{span_of_cut}
 use Rattle.ts_model.proofs.SoundLaws.{view_width}
 use Rattle.refresh_list.specs.Refreshes.{newly_cut, finished_at}
-use Rattle.ts_model.specs.Allowed.{all_allowed}
+use Rattle.ts_model.specs.Allowed.{all_consistent}
 use Rattle.refresh_list.specs.Refreshes.{RefreshesStand}
 use Rattle.refresh_list.proofs.StepLaws.{cuts_stand, finishes_stand, others_stand}
 use Rattle.engine_state.specs.Lists.{Each}
@@ -29,7 +29,7 @@ use Rattle.engine_state.specs.Stands.{StateValue, StandsFor, ViewIs, TableAt, Vi
 use Rattle.engine_state.specs.Groups.{AreRenewed}
 use Rattle.engine_state.specs.Notes.{IsFedTo, LogStands, noted_in}
 use Rattle.engine_state.specs.Steps.{TableCut, FedAt, FedIf, ViewFinished}
-use Rattle.engine_state.proofs.StateSteps.{all_before, allowed_next, tables_stay, view_is_still, state_there}
+use Rattle.engine_state.proofs.StateSteps.{all_before, event_consistent, tables_stay, view_is_still, state_there}
 use Rattle.engine_state.proofs.OneLaws.{never_marked, cut_of_no_other}
 use Rattle.engine_state.proofs.EachLaws.{each_pushed, each_at, each_set_at, each_joined, each_map_below, each_placed}
 use Rattle.engine_state.proofs.TableSteps.{table_is_still, table_cut}
@@ -60,10 +60,10 @@ view_table h def infos tables s e = by_info (slice_get infos def.table) refl e
         by_kind (Some hyper) e None at s = absurd s
         by_kind (Some hyper) e (Some table) at s = (table, ap (option_and_then (λ x. x)) at, s.log)
 
-pub state_of_view : (h : History) (def : ViewDef) (s new : StateValue) (view : ViewValue) → all_allowed (h ▸ View def) ≡ true → StandsFor h s → view.table ≡ def.table → view.log.width ≡ def.fold.width → ((b : ℤ) → pending_at view.log b ≡ cond (in_span (whole_span def.fold.width) b) (Some (suc s.position)) None) → ((b : ℤ) → last_at view.log b ≡ None) → view.groups ≡ [] → view.mark ≡ None → new.position ≡ suc s.position → new.roster ≡ roster_after s.roster (View def) → new.tables ≡ s.tables → new.views ≡ s.views ++ (view ∷ []) → new.refreshes ≡ s.refreshes → StandsFor (h ▸ View def) new
+pub state_of_view : (h : History) (def : ViewDef) (s new : StateValue) (view : ViewValue) → all_consistent (h ▸ View def) ≡ true → StandsFor h s → view.table ≡ def.table → view.log.width ≡ def.fold.width → ((b : ℤ) → pending_at view.log b ≡ cond (in_span (whole_span def.fold.width) b) (Some (suc s.position)) None) → ((b : ℤ) → last_at view.log b ≡ None) → view.groups ≡ [] → view.mark ≡ None → new.position ≡ suc s.position → new.roster ≡ roster_after s.roster (View def) → new.tables ≡ s.tables → new.views ≡ s.views ++ (view ∷ []) → new.refreshes ≡ s.refreshes → StandsFor (h ▸ View def) new
 state_of_view h def s new view ok st table width pending refreshed groups mark end relations tables views refreshes =
     let before = all_before h (View def) ok in
-    let there = view_table h def (roster h).tables s.tables st.tables (and_parts (sound_at h (View def)) _ (and_parts (sound h (View def)) _ (allowed_next h (View def) ok)).0).0 in
+    let there = view_table h def (roster h).tables s.tables st.tables (and_parts (sound_at h (View def)) _ (and_parts (sound h (View def)) _ (event_consistent h (View def) ok)).0).0 in
     let none : view_of (roster h) (length (roster h).views) ≡ None = past_end (roster h).views in
     let made : ViewStands (h ▸ View def) (length (roster h).views) def there.0.log view =
     view_begins (length (roster h).views) def h def there.0.log view before none there.2 table width (λ b. pending b ∙ ap (λ p. cond (in_span (whole_span def.fold.width) b) (Some (suc p)) None) st.position) refreshed groups mark (never_marked (length (roster h).views) def h before none) in
@@ -72,7 +72,7 @@ state_of_view h def s new view ok st table width pending refreshed groups mark e
     subst (λ n. ViewAt (h ▸ View def) s.tables n def view) (sym place) (subst (λ o. ViewIs (h ▸ View def) (length (roster h).views) def o view) (sym there.1) made) in
     let still = each_map_below (ViewAt h s.tables) (ViewAt (h ▸ View def) s.tables) 0 (roster h).views s.views (λ n d v l. view_is_still n d h (View def) (table_at s.tables d.table) v before (not_yet n (length (roster h).views) (omega (arith, l)))) st.views in
     record {
-      allowed = ok;
+      consistent = ok;
       position = end ∙ ap suc st.position;
       roster = relations ∙ ap (λ r. roster_after r (View def)) st.roster;
       tables = subst (Each (TableAt (h ▸ View def)) (roster h).tables) (sym tables) (tables_stay h (View def) (roster h).tables s.tables refl st.tables);
@@ -96,9 +96,9 @@ table_at-other (x ∷ xs) zero (suc u) new differs = refl
 table_at-other (x ∷ xs) (suc t) zero new differs = refl
 table_at-other (x ∷ xs) (suc t) (suc u) new differs = table_at-other xs t u new (λ is. differs (ap suc is))
 
-module _ (h : History) (v : ℕ) (span : Span) (s : StateValue) (def : ViewDef) (old_table new_table : TableValue) (ok : all_allowed (h ▸ Cut v span) ≡ true) (st : StandsFor h s) (there : view_of (roster h) v ≡ Some def) (at : table_at s.tables def.table ≡ Some old_table) (cut : TableCut span.hi old_table new_table) where
+module _ (h : History) (v : ℕ) (span : Span) (s : StateValue) (def : ViewDef) (old_table new_table : TableValue) (ok : all_consistent (h ▸ Cut v span) ≡ true) (st : StandsFor h s) (there : view_of (roster h) v ≡ Some def) (at : table_at s.tables def.table ≡ Some old_table) (cut : TableCut span.hi old_table new_table) where
   fits_here : span_fits span (Some def) ≡ true
-  fits_here = ap (span_fits span) (sym there) ∙ (and_parts (sound_at h (Cut v span)) _ (and_parts (sound h (Cut v span)) _ (allowed_next h (Cut v span) ok)).0).0
+  fits_here = ap (span_fits span) (sym there) ∙ (and_parts (sound_at h (Cut v span)) _ (and_parts (sound h (Cut v span)) _ (event_consistent h (Cut v span) ok)).0).0
 
   cut_table : (info : TableInfo) → slice_get (roster h).tables def.table ≡ Some info → TableAt (h ▸ Cut v span) def.table info (Some new_table)
   cut_table info is =
@@ -145,7 +145,7 @@ module _ (h : History) (v : ℕ) (span : Span) (s : StateValue) (def : ViewDef) 
 
   pub state_of_cut : (new : StateValue) → new.position ≡ suc s.position → new.roster ≡ s.roster → new.tables ≡ set s.tables def.table (Some new_table) → Each (FedAt def.table old_table) s.views new.views → new.refreshes ≡ s.refreshes ++ (newly_cut (suc s.position) v span ∷ []) → StandsFor (h ▸ Cut v span) new
   state_of_cut new end relations tables views refreshes = record {
-    allowed = ok;
+    consistent = ok;
     position = end ∙ ap suc st.position;
     roster = relations ∙ st.roster;
     tables = subst (Each (TableAt (h ▸ Cut v span)) (roster h).tables) (sym tables)
@@ -158,15 +158,15 @@ module _ (h : History) (v : ℕ) (span : Span) (s : StateValue) (def : ViewDef) 
 
 -- ---- a finish
 
-view_is_unfinished : (n : ℕ) (def : ViewDef) (h : History) (cut snap : ℕ) (o : Option TableValue) (view : ViewValue) → all_allowed h ≡ true → span_of_cut n h cut ≡ None → ViewIs h n def o view → ViewIs (h ▸ Built cut snap) n def o view
+view_is_unfinished : (n : ℕ) (def : ViewDef) (h : History) (cut snap : ℕ) (o : Option TableValue) (view : ViewValue) → all_consistent h ≡ true → span_of_cut n h cut ≡ None → ViewIs h n def o view → ViewIs (h ▸ Built cut snap) n def o view
 view_is_unfinished n def h cut snap None view ok other x = absurd x
 view_is_unfinished n def h cut snap (Some table) view ok other x = view_unfinished n def h cut snap table.log view ok other x
 
-pub state_of_finish : (h : History) (cut snap n : ℕ) (s new : StateValue) (def : ViewDef) (span : Span) (spans : List Span) (groups : List Group) (top : Option ℤ) (old_view new_view : ViewValue) (renewed : List Span) (put : List Group) → all_allowed (h ▸ Built cut snap) ≡ true → StandsFor h s → view_of (roster h) n ≡ Some def → Fits n def h cut snap span spans groups top → slice_get s.views n ≡ Some old_view → ViewFinished span snap top renewed put old_view new_view → AreRenewed n def h snap spans groups renewed put → new.position ≡ suc s.position → new.roster ≡ s.roster → new.tables ≡ s.tables → new.views ≡ set s.views n new_view → new.refreshes ≡ map (finished_at cut (suc s.position)) s.refreshes → StandsFor (h ▸ Built cut snap) new
+pub state_of_finish : (h : History) (cut snap n : ℕ) (s new : StateValue) (def : ViewDef) (span : Span) (spans : List Span) (groups : List Group) (top : Option ℤ) (old_view new_view : ViewValue) (renewed : List Span) (put : List Group) → all_consistent (h ▸ Built cut snap) ≡ true → StandsFor h s → view_of (roster h) n ≡ Some def → Fits n def h cut snap span spans groups top → slice_get s.views n ≡ Some old_view → ViewFinished span snap top renewed put old_view new_view → AreRenewed n def h snap spans groups renewed put → new.position ≡ suc s.position → new.roster ≡ s.roster → new.tables ≡ s.tables → new.views ≡ set s.views n new_view → new.refreshes ≡ map (finished_at cut (suc s.position)) s.refreshes → StandsFor (h ▸ Built cut snap) new
 state_of_finish h cut snap n s new def span spans groups top old_view new_view renewed put ok st there f old_is done renews end relations tables views refreshes =
     let before = all_before h (Built cut snap) ok in
     record {
-      allowed = ok;
+      consistent = ok;
       position = end ∙ ap suc st.position;
       roster = relations ∙ st.roster;
       tables = subst (Each (TableAt (h ▸ Built cut snap)) (roster h).tables) (sym tables) (tables_stay h (Built cut snap) (roster h).tables s.tables refl st.tables);
@@ -184,11 +184,11 @@ state_of_finish h cut snap n s new def span spans groups top old_view new_view r
     one_view : {x y : ViewValue} → slice_get s.views n ≡ Some x → slice_get s.views n ≡ Some y → x ≡ y
     one_view a b = cc
 
-    by_table : all_allowed h ≡ true → (o : Option TableValue) → ViewIs h n def o old_view → ViewIs (h ▸ Built cut snap) n def o new_view
+    by_table : all_consistent h ≡ true → (o : Option TableValue) → ViewIs h n def o old_view → ViewIs (h ▸ Built cut snap) n def o new_view
     by_table before None x = absurd x
     by_table before (Some table) x = view_finished n def h cut snap span spans groups top table.log old_view new_view renewed put before there f done.table done.width done.pending done.refreshed done.mark renews done.groups x
 
-    this : all_allowed h ≡ true → (d : ViewDef) → slice_get (roster h).views n ≡ Some d → ViewAt (h ▸ Built cut snap) s.tables n d new_view
+    this : all_consistent h ≡ true → (d : ViewDef) → slice_get (roster h).views n ≡ Some d → ViewAt (h ▸ Built cut snap) s.tables n d new_view
     this before d is =
         let found = each_at (ViewAt h s.tables) n (roster h).views s.views def st.views there in
         let old : ViewAt h s.tables n def old_view = subst (ViewAt h s.tables n def) (one_view found.1 old_is) found.2 in

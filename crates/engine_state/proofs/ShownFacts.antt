@@ -35,14 +35,13 @@ use Rattle.ts_model.proofs.ValidLaws.{kept_facts}
 use Rattle.ts_model.proofs.CutLaws.{cut_sound}
 use Rattle.ts_model.proofs.RosterLaws.{is_of_before, is_of_itself}
 use Rattle.ts_model.proofs.RefreshLaws.{later_is, covered_snap}
-use Rattle.ts_model.specs.Rows.{in_order, rows, rows_at}
+use Rattle.ts_model.specs.Rows.{in_order, rows}
 use Rattle.ts_model.specs.Scratch.{bucket_rows, scratch}
-use Rattle.ts_model.specs.Groups.{cells_of, bucket_groups, groups_in}
+use Rattle.ts_model.specs.Groups.{cells_of, groups_in}
 use Rattle.ts_model.specs.Refreshes.{span_of_cut, is_covered, invalid, is_invalid, last, stale, watermark}
 use Rattle.ts_model.specs.Reads.{inserted, reads, reads_of_view, rows_near, rows_near_in}
 use Rattle.ts_model.specs.Answers.{answer, answer_of_view, buckets_in, left_by, ranges, shown}
-use Rattle.ts_model.specs.Allowed.{all_allowed}
-use Rattle.ts_model.proofs.FitLaws.{rows_are_times}
+use Rattle.ts_model.specs.Allowed.{all_consistent}
 use Rattle.ts_model.proofs.GroupLaws.{cells_are_scratch}
 use Rattle.ts_model.proofs.MarkLaws.{watermark_ends}
 use Rattle.ts_model.proofs.RangeLaws.{among-buckets_in, ranges_are_maximal}
@@ -97,22 +96,22 @@ fits_of : (def : ViewDef) (span : Span) (o : Option ViewDef) → IsOf def o → 
 fits_of def span None is e = absurd (true≢false (sym e))
 fits_of def span (Some found) is e = subst (λ (f : Fold). span_fits span (Some (record found { fold = f })) ≡ true) is.1 e
 
-last_spanned : (n : ℕ) (def : ViewDef) (h : History) (b : ℤ) (s : ℕ) → IsOf def (view_of (roster h) n) → all_allowed h ≡ true → last n h b ≡ Some s → IsSpanned def b
+last_spanned : (n : ℕ) (def : ViewDef) (h : History) (b : ℤ) (s : ℕ) → IsOf def (view_of (roster h) n) → all_consistent h ≡ true → last n h b ≡ Some s → IsSpanned def b
 last_spanned n def start b s is ok e = absurd (cc)
 last_spanned n def (resumed i) b s is ok e = let l = (kept_facts n def i ok is).lasts b s e in record { span = l.last.span; inside = l.inside; fits = l.fits }
 last_spanned n def (h ▸ Built cut snap) b s is ok e =
     ⊎_elim
-    (λ before. last_spanned n def h b s is (and_parts (all_allowed h) _ ok).0 before)
+    (λ before. last_spanned n def h b s is (and_parts (all_consistent h) _ ok).0 before)
     (λ now. by_span (span_of_cut n h cut) refl (covered_snap _ snap s now).0)
     (later_is (last n h b) (cond (is_covered b (span_of_cut n h cut)) (Some snap) None) s e)
   where
     by_span : (o : Option Span) → span_of_cut n h cut ≡ o → is_covered b o ≡ true → IsSpanned def b
     by_span None at inside = absurd (true≢false (sym inside))
-    by_span (Some span) at inside = record { span = span; inside = inside; fits = fits_of def span (view_of (roster h) n) is (cut_sound n h cut span (and_parts (all_allowed h) _ ok).0 at) }
-last_spanned n def (h ▸ x) b s is ok e = last_spanned n def h b s (is_of_before def h x n is) (and_parts (all_allowed h) _ ok).0 e
+    by_span (Some span) at inside = record { span = span; inside = inside; fits = fits_of def span (view_of (roster h) n) is (cut_sound n h cut span (and_parts (all_consistent h) _ ok).0 at) }
+last_spanned n def (h ▸ x) b s is ok e = last_spanned n def h b s (is_of_before def h x n is) (and_parts (all_consistent h) _ ok).0 e
 
 -- so a bucket below the first has none
-no_low_groups : (n : ℕ) (def : ViewDef) (h : History) (b : ℤ) (o : Option ℕ) → IsOf def (view_of (roster h) n) → all_allowed h ≡ true → last n h b ≡ o → int_le (first_of def.fold.width) b ≡ false → groups_left n def h b o ≡ []
+no_low_groups : (n : ℕ) (def : ViewDef) (h : History) (b : ℤ) (o : Option ℕ) → IsOf def (view_of (roster h) n) → all_consistent h ≡ true → last n h b ≡ o → int_le (first_of def.fold.width) b ≡ false → groups_left n def h b o ≡ []
 no_low_groups n def h b None is ok at low = refl
 no_low_groups n def h b (Some s) is ok at low =
     let l = last_spanned n def h b s is ok at in
@@ -169,7 +168,7 @@ pub record ViewAsks (def : ViewDef) (view : ViewValue) (table : TableValue) : Ty
   pub mark : ForSome view.mark (IsMark view.log.width)
   pub within : AreWithin table.log.entries view.log
 
-pub view_asks : (h : History) (n position : ℕ) (def : ViewDef) (view : ViewValue) (table : TableValue) → all_allowed h ≡ true → IsViewOf h n position def view table → ViewAsks def view table
+pub view_asks : (h : History) (n position : ℕ) (def : ViewDef) (view : ViewValue) (table : TableValue) → all_consistent h ≡ true → IsViewOf h n position def view table → ViewAsks def view table
 view_asks h n position def view table ok is =
     let wide : IsWidth def.fold.width = view_width h n def ok is.there in
     let ends : IfSome view.mark (IsMark view.log.width) = subst (λ w. IfSome view.mark (IsMark w)) (sym is.stands.width) (subst (λ m. IfSome m (IsMark def.fold.width)) (sym is.stands.mark) (watermark_ends n def h wide (is_of_itself def (view_of (roster h) n) is.there) ok)) in
@@ -179,9 +178,9 @@ view_asks h n position def view table ok is =
       within = noted_within table.log.entries view.log (subst IsWidth (sym is.stands.width) wide) is.table_is.stands.log.times;
     }
 
--- ---- an aggregate of an allowed history
+-- ---- an aggregate of a consistent history
 
-module _ (h : History) (n : ℕ) (def : ViewDef) (table : TableValue) (view : ViewValue) (ok : all_allowed h ≡ true) (there : view_of (roster h) n ≡ Some def) (stands : ViewStands h n def table.log view) where
+module _ (h : History) (n : ℕ) (def : ViewDef) (table : TableValue) (view : ViewValue) (ok : all_consistent h ≡ true) (there : view_of (roster h) n ≡ Some def) (stands : ViewStands h n def table.log view) where
   wide : IsWidth def.fold.width
   wide = view_width h n def ok there
 

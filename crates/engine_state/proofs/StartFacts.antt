@@ -6,7 +6,7 @@ use Rattle.std.proofs.lemmas.Bool.{true≢false, and_parts, and_from, eqb-true, 
 use Rattle.std.proofs.lemmas.Int.{ints}
 use Rattle.std.proofs.lemmas.List.Sums.{sum_by-cons}
 use Rattle.ts_bucket.specs.Bucket.{IsWidth, bucket_of, first_of, is_bucket, is_time}
-use Rattle.ts_bucket.specs.Positions.{is_above, later}
+use Rattle.ts_bucket.specs.Positions.{is_above}
 use Rattle.ts_bucket.proofs.PositionLaws.{at_or_below}
 use Rattle.ts_bucket.specs.Ranges.{AreRanges, IsWholeRange, is_asked, lies_in}
 use Rattle.ts_bucket.specs.Spans.{in_span}
@@ -31,11 +31,11 @@ use Rattle.ts_model.specs.Groups.{groups_of}
 use Rattle.ts_model.specs.Jobs.{Fits, is_part_of, rows_of_spans}
 use Rattle.ts_model.specs.Refreshes.{invalid, is_invalid, last, last_touch, last_touch_at, span_of_cut, touches, was_refreshed}
 use Rattle.ts_model.specs.Reads.{dirty_ranges, inserted, job_reads, job_reads_of, reads_of_snapshot, rows_near, rows_near_in}
-use Rattle.ts_model.specs.Allowed.{all_allowed, allowed}
+use Rattle.ts_model.specs.Allowed.{all_consistent, consistent}
 use Rattle.ts_model.specs.Answers.{ranges}
 use Rattle.ts_model.specs.Limits.{is_word}
 use Rattle.ts_model.specs.Sound.{finish_fits, sound, span_fits}
-use Rattle.ts_model.specs.Timely.{has_room, timely}
+use Rattle.ts_model.specs.Timely.{timely_at}
 use Rattle.ts_model.specs.Pending.{is_known, is_waiting, pending}
 use Rattle.ts_model.specs.declared.refreshes.Pending.TheVariants.{Waiting}
 use Rattle.refresh_list.specs.declared.refreshes.Refresh.{Refresh as Listed}
@@ -160,9 +160,9 @@ untouched_before n def (h ▸ x) b r s e =
     before (Cut v span) e = e
     before (Built c k) e = e
 
--- ---- an aggregate of an allowed history
+-- ---- an aggregate of a consistent history
 
-module _ (h : History) (n : ℕ) (def : ViewDef) (table : TableValue) (view : ViewValue) (ok : all_allowed h ≡ true) (there : view_of (roster h) n ≡ Some def) (stands : ViewStands h n def table.log view) (wide : IsWidth def.fold.width) (cut : ℕ) (span : Span) (cut_is : span_of_cut n h cut ≡ Some span) where
+module _ (h : History) (n : ℕ) (def : ViewDef) (table : TableValue) (view : ViewValue) (ok : all_consistent h ≡ true) (there : view_of (roster h) n ≡ Some def) (stands : ViewStands h n def table.log view) (wide : IsWidth def.fold.width) (cut : ℕ) (span : Span) (cut_is : span_of_cut n h cut ≡ Some span) where
   pub span_is : IsCutSpan def.fold.width span
   span_is = cut_span span def (ap (span_fits span) (sym there) ∙ cut_sound n h cut span ok cut_is)
 
@@ -295,7 +295,7 @@ refresh_is h s cut r refresh st found waits view_is cut_is span_is =
       waits = sym (st.refreshes.pending cut) ∙ (state ∙ ap Waiting (sym view_is));
       cut_is = cut_is ∙ own_cut;
       span_is = subst (λ v. span_of_cut v h cut ≡ Some refresh.span) (sym view_is) (span ∙ ap Some (sym span_is));
-      view_is = subst (λ v. IsSome (view_of (roster h) v)) (sym view_is) (fitting_view r.span (view_of (roster h) r.view) (cut_sound r.view h cut r.span st.allowed span));
+      view_is = subst (λ v. IsSome (view_of (roster h) v)) (sym view_is) (fitting_view r.span (view_of (roster h) r.view) (cut_sound r.view h cut r.span st.consistent span));
     }
   where
     one : {x y : Listed} → Some x ≡ Some y → x ≡ y
@@ -304,13 +304,13 @@ refresh_is h s cut r refresh st found waits view_is cut_is span_is =
 -- ---- a job for a refresh
 
 -- the span of a cut is one of whole buckets
-pub whole_cut : (h : History) (n cut : ℕ) (span : Span) (def : ViewDef) → all_allowed h ≡ true → view_of (roster h) n ≡ Some def → span_of_cut n h cut ≡ Some span → IsWholeSpan def.fold.width span
+pub whole_cut : (h : History) (n cut : ℕ) (span : Span) (def : ViewDef) → all_consistent h ≡ true → view_of (roster h) n ≡ Some def → span_of_cut n h cut ≡ Some span → IsWholeSpan def.fold.width span
 whole_cut h n cut span def ok there cut_is =
     let found = cut_span span def (ap (span_fits span) (sym there) ∙ cut_sound n h cut span ok cut_is) in
     record { starts = found.starts; ends = found.ends; from_first = found.from_first }
 
 -- the rows that a position saw have times
-pub times_then : (h : History) (t position snap : ℕ) (table : TableValue) → all_allowed h ≡ true → IsTableOf h t position table → HaveTimes (seen_rows snap table)
+pub times_then : (h : History) (t position snap : ℕ) (table : TableValue) → all_consistent h ≡ true → IsTableOf h t position table → HaveTimes (seen_rows snap table)
 times_then h t position snap table ok is =
     sym (all-in_order (λ row. is_time row.at) (seen_rows snap table))
     ∙ (ap (list_all (λ row. is_time row.at)) (is.stands.rows.seen snap) ∙ rows_are_times.rows t h snap ok)
@@ -330,7 +330,7 @@ job_as h job def n cut snap span view_is cut_is snap_is span_is there fits =
     (subst (λ s. Fits n def h cut snap s job.spans job.groups job.top) (sym span_is) fits))))
 
 -- a job of the rows of a history's position fits the history
-pub job_now : (h : History) (cut p : ℕ) (refresh : Refresh) (def : ViewDef) (view : ViewValue) (table : TableValue) (job : Job) → all_allowed h ≡ true → IsRefreshOf h cut refresh → IsViewOf h refresh.view p def view table → refresh.snap ≡ position h
+pub job_now : (h : History) (cut p : ℕ) (refresh : Refresh) (def : ViewDef) (view : ViewValue) (table : TableValue) (job : Job) → all_consistent h ≡ true → IsRefreshOf h cut refresh → IsViewOf h refresh.view p def view table → refresh.snap ≡ position h
     → AreRanges def.fold.width refresh.span (is_dirty_with view.log table.log.entries) job.spans → IsFor refresh job.spans job → IsMadeOf def.fold (seen_rows p table) job → JobFits h job × (job.cut ≡ cut) × (job.snap ≡ position h)
 job_now h cut p refresh def view table job ok r v snap_is ranges is_for made =
     let cut_is : job.cut ≡ cut = is_for.cut ∙ r.cut_is in
@@ -349,14 +349,14 @@ job_read h cut p refresh def view table r v =
 -- ---- a finish that may come next
 
 -- its refresh waits
-pub finish_waits : (h : History) (s : StateValue) (cut snap : ℕ) → StandsFor h s → allowed h (Built cut snap) ≡ true → is_waiting (pending_in s.refreshes cut) ≡ true
-finish_waits h s cut snap st next = ap is_waiting (st.refreshes.pending cut) ∙ (and_parts (is_waiting (pending h cut)) (has_room h) (and_parts (sound h (Built cut snap)) (timely h (Built cut snap)) next).1).0
+pub finish_waits : (h : History) (s : StateValue) (cut snap : ℕ) → StandsFor h s → consistent h (Built cut snap) ≡ true → is_waiting (pending_in s.refreshes cut) ≡ true
+finish_waits h s cut snap st next = ap is_waiting (st.refreshes.pending cut) ∙ (and_parts (sound h (Built cut snap)) (timely_at h (Built cut snap)) next).1
 
 -- a job of the rows that its snapshot saw is a job of it
-pub job_then : (h : History) (cut snap p : ℕ) (refresh : Refresh) (def : ViewDef) (view : ViewValue) (table : TableValue) (job : Job) → all_allowed h ≡ true → allowed h (Built cut snap) ≡ true → IsRefreshOf h cut refresh → IsViewOf h refresh.view p def view table → refresh.snap ≡ snap
+pub job_then : (h : History) (cut snap p : ℕ) (refresh : Refresh) (def : ViewDef) (view : ViewValue) (table : TableValue) (job : Job) → all_consistent h ≡ true → consistent h (Built cut snap) ≡ true → IsRefreshOf h cut refresh → IsViewOf h refresh.view p def view table → refresh.snap ≡ snap
     → AreRanges def.fold.width refresh.span (is_redone_with view.log table.log.entries snap) job.spans → IsFor refresh job.spans job → IsMadeOf def.fold (seen_rows snap table) job → IsJobOf h cut snap job
 job_then h cut snap p refresh def view table job ok next r v snap_is ranges is_for made =
-    let sound_next = (and_parts (finish_fits h cut snap) _ (and_parts (sound h (Built cut snap)) (timely h (Built cut snap)) next).0).0 in
+    let sound_next = (and_parts (finish_fits h cut snap) _ (and_parts (sound h (Built cut snap)) (timely_at h (Built cut snap)) next).0).0 in
     let upto = and_parts _ (nat_le snap (position h)) sound_next in
     let above = and_parts _ (nat_le (base_position h) snap) upto.0 in
     let after = and_parts (is_known (pending h cut)) (nat_le cut snap) above.0 in

@@ -4,7 +4,6 @@ use Rattle.std.specs.Prelude.{is_none, unwrap_or}
 use Rattle.std.specs.List.{slice_get}
 use Rattle.std.specs.Option.{option_and_then}
 use Rattle.std.proofs.lemmas.Bool.{true≢false, and_parts}
-use Rattle.ts_model.specs.Timely.{has_room}
 use Rattle.ts_model.specs.declared.events.Event.{Event}
 use Rattle.ts_model.specs.declared.events.Event.TheVariants.{Table, Hyper, Mode, Commit}
 use Rattle.ts_model.specs.declared.events.Op.{Op}
@@ -15,7 +14,7 @@ use Rattle.ts_model.specs.declared.views.ViewDef.{ViewDef}
 use Rattle.ts_model.specs.History.{History, start, ◌▸◌, position}
 use Rattle.ts_model.specs.Roster.{roster, no_relations, roster_after, hyper_of, table_of, made_hyper, set_only}
 use Rattle.ts_model.specs.Sound.{sound}
-use Rattle.ts_model.specs.Allowed.{all_allowed, allowed}
+use Rattle.ts_model.specs.Allowed.{all_consistent, consistent}
 use Rattle.row_versions.specs.Laws.{is_commit}
 use Rattle.coverage.specs.Laws.{is_quiet}
 use Rattle.refresh_list.specs.Refreshes.{RefreshesStand}
@@ -33,7 +32,7 @@ use Rattle.engine_state.proofs.ViewSteps.{view_stays, view_of_mode, view_commits
 
 pub state_begins : (s : StateValue) → s.position ≡ 0 → s.roster ≡ no_relations → s.tables ≡ [] → s.views ≡ [] → s.refreshes ≡ [] → StandsFor start s
 state_begins s end relations tables views refreshes = record {
-  allowed = refl;
+  consistent = refl;
   position = end;
   roster = relations;
   tables = subst (Each (TableAt start) []) (sym tables) tt;
@@ -43,20 +42,20 @@ state_begins s end relations tables views refreshes = record {
 
 -- ---- what stays
 
-pub all_before : (h : History) (e : Event) → all_allowed (h ▸ e) ≡ true → all_allowed h ≡ true
-all_before h e ok = (and_parts (all_allowed h) (allowed h e) ok).0
+pub all_before : (h : History) (e : Event) → all_consistent (h ▸ e) ≡ true → all_consistent h ≡ true
+all_before h e ok = (and_parts (all_consistent h) (consistent h e) ok).0
 
-pub allowed_next : (h : History) (e : Event) → all_allowed (h ▸ e) ≡ true → allowed h e ≡ true
-allowed_next h e ok = (and_parts (all_allowed h) (allowed h e) ok).1
+pub event_consistent : (h : History) (e : Event) → all_consistent (h ▸ e) ≡ true → consistent h e ≡ true
+event_consistent h e ok = (and_parts (all_consistent h) (consistent h e) ok).1
 
 pub tables_stay : (h : History) (e : Event) (infos : List TableInfo) (tables : List (Option TableValue)) → is_commit e ≡ false → Each (TableAt h) infos tables → Each (TableAt (h ▸ e)) infos tables
 tables_stay h e infos tables quiet s = each_map (TableAt h) (TableAt (h ▸ e)) 0 infos tables (λ t info table. table_is_still h t e info.hyper table quiet) s
 
-pub view_is_still : (n : ℕ) (def : ViewDef) (h : History) (e : Event) (o : Option TableValue) (view : ViewValue) → all_allowed h ≡ true → is_quiet n h e ≡ true → ViewIs h n def o view → ViewIs (h ▸ e) n def o view
+pub view_is_still : (n : ℕ) (def : ViewDef) (h : History) (e : Event) (o : Option TableValue) (view : ViewValue) → all_consistent h ≡ true → is_quiet n h e ≡ true → ViewIs h n def o view → ViewIs (h ▸ e) n def o view
 view_is_still n def h e None view ok quiet s = absurd s
 view_is_still n def h e (Some table) view ok quiet s = view_stays n def h e table.log view ok quiet s
 
-views_stay : (h : History) (e : Event) (tables : List (Option TableValue)) (defs : List ViewDef) (views : List ViewValue) → all_allowed h ≡ true → ((n : ℕ) → is_quiet n h e ≡ true) → Each (ViewAt h tables) defs views → Each (ViewAt (h ▸ e) tables) defs views
+views_stay : (h : History) (e : Event) (tables : List (Option TableValue)) (defs : List ViewDef) (views : List ViewValue) → all_consistent h ≡ true → ((n : ℕ) → is_quiet n h e ≡ true) → Each (ViewAt h tables) defs views → Each (ViewAt (h ▸ e) tables) defs views
 views_stay h e tables defs views ok quiet s = each_map (ViewAt h tables) (ViewAt (h ▸ e) tables) 0 defs views (λ n def view. view_is_still n def h e (table_at tables def.table) view ok (quiet n)) s
 
 -- a view stands however the tables are kept, as long as each that is there keeps its state
@@ -74,13 +73,13 @@ table_at-pushed [] o t table e = absurd (cc)
 table_at-pushed (x ∷ xs) o zero table e = e
 table_at-pushed (x ∷ xs) o (suc t) table e = table_at-pushed xs o t table e
 
-pub state_of_table : (h : History) (def : TableDef) (s new : StateValue) → all_allowed (h ▸ Table def) ≡ true → StandsFor h s → new.position ≡ suc s.position → new.roster ≡ roster_after s.roster (Table def) → new.tables ≡ s.tables ++ (None ∷ []) → new.views ≡ s.views → new.refreshes ≡ s.refreshes → StandsFor (h ▸ Table def) new
+pub state_of_table : (h : History) (def : TableDef) (s new : StateValue) → all_consistent (h ▸ Table def) ≡ true → StandsFor h s → new.position ≡ suc s.position → new.roster ≡ roster_after s.roster (Table def) → new.tables ≡ s.tables ++ (None ∷ []) → new.views ≡ s.views → new.refreshes ≡ s.refreshes → StandsFor (h ▸ Table def) new
 state_of_table h def s new ok st end relations tables views refreshes =
     let e = Table def in
     let before = all_before h (Table def) ok in
     let moved = views_moved (h ▸ Table def) s.tables (s.tables ++ (None ∷ [])) (roster h).views s.views (table_at-pushed s.tables None) (views_stay h (Table def) s.tables (roster h).views s.views before (λ n. refl) st.views) in
     record {
-      allowed = ok;
+      consistent = ok;
       position = end ∙ ap suc st.position;
       roster = relations ∙ ap (λ r. roster_after r e) st.roster;
       tables = subst (Each (TableAt (h ▸ Table def)) (roster (h ▸ Table def)).tables) (sym tables)
@@ -113,14 +112,14 @@ hyper_none : (o : Option HyperInfo) → is_none o ≡ true → o ≡ None
 hyper_none None e = refl
 hyper_none (Some hyper) e = absurd (true≢false (sym e))
 
-pub state_of_hyper : (h : History) (t : ℕ) (hyper : HyperInfo) (s new : StateValue) (table : TableValue) → all_allowed (h ▸ Hyper t hyper) ≡ true → StandsFor h s → table.rows.interval ≡ hyper.interval → table.rows.versions ≡ [] → table.log.entries ≡ [] → new.position ≡ suc s.position → new.roster ≡ roster_after s.roster (Hyper t hyper) → new.tables ≡ set s.tables t (Some table) → new.views ≡ s.views → new.refreshes ≡ s.refreshes → StandsFor (h ▸ Hyper t hyper) new
+pub state_of_hyper : (h : History) (t : ℕ) (hyper : HyperInfo) (s new : StateValue) (table : TableValue) → all_consistent (h ▸ Hyper t hyper) ≡ true → StandsFor h s → table.rows.interval ≡ hyper.interval → table.rows.versions ≡ [] → table.log.entries ≡ [] → new.position ≡ suc s.position → new.roster ≡ roster_after s.roster (Hyper t hyper) → new.tables ≡ set s.tables t (Some table) → new.views ≡ s.views → new.refreshes ≡ s.refreshes → StandsFor (h ▸ Hyper t hyper) new
 state_of_hyper h t hyper s new table ok st interval versions entries end relations tables views refreshes =
     let before = all_before h (Hyper t hyper) ok in
-    let none : hyper_of (roster h) t ≡ None = hyper_none (hyper_of (roster h) t) (and_parts (is_none (hyper_of (roster h) t)) (has_room h) (and_parts (sound h (Hyper t hyper)) _ (allowed_next h (Hyper t hyper) ok)).1).0 in
+    let none : hyper_of (roster h) t ≡ None = hyper_none (hyper_of (roster h) t) (and_parts (sound h (Hyper t hyper)) _ (event_consistent h (Hyper t hyper) ok)).1 in
     let fresh = table_begins h t hyper table before none interval versions entries in
     let kept = λ (u : ℕ) (x : TableValue) (e : table_at s.tables u ≡ Some x). table_at-set s.tables t u table x (gone none) e in
     record {
-      allowed = ok;
+      consistent = ok;
       position = end ∙ ap suc st.position;
       roster = relations ∙ ap (λ r. roster_after r (Hyper t hyper)) st.roster;
       tables = subst (Each (TableAt (h ▸ Hyper t hyper)) (roster (h ▸ Hyper t hyper)).tables) (sym tables)
@@ -158,11 +157,11 @@ view_takes_mode : (n : ℕ) (def : ViewDef) (only : Bool) (h : History) (o : Opt
 view_takes_mode n def only h None view s = absurd s
 view_takes_mode n def only h (Some table) view s = view_of_mode n def only h table.log view s
 
-pub state_of_mode : (h : History) (v : ℕ) (only : Bool) (s new : StateValue) → all_allowed (h ▸ Mode v only) ≡ true → StandsFor h s → new.position ≡ suc s.position → new.roster ≡ roster_after s.roster (Mode v only) → new.tables ≡ s.tables → new.views ≡ s.views → new.refreshes ≡ s.refreshes → StandsFor (h ▸ Mode v only) new
+pub state_of_mode : (h : History) (v : ℕ) (only : Bool) (s new : StateValue) → all_consistent (h ▸ Mode v only) ≡ true → StandsFor h s → new.position ≡ suc s.position → new.roster ≡ roster_after s.roster (Mode v only) → new.tables ≡ s.tables → new.views ≡ s.views → new.refreshes ≡ s.refreshes → StandsFor (h ▸ Mode v only) new
 state_of_mode h v only s new ok st end relations tables views refreshes =
     let before = all_before h (Mode v only) ok in
     record {
-      allowed = ok;
+      consistent = ok;
       position = end ∙ ap suc st.position;
       roster = relations ∙ ap (λ r. roster_after r (Mode v only)) st.roster;
       tables = subst (Each (TableAt (h ▸ Mode v only)) (roster h).tables) (sym tables) (tables_stay h (Mode v only) (roster h).tables s.tables refl st.tables);
@@ -202,7 +201,7 @@ goes_there ops pos t olds news old goes e =
     by_state None at goes = absurd goes
     by_state (Some new) at goes = (new, ap (option_and_then (λ x. x)) at, goes)
 
-view_goes_on : (h : History) (ops : List Op) (infos : List TableInfo) (olds news : List (Option TableValue)) (n : ℕ) (def : ViewDef) (view : ViewValue) → all_allowed h ≡ true → Each (TableAt h) infos olds → Each (GoesIf ops (suc (position h))) olds news → ViewAt h olds n def view → ViewAt (h ▸ Commit ops) news n def view
+view_goes_on : (h : History) (ops : List Op) (infos : List TableInfo) (olds news : List (Option TableValue)) (n : ℕ) (def : ViewDef) (view : ViewValue) → all_consistent h ≡ true → Each (TableAt h) infos olds → Each (GoesIf ops (suc (position h))) olds news → ViewAt h olds n def view → ViewAt (h ▸ Commit ops) news n def view
 view_goes_on h ops infos olds news n def view ok s goes v = by_table (table_at olds def.table) refl v
   where
     by_table : (o : Option TableValue) → table_at olds def.table ≡ o → ViewIs h n def o view → ViewIs (h ▸ Commit ops) n def (table_at news def.table) view
@@ -213,12 +212,12 @@ view_goes_on h ops infos olds news n def view ok s goes v = by_table (table_at o
         subst (λ o. ViewIs (h ▸ Commit ops) n def o view) (sym next.1)
         (view_commits n def h ops old.log next.0.log view ok next.2.threshold (entries_are h def.table ops old next.0 there.1.rows next.2) v)
 
-pub state_of_commit : (h : History) (ops : List Op) (s new : StateValue) → all_allowed (h ▸ Commit ops) ≡ true → StandsFor h s → new.position ≡ suc s.position → new.roster ≡ s.roster → Each (GoesIf ops (suc s.position)) s.tables new.tables → new.views ≡ s.views → new.refreshes ≡ s.refreshes → StandsFor (h ▸ Commit ops) new
+pub state_of_commit : (h : History) (ops : List Op) (s new : StateValue) → all_consistent (h ▸ Commit ops) ≡ true → StandsFor h s → new.position ≡ suc s.position → new.roster ≡ s.roster → Each (GoesIf ops (suc s.position)) s.tables new.tables → new.views ≡ s.views → new.refreshes ≡ s.refreshes → StandsFor (h ▸ Commit ops) new
 state_of_commit h ops s new ok st end relations goes views refreshes =
     let before = all_before h (Commit ops) ok in
     let on : Each (GoesIf ops (suc (position h))) s.tables new.tables = subst (λ p. Each (GoesIf ops (suc p)) s.tables new.tables) st.position goes in
     record {
-      allowed = ok;
+      consistent = ok;
       position = end ∙ ap suc st.position;
       roster = relations ∙ st.roster;
       tables = each_joined (TableAt h) (GoesIf ops (suc (position h))) (TableAt (h ▸ Commit ops)) (roster h).tables s.tables new.tables (λ t info old now. table_goes_on h t ops info.hyper old now ok) st.tables on;

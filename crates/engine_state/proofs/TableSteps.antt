@@ -8,7 +8,7 @@ use Rattle.ts_model.specs.History.{History, ◌▸◌, position}
 use Rattle.ts_model.specs.Roster.{roster, hyper_of}
 use Rattle.ts_model.specs.Rows.{rows}
 use Rattle.ts_model.specs.Effect.{hull_of_ops}
-use Rattle.ts_model.specs.Allowed.{all_allowed}
+use Rattle.ts_model.specs.Allowed.{all_consistent}
 use Rattle.ts_model.proofs.HistoryLaws.{prefix_end}
 use Rattle.coverage.specs.Notes.{logged}
 use Rattle.row_versions.specs.Histories.{Holds}
@@ -32,7 +32,7 @@ table_is_still h t e (Some hyper) None quiet s = absurd s
 table_is_still h t e (Some hyper) (Some table) quiet s = table_stays h t hyper e table quiet s
 
 -- a table that is made a hypertable begins with no row and an empty log
-pub table_begins : (h : History) (t : ℕ) (hyper : HyperInfo) (table : TableValue) → all_allowed h ≡ true → hyper_of (roster h) t ≡ None → table.rows.interval ≡ hyper.interval → table.rows.versions ≡ [] → table.log.entries ≡ [] → TableStands (h ▸ Hyper t hyper) t hyper table
+pub table_begins : (h : History) (t : ℕ) (hyper : HyperInfo) (table : TableValue) → all_consistent h ≡ true → hyper_of (roster h) t ≡ None → table.rows.interval ≡ hyper.interval → table.rows.versions ≡ [] → table.log.entries ≡ [] → TableStands (h ▸ Hyper t hyper) t hyper table
 table_begins h t hyper table ok none interval versions entries = record {
   rows = others_are_held t h (Hyper t hyper) table.rows (tables_begin t h table.rows ok none versions) refl;
   interval = interval;
@@ -47,14 +47,14 @@ rows_are h t table s = s.seen (suc (position h)) ∙ ap (rows t) (prefix_end h (
 pub entries_are : (h : History) (t : ℕ) (ops : List Op) (old new : TableValue) → Holds t h old.rows → TableGoes ops (suc (position h)) t old new → noted_in new.log.entries ≡ logged (hull_of_ops t ops (rows t h)) (suc (position h)) old.log.threshold (noted_in old.log.entries)
 entries_are h t ops old new s goes = goes.entries ∙ ap (λ xs. logged (hull_of_ops t ops xs) (suc (position h)) old.log.threshold (noted_in old.log.entries)) (rows_are h t old s)
 
-pub table_commits : (h : History) (t : ℕ) (hyper : HyperInfo) (ops : List Op) (old new : TableValue) → all_allowed (h ▸ Commit ops) ≡ true → TableGoes ops (suc (position h)) t old new → TableStands h t hyper old → TableStands (h ▸ Commit ops) t hyper new
+pub table_commits : (h : History) (t : ℕ) (hyper : HyperInfo) (ops : List Op) (old new : TableValue) → all_consistent (h ▸ Commit ops) ≡ true → TableGoes ops (suc (position h)) t old new → TableStands h t hyper old → TableStands (h ▸ Commit ops) t hyper new
 table_commits h t hyper ops old new ok goes s = record {
   rows = commits_are_held t h ops old.rows new.rows s.rows goes.rows;
   interval = goes.rows.interval ∙ s.interval;
   log = log_commits t h ops old.log new.log ok (entries_are h t ops old new s.rows goes) s.log;
 }
 
-pub table_goes_on : (h : History) (t : ℕ) (ops : List Op) (o : Option HyperInfo) (old new : Option TableValue) → all_allowed (h ▸ Commit ops) ≡ true → TableIs h t o old → GoesIf ops (suc (position h)) t old new → TableIs (h ▸ Commit ops) t o new
+pub table_goes_on : (h : History) (t : ℕ) (ops : List Op) (o : Option HyperInfo) (old new : Option TableValue) → all_consistent (h ▸ Commit ops) ≡ true → TableIs h t o old → GoesIf ops (suc (position h)) t old new → TableIs (h ▸ Commit ops) t o new
 table_goes_on h t ops None None None ok s goes = tt
 table_goes_on h t ops None None (Some new) ok s goes = absurd goes
 table_goes_on h t ops None (Some old) new ok s goes = absurd s
@@ -62,8 +62,8 @@ table_goes_on h t ops (Some hyper) None new ok s goes = absurd s
 table_goes_on h t ops (Some hyper) (Some old) None ok s goes = absurd goes
 table_goes_on h t ops (Some hyper) (Some old) (Some new) ok s goes = table_commits h t hyper ops old new ok goes s
 
--- a commit that is allowed next may be applied
-pub table_asks : (h : History) (t : ℕ) (ops : List Op) (o : Option HyperInfo) (old : Option TableValue) → all_allowed (h ▸ Commit ops) ≡ true → TableIs h t o old → AsksIf ops (suc (position h)) t old
+-- a commit that may come next may be applied
+pub table_asks : (h : History) (t : ℕ) (ops : List Op) (o : Option HyperInfo) (old : Option TableValue) → all_consistent (h ▸ Commit ops) ≡ true → TableIs h t o old → AsksIf ops (suc (position h)) t old
 table_asks h t ops None None ok s = tt
 table_asks h t ops None (Some old) ok s = absurd s
 table_asks h t ops (Some hyper) None ok s = absurd s

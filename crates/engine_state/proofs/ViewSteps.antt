@@ -22,7 +22,7 @@ use Rattle.ts_model.specs.History.{History, ◌▸◌, position}
 use Rattle.ts_model.specs.Roster.{roster, view_of, set_only}
 use Rattle.ts_model.specs.Rows.{rows}
 use Rattle.ts_model.specs.Effect.{hull_of_ops}
-use Rattle.ts_model.specs.Allowed.{all_allowed}
+use Rattle.ts_model.specs.Allowed.{all_consistent}
 use Rattle.ts_model.specs.Refreshes.{watermark, span_of_cut, is_covered, top_of}
 use Rattle.ts_model.specs.Jobs.{Fits}
 use Rattle.ts_model.specs.Sound.{span_fits}
@@ -54,7 +54,7 @@ log_stays h e log s = record { times = s.times; rising = s.rising; past = upto_n
 
 -- ---- events of which an aggregate hears nothing
 
-pub view_stays : (n : ℕ) (def : ViewDef) (h : History) (e : Event) (log : TableLog) (view : ViewValue) → all_allowed h ≡ true → is_quiet n h e ≡ true → ViewStands h n def log view → ViewStands (h ▸ e) n def log view
+pub view_stays : (n : ℕ) (def : ViewDef) (h : History) (e : Event) (log : TableLog) (view : ViewValue) → all_consistent h ≡ true → is_quiet n h e ≡ true → ViewStands h n def log view → ViewStands (h ▸ e) n def log view
 view_stays n def h e log view ok quiet s = record {
   table = s.table;
   width = s.width;
@@ -93,7 +93,7 @@ view_of_mode n def only h log view s = record {
 
 -- ---- the event that makes it
 
-pub view_begins : (n : ℕ) (def : ViewDef) (h : History) (made : ViewDef) (log : TableLog) (view : ViewValue) → all_allowed h ≡ true → view_of (roster h) n ≡ None → LogStands h log → view.table ≡ def.table → view.log.width ≡ def.fold.width → ((b : ℤ) → pending_at view.log b ≡ cond (in_span (whole_span def.fold.width) b) (Some (suc (position h))) None) → ((b : ℤ) → last_at view.log b ≡ None) → view.groups ≡ [] → view.mark ≡ None → watermark n def h ≡ None → ViewStands (h ▸ View made) n def log view
+pub view_begins : (n : ℕ) (def : ViewDef) (h : History) (made : ViewDef) (log : TableLog) (view : ViewValue) → all_consistent h ≡ true → view_of (roster h) n ≡ None → LogStands h log → view.table ≡ def.table → view.log.width ≡ def.fold.width → ((b : ℤ) → pending_at view.log b ≡ cond (in_span (whole_span def.fold.width) b) (Some (suc (position h))) None) → ((b : ℤ) → last_at view.log b ≡ None) → view.groups ≡ [] → view.mark ≡ None → watermark n def h ≡ None → ViewStands (h ▸ View made) n def log view
 view_begins n def h made log view ok none l table width pending refreshed groups mark no_mark = record {
   table = table;
   width = width;
@@ -118,18 +118,18 @@ times-logged (Some hull) k threshold log times all =
     pushed [] all = (times hull refl, tt)
     pushed (x ∷ xs) all = (all.0, pushed xs all.1)
 
-hull_is_of_times : (t : ℕ) (h : History) (ops : List Op) (hull : Hull) → all_allowed (h ▸ Commit ops) ≡ true → hull_of_ops t ops (rows t h) ≡ Some hull → IsOfTimes hull
+hull_is_of_times : (t : ℕ) (h : History) (ops : List Op) (hull : Hull) → all_consistent (h ▸ Commit ops) ≡ true → hull_of_ops t ops (rows t h) ≡ Some hull → IsOfTimes hull
 hull_is_of_times t h ops hull ok is = let bounds = hulls_are_of_times t h ops hull ok is in record { from = bounds.0; order = bounds.1; upto = bounds.2 }
 
 -- the log of a table notes the hull of a commit
-pub log_commits : (t : ℕ) (h : History) (ops : List Op) (old new : TableLog) → all_allowed (h ▸ Commit ops) ≡ true → noted_in new.entries ≡ logged (hull_of_ops t ops (rows t h)) (suc (position h)) old.threshold (noted_in old.entries) → LogStands h old → LogStands (h ▸ Commit ops) new
+pub log_commits : (t : ℕ) (h : History) (ops : List Op) (old new : TableLog) → all_consistent (h ▸ Commit ops) ≡ true → noted_in new.entries ≡ logged (hull_of_ops t ops (rows t h)) (suc (position h)) old.threshold (noted_in old.entries) → LogStands h old → LogStands (h ▸ Commit ops) new
 log_commits t h ops old new ok entries s = record {
   times = subst (AllByRecursion (λ entry. IsOfTimes entry.hull)) (sym entries) (times-logged (hull_of_ops t ops (rows t h)) (suc (position h)) old.threshold (noted_in old.entries) (λ hull is. hull_is_of_times t h ops hull ok is) s.times);
   rising = subst (RisesFrom None) (sym entries) (rises-logged (position h) None (noted_in old.entries) (hull_of_ops t ops (rows t h)) old.threshold refl s.past s.rising);
   past = ap (is_upto (suc (position h))) entries ∙ upto-logged (position h) (noted_in old.entries) (hull_of_ops t ops (rows t h)) old.threshold s.past;
 }
 
-pub view_commits : (n : ℕ) (def : ViewDef) (h : History) (ops : List Op) (old new : TableLog) (view : ViewValue) → all_allowed h ≡ true → new.threshold ≡ old.threshold → noted_in new.entries ≡ logged (hull_of_ops def.table ops (rows def.table h)) (suc (position h)) old.threshold (noted_in old.entries) → ViewStands h n def old view → ViewStands (h ▸ Commit ops) n def new view
+pub view_commits : (n : ℕ) (def : ViewDef) (h : History) (ops : List Op) (old new : TableLog) (view : ViewValue) → all_consistent h ≡ true → new.threshold ≡ old.threshold → noted_in new.entries ≡ logged (hull_of_ops def.table ops (rows def.table h)) (suc (position h)) old.threshold (noted_in old.entries) → ViewStands h n def old view → ViewStands (h ▸ Commit ops) n def new view
 view_commits n def h ops old new view ok threshold entries s = record {
   table = s.table;
   width = s.width;
@@ -143,7 +143,7 @@ view_commits n def h ops old new view ok threshold entries s = record {
 -- ---- a cut
 
 -- of an aggregate over the table: the log is emptied, and what was in it was fed
-pub view_cut : (n : ℕ) (def : ViewDef) (h : History) (v : ℕ) (span : Span) (old new : TableLog) (view fed_view : ViewValue) → all_allowed h ≡ true → ((v == n) ≡ true → EndsWhole def.fold.width span) → new.threshold ≡ int_max old.threshold span.hi → new.entries ≡ [] → fed_view.table ≡ view.table → fed_view.groups ≡ view.groups → fed_view.mark ≡ view.mark → IsFedTo def.fold.width (noted_in old.entries) view.log fed_view.log → ViewStands h n def old view → ViewStands (h ▸ Cut v span) n def new fed_view
+pub view_cut : (n : ℕ) (def : ViewDef) (h : History) (v : ℕ) (span : Span) (old new : TableLog) (view fed_view : ViewValue) → all_consistent h ≡ true → ((v == n) ≡ true → EndsWhole def.fold.width span) → new.threshold ≡ int_max old.threshold span.hi → new.entries ≡ [] → fed_view.table ≡ view.table → fed_view.groups ≡ view.groups → fed_view.mark ≡ view.mark → IsFedTo def.fold.width (noted_in old.entries) view.log fed_view.log → ViewStands h n def old view → ViewStands (h ▸ Cut v span) n def new fed_view
 view_cut n def h v span old new view fed_view ok ends threshold emptied table groups mark is_fed s = record {
   table = table ∙ s.table;
   width = is_fed.width ∙ s.width;
@@ -171,7 +171,7 @@ greater_none None = refl
 greater_none (Some m) = refl
 
 -- of its own refresh
-pub view_finished : (n : ℕ) (def : ViewDef) (h : History) (cut snap : ℕ) (span : Span) (spans : List Span) (groups : List Group) (top : Option ℤ) (log : TableLog) (old new : ViewValue) (renewed : List Span) (put : List Group) → all_allowed h ≡ true → view_of (roster h) n ≡ Some def → Fits n def h cut snap span spans groups top → new.table ≡ old.table → new.log.width ≡ old.log.width → ((b : ℤ) → pending_at new.log b ≡ cond (in_span span b) (above snap (pending_at old.log b)) (pending_at old.log b)) → ((b : ℤ) → last_at new.log b ≡ cond (in_span span b) (later (last_at old.log b) (Some snap)) (last_at old.log b)) → new.mark ≡ greater old.mark top → AreRenewed n def h snap spans groups renewed put → AreReplaced renewed put old.groups new.groups → ViewStands h n def log old → ViewStands (h ▸ Built cut snap) n def log new
+pub view_finished : (n : ℕ) (def : ViewDef) (h : History) (cut snap : ℕ) (span : Span) (spans : List Span) (groups : List Group) (top : Option ℤ) (log : TableLog) (old new : ViewValue) (renewed : List Span) (put : List Group) → all_consistent h ≡ true → view_of (roster h) n ≡ Some def → Fits n def h cut snap span spans groups top → new.table ≡ old.table → new.log.width ≡ old.log.width → ((b : ℤ) → pending_at new.log b ≡ cond (in_span span b) (above snap (pending_at old.log b)) (pending_at old.log b)) → ((b : ℤ) → last_at new.log b ≡ cond (in_span span b) (later (last_at old.log b) (Some snap)) (last_at old.log b)) → new.mark ≡ greater old.mark top → AreRenewed n def h snap spans groups renewed put → AreReplaced renewed put old.groups new.groups → ViewStands h n def log old → ViewStands (h ▸ Built cut snap) n def log new
 view_finished n def h cut snap span spans groups top log old new renewed put ok there f table width pending refreshed mark renews replaces s = record {
   table = table ∙ s.table;
   width = width ∙ s.width;
@@ -188,7 +188,7 @@ view_finished n def h cut snap span spans groups top log old new renewed put ok 
 }
 
 -- of another's
-pub view_unfinished : (n : ℕ) (def : ViewDef) (h : History) (cut snap : ℕ) (log : TableLog) (view : ViewValue) → all_allowed h ≡ true → span_of_cut n h cut ≡ None → ViewStands h n def log view → ViewStands (h ▸ Built cut snap) n def log view
+pub view_unfinished : (n : ℕ) (def : ViewDef) (h : History) (cut snap : ℕ) (log : TableLog) (view : ViewValue) → all_consistent h ≡ true → span_of_cut n h cut ≡ None → ViewStands h n def log view → ViewStands (h ▸ Built cut snap) n def log view
 view_unfinished n def h cut snap log view ok other s = record {
   table = s.table;
   width = s.width;

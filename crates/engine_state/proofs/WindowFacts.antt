@@ -59,11 +59,11 @@ pub window_has : (h : History) (n : ℕ) (s : StateValue) (def : ViewDef) (view 
 window_has h n s def view table st there own at =
     let held = (stands_there h (roster h).tables s.tables view.table table st.tables at).1.rows in
     let tells = held_tables_tell view.table h table.rows held in
-    let width = view_width h n def st.allowed there in
+    let width = view_width h n def st.consistent there in
     let now : prefix h s.position ≡ h = ap (prefix h) st.position ∙ prefix_end h (position h) (omega arith) in
     record {
-      mark_ends = if_there view.mark (IsMark def.fold.width) (subst (λ m. IfSome m (IsMark def.fold.width)) (sym own.stands.mark) (watermark_ends n def h width (is_of_itself def (view_of (roster h) n) there) st.allowed));
-      latest_time = if_there _ _ (subst (λ o. IfSome o (λ t. IsTrue (is_time t))) (sym (tells.latest s.position)) (latest_is_time (rows view.table (prefix h s.position)) (rows_are_times.rows view.table h s.position st.allowed)));
+      mark_ends = if_there view.mark (IsMark def.fold.width) (subst (λ m. IfSome m (IsMark def.fold.width)) (sym own.stands.mark) (watermark_ends n def h width (is_of_itself def (view_of (roster h) n) there) st.consistent));
+      latest_time = if_there _ _ (subst (λ o. IfSome o (λ t. IsTrue (is_time t))) (sym (tells.latest s.position)) (latest_is_time (rows view.table (prefix h s.position)) (rows_are_times.rows view.table h s.position st.consistent)));
       mark_is = own.stands.mark;
       end_is = tells.last_bucket s.position def.fold.width width ∙ ap (λ g. last_end def.fold.width (rows view.table g)) now ∙ ap (λ t. last_end def.fold.width (rows t h)) own.named;
     }

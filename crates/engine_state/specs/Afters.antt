@@ -3,7 +3,7 @@ use Rattle.std.specs.Prelude.{◌≡◌, ℕ, true, Option}
 use Rattle.ts_model.specs.declared.events.Event.{Event}
 use Rattle.ts_model.specs.declared.events.Event.TheVariants.{Commit, Built}
 use Rattle.ts_model.specs.History.{History}
-use Rattle.ts_model.specs.Allowed.{allowed}
+use Rattle.ts_model.specs.Allowed.{consistent}
 use Rattle.ts_model.specs.Calls.{committed}
 use Rattle.refresh_build.specs.declared.jobs.Job.{Job}
 use Rattle.refresh_build.specs.Fitting.{JobIsFor}
@@ -19,11 +19,11 @@ CountsAre h e inserted removed = (inserted ≡ 0) × (removed ≡ 0)
 pub record IsNext (s : StateValue) (e : Event) (job : Option Job) : Type 0 where
   pub history : History
   pub stands : StandsFor history s
-  pub fits : allowed history e ≡ true
+  pub fits : consistent history e ≡ true
   pub job_is : JobIsFor history e job
 
 -- the finish of a refresh with this snapshot may come next
 pub record IsNextFinish (s : StateValue) (cut snap : ℕ) : Type 0 where
   pub history : History
   pub stands : StandsFor history s
-  pub fits : allowed history (Built cut snap) ≡ true
+  pub fits : consistent history (Built cut snap) ≡ true

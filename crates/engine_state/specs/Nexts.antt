@@ -6,16 +6,16 @@ use Rattle.ts_model.specs.declared.refreshes.Window.{Window}
 use Rattle.ts_model.specs.declared.tables.TableDef.{TableDef}
 use Rattle.ts_model.specs.History.{History, ◌▸◌}
 use Rattle.ts_model.specs.Roster.{view_of}
-use Rattle.ts_model.specs.Allowed.{allowed}
+use Rattle.ts_model.specs.Allowed.{consistent}
 use Rattle.ts_model.specs.Windows.{window}
 use Rattle.refresh_build.specs.declared.jobs.Job.{Job}
 use Rattle.refresh_build.specs.Fitting.{JobFits, JobIsFor}
 use Rattle.engine_state.specs.Stands.{StateValue, StandsFor}
 use Rattle.engine_state.specs.Afters.{CountsAre}
 
--- whatever history a state stands for, where the event is allowed next, the new one stands for the history with it
+-- whatever history a state stands for, where the event is consistent with it, the new one stands for the history with it
 abbrev pub StepsTo : StateValue → Event → StateValue → Type 0
-StepsTo s e new = (h : History) → StandsFor h s → allowed h e ≡ true → StandsFor (h ▸ e) new
+StepsTo s e new = (h : History) → StandsFor h s → consistent h e ≡ true → StandsFor (h ▸ e) new
 
 -- the same of the event that makes a table, and of one that sets a mode
 abbrev pub TablesTo : StateValue → Event → StateValue → Type 0
@@ -26,17 +26,17 @@ ModesTo s e new = (view : ℕ) (only : Bool) → e ≡ Mode view only → StepsT
 
 -- the same of any event with a job, where the job is for it
 abbrev pub GoesTo : StateValue → Event → Option Job → StateValue → Type 0
-GoesTo s e job new = (h : History) → StandsFor h s → allowed h e ≡ true → JobIsFor h e job → StandsFor (h ▸ e) new
+GoesTo s e job new = (h : History) → StandsFor h s → consistent h e ≡ true → JobIsFor h e job → StandsFor (h ▸ e) new
 
 -- the same of the finish with a job, where the job fits the history
 abbrev pub FinishesTo : StateValue → Job → StateValue → Type 0
 FinishesTo s job new =
-    (h : History) → StandsFor h s → allowed h (Built job.cut job.snap) ≡ true → JobFits h job
+    (h : History) → StandsFor h s → consistent h (Built job.cut job.snap) ≡ true → JobFits h job
     → StandsFor (h ▸ Built job.cut job.snap) new
 
 -- and the event appends and takes away so many rows
 abbrev pub Counts : StateValue → Event → ℕ → ℕ → Type 0
-Counts s e inserted removed = (h : History) → StandsFor h s → allowed h e ≡ true → CountsAre h e inserted removed
+Counts s e inserted removed = (h : History) → StandsFor h s → consistent h e ≡ true → CountsAre h e inserted removed
 
 -- whatever history a state stands for, a refresh of an aggregate with this window covers these buckets
 abbrev pub WindowIs : StateValue → ℕ → Option ℤ → Option ℤ → Window → Type 0

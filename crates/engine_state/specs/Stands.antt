@@ -5,7 +5,7 @@ use Rattle.ts_model.specs.declared.tables.TableInfo.{TableInfo}
 use Rattle.ts_model.specs.declared.views.ViewDef.{ViewDef}
 use Rattle.ts_model.specs.History.{History, position}
 use Rattle.ts_model.specs.Roster.{roster}
-use Rattle.ts_model.specs.Allowed.{all_allowed}
+use Rattle.ts_model.specs.Allowed.{all_consistent}
 use Rattle.refresh_list.specs.declared.refreshes.Refresh.{Refresh}
 use Rattle.refresh_list.specs.Refreshes.{RefreshesStand}
 use Rattle.engine_state.specs.Lists.{Each}
@@ -32,10 +32,10 @@ TableAt h t info table = TableIs h t info.hyper table
 abbrev pub ViewAt : History → List (Option TableValue) → ℕ → ViewDef → ViewValue → Type 0
 ViewAt h tables n def view = ViewIs h n def (table_at tables def.table) view
 
--- a state stands for a history, which is an allowed one. (A field hides the word of its name in those after it, so
+-- a state stands for a history, which is a consistent one. (A field hides the word of its name in those after it, so
 -- two names come last.)
 pub record StandsFor (h : History) (s : StateValue) : Type 0 where
-  pub allowed : all_allowed h ≡ true
+  pub consistent : all_consistent h ≡ true
   -- each table of the roster has the state of that number, and so has each aggregate
   pub tables : Each (TableAt h) (roster h).tables s.tables
   pub views : Each (ViewAt h s.tables) (roster h).views s.views

@@ -3,7 +3,7 @@ ghost use Rattle.std.specs.Prelude.{◌≡◌, IfOk, IsTrue, Some};
 ghost use Rattle.std.specs.Thread.{IsSync};
 ghost use Rattle.ts_schema.specs.Counts.{Ticks};
 ghost use Rattle.ts_model.specs.declared.events.Event.TheVariants.{Built};
-ghost use Rattle.ts_model.specs.Allowed.{allowed};
+ghost use Rattle.ts_model.specs.Allowed.{consistent};
 ghost use Rattle.ts_model.specs.History.{History, position};
 ghost use Rattle.ts_model.specs.Pending.{is_waiting, pending};
 ghost use Rattle.ts_model.specs.Reads.{job_reads};
@@ -73,7 +73,7 @@ impl Parts {
     ) -> Result<Job, NoMemory>
         requires next { IsNextFinish self.now cut snap }
         ensures job { (h : History) → StandsFor h self.now
-            → IsTrue (allowed h (Built cut snap))
+            → IsTrue (consistent h (Built cut snap))
             → IfOk result (IsJobOf h cut snap) }
     {
         let refresh = self.refresh(cut, snap);
@@ -115,14 +115,14 @@ impl State {
         self.parts.start_job(rt, self.alloc, cut, steps)
     }
 
-    /// The job of the finish of a refresh with this snapshot, which is allowed next, as a journal tells
+    /// The job of the finish of a refresh with this snapshot, which may come next, as a journal tells
     /// it. It makes anew the buckets that are out of date, and those that were refreshed at a later
     /// snapshot.
     pub fn rebuild<R: Threads + Sync>(&self, rt: &R, cut: u64, snap: u64) -> Result<Job, NoMemory>
         requires sync { IsSync R.row }
         requires next { IsNextFinish self.now cut snap }
         ensures job { (h : History) → StandsFor h self.now
-            → IsTrue (allowed h (Built cut snap))
+            → IsTrue (consistent h (Built cut snap))
             → IfOk result (IsJobOf h cut snap) }
     {
         self.parts.rebuild(rt, self.alloc, cut, snap)

@@ -7,6 +7,7 @@ mod cuts;
 mod finishes;
 mod jobs;
 mod parts;
+mod queues;
 mod rosters;
 mod scans;
 mod states;

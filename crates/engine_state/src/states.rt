@@ -16,7 +16,7 @@ use std::marker::Model;
 use ts_model::{Event, Pending, Roster, Waiting, Window};
 use ts_schema::{NoMemory, Seq};
 
-/// The state of an engine: what it keeps of a history. It stands for an allowed history.
+/// The state of an engine: what it keeps of a history. It stands for a consistent history.
 #[derive(Drop)]
 pub struct State {
     pub(crate) alloc: Global,
@@ -95,8 +95,8 @@ impl State {
         self.parts.window(view, lo, hi)
     }
 
-    /// The state after an event that is allowed next. One that finishes a refresh comes with a job of
-    /// it. The state itself stays as it was, and the two share what the event leaves alone.
+    /// The state after an event that is consistent with the history. One that finishes a refresh comes
+    /// with a job of it. The state itself stays as it was, and the two share what the event leaves alone.
     pub fn after(&self, event: &Event, job: Option<Job>) -> Result<After, NoMemory>
         requires next { IsNext self.now event.now job }
         ensures stands { IfOk result (λ after. GoesTo self.now event.now job after.state) }

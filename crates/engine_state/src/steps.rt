@@ -87,7 +87,7 @@ impl Parts {
     }
 
     /// What operations made of the parts.
-    fn with_ops(&self, alloc: Global, ops: &Seq<Op>) -> Result<Step, NoMemory>
+    pub(crate) fn with_ops(&self, alloc: Global, ops: &Seq<Op>) -> Result<Step, NoMemory>
         requires next { IsNext self.now (Commit ops.now) None }
         ensures stands { IfOk result (λ step. StepsTo self.now (Commit ops.now) step.parts) }
         ensures counts { IfOk result (λ step. Counts self.now (Commit ops.now) step.inserted step.removed) }
@@ -148,7 +148,7 @@ impl Parts {
         })
     }
 
-    /// What an event that is allowed next made of the parts. One that finishes a refresh comes with a
+    /// What an event that may come next made of the parts. One that finishes a refresh comes with a
     /// job of it.
     pub(crate) fn after(
         &self,

@@ -37,7 +37,7 @@ redone_with-requires-clause-whole g c =
     let waits = c.refresh-refresh.ensures.refresh h st in
     let seen = c.view_seen-seen.ensures.view h st in
     let width = ap (λ (l : LogValue). l.width) c.log-log.ensures.log ∙ seen.stands.width in
-    subst (λ w. IsWholeSpan w refresh.span) (sym width) (whole_cut h refresh.view c.args.cut refresh.span c.view_seen-seen.result.def.now st.allowed seen.there waits.span_is)
+    subst (λ w. IsWholeSpan w refresh.span) (sym width) (whole_cut h refresh.view c.args.cut refresh.span c.view_seen-seen.result.def.now st.consistent seen.there waits.span_is)
 
 pub redone_with-requires-clause-within : goal.redone_with-requires-clause-within
 redone_with-requires-clause-within g c =
@@ -45,7 +45,7 @@ redone_with-requires-clause-within g c =
     let st = c.requires.next.stands in
     let refresh = c.refresh-refresh.result in
     let found = c.view_seen-seen.result in
-    let asks = view_asks h refresh.view found.rows.position found.def.now found.state.now found.rows.table.now st.allowed (c.view_seen-seen.ensures.view h st) in
+    let asks = view_asks h refresh.view found.rows.position found.def.now found.state.now found.rows.table.now st.consistent (c.view_seen-seen.ensures.view h st) in
     let entries = c.entries-entries.ensures.entries ∙ ap (λ (l : TableLog). l.entries) c.log.ensures.log in
     subst (λ (l : LogValue). AreWithin c.entries-entries.result.now.items l) (sym c.log-log.ensures.log)
     (subst (λ es. AreWithin es found.state.now.log) (sym entries) asks.within)
@@ -66,7 +66,7 @@ build_ranges-requires-clause-times g c κs within =
     let h = c.requires.next.history in
     let st = c.requires.next.stands in
     let found = c.view_seen-seen.result in
-    times_then h found.def.now.table found.rows.position c.args.snap found.rows.table.now st.allowed (c.view_seen-seen.ensures.view h st).table_is
+    times_then h found.def.now.table found.rows.position c.args.snap found.rows.table.now st.consistent (c.view_seen-seen.ensures.view h st).table_is
 
 pub returns : goal.returns
 returns g c = record {
@@ -85,7 +85,7 @@ returns g c = record {
       both_ok c.build_ranges.result (IsFor refresh spans) (IsMadeOf def.fold (seen_rows c.args.snap found.rows.table.now)) (IsJobOf h c.args.cut c.args.snap)
       (λ job is_for made.
       let same = sym is_for.spans_are in
-      job_then h c.args.cut c.args.snap found.rows.position refresh def found.state.now found.rows.table.now job st.allowed next waits seen c.refresh-refresh.ensures.snap
+      job_then h c.args.cut c.args.snap found.rows.position refresh def found.state.now found.rows.table.now job st.consistent next waits seen c.refresh-refresh.ensures.snap
       (subst (λ ss. AreRanges def.fold.width refresh.span (is_redone_with found.state.now.log found.rows.table.now.log.entries c.args.snap) ss) same ranges)
       (subst (λ ss. IsFor refresh ss job) same is_for) made)
       c.build_ranges.ensures.refresh c.build_ranges.ensures.made;

@@ -33,7 +33,7 @@ build-requires-clause-whole g c κs within =
     let waits = c.refresh-refresh.ensures.refresh h st in
     let seen = c.view_seen-seen.ensures.view h st in
     let width = ap (λ (l : LogValue). l.width) c.log-log.ensures.log ∙ seen.stands.width in
-    subst (λ w. IsWholeSpan w refresh.span) (sym width) (whole_cut h refresh.view c.args.cut refresh.span c.view_seen-seen.result.def.now st.allowed seen.there waits.span_is)
+    subst (λ w. IsWholeSpan w refresh.span) (sym width) (whole_cut h refresh.view c.args.cut refresh.span c.view_seen-seen.result.def.now st.consistent seen.there waits.span_is)
 
 pub build-requires-clause-width : goal.build-requires-clause-width
 build-requires-clause-width g c κs within =
@@ -46,7 +46,7 @@ build-requires-clause-within g c κs within =
     let st = c.requires.stands.stands in
     let found = c.view_seen-seen.result in
     let entries = c.entries-entries.ensures.entries ∙ ap (λ (l : TableLog). l.entries) c.log.ensures.log in
-    let asks = view_asks h c.refresh-refresh.result.view found.rows.position found.def.now found.state.now found.rows.table.now st.allowed (c.view_seen-seen.ensures.view h st) in
+    let asks = view_asks h c.refresh-refresh.result.view found.rows.position found.def.now found.state.now found.rows.table.now st.consistent (c.view_seen-seen.ensures.view h st) in
     subst (λ (l : LogValue). AreWithin c.entries-entries.result.now.items l) (sym c.log-log.ensures.log)
     (subst (λ es. AreWithin es found.state.now.log) (sym entries) asks.within)
 
@@ -67,7 +67,7 @@ returns-clause-job g c h st =
     (IsMadeOf found.def.now.fold (seen_rows found.rows.position found.rows.table.now))
     (λ job. JobFits h job × (job.cut ≡ c.args.cut) × (job.snap ≡ position h))
     (λ job ranges is_for made.
-    job_now h c.args.cut found.rows.position refresh found.def.now found.state.now found.rows.table.now job st.allowed waits seen snap
+    job_now h c.args.cut found.rows.position refresh found.def.now found.state.now found.rows.table.now job st.consistent waits seen snap
     (subst (λ es. AreRanges found.def.now.fold.width refresh.span (is_dirty_with found.state.now.log es) job.spans) entries
     (subst (λ (l : LogValue). AreRanges found.def.now.fold.width refresh.span (is_dirty_with l c.entries-entries.result.now.items) job.spans) c.log-log.ensures.log ranges))
     is_for made)
@@ -82,8 +82,8 @@ returns-clause-read g c h st =
     let seen = c.view_seen-seen.ensures.view h st in
     let entries = c.entries-entries.ensures.entries ∙ ap (λ (l : TableLog). l.entries) c.log.ensures.log in
     let dirty = dirty_ranges refresh.view def h refresh.span in
-    let wide = view_width h refresh.view def st.allowed seen.there in
-    let ranges = dirty_are h refresh.view def found.rows.table.now found.state.now st.allowed seen.there seen.stands wide c.args.cut refresh.span waits.span_is in
+    let wide = view_width h refresh.view def st.consistent seen.there in
+    let ranges = dirty_are h refresh.view def found.rows.table.now found.state.now st.consistent seen.there seen.stands wide c.args.cut refresh.span waits.span_is in
     let own =
     subst (λ (l : LogValue). AreRanges def.fold.width refresh.span (is_dirty_with l c.entries-entries.result.now.items) dirty) (sym c.log-log.ensures.log)
     (subst (λ es. AreRanges def.fold.width refresh.span (is_dirty_with found.state.now.log es) dirty) (sym entries) ranges) in

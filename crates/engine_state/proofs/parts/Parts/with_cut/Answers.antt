@@ -77,7 +77,7 @@ returns c = record {
       let same : c.items.result.now ≡ s.views = c.items.ensures.items ∙ ap (λ (s : StateValue). s.views) c.self.view_is in
       let fed : Each (FedAt own.0.table table) s.views c.in_ok-views.views =
       subst (λ t. Each (FedAt t table) s.views c.in_ok-views.views) named (subst (λ (views : List ViewValue). Each (FedAt number table) views c.in_ok-views.views) same c.in_ok-views.ensures.fed) in
-      state_of_cut h c.args.view c.args.span s own.0 table new (and_from _ _ st.allowed ok) st own.1 table_is cut _
+      state_of_cut h c.args.view c.args.span s own.0 table new (and_from _ _ st.consistent ok) st own.1 table_is cut _
       c.in_ok-position.ensures.next c.in_ok-same_roster.ensures.same
       (c.tables-2.view_is ∙ c.set.ensures.set ∙ ap (λ (tables : List (Option TableValue)). set tables number (Some new)) (c.in_ok-tables.ensures.same ∙ ap (λ (s : StateValue). s.tables) c.self.view_is) ∙ ap (λ t. set s.tables t (Some new)) named)
       (subst (λ (views : List ViewValue). Each (FedAt own.0.table table) s.views views) (sym c.views-2.view_is) fed)

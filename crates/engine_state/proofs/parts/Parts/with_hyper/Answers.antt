@@ -27,7 +27,7 @@ returns c = record {
       let high : c.args.hyper.interval ≤ℤ max_interval = bounds.1 in
       let fits : FitsSigned w64 c.args.hyper.interval = record { sfits = omega (arith, ints) } in
       let interval : c.in_ok-state.state.rows.interval ≡ c.args.hyper.interval = c.in_ok-state.ensures.interval ∙ to_z-of_z w64 c.args.hyper.interval fits in
-      state_of_hyper h c.args.table c.args.hyper s _ c.in_ok-state.state (and_from _ _ st.allowed ok) st interval c.in_ok-state.ensures.versions c.in_ok-state.ensures.entries
+      state_of_hyper h c.args.table c.args.hyper s _ c.in_ok-state.state (and_from _ _ st.consistent ok) st interval c.in_ok-state.ensures.versions c.in_ok-state.ensures.entries
       (ap (λ (s : StateValue). s.position) c.new-2.view_is ∙ c.in_ok-new.ensures.position)
       (ap (λ (s : StateValue). s.roster) c.new-2.view_is ∙ c.in_ok-new.ensures.roster ∙ ap (roster_after s.roster) c.requires.event)
       (c.set.ensures.set ∙ ap (λ (tables : List (Option TableValue)). set tables c.args.table (Some c.in_ok-state.state)) (ap (λ (s : StateValue). s.tables) c.new-2.view_is ∙ c.in_ok-new.ensures.tables))

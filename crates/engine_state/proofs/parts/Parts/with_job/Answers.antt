@@ -31,7 +31,7 @@ renewed-requires-clause-whole c =
     let item : view ≡ get_or s.views job.view view = c.get-view.ensures.item ∙ ap (λ (s : StateValue). get_or s.views job.view view) c.self.view_is in
     let own = view_there n.history job.view s has.def view n.stands has.there (got s.views job.view view (view_place n.history job.view s has.def n.stands has.there) item) in
     let width = ap (λ l. l.width) c.log.ensures.log ∙ own.stands.width in
-    subst (λ w. IsWholeSpan w job.span) (sym width) (job_whole n.history job has.def n.stands.allowed has.there has.fits)
+    subst (λ w. IsWholeSpan w job.span) (sym width) (job_whole n.history job has.def n.stands.consistent has.there has.fits)
 
 pub renewed-requires-clause-ranges : goal.renewed-requires-clause-ranges
 renewed-requires-clause-ranges c =
@@ -54,7 +54,7 @@ finished-requires-clause-whole c =
     let has = job_has n.history job n.job_is.2 in
     let item : view ≡ get_or s.views job.view view = c.get-view.ensures.item ∙ ap (λ (s : StateValue). get_or s.views job.view view) c.self.view_is in
     let own = view_there n.history job.view s has.def view n.stands has.there (got s.views job.view view (view_place n.history job.view s has.def n.stands has.there) item) in
-    subst (λ w. IsWholeSpan w job.span) (sym own.stands.width) (job_whole n.history job has.def n.stands.allowed has.there has.fits)
+    subst (λ w. IsWholeSpan w job.span) (sym own.stands.width) (job_whole n.history job has.def n.stands.consistent has.there has.fits)
 
 pub finished-requires-clause-sizes : goal.finished-requires-clause-sizes
 finished-requires-clause-sizes c = ranges_sizes c.log.result.now.width c.in_ok-renewed.renewed c.in_ok-renewed.ensures.ranges.whole
@@ -84,8 +84,8 @@ returns c = record {
       let log = c.log.result.now in
       let width = ap (λ l. l.width) c.log.ensures.log ∙ own.stands.width in
       let ranges = subst (λ (spans : List Span). AreRanges log.width job.span (λ b. lies_in spans b && is_renewed log job.snap b) c.in_ok-renewed.renewed) c.items.ensures.items c.in_ok-renewed.ensures.ranges in
-      let renews = job_renews h job has.def log c.in_ok-renewed.renewed (job_whole h job has.def st.allowed has.there has.fits) has.fits width (λ b bucket. ap (λ l. last_at l b) c.log.ensures.log ∙ own.stands.covered.refreshed b bucket) ranges in
-      state_of_finish h job.cut job.snap job.view s _ has.def job.span job.spans job.groups job.top view c.in_ok-done.done c.in_ok-renewed.renewed job.groups (and_from _ _ st.allowed ok) st has.there has.fits at c.in_ok-done.ensures.finished renews
+      let renews = job_renews h job has.def log c.in_ok-renewed.renewed (job_whole h job has.def st.consistent has.there has.fits) has.fits width (λ b bucket. ap (λ l. last_at l b) c.log.ensures.log ∙ own.stands.covered.refreshed b bucket) ranges in
+      state_of_finish h job.cut job.snap job.view s _ has.def job.span job.spans job.groups job.top view c.in_ok-done.done c.in_ok-renewed.renewed job.groups (and_from _ _ st.consistent ok) st has.there has.fits at c.in_ok-done.ensures.finished renews
       c.in_ok-position.ensures.next c.in_ok-same_roster.ensures.same
       (c.in_ok-copy.ensures.same ∙ ap (λ (s : StateValue). s.tables) c.self.view_is)
       (c.views.view_is ∙ c.set.ensures.set ∙ ap (λ (views : List ViewValue). set views job.view c.in_ok-done.done) (c.in_ok-views.ensures.same ∙ ap (λ (s : StateValue). s.views) c.self.view_is))

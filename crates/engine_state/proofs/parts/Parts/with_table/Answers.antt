@@ -11,7 +11,7 @@ pub returns : goal.returns
 returns c = record {
   stands = λ def is h st ok.
       let s = c.args.self.now in
-      state_of_table h def s _ (and_from _ _ st.allowed ok) st
+      state_of_table h def s _ (and_from _ _ st.consistent ok) st
       (ap (λ (s : StateValue). s.position) c.new.view_is ∙ c.in_ok-new.ensures.position)
       (ap (λ (s : StateValue). s.roster) c.new.view_is ∙ c.in_ok-new.ensures.roster ∙ ap (roster_after s.roster) is)
       (c.in_ok-push.ensures.pushed ∙ ap (λ (tables : List (Option TableValue)). tables ++ (None ∷ [])) (ap (λ (s : StateValue). s.tables) c.new.view_is ∙ c.in_ok-new.ensures.tables))

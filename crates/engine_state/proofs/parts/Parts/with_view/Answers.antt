@@ -17,7 +17,7 @@ returns c = record {
       let view = c.in_ok-view.view in
       let made = c.in_ok-view.ensures in
       let position : c.new.inside.position ≡ suc s.position = ap (λ (s : StateValue). s.position) c.new.view_is ∙ c.in_ok-new.ensures.position in
-      state_of_view h def s _ view (and_from _ _ st.allowed ok) st made.table made.width
+      state_of_view h def s _ view (and_from _ _ st.consistent ok) st made.table made.width
       (λ b. made.pending b ∙ ap (λ p. cond (in_span (whole_span def.fold.width) b) (Some p) None) position)
       made.refreshed made.groups made.mark position
       (ap (λ (s : StateValue). s.roster) c.new.view_is ∙ c.in_ok-new.ensures.roster ∙ ap (roster_after s.roster) c.requires.event)
