@@ -26,6 +26,7 @@ use Rattle.ts_model.specs.Windows.{window}
 use Rattle.std.specs.Option.{ForSome}
 use Rattle.ts_bucket.specs.Bucket.{is_time}
 use Rattle.ts_model.specs.Laws.{SoundCut}
+use Rattle.ts_model.proofs.AllowedLaws.{consistent_of}
 use Rattle.ts_model.proofs.MadeLaws.{calls_make_allowed}
 use Rattle.ts_model.specs.Calls.{refuses, makes, history_full, committed, making, numbered, new_relation, refusal, name_taken, too_many, finish_of, making_table, making_hyper, making_view, setting_mode, finishing, cutting, cut_of_view, cut_over}
 use Rattle.event_check.specs.Checks.{refusal_in, call_refusal, event_refusal, no_number}
@@ -145,4 +146,4 @@ cut_sound n lo hi h w span ok there is same time = by_view (view_of (roster h) n
   where
     by_view : (o : Option ViewDef) → view_of (roster h) n ≡ o → IsSome o → IfSome o (λ def. w ≡ window n def h lo hi) → IsTrue (sound h (Cut n span))
     by_view None at some found = absurd (true≢false (sym some))
-    by_view (Some def) at some found = subst (SoundCut n h) (sym found ∙ same) (calls_make_allowed.windows n def h lo hi ok at time)
+    by_view (Some def) at some found = subst (SoundCut n h) (sym found ∙ same) (calls_make_allowed.windows n def h lo hi (consistent_of h ok) at time)

@@ -1,9 +1,10 @@
 -- What one more event does.
-use Rattle.std.specs.Prelude.{suc}
+use Rattle.std.specs.Prelude.{◌≡◌, suc, true}
 use Rattle.ts_model.specs.declared.events.Event.{Event}
 use Rattle.ts_model.specs.declared.events.Event.TheVariants.{Table, Hyper, View, Mode, Commit, Cut, Built}
 use Rattle.ts_model.specs.declared.outcomes.Committed.{Committed}
 use Rattle.ts_model.specs.History.{History, ◌▸◌, position}
+use Rattle.ts_model.specs.Allowed.{allowed}
 use Rattle.ts_model.specs.Calls.{committed}
 use Rattle.engine_state.specs.Stands.{StandsFor}
 use Rattle.engine_state.specs.Afters.{CountsAre}
@@ -23,7 +24,8 @@ effect_of h (Commit ops) = committed ops h
 effect_of h (Cut v span) = moves_none h
 effect_of h (Built cut snap) = moves_none h
 
--- it was prepared for this history: its state stands for the history with its event
+-- it was prepared for this history: its event is allowed next, and its state stands for the history with it
 pub record IsPreparedFor (h : History) (p : PreparedValue) : Type 0 where
+  pub allowed : allowed h p.event ≡ true
   pub stands : StandsFor (h ▸ p.event) p.state
   pub counts : CountsAre h p.event p.inserted p.removed

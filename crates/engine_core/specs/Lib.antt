@@ -1,5 +1,6 @@
 pub mod Histories
 pub mod Values
+pub mod States
 pub mod Effects
 pub mod Acts
 pub mod Stores

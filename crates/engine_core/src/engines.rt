@@ -42,15 +42,15 @@ pub struct Engine {
 impl Model for Engine {
     ghost use Rattle.std.specs.Prelude.{◌-◌, vec_capacity, vec_len};
     ghost use Rattle.std.specs.Arc.{arc_value};
-    ghost use Rattle.engine_state.specs.Stands.{StandsFor};
     ghost use Rattle.engine_core.specs.Histories.{history_of};
+    ghost use Rattle.engine_core.specs.States.{IsStateOf};
     ghost use Rattle.engine_core.specs.Values.{EngineValue};
 
     ghost Value = { EngineValue };
 
     ghost view = { λ e. record { events = e.events.items; room = vec_capacity e.events - vec_len e.events } };
 
-    ghost invariant = { λ e. StandsFor (history_of e.events.items) (arc_value e.state) };
+    ghost invariant = { λ e. IsStateOf (history_of e.events.items) (arc_value e.state) };
 }
 
 /// What became of the refresh that an event finishes.
@@ -77,6 +77,7 @@ fn next_refusal(state: &State, event: &Event) -> Option<Refusal>
 }
 
 /// Takes the memory for the state after an event that is allowed next.
+#[tactic(auto, using(ts_model::proofs::AllowedLaws::consistent_next))]
 fn prepared_for(
     alloc: Global,
     state: &State,
@@ -137,6 +138,7 @@ impl Engine {
 
     /// Takes all memory for an event that is allowed next. An event that finishes a refresh needs a
     /// job of it. The history stays as it is.
+    #[tactic(auto, using(ts_model::proofs::AllowedLaws::consistent_next))]
     pub fn prepare(&mut self, event: Event, job: Option<Job>) -> Result<Prepared, NoMemory>
         requires allowed { IsTrue (allowed (history_of self.old.events) event) }
         requires job { JobIsFor (history_of self.old.events) event job }
@@ -192,6 +194,7 @@ impl Engine {
     }
 
     /// The job of a finish that was read from a journal and is allowed next.
+    #[tactic(auto, using(ts_model::proofs::AllowedLaws::consistent_next))]
     pub fn rebuild<R: Threads + Sync>(&self, rt: &R, cut: u64, snap: u64) -> Result<Job, NoMemory>
         requires sync { IsSync R.row }
         requires allowed { IsTrue (allowed (history_of self.now.events) (Built cut snap)) }

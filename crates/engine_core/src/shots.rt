@@ -7,8 +7,8 @@ use refresh_build::Job;
 use std::marker::Model;
 use std::sync::Arc;
 use std::thread::Threads;
-use ts_model::{Answer, Pending, Query, Roster, Shown};
-use ts_schema::{NoMemory, Steps};
+use ts_model::{Answer, Op, Pending, Query, Roster, Shown};
+use ts_schema::{NoMemory, Seq, Steps};
 
 /// A snapshot: one more owner of an engine's state. It holds no list of events.
 #[derive(Drop)]
@@ -67,6 +67,16 @@ impl Shown for Shot {
         steps: &mut Steps<L>,
     ) -> Result<Answer, NoMemory> {
         self.state.answer(rt, query, steps)
+    }
+
+    fn answer_with<R: Threads + Sync, L>(
+        &self,
+        rt: &R,
+        ops: &Seq<Op>,
+        query: &Query,
+        steps: &mut Steps<L>,
+    ) -> Result<Answer, NoMemory> {
+        self.state.answer_with(rt, ops, query, steps)
     }
 
     fn start_job<R: Threads + Sync, L>(
