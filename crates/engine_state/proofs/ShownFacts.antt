@@ -1,5 +1,5 @@
 -- What the state of an aggregate shows, beside a history.
-use Rattle.std.proofs.Common.{◌≡◌, ℕ, Bool, true, false, not, ◌&&◌, ◌||◌, cond, List, [], ◌∷◌, map, filter, ℤ, ◌+ℤ◌, ◌-ℤ◌, ◌≤ℤ◌, ◌<ℤ◌, int_le, int_lt, Option, Some, None, ⊎_elim, sym, refl, ap, ◌∙◌, subst, arith}
+use Rattle.std.proofs.Common.{◌≡◌, ℕ, Bool, true, false, not, ◌&&◌, ◌||◌, cond, List, [], ◌∷◌, map, filter, ℤ, ◌+ℤ◌, ◌-ℤ◌, ◌≤ℤ◌, ◌<ℤ◌, int_le, int_lt, Option, Some, None, sym, refl, ap, ◌∙◌, subst, arith}
 use Rattle.std.specs.Prelude.{IfSome, is_none, is_some}
 use Rattle.std.specs.Option.{ForSome}
 use Rattle.std.specs.List.{flat_map, list_all}
@@ -26,19 +26,15 @@ use Rattle.ts_model.specs.declared.queries.Answer.{Answer}
 use Rattle.ts_model.specs.declared.queries.Query.TheVariants.{Aggregate}
 use Rattle.ts_model.specs.declared.views.Fold.{Fold}
 use Rattle.ts_model.specs.declared.views.ViewDef.{ViewDef}
-use Rattle.ts_model.specs.History.{History, start, resumed, ◌▸◌}
-use Rattle.ts_model.specs.declared.events.Event.TheVariants.{Built}
+use Rattle.ts_model.specs.History.{History}
 use Rattle.ts_model.specs.Limits.{is_word}
-use Rattle.ts_model.specs.Sound.{span_fits}
 use Rattle.ts_model.specs.Roster.{IsOf, roster, view_of}
-use Rattle.ts_model.proofs.ValidLaws.{kept_facts}
-use Rattle.ts_model.proofs.CutLaws.{cut_sound}
-use Rattle.ts_model.proofs.RosterLaws.{is_of_before, is_of_itself}
-use Rattle.ts_model.proofs.RefreshLaws.{later_is, covered_snap}
+use Rattle.ts_model.proofs.CutLaws.{last_spanned}
+use Rattle.ts_model.proofs.RosterLaws.{is_of_itself}
 use Rattle.ts_model.specs.Rows.{in_order, rows}
 use Rattle.ts_model.specs.Scratch.{bucket_rows, scratch}
 use Rattle.ts_model.specs.Groups.{cells_of, groups_in}
-use Rattle.ts_model.specs.Refreshes.{span_of_cut, is_covered, invalid, is_invalid, last, stale, watermark}
+use Rattle.ts_model.specs.Refreshes.{invalid, is_invalid, last, stale, watermark}
 use Rattle.ts_model.specs.Reads.{inserted, reads, reads_of_view, rows_near, rows_near_in}
 use Rattle.ts_model.specs.Answers.{answer, answer_of_view, buckets_in, left_by, ranges, shown}
 use Rattle.ts_model.specs.Allowed.{all_consistent}
@@ -86,31 +82,7 @@ no_low_rows fold b (row ∷ xs) wide bucket low times =
     let parts = and_parts (is_time row.at) (list_all (λ r. is_time r.at) xs) times in
     rw (low_not_held fold.width b row.at wide bucket parts.0 low) (no_low_rows fold b xs wide bucket low parts.1)
 
--- a bucket with a last refresh lies in a span of whole buckets from the first on
-record IsSpanned (def : ViewDef) (b : ℤ) : Type 0 where
-  span : Span
-  inside : in_span span b ≡ true
-  fits : span_fits span (Some def) ≡ true
-
-fits_of : (def : ViewDef) (span : Span) (o : Option ViewDef) → IsOf def o → span_fits span o ≡ true → span_fits span (Some def) ≡ true
-fits_of def span None is e = absurd (true≢false (sym e))
-fits_of def span (Some found) is e = subst (λ (f : Fold). span_fits span (Some (record found { fold = f })) ≡ true) is.1 e
-
-last_spanned : (n : ℕ) (def : ViewDef) (h : History) (b : ℤ) (s : ℕ) → IsOf def (view_of (roster h) n) → all_consistent h ≡ true → last n h b ≡ Some s → IsSpanned def b
-last_spanned n def start b s is ok e = absurd (cc)
-last_spanned n def (resumed i) b s is ok e = let l = (kept_facts n def i ok is).lasts b s e in record { span = l.last.span; inside = l.inside; fits = l.fits }
-last_spanned n def (h ▸ Built cut snap) b s is ok e =
-    ⊎_elim
-    (λ before. last_spanned n def h b s is (and_parts (all_consistent h) _ ok).0 before)
-    (λ now. by_span (span_of_cut n h cut) refl (covered_snap _ snap s now).0)
-    (later_is (last n h b) (cond (is_covered b (span_of_cut n h cut)) (Some snap) None) s e)
-  where
-    by_span : (o : Option Span) → span_of_cut n h cut ≡ o → is_covered b o ≡ true → IsSpanned def b
-    by_span None at inside = absurd (true≢false (sym inside))
-    by_span (Some span) at inside = record { span = span; inside = inside; fits = fits_of def span (view_of (roster h) n) is (cut_sound n h cut span (and_parts (all_consistent h) _ ok).0 at) }
-last_spanned n def (h ▸ x) b s is ok e = last_spanned n def h b s (is_of_before def h x n is) (and_parts (all_consistent h) _ ok).0 e
-
--- so a bucket below the first has none
+-- a bucket with a last refresh isn't below the first
 no_low_groups : (n : ℕ) (def : ViewDef) (h : History) (b : ℤ) (o : Option ℕ) → IsOf def (view_of (roster h) n) → all_consistent h ≡ true → last n h b ≡ o → int_le (first_of def.fold.width) b ≡ false → groups_left n def h b o ≡ []
 no_low_groups n def h b None is ok at low = refl
 no_low_groups n def h b (Some s) is ok at low =

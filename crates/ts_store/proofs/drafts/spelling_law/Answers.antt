@@ -4,6 +4,7 @@ use Rattle.ts_model.specs.Bytes.{event_bytes}
 use Rattle.ts_model.specs.History.{position}
 use Rattle.ts_model.specs.Sound.{sound, sound_at}
 use Rattle.ts_model.specs.Timely.{timely}
+use Rattle.ts_model.proofs.AllowedLaws.{consistent_of}
 use Rattle.engine_core.specs.Histories.{history_of}
 use Rattle.ts_store.proofs.drafts.spelling_law.Goals as goal
 
@@ -11,7 +12,7 @@ pub returns-clause-formed : goal.returns-clause-formed
 returns-clause-formed c =
     let h = history_of c.args.engine.now.events in
     let few : position (history_of c.args.engine.now.events) < 2 ^ 64 = subst (λ n. n < 2 ^ 64) c.length-position.ensures.position (search rules) in
-    c.sound_events_are_formed.ensures h c.args.event.now c.requires.sound.allowed few (and_parts (sound h c.args.event.now) (timely h c.args.event.now) c.requires.allowed).0
+    c.sound_events_are_formed.ensures h c.args.event.now (consistent_of h c.requires.sound.allowed) few (and_parts (sound h c.args.event.now) (timely h c.args.event.now) c.requires.allowed).0
 
 pub returns-clause-few : goal.returns-clause-few
 returns-clause-few c =
