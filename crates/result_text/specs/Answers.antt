@@ -1,5 +1,5 @@
 -- The texts of answers.
-use Rattle.std.specs.Prelude.{ℕ, ℤ, List, [], ◌∷◌, ◌++◌, codes, decimal, length}
+use Rattle.std.specs.Prelude.{ℕ, ℤ, List, [], ◌∷◌, ◌++◌, codes, decimal, length, Option, Some, None}
 use Rattle.ts_bucket.specs.declared.spans.Span.{Span}
 use Rattle.ts_num.specs.declared.values.Datum.{Datum}
 use Rattle.ts_num.specs.Texts.{datum_text}
@@ -26,11 +26,32 @@ abbrev pub stale_text : ℤ → List Span → List ℕ
 stale_text min [] = []
 stale_text min (span ∷ spans) = codes "stale " ++ span_text min span ++ codes "\n" ++ stale_text min spans
 
--- the head of an answer: its position, how many rows it has, and how many stale ranges
-abbrev pub answer_head : ℕ → ℕ → ℕ → List ℕ
-answer_head pos rows stale =
-    codes "ANSWER @" ++ decimal pos ++ codes " rows " ++ decimal rows ++ codes " stale " ++ decimal stale ++ codes "\n"
+-- how many operations are queued in the write block that an answer was asked in, if in one
+abbrev pub queue_text : Option ℕ → List ℕ
+queue_text None = []
+queue_text (Some queue) = codes " queue " ++ decimal queue
+
+-- where an answer stands: its position, and the queue that it shows on top
+abbrev pub answer_place : ℕ → Option ℕ → List ℕ
+answer_place pos queue = codes "ANSWER @" ++ decimal pos ++ queue_text queue
+
+-- how many rows it has, and how many stale ranges
+abbrev pub answer_counts : ℕ → ℕ → List ℕ
+answer_counts rows stale = codes " rows " ++ decimal rows ++ codes " stale " ++ decimal stale ++ codes "\n"
+
+-- the head of an answer
+abbrev pub answer_head : ℕ → Option ℕ → ℕ → ℕ → List ℕ
+answer_head pos queue rows stale = answer_place pos queue ++ answer_counts rows stale
 
 -- an answer: its head, its rows, its stale ranges
+abbrev pub answer_lines : Answer → ℕ → Option ℕ → ℤ → List ℕ
+answer_lines a pos queue min =
+    answer_head pos queue (length a.rows) (length a.stale) ++ rows_text a.rows ++ stale_text min a.stale
+
+-- outside a write block
 abbrev pub answer_text : Answer → ℕ → ℤ → List ℕ
-answer_text a pos min = answer_head pos (length a.rows) (length a.stale) ++ rows_text a.rows ++ stale_text min a.stale
+answer_text a pos min = answer_lines a pos None min
+
+-- and in one with so many operations queued
+abbrev pub queued_answer_text : Answer → ℕ → ℕ → ℤ → List ℕ
+queued_answer_text a pos queue min = answer_lines a pos (Some queue) min

@@ -3,7 +3,7 @@ use Rattle.std.specs.Prelude.{ℕ, List, ◌++◌, codes, decimal}
 use Rattle.ts_model.specs.declared.outcomes.Refusal.{Refusal}
 use Rattle.result_text.specs.declared.replies.Said.{Said}
 use Rattle.result_text.specs.declared.replies.Said.TheVariants.{Table, Hypertable, View, Mode, Commit, Queued, Refresh, Nothing, Cut, Snap, Finish, Begin, BeginRead, CommitEmpty, Rollback, End, Answered, Fault}
-use Rattle.result_text.specs.Answers.{answer_text}
+use Rattle.result_text.specs.Answers.{answer_lines}
 use Rattle.result_text.specs.Refusals.{refusal_text}
 use Rattle.result_text.specs.Spans.{span_end}
 
@@ -33,7 +33,7 @@ said_text (BeginRead pos) = codes "BEGIN @" ++ decimal pos ++ codes "\n"
 said_text CommitEmpty = codes "COMMIT EMPTY\n"
 said_text Rollback = codes "ROLLBACK\n"
 said_text End = codes "END\n"
-said_text (Answered answer pos min) = answer_text answer pos min
+said_text (Answered answer pos queue min) = answer_lines answer pos queue min
 said_text (Fault refusal) = refusal_text refusal
 
 -- a reply of a session

@@ -1,6 +1,6 @@
 //! The texts of answers.
 ghost use Rattle.std.specs.Prelude.{◌≡◌, ◌++◌, codes, OnErr, OnOk};
-ghost use Rattle.result_text.specs.Answers.{answer_head, answer_text, cells_text, more_cells, rows_text, stale_text};
+ghost use Rattle.result_text.specs.Answers.{answer_counts, answer_head, answer_lines, answer_place, answer_text, cells_text, more_cells, queue_text, queued_answer_text, rows_text, stale_text};
 
 use crate::pieces::Text;
 use crate::spans::put_span;
@@ -17,7 +17,23 @@ pub fn put_answer(answer: &Answer, pos: u64, min: i64, out: &mut Vec<u8>) -> Res
     ensures kept { OnErr result (out.new.items ≡ out.old.items) }
 {
     let mut text = Text::behind(out);
-    let written = put_answer_lines(&mut text, answer, pos, min);
+    let written = put_answer_lines(&mut text, answer, pos, None, min);
+    text.finish(written, out)
+}
+
+/// The same of an answer to a write block with so many operations queued, which its first line says.
+pub fn put_queued_answer(
+    answer: &Answer,
+    pos: u64,
+    queue: u64,
+    min: i64,
+    out: &mut Vec<u8>,
+) -> Result<(), NoMemory>
+    ensures appended { OnOk result (out.new.items ≡ out.old.items ++ queued_answer_text answer.now pos queue min) }
+    ensures kept { OnErr result (out.new.items ≡ out.old.items) }
+{
+    let mut text = Text::behind(out);
+    let written = put_answer_lines(&mut text, answer, pos, Some(queue), min);
     text.finish(written, out)
 }
 
@@ -27,14 +43,16 @@ pub(crate) fn put_answer_lines(
     text: &mut Text,
     answer: &Answer,
     pos: u64,
+    queue: Option<u64>,
     min: i64,
 ) -> Result<(), NoMemory>
-    ensures written { OnOk result (text.new.after ≡ text.old.after ++ answer_text answer.now pos min) }
+    ensures written { OnOk result (text.new.after ≡ text.old.after ++ answer_lines answer.now pos queue min) }
     ensures kept { text.new.before ≡ text.old.before }
 {
     put_head(
         text,
         pos,
+        queue,
         answer.rows.len() as u64,
         answer.stale.len() as u64,
     )?;
@@ -43,17 +61,55 @@ pub(crate) fn put_answer_lines(
 }
 
 /// Appends the head of an answer.
-fn put_head(text: &mut Text, pos: u64, rows: u64, stale: u64) -> Result<(), NoMemory>
-    ensures written { OnOk result (text.new.after ≡ text.old.after ++ answer_head pos rows stale) }
+#[tactic(auto, using(crate::proofs::Appending::two_pieces))]
+fn put_head(
+    text: &mut Text,
+    pos: u64,
+    queue: Option<u64>,
+    rows: u64,
+    stale: u64,
+) -> Result<(), NoMemory>
+    ensures written { OnOk result (text.new.after ≡ text.old.after ++ answer_head pos queue rows stale) }
+    ensures kept { text.new.before ≡ text.old.before }
+{
+    put_place(text, pos, queue)?;
+    put_counts(text, rows, stale)
+}
+
+/// Appends where an answer stands.
+fn put_place(text: &mut Text, pos: u64, queue: Option<u64>) -> Result<(), NoMemory>
+    ensures written { OnOk result (text.new.after ≡ text.old.after ++ answer_place pos queue) }
     ensures kept { text.new.before ≡ text.old.before }
 {
     text.bytes(b"ANSWER @")?;
     text.number(pos)?;
+    put_queue(text, queue)
+}
+
+/// Appends how many rows it has, and how many stale ranges.
+fn put_counts(text: &mut Text, rows: u64, stale: u64) -> Result<(), NoMemory>
+    ensures written { OnOk result (text.new.after ≡ text.old.after ++ answer_counts rows stale) }
+    ensures kept { text.new.before ≡ text.old.before }
+{
     text.bytes(b" rows ")?;
     text.number(rows)?;
     text.bytes(b" stale ")?;
     text.number(stale)?;
     text.bytes(b"\n")
+}
+
+/// Appends how many operations are queued, in a write block.
+fn put_queue(text: &mut Text, queue: Option<u64>) -> Result<(), NoMemory>
+    ensures written { OnOk result (text.new.after ≡ text.old.after ++ queue_text queue) }
+    ensures kept { text.new.before ≡ text.old.before }
+{
+    match queue {
+        None => Ok(()),
+        Some(queue) => {
+            text.bytes(b" queue ")?;
+            text.number(queue)
+        }
+    }
 }
 
 /// Appends a line for each row.

@@ -64,10 +64,11 @@ pub enum Said {
     Rollback,
     /// A read block ends.
     End,
-    /// A query is answered at a position.
+    /// A query is answered at a position, in a write block with so many operations queued, if in one.
     Answered {
         answer: Answer,
         pos: u64,
+        queue: Option<u64>,
         min: i64,
     },
     /// The statement is refused.
@@ -143,7 +144,12 @@ fn put_said(text: &mut Text, said: &Said) -> Result<(), NoMemory>
         Said::CommitEmpty => text.bytes(b"COMMIT EMPTY\n"),
         Said::Rollback => text.bytes(b"ROLLBACK\n"),
         Said::End => text.bytes(b"END\n"),
-        Said::Answered { answer, pos, min } => put_answer_lines(text, answer, *pos, *min),
+        Said::Answered {
+            answer,
+            pos,
+            queue,
+            min,
+        } => put_answer_lines(text, answer, *pos, *queue, *min),
         Said::Fault(refusal) => put_refusal_line(text, refusal),
     }
 }
