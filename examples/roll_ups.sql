@@ -20,7 +20,7 @@ q: SELECT time_bucket(100, b) AS x, sum(n), sum(s) FROM c GROUP BY x
 q: SELECT time_bucket(100, b, 5) AS x, sum(n) FROM c GROUP BY x
 q: COMMIT
 q: SELECT time_bucket(100, b) AS x, sum(n), sum(s) FROM c GROUP BY x
--- What waits in a write block makes a bucket stale once it takes effect.
+-- What waits in a write block makes a bucket stale for its writer, and for others once it takes effect.
 w: BEGIN
 w: INSERT INTO m VALUES (55, 1, 1)
 w: SELECT time_bucket(100, b) AS x, sum(n), sum(s) FROM c GROUP BY x

@@ -13,7 +13,7 @@ a: INSERT INTO m VALUES (9223372036854775808, 1, 1)
 a: INSERT INTO m VALUES (1, 2)
 a: INSERT INTO m VALUES (NULL, 1, 1)
 a: DELETE FROM c
-a: SELECT * FROM m
+a: CALL refresh_continuous_aggregate('c', 0, 10)
 a: CREATE TABLE n (time BIGINT)
 a: REFRESH SNAP 3
 a: BEGIN

@@ -14,7 +14,7 @@ use Rattle.ts_model.specs.declared.tables.TableDef.{TableDef}
 use Rattle.ts_model.specs.declared.tables.TableInfo.{TableInfo}
 use Rattle.ts_model.specs.declared.events.Event.TheVariants.{Table as TableEvent}
 use Rattle.ts_model.specs.declared.views.Fold.{Fold}
-use Rattle.ts_model.specs.Allowed.{all_allowed}
+use Rattle.ts_model.specs.Allowed.{all_consistent}
 use Rattle.ts_model.specs.Answers.{all_columns, answer, can_ask, columns_are_there, passing_rows}
 use Rattle.ts_model.specs.History.{History, position}
 use Rattle.ts_model.specs.Roster.{no_relations, of_hyper, of_table, roster, table_of}
@@ -23,7 +23,6 @@ use Rattle.ts_model.specs.Sound.{row_fits, sound_in}
 use Rattle.ts_model.specs.Laws.{fits_table, is_hyper_sound}
 use Rattle.ts_model.proofs.FitLaws.{rows_fit_tables}
 use Rattle.ts_model.proofs.HistoryLaws.{prefix_end}
-use Rattle.ts_model.proofs.AllowedLaws.{consistent_of}
 use Rattle.ts_model.proofs.SoundLaws.{rosters_are_sound}
 use Rattle.cal_bucket.specs.declared.plans.CalPlan.{CalPlan}
 use Rattle.cal_bucket.specs.Rows.{ShowARow}
@@ -76,13 +75,13 @@ hyper_shows h t at tests info (Some hyper) s p f =
     subst (λ x. AllByRecursion (ShowARow x) (map (all_columns hyper.at) passing)) same
     (fitting_rows_are_shown info.def hyper passing bound (left_fit (row_fits info.def hyper) (λ row. passes_all row tests) (rows t h) f))
 
-table_shows : (h : History) (t at : ℕ) (tests : List Test) (o : Option TableInfo) → all_allowed h ≡ true → table_of (roster h) t ≡ o → option_map (λ hyper. hyper.at) (option_and_then (λ info. info.hyper) o) ≡ Some at → list_all (λ row. of_table (λ d hyper. row_fits d hyper row) o) (rows t h) ≡ true → AllByRecursion (ShowARow at) (passing_rows (rows t h) tests (option_and_then (λ info. info.hyper) o))
+table_shows : (h : History) (t at : ℕ) (tests : List Test) (o : Option TableInfo) → all_consistent h ≡ true → table_of (roster h) t ≡ o → option_map (λ hyper. hyper.at) (option_and_then (λ info. info.hyper) o) ≡ Some at → list_all (λ row. of_table (λ d hyper. row_fits d hyper row) o) (rows t h) ≡ true → AllByRecursion (ShowARow at) (passing_rows (rows t h) tests (option_and_then (λ info. info.hyper) o))
 table_shows h t at tests None ok e p f = absurd (cc p)
 table_shows h t at tests (Some info) ok e p f =
-    let sound = and_parts (sound_in no_relations (TableEvent info.def)) (is_hyper_sound info info.hyper) ((rosters_are_sound h (consistent_of h ok)).tables t info e) in
+    let sound = and_parts (sound_in no_relations (TableEvent info.def)) (is_hyper_sound info info.hyper) ((rosters_are_sound h ok).tables t info e) in
     hyper_shows h t at tests info info.hyper sound.1 p f
 
-pub calendar_fits : (h : History) (cal : CalPlan) (query : Query) (a : Answer) → all_allowed h ≡ true → AsksCalendar (roster h) cal query → a ≡ answer query h → AllByRecursion (ShowARow cal.at) a.rows
+pub calendar_fits : (h : History) (cal : CalPlan) (query : Query) (a : Answer) → all_consistent h ≡ true → AsksCalendar (roster h) cal query → a ≡ answer query h → AllByRecursion (ShowARow cal.at) a.rows
 calendar_fits h cal query a ok asks e =
     let t = asks.table in
     let fit : list_all (fits_table (roster h) t) (rows t h) ≡ true = subst (λ g. list_all (fits_table (roster h) t) (rows t g) ≡ true) (prefix_end h (position h) (omega arith)) (rows_fit_tables.rows t h (position h) ok) in

@@ -1,5 +1,5 @@
 -- A line of a session makes at most three events.
-use Rattle.std.proofs.Common.{◌≡◌, ℕ, zero, suc, ◌+◌, ◌≤◌, Bool, true, false, cond, List, [], ◌∷◌, length, Option, Some, None, inl, inr, ap, ◌∙◌, subst, arith}
+use Rattle.std.proofs.Common.{◌≡◌, ℕ, zero, suc, ◌+◌, ◌≤◌, Bool, true, false, cond, List, [], ◌∷◌, length, Option, Some, None, inl, inr, refl, ap, ◌∙◌, subst, arith}
 use Rattle.std.specs.Prelude.{Result, Ok, Err, ℤ}
 use Rattle.std.proofs.lemmas.List.{length-append}
 use Rattle.ts_bucket.specs.Bucket.{first_of}
@@ -15,20 +15,23 @@ use Rattle.ts_model.specs.Roster.{roster, view_of}
 use Rattle.ts_model.specs.States.{State}
 use Rattle.stmt_reader.specs.declared.faults.Fault.{Fault}
 use Rattle.stmt_reader.specs.declared.statements.Stmt.{Stmt}
+use Rattle.stmt_reader.specs.declared.statements.Stmt.TheVariants as stmts
 use Rattle.stmt_reader.specs.Reading.{statement}
 use Rattle.stmt_reader.specs.Streams.{Stream, stream}
 use Rattle.stmt_check.specs.declared.actions.Action.{Action}
 use Rattle.stmt_check.specs.declared.actions.Action.TheVariants as actions
 use Rattle.stmt_check.specs.Check.{action_of, refusal_of}
 use Rattle.result_text.specs.declared.replies.Said.TheVariants as said
-use Rattle.ts_sessions.specs.LineLaws.{AtMost, LinesMakeFewEvents}
+use Rattle.ts_sessions.specs.LineLaws.{AtMost, LinesMakeFewEvents, OnlyCommitsMakeEvents}
 use Rattle.ts_sessions.specs.Made.{made_in}
 use Rattle.ts_sessions.specs.Places.{Block, none, writing, reading, Places, Turn, enters, held_for}
 use Rattle.ts_sessions.specs.Procedures.{Procedure, sees, adds, ends, followed_by, ending_as, tries_at}
-use Rattle.ts_sessions.specs.Step.{Taken, acts, after_cut, after_line, after_snapshot, after_view, block_refusal, changes, closes, commits, committed, cut_turn, finish_turn, finishes, finishes_held, kind_of, least_start, let_pass, makes_event, named_first, named_here, passed, passed_first, performs_in, read_at, reads_as, refresh_meant, refreshed, refreshes, reported, step, taken, view_made}
+use Rattle.ts_sessions.specs.Step.{Taken, acts, after_cut, after_line, after_snapshot, after_view, block_refusal, changes, closes, commits, committed, cut_turn, finish_turn, finishes, finishes_held, kind_of, least_start, let_pass, makes_event, named, named_first, named_here, passed, passed_first, performs_in, read_at, reads_as, refresh_meant, refreshed, refreshes, reported, step, taken, view_made}
+use Rattle.ts_sessions.specs.Steady.{IsEnded}
 use Rattle.ts_sessions.specs.Walks.{Walks, Sees}
 use Rattle.ts_sessions.proofs.MadeLaws.{step_made}
 use Rattle.ts_sessions.proofs.NamedLaws.{named_holds}
+use Rattle.ts_sessions.proofs.SteadyLaws.{ended_named}
 
 -- ---- what was made
 
@@ -176,3 +179,34 @@ lines_make_few_events alone failed old p text skip new y w =
     let bound = walk_made 3 alone failed old (step p text skip) new y (few_read p (length text) (statement (stream text skip))) w in
     let both : length new.made ≡ length old.made + length (made_in y.said) = ap length (step_made alone failed old p text skip new y w) ∙ length-append old.made (made_in y.said) in
     omega (arith, bound, both)
+
+-- ---- in a write block
+
+ended_few : {A : Type 0} (procedure : Procedure A) → IsEnded procedure → AtMost 0 procedure
+ended_few (sees shown f) i = absurd i
+ended_few (adds e next stop) i = absurd i
+ended_few (ends a) i = tt
+
+-- a statement that waits, gives up, or asks only ends
+ended_here : (p : Places) (ops : List Op) (n bytes : ℕ) (stmt : Stmt) → ((h : History) → IsEnded (acts (enters (writing ops n) p) bytes h (action_of (roster h) stmt))) → AtMost 0 (named_here (enters (writing ops n) p) bytes stmt)
+ended_here p ops n bytes stmt i = λ h. let q = enters (writing ops n) p in ended_few (named q bytes stmt h) (ended_named q bytes stmt i h)
+
+pub only_commits_make_events : OnlyCommitsMakeEvents
+only_commits_make_events p ops n bytes (stmts.Table name cols) c = tt
+only_commits_make_events p ops n bytes (stmts.Hyper table col interval) c = tt
+only_commits_make_events p ops n bytes (stmts.View name only filled fold) c = tt
+only_commits_make_events p ops n bytes (stmts.Mode view only) c = tt
+only_commits_make_events p ops n bytes (stmts.Insert table cols rows) c = ended_here p ops n bytes (stmts.Insert table cols rows) (λ h. tt)
+only_commits_make_events p ops n bytes (stmts.Delete table tests) c = ended_here p ops n bytes (stmts.Delete table tests) (λ h. tt)
+only_commits_make_events p ops n bytes (stmts.Drop table below) c = ended_here p ops n bytes (stmts.Drop table below) (λ h. tt)
+only_commits_make_events p ops n bytes (stmts.Refresh view lo hi) c = tt
+only_commits_make_events p ops n bytes (stmts.Cut view lo hi) c = tt
+only_commits_make_events p ops n bytes (stmts.Snap number) c = tt
+only_commits_make_events p ops n bytes (stmts.Finish number) c = tt
+only_commits_make_events p ops n bytes stmts.Begin c = tt
+only_commits_make_events p ops n bytes stmts.BeginRead c = tt
+only_commits_make_events p ops n bytes stmts.Commit c = absurd (c refl)
+only_commits_make_events p ops n bytes stmts.Rollback c = ended_here p ops n bytes stmts.Rollback (λ h. tt)
+only_commits_make_events p ops n bytes (stmts.Buckets fold) c = ended_here p ops n bytes (stmts.Buckets fold) (λ h. tt)
+only_commits_make_events p ops n bytes (stmts.Calendar number unit fold) c = ended_here p ops n bytes (stmts.Calendar number unit fold) (λ h. tt)
+only_commits_make_events p ops n bytes (stmts.Rows table tests) c = ended_here p ops n bytes (stmts.Rows table tests) (λ h. tt)

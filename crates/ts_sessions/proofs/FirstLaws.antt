@@ -35,10 +35,10 @@ use Rattle.ts_sessions.specs.declared.deeds.Finishing.TheVariants as finishing
 use Rattle.ts_sessions.specs.declared.deeds.Next.{Next}
 use Rattle.ts_sessions.specs.declared.deeds.Next.TheVariants as nexts
 use Rattle.ts_sessions.specs.Deeds.{CarriesOut, CountsFrom, Leads, Opens, OpensTo, acted, checked_at, judged, looked_as, looked_at, rest, rest_next, spent, spent_by, spent_next}
-use Rattle.ts_sessions.specs.Places.{Block, none, writing, reading, Places, Turn, enters, refuses}
+use Rattle.ts_sessions.specs.Places.{Block, none, writing, reading, Places, Turn, enters, queue_count, refuses}
 use Rattle.ts_sessions.specs.Procedures.{Procedure, sees, looks, ends}
 use Rattle.ts_sessions.specs.Sessions.{Counts, Ends, EndsAt, turn_of}
-use Rattle.ts_sessions.specs.Step.{acts, answers, block_refusal, closes, commits, in_form, kind_of, makes_event, named, named_first, named_here, passed, passed_first, performs, performs_in, prints, read_at}
+use Rattle.ts_sessions.specs.Step.{acts, answers, block_refusal, closes, commits, in_form, kind_of, makes_event, named, named_first, named_here, passed, passed_first, performs, performs_in, prints, read_at, shown_in}
 use Rattle.ts_sessions.specs.Walks.{Breaks, Sees}
 use Rattle.ts_sessions.proofs.DeedWalks.{looks_leads}
 use Rattle.ts_sessions.proofs.EndLaws.{raised_up}
@@ -222,21 +222,25 @@ performs_nothing p h bytes (op ∷ ops) n empty e =
 
 -- ---- queries
 
--- an answer at a history, which counts the rows that it read
-pub answer_opens : {T J : Type 0} (alone : Bool) (s : State) (h : History) (p : Places) (plan : Plan) (a : Answer) (pos : ℕ) (line : Said) (result : Result (Next T J) NoMemory) (before after : ℕ) → before < 2 ^ 64 → a ≡ in_form (roster h) plan.form (answer plan.query h) → pos ≡ position h → line ≡ said.Answered a pos plan.min → IfOk result (λ n. n ≡ nexts.End (record { said = line ∷ []; change = changes.Nothing; failed = false })) → after ≡ raised_by (reads_of plan.query h) before → OpensTo alone s (ends (answers p h plan)) p result s before after
-answer_opens alone s h p plan a pos line (Ok n) before after short e f i is counted =
-    let read = reads_of plan.query h in
-    let shown = in_form (roster h) plan.form (answer plan.query h) in
-    let line_is : line ≡ said.Answered shown (position h) plan.min = i ∙ ap (λ x. said.Answered x pos plan.min) e ∙ ap (λ x. said.Answered shown x plan.min) f in
-    let turn : rest_next p read s.history n ≡ ends (answers p h plan) = ap (rest_next p read s.history) is ∙ ap (λ x. ends (record { places = p; said = x ∷ []; reads = read })) line_is in
-    record {
-      read = read;
-      leads = subst (λ d. Leads alone false s (ends (answers p h plan)) s d) (sym turn) (leads_same alone s (ends (answers p h plan)));
-      spent = subst (λ x. spent_next read x ≡ read) (sym is) refl;
-      counted = counted;
-    }
-answer_opens alone s h p plan a pos line (Err x) before after short e f i is counted =
-    (not_begun alone s (ends (answers p h plan)), subst (λ m. before ≤ m) (sym counted) (raised_up (reads_of plan.query h) before short))
+-- an answer at a history to a session in a block, which counts the rows that it read
+pub answer_opens : {T J : Type 0} (alone : Bool) (s : State) (h : History) (p : Places) (b : Block) (plan : Plan) (a : Answer) (pos : ℕ) (queue : Option ℕ) (line : Said) (result : Result (Next T J) NoMemory) (before after : ℕ) → before < 2 ^ 64 → p.block ≡ b → a ≡ in_form (roster h) plan.form (answer plan.query (shown_in b h)) → pos ≡ position h → queue ≡ queue_count b → line ≡ said.Answered a pos queue plan.min → IfOk result (λ n. n ≡ nexts.End (record { said = line ∷ []; change = changes.Nothing; failed = false })) → after ≡ raised_by (reads_of plan.query (shown_in b h)) before → OpensTo alone s (ends (answers p h plan)) p result s before after
+answer_opens {T} {J} alone s h p b plan a pos queue line result before after short in_block e f q i is counted =
+    block_opens result is (subst (λ x. a ≡ in_form (roster h) plan.form (answer plan.query (shown_in x h))) (sym in_block) e) (subst (λ x. queue ≡ queue_count x) (sym in_block) q) (subst (λ x. after ≡ raised_by (reads_of plan.query (shown_in x h)) before) (sym in_block) counted)
+  where
+    block_opens : (result : Result (Next T J) NoMemory) → IfOk result (λ n. n ≡ nexts.End (record { said = line ∷ []; change = changes.Nothing; failed = false })) → a ≡ in_form (roster h) plan.form (answer plan.query (shown_in p.block h)) → queue ≡ queue_count p.block → after ≡ raised_by (reads_of plan.query (shown_in p.block h)) before → OpensTo alone s (ends (answers p h plan)) p result s before after
+    block_opens (Ok n) is e q counted =
+        let read = reads_of plan.query (shown_in p.block h) in
+        let shown = in_form (roster h) plan.form (answer plan.query (shown_in p.block h)) in
+        let line_is : line ≡ said.Answered shown (position h) (queue_count p.block) plan.min = i ∙ ap (λ x. said.Answered x pos queue plan.min) e ∙ ap (λ x. said.Answered shown x queue plan.min) f ∙ ap (λ x. said.Answered shown (position h) x plan.min) q in
+        let turn : rest_next p read s.history n ≡ ends (answers p h plan) = ap (rest_next p read s.history) is ∙ ap (λ x. ends (record { places = p; said = x ∷ []; reads = read })) line_is in
+        record {
+          read = read;
+          leads = subst (λ d. Leads alone false s (ends (answers p h plan)) s d) (sym turn) (leads_same alone s (ends (answers p h plan)));
+          spent = subst (λ x. spent_next read x ≡ read) (sym is) refl;
+          counted = counted;
+        }
+    block_opens (Err x) is e q counted =
+        (not_begun alone s (ends (answers p h plan)), subst (λ m. before ≤ m) (sym counted) (raised_up (reads_of plan.query (shown_in p.block h)) before short))
 
 -- ---- names
 

@@ -2,7 +2,7 @@
 use Rattle.std.proofs.Common.{◌≡◌, ℕ, true, Some, sym, ap, ◌∙◌, subst}
 use Rattle.ts_model.specs.declared.queries.Answer.{Answer}
 use Rattle.ts_model.specs.declared.rosters.Roster.{Roster}
-use Rattle.ts_model.specs.Allowed.{all_allowed}
+use Rattle.ts_model.specs.Allowed.{all_consistent}
 use Rattle.ts_model.specs.Answers.{answer, answer_of_view}
 use Rattle.ts_model.specs.History.{History, position}
 use Rattle.ts_model.specs.Roster.{roster, view_of}
@@ -21,7 +21,7 @@ use Rattle.ts_sessions.specs.Deeds.{FormFits, IsFormed}
 use Rattle.ts_sessions.proofs.CalendarLaws.{calendar_fits}
 
 -- an answer to what a plan asks fits its form: the stale ranges of an aggregate's answer are ranges of its whole buckets
-pub form_fits : (R : Roster) (h : History) (form : Form) (plan : Plan) (a : Answer) → R ≡ roster h → all_allowed h ≡ true → IsFormed (roster h) plan form → a ≡ answer plan.query h → FormFits R form a
+pub form_fits : (R : Roster) (h : History) (form : Form) (plan : Plan) (a : Answer) → R ≡ roster h → all_consistent h ≡ true → IsFormed (roster h) plan form → a ≡ answer plan.query h → FormFits R form a
 form_fits R h forms.Own plan a r ok formed e = tt
 form_fits R h (forms.RolledUp upper) plan a r ok formed e = λ def i.
     let n = upper.view in

@@ -23,3 +23,4 @@ mod FewEvents
 pub mod StepLaws
 pub mod ReplyLaws
 pub mod SteadyLaws
+mod QueueLaws

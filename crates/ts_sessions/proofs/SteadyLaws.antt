@@ -225,9 +225,9 @@ steady_writing base p bytes stmts.Begin ops n e = refused_here _ e
 steady_writing base p bytes stmts.BeginRead ops n e = refused_here _ e
 steady_writing base p bytes stmts.Commit ops n e = steady_commit base p bytes ops n
 steady_writing base p bytes stmts.Rollback ops n e = let q = enters (writing ops n) p in unshown base q bytes stmts.Rollback (turns (enters none q) said.Rollback) (λ r. refl) (λ h. refl)
-steady_writing base p bytes (stmts.Buckets fold) ops n e = refused_here _ e
-steady_writing base p bytes (stmts.Calendar number unit fold) ops n e = refused_here _ e
-steady_writing base p bytes (stmts.Rows table tests) ops n e = refused_here _ e
+steady_writing base p bytes (stmts.Buckets fold) ops n e = shown base (enters (writing ops n) p) bytes (stmts.Buckets fold) (λ r. refl)
+steady_writing base p bytes (stmts.Calendar number unit fold) ops n e = shown base (enters (writing ops n) p) bytes (stmts.Calendar number unit fold) (λ r. refl)
+steady_writing base p bytes (stmts.Rows table tests) ops n e = shown base (enters (writing ops n) p) bytes (stmts.Rows table tests) (λ r. refl)
 
 -- ---- in a read block
 
@@ -241,7 +241,7 @@ pub ended_passed : (p : Places) (bytes : ℕ) (stmt : Stmt) (h : History) (o : O
 ended_passed p bytes stmt h (Some r) i = tt
 ended_passed p bytes stmt h None i = i
 
-ended_named : (p : Places) (bytes : ℕ) (stmt : Stmt) → ((h : History) → IsEnded (acts p bytes h (action_of (roster h) stmt))) → (h : History) → IsEnded (named p bytes stmt h)
+pub ended_named : (p : Places) (bytes : ℕ) (stmt : Stmt) → ((h : History) → IsEnded (acts p bytes h (action_of (roster h) stmt))) → (h : History) → IsEnded (named p bytes stmt h)
 ended_named p bytes stmt i h = named_holds IsEnded p bytes h stmt (λ r e. tt) (λ plan. tt) (ended_passed p bytes stmt h (refusal_of (position h) (roster h) stmt) (i h))
 
 steady_reading : (base : History) (p : Places) (bytes : ℕ) (stmt : Stmt) (at : ℕ) → at ≤ position base → block_refusal (reading at) (kind_of stmt) ≡ None → Steady false base (named_here (enters (reading at) p) bytes stmt)

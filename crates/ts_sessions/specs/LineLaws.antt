@@ -1,17 +1,25 @@
 -- Laws of lines, each in one sentence.
-use Rattle.std.specs.Prelude.{◌≡◌, ℕ, zero, suc, ◌≤◌, Bool, true, false, List, length, None}
+use Rattle.std.specs.Prelude.{◌≡◌, ℕ, zero, suc, ◌≤◌, Bool, true, false, List, [], ◌∷◌, length, None}
+use Rattle.ts_model.specs.declared.events.Op.{Op}
+use Rattle.ts_model.specs.declared.queries.Answer.{Answer}
 use Rattle.ts_model.specs.Allowed.{all_allowed}
+use Rattle.ts_model.specs.Answers.{with_queue}
 use Rattle.ts_model.specs.History.{History, position, Begins}
-use Rattle.ts_model.specs.Roster.{roster}
+use Rattle.ts_model.specs.Roster.{roster, same_name}
 use Rattle.ts_model.specs.States.{State}
 use Rattle.stmt_reader.specs.declared.statements.Stmt.{Stmt}
 use Rattle.stmt_check.specs.Check.{action_of, refusal_of}
+use Rattle.result_text.specs.declared.replies.Said.{Said}
+use Rattle.result_text.specs.declared.replies.Said.TheVariants as said
+use Rattle.ts_sessions.specs.declared.kinds.Kind.TheVariants as kinds
+use Rattle.ts_sessions.specs.declared.queries.Plan.{Plan}
 use Rattle.ts_sessions.specs.Made.{made_in}
-use Rattle.ts_sessions.specs.Places.{Block, none, writing, reading, Places, Turn}
+use Rattle.ts_sessions.specs.Places.{Block, none, writing, reading, Places, Turn, enters}
 use Rattle.ts_sessions.specs.Procedures.{Procedure, sees, adds, ends}
 use Rattle.ts_sessions.specs.Replies.{reply_to}
+use Rattle.ts_sessions.specs.Script.{LineResult, ScriptState, executes_as, places_of, session_semantics, with_places}
 use Rattle.ts_sessions.specs.Steady.{Steady}
-use Rattle.ts_sessions.specs.Step.{acts, kind_of, makes_event, named, step}
+use Rattle.ts_sessions.specs.Step.{acts, answers, kind_of, makes_event, named, passes_block, step}
 use Rattle.ts_sessions.specs.Walks.{Walks, history_after, ending}
 
 -- where the names of a statement that makes an event passed, it does later what it does with its names looked at then
@@ -58,3 +66,40 @@ abbrev pub LinesMakeFewEvents : Type 0
 LinesMakeFewEvents =
     (alone failed : Bool) (old : State) (p : Places) (text : List ℕ) (skip : ℕ) (new : State) (y : Turn Places)
     → Walks alone failed old (step p text skip) new y → length (made_in y.said) ≤ 3
+
+-- ---- queues
+
+-- the answers among lines
+abbrev pub answers_in : List Said → List Answer
+answers_in [] = []
+answers_in (said.Answered answer pos queue min ∷ lines) = answer ∷ answers_in lines
+answers_in (s ∷ lines) = answers_in lines
+
+-- two turns show the same answers, and looked at as many rows
+pub record ShowAlike (y z : Turn Places) : Type 0 where
+  pub answers : answers_in y.said ≡ answers_in z.said
+  pub reads : y.reads ≡ z.reads
+
+-- what a query shows in a write block, by whatever plan, it shows outside directly after the queue was committed
+abbrev pub QueriesShowTheQueue : Type 0
+QueriesShowTheQueue =
+    (p : Places) (h : History) (ops : List Op) (bytes : ℕ) (plan : Plan)
+    → ShowAlike (answers (enters (writing ops bytes) p) h plan) (answers (enters none p) (with_queue ops h) plan)
+
+-- in a write block only COMMIT makes events
+abbrev pub OnlyCommitsMakeEvents : Type 0
+OnlyCommitsMakeEvents =
+    (p : Places) (ops : List Op) (queued bytes : ℕ) (stmt : Stmt) → (kind_of stmt ≡ kinds.Commits → ⊥)
+    → AtMost 0 (passes_block (enters (writing ops queued) p) bytes stmt)
+
+-- a line of the session with a name, in a script where another session has these places
+abbrev pub beside : ScriptState Places → List ℕ → Places → List ℕ → List ℕ → ℕ → LineResult Places
+beside s other p name text skip =
+    executes_as session_semantics (record s { sessions = with_places other p s.sessions }) name text skip
+    (places_of name (with_places other p s.sessions))
+
+-- the reply to a line is the same whatever is queued in another session
+abbrev pub OthersSeeNoQueue : Type 0
+OthersSeeNoQueue =
+    (s : ScriptState Places) (other name text : List ℕ) (skip : ℕ) (p q : Places) → same_name other name ≡ false
+    → (beside s other p name text skip).text ≡ (beside s other q name text skip).text

@@ -1,5 +1,5 @@
 -- What a session carries from one line to the next, and what a line comes to.
-use Rattle.std.specs.Prelude.{ℕ, List, [], ◌∷◌, Option, Some, None}
+use Rattle.std.specs.Prelude.{ℕ, List, [], ◌∷◌, length, Option, Some, None}
 use Rattle.std.specs.Ordering.{nat_cmp}
 use Rattle.std.specs.Map.{lookup, remove_entry}
 use Rattle.std.specs.BTreeMap.{insert_entry, is_at}
@@ -22,6 +22,18 @@ abbrev pub block_kind : Block → BlockKind
 block_kind none = Outside
 block_kind (writing ops bytes) = Write
 block_kind (reading at) = Read
+
+-- the operations that wait in a block
+abbrev pub queue_in : Block → List Op
+queue_in none = []
+queue_in (writing ops bytes) = ops
+queue_in (reading at) = []
+
+-- how many operations wait, where it is a write block
+abbrev pub queue_count : Block → Option ℕ
+queue_count none = None
+queue_count (writing ops bytes) = Some (length ops)
+queue_count (reading at) = None
 
 -- what a session carries from one line to the next
 pub record Places : Type 0 where

@@ -1,10 +1,11 @@
 -- What may be asked of a store.
 use Rattle.std.specs.Prelude.{◌≡◌, ℕ, ◌+◌, List, [], ◌∷◌, if◌then◌else◌, IsTrue, None, IsSome, Some}
+use Rattle.ts_model.specs.declared.events.Op.{Op}
 use Rattle.ts_model.specs.declared.views.ViewDef.{ViewDef}
 use Rattle.ts_model.specs.History.{History, position}
 use Rattle.ts_model.specs.declared.rosters.Roster.{Roster}
 use Rattle.ts_model.specs.Roster.{roster, same_name, view_named, view_of}
-use Rattle.ts_model.specs.Allowed.{all_allowed}
+use Rattle.ts_model.specs.Allowed.{all_allowed, QueueFits}
 use Rattle.stmt_reader.specs.declared.statements.Stmt.{Stmt}
 use Rattle.stmt_check.specs.declared.actions.Action.{Action}
 use Rattle.stmt_check.specs.declared.actions.Action.TheVariants as actions
@@ -19,11 +20,12 @@ AsksSoundly bytes stmt =
     (h : History) → IsTrue (all_allowed h) → refusal_of (position h) (roster h) stmt ≡ None
     → IsSound h bytes (action_of (roster h) stmt)
 
--- a snapshot stands for some allowed history
-pub record StandsForAllowed {T : Type 0} (stands : T → History → Type 0) (shot : T) : Type 0 where
+-- a snapshot stands for some allowed history, at which these operations can be committed, if there are any
+pub record StandsForAllowed {T : Type 0} (stands : T → History → Type 0) (shot : T) (queue : List Op) : Type 0 where
   pub history : History
   pub holds : stands shot history
   pub allowed : IsTrue (all_allowed history)
+  pub fits : QueueFits queue history
 
 -- the kind of what a statement asks for
 abbrev pub kind_of_action : Action → Kind

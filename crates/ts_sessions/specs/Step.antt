@@ -16,7 +16,7 @@ use Rattle.ts_model.specs.declared.rosters.Roster.{Roster}
 use Rattle.ts_model.specs.declared.views.ViewDef.{ViewDef}
 use Rattle.ts_model.specs.History.{History, position, prefix}
 use Rattle.ts_model.specs.Roster.{roster, same_name, view_of}
-use Rattle.ts_model.specs.Answers.{answer}
+use Rattle.ts_model.specs.Answers.{answer, with_queue}
 use Rattle.ts_model.specs.Pending.{pending}
 use Rattle.ts_model.specs.Reads.{reads as reads_of, job_reads}
 use Rattle.ts_model.specs.Timely.{has_room}
@@ -49,7 +49,7 @@ use Rattle.ts_sessions.specs.declared.queries.Form.{Form}
 use Rattle.ts_sessions.specs.declared.queries.Form.TheVariants as forms
 use Rattle.ts_sessions.specs.declared.queries.Plan.{Plan}
 use Rattle.ts_sessions.specs.Procedures.{Procedure, sees, looks, ends, followed_by, ending_as, tries_at, tries}
-use Rattle.ts_sessions.specs.Places.{Block, none, writing, reading, Places, held_for, enters, cuts, holds, gives_up, Turn, turns, refuses}
+use Rattle.ts_sessions.specs.Places.{Block, none, writing, reading, Places, queue_in, queue_count, held_for, enters, cuts, holds, gives_up, Turn, turns, refuses}
 
 -- ---- refusals of the text and of the block
 
@@ -94,9 +94,10 @@ refusal_outside kinds.Commits = Some (bare NO_BLOCK)
 refusal_outside kinds.RollsBack = Some (bare NO_BLOCK)
 refusal_outside other = None
 
--- and in a write block, which lets changes pass, and what ends it
+-- and in a write block, which lets changes and queries pass, and what ends it
 abbrev pub refusal_writing : Kind → Option Refusal
 refusal_writing kinds.Changes = None
+refusal_writing kinds.Asks = None
 refusal_writing kinds.Commits = None
 refusal_writing kinds.RollsBack = None
 refusal_writing other = Some (bare IN_WRITE_BLOCK)
@@ -283,13 +284,19 @@ in_form r forms.Own shown = shown
 in_form r (forms.RolledUp plan) shown = rolled_up (view_of r plan.view) plan shown
 in_form r (forms.Calendar cal) shown = record { rows = plan_rows cal shown.rows; stale = [] }
 
--- the answer by a plan at a history
+-- the history that a query in a block shows, where this one is seen: in a write block the queue is one commit on top
+abbrev pub shown_in : Block → History → History
+shown_in b h = with_queue (queue_in b) h
+
+-- the answer by a plan at a history, which leaves the session as it is
 abbrev pub answers : Places → History → Plan → Turn Places
 answers p h plan =
     record {
       places = p;
-      said = said.Answered (in_form (roster h) plan.form (answer plan.query h)) (position h) plan.min ∷ [];
-      reads = reads_of plan.query h;
+      said =
+          said.Answered (in_form (roster h) plan.form (answer plan.query (shown_in p.block h))) (position h)
+          (queue_count p.block) plan.min ∷ [];
+      reads = reads_of plan.query (shown_in p.block h);
     }
 
 -- ---- blocks
@@ -393,9 +400,11 @@ abbrev pub begins : Kind → Bool
 begins kinds.Begins = true
 begins other = false
 
--- in a write block with these operations it prints where names are refused, or the operations take effect
+-- in a write block with these operations it prints where names are refused, or a query is answered, or the operations
+-- take effect
 abbrev pub prints_writing : List Op → Kind → Option Refusal → Bool
 prints_writing ops kinds.Changes r = is_some r
+prints_writing ops kinds.Asks r = true
 prints_writing (op ∷ ops) kinds.Commits r = true
 prints_writing ops other r = false
 

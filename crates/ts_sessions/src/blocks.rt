@@ -1,7 +1,7 @@
 //! Blocks.
 ghost use Rattle.std.specs.Prelude.{◌≡◌, ◌+◌, ◌≤◌, OnOk, OnErr};
 ghost use Rattle.ts_sessions.specs.Held.{block_of, most_queued, pushed, queued as queued_in};
-ghost use Rattle.ts_sessions.specs.Places.{block_kind};
+ghost use Rattle.ts_sessions.specs.Places.{block_kind, queue_count as queue_count_of};
 ghost use Rattle.ts_sessions.specs.Sessions.{queued_on};
 ghost use Rattle.ts_sessions.specs.Step.{block_refusal, given_up as given_up_of, refusal_outside, refusal_reading, refusal_writing};
 
@@ -70,6 +70,17 @@ impl<T> Open<T> {
         }
     }
 
+    /// How many operations wait, where it is a write block.
+    pub(crate) fn queue_count(&self) -> Option<u64>
+        ensures { result ≡ queue_count_of (block_of self.now) }
+    {
+        match self {
+            Open::Nothing => None,
+            Open::Write(queue) => Some(queue.ops.len() as u64),
+            Open::Read { .. } => None,
+        }
+    }
+
     /// An operation, from a text of so many bytes, waits for the end of the block, if it is a write
     /// block.
     pub(crate) fn push(&mut self, op: Op, more: u64) -> Result<(), NoMemory>
@@ -128,10 +139,8 @@ fn in_write_block(kind: Kind) -> Option<Refusal>
     ensures { result ≡ refusal_writing kind }
 {
     match kind {
-        Kind::Changes | Kind::Commits | Kind::RollsBack => None,
-        Kind::Defines | Kind::Asks | Kind::Snaps | Kind::Finishes => {
-            Some(bare(codes::IN_WRITE_BLOCK))
-        }
+        Kind::Changes | Kind::Asks | Kind::Commits | Kind::RollsBack => None,
+        Kind::Defines | Kind::Snaps | Kind::Finishes => Some(bare(codes::IN_WRITE_BLOCK)),
         Kind::Begins | Kind::BeginsRead => Some(bare(codes::IN_WRITE_BLOCK)),
     }
 }

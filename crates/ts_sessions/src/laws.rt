@@ -1,5 +1,5 @@
 //! Laws of what lines do. Each is the clause of a function that does nothing, at any types.
-ghost use Rattle.ts_sessions.specs.LineLaws.{LinesMakeFewEvents, NamesStay, RepliesAreSteady, StepsAreReplies};
+ghost use Rattle.ts_sessions.specs.LineLaws.{LinesMakeFewEvents, NamesStay, OnlyCommitsMakeEvents, OthersSeeNoQueue, QueriesShowTheQueue, RepliesAreSteady, StepsAreReplies};
 ghost use Rattle.ts_sessions.specs.Laws.{GivesEvents, GivesOverLonger, LastIsPrinted, PrintedLooksDetermine, PutTogether, WalksAreGiven};
 
 /// A procedure that was walked, and then the procedure that follows it, are the walk of both.
@@ -52,4 +52,19 @@ pub fn replies_are_steady()
 /// refresh.
 pub fn lines_make_at_most_three_events()
     ensures { LinesMakeFewEvents }
+{}
+
+/// A query in a write block shows what it shows directly after a commit of the queue, and looks at as many rows.
+pub fn queries_show_the_queue()
+    ensures { QueriesShowTheQueue }
+{}
+
+/// A line in a write block makes no event, unless it is COMMIT.
+pub fn only_commits_make_events()
+    ensures { OnlyCommitsMakeEvents }
+{}
+
+/// The reply to a line is the same whatever another session has queued.
+pub fn others_see_no_queue()
+    ensures { OthersSeeNoQueue }
 {}

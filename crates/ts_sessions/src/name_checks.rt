@@ -10,6 +10,7 @@ ghost use Rattle.stmt_check.specs.declared.actions.Action.TheVariants as actions
 ghost use Rattle.ts_sessions.specs.declared.kinds.Kind.TheVariants.{Changes};
 ghost use Rattle.ts_sessions.specs.Deeds.{NextFits, OpensTo, StandsFor, acted, checked_at, looked_at, looks_at_names, taken_next};
 ghost use Rattle.ts_sessions.specs.Held.{HoldsOf, places_in};
+ghost use Rattle.ts_sessions.specs.Places.{queue_in};
 ghost use Rattle.ts_sessions.specs.Sound.{AsksSoundly, StandsForAllowed, kind_of_action};
 ghost use Rattle.ts_sessions.specs.Step.{block_refusal, kind_of as kind_of_stmt, least_start as least_start_of, makes_event, performs, read_at};
 
@@ -98,7 +99,7 @@ where
         requires sound { AsksSoundly bytes stmt.now }
         requires names { IsTrue (looks_at_names (kind_of_stmt stmt.now)) }
         requires passes { block_refusal (places_in self.now).block (kind_of_stmt stmt.now) ≡ None }
-        requires stands { StandsForAllowed T.stands shot.now }
+        requires stands { StandsForAllowed T.stands shot.now (queue_in (places_in self.now).block) }
         ensures opens { (s : State) (alone : Bool) → T.stands shot.now (read_at (places_in self.now).block s.history)
             → IsTrue (all_allowed (read_at (places_in self.now).block s.history))
             → OpensTo alone s (looked_at (places_in self.now) bytes stmt.now
@@ -108,7 +109,9 @@ where
         ensures taken { IfOk result (λ n. taken_next n ≡ None) }
     {
         match read_upper(alloc, stmt, shot.roster(), shot.position()) {
-            UpperRead::Plan(plan) => answer(rt, alloc, shot, roll_up_plan(plan), steps),
+            UpperRead::Plan(plan) => {
+                answer(rt, alloc, &self.block, shot, roll_up_plan(plan), steps)
+            },
             UpperRead::Refused(refusal) => say(alloc, Said::Fault(refusal), Change::Nothing),
             UpperRead::NotUpper => self.at_checks(rt, alloc, shot, stmt, bytes, steps),
             UpperRead::NoMemory => Err(NoMemory),
@@ -130,7 +133,7 @@ where
         requires sound { AsksSoundly bytes stmt.now }
         requires names { IsTrue (looks_at_names (kind_of_stmt stmt.now)) }
         requires passes { block_refusal (places_in self.now).block (kind_of_stmt stmt.now) ≡ None }
-        requires stands { StandsForAllowed T.stands shot.now }
+        requires stands { StandsForAllowed T.stands shot.now (queue_in (places_in self.now).block) }
         ensures opens { (s : State) (alone : Bool) → T.stands shot.now (read_at (places_in self.now).block s.history)
             → IsTrue (all_allowed (read_at (places_in self.now).block s.history))
             → OpensTo alone s (checked_at (places_in self.now) bytes stmt.now (places_in self.now).block
@@ -161,7 +164,7 @@ where
         requires counts { steps.old < 2 ^ 64 }
         requires names { IsTrue (looks_at_names (kind_of_action action)) }
         requires passes { block_refusal (places_in self.now).block (kind_of_action action) ≡ None }
-        requires stands { StandsForAllowed T.stands shot.now }
+        requires stands { StandsForAllowed T.stands shot.now (queue_in (places_in self.now).block) }
         requires sound { (h : History) → T.stands shot.now h → IsTrue (all_allowed h) → IsSound h bytes action }
         ensures opens { (s : State) (alone : Bool) → T.stands shot.now (read_at (places_in self.now).block s.history)
             → IsTrue (all_allowed (read_at (places_in self.now).block s.history))
@@ -190,7 +193,7 @@ where
             }
             Action::Ask(query) => {
                 let plan = plan_of(shot.roster(), query);
-                answer(rt, alloc, shot, plan, steps)
+                answer(rt, alloc, &self.block, shot, plan, steps)
             }
             Action::Calendar {
                 table,
@@ -209,7 +212,7 @@ where
                     fold,
                 };
                 let plan = calendar_plan(table, cal)?;
-                answer(rt, alloc, shot, plan, steps)
+                answer(rt, alloc, &self.block, shot, plan, steps)
             }
             Action::Snap { .. }
             | Action::Finish { .. }

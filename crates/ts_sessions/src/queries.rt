@@ -3,16 +3,20 @@ ghost use Rattle.std.specs.Prelude.{◌≡◌, ℕ, ◌<◌, ◌^◌, Bool, None
 ghost use Rattle.std.specs.Thread.{IsSync};
 ghost use Rattle.ts_model.specs.History.{History};
 ghost use Rattle.ts_model.specs.Roster.{roster as roster_of, view_of};
-ghost use Rattle.ts_model.specs.Allowed.{all_allowed};
-ghost use Rattle.ts_model.specs.Answers.{can_ask};
+ghost use Rattle.ts_schema.specs.Counts.{Ticks};
+ghost use Rattle.ts_model.specs.Allowed.{QueueFits, all_allowed};
+ghost use Rattle.ts_model.specs.Answers.{answer as answer_of, can_ask};
+ghost use Rattle.ts_model.specs.Reads.{reads as reads_of};
 ghost use Rattle.result_text.specs.declared.replies.Said.TheVariants.{Answered};
 ghost use Rattle.ts_model.specs.States.{State};
 ghost use Rattle.ts_sessions.specs.Deeds.{FormFits, IsFormed, NextFits, OpensTo, taken_next};
+ghost use Rattle.ts_sessions.specs.Held.{block_of};
 ghost use Rattle.ts_sessions.specs.Procedures.{ends};
-ghost use Rattle.ts_sessions.specs.Places.{Places};
+ghost use Rattle.ts_sessions.specs.Places.{Places, queue_in};
 ghost use Rattle.ts_sessions.specs.Sound.{StandsForAllowed};
-ghost use Rattle.ts_sessions.specs.Step.{answers, asked_start as start_asked, in_form as formed, least_start as start_of_view, plan_of as plan_of_query, roll_up_plan as plan_of_roll_up, calendar_plan as plan_of_calendar, unit_of as unit_of_word};
+ghost use Rattle.ts_sessions.specs.Step.{answers, asked_start as start_asked, in_form as formed, least_start as start_of_view, plan_of as plan_of_query, roll_up_plan as plan_of_roll_up, calendar_plan as plan_of_calendar, shown_in, unit_of as unit_of_word};
 
+use crate::blocks::Open;
 use crate::changes::Change;
 use crate::deeds::Next;
 use crate::follows::say;
@@ -47,10 +51,11 @@ pub(crate) struct Plan {
     pub min: i64,
 }
 
-/// Answers by a plan from a snapshot.
+/// Answers by a plan from a snapshot, in a block whose queue is seen on top of it.
 pub(crate) fn answer<R: Threads + Sync, T: Shown + Drop, L>(
     rt: &R,
     alloc: Global,
+    block: &Open<T>,
     shot: &T,
     plan: Plan,
     steps: &mut Steps<L>,
@@ -59,19 +64,44 @@ where
     T::Job: Drop,
     requires sync { IsSync R.row }
     requires counts { steps.old < 2 ^ 64 }
-    requires stands { StandsForAllowed T.stands shot.now }
+    requires stands { StandsForAllowed T.stands shot.now (queue_in (block_of block.now)) }
     requires formed { (h : History) → T.stands shot.now h → IsTrue (all_allowed h)
         → IsFormed (roster_of h) plan plan.form }
     requires asks { (h : History) → T.stands shot.now h → IsTrue (can_ask (roster_of h) plan.query) }
-    ensures opens { (h : History) → T.stands shot.now h → (p : Places) (alone : Bool) (s : State) →
-        OpensTo alone s (ends (answers p h plan)) p result s steps.old steps.new }
+    ensures opens { (h : History) → T.stands shot.now h → (p : Places) (alone : Bool) (s : State)
+        → p.block ≡ block_of block.now
+        → OpensTo alone s (ends (answers p h plan)) p result s steps.old steps.new }
     ensures fits { IfOk result (λ n. (s : State) (bytes : ℕ) → NextFits T.Shown bytes n s) }
     ensures taken { IfOk result (λ n. taken_next n ≡ None) }
 {
-    let answer = shot.answer(rt, &plan.query, steps)?;
-    let shown = in_form(alloc, shot.roster(), &plan.form, answer)?;
-    let said = answered(&plan, shown, shot.position());
+    let roster = shot.roster();
+    let answer = ask(rt, block, shot, &plan.query, steps)?;
+    let shown = in_form(alloc, roster, &plan.form, answer)?;
+    let said = answered(&plan, shown, shot.position(), block.queue_count());
     say(alloc, said, Change::Nothing)
+}
+
+/// What a query shows from a snapshot, in a block whose queue is seen on top of it.
+fn ask<R: Threads + Sync, T: Shown, L>(
+    rt: &R,
+    block: &Open<T>,
+    shot: &T,
+    query: &Query,
+    steps: &mut Steps<L>,
+) -> Result<Answer, NoMemory>
+    requires sync { IsSync R.row }
+    requires asks { (h : History) → T.stands shot.now h → IsTrue (can_ask (roster_of h) query.now) }
+    requires fits { (h : History) → T.stands shot.now h → QueueFits (queue_in (block_of block.now)) h }
+    ensures shown { (h : History) → T.stands shot.now h
+        → IfOk result (λ a. a ≡ answer_of query.now (shown_in (block_of block.now) h)) }
+    ensures read { (h : History) → T.stands shot.now h
+        → Ticks result (reads_of query.now (shown_in (block_of block.now) h)) steps.old steps.new }
+{
+    match block {
+        Open::Nothing => shot.answer(rt, query, steps),
+        Open::Write(queue) => shot.answer_with(rt, &queue.ops, query, steps),
+        Open::Read { .. } => shot.answer(rt, query, steps),
+    }
 }
 
 /// What is made of an answer, by the roster of its snapshot.
@@ -89,13 +119,14 @@ fn in_form(alloc: Global, roster: &Roster, form: &Form, answer: Answer) -> Resul
     }
 }
 
-/// What is said of an answer at a position.
-fn answered(plan: &Plan, answer: Answer, pos: u64) -> Said
-    ensures { result ≡ Answered answer pos plan.now.min }
+/// What is said of an answer at a position, with so many operations queued, if in a write block.
+fn answered(plan: &Plan, answer: Answer, pos: u64, queue: Option<u64>) -> Said
+    ensures { result ≡ Answered answer pos queue plan.now.min }
 {
     Said::Answered {
         answer,
         pos,
+        queue,
         min: plan.min,
     }
 }

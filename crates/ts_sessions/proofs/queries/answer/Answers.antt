@@ -1,23 +1,35 @@
-use Rattle.std.proofs.Common.{ℕ, ◌∙◌, ap, refl}
+use Rattle.std.proofs.Common.{ℕ, ◌∙◌, ap, refl, sym, subst}
+use Rattle.ts_model.specs.Answers.{with_queue}
 use Rattle.ts_model.specs.Roster.{roster}
 use Rattle.ts_model.specs.States.{State}
 use Rattle.ts_sessions.specs.declared.changes.Change.TheVariants as changes
-use Rattle.ts_sessions.specs.Deeds.{NextFits}
+use Rattle.ts_sessions.specs.Deeds.{IsFormed, NextFits}
+use Rattle.ts_sessions.specs.Held.{block_of}
+use Rattle.ts_sessions.specs.Places.{queue_in}
 use Rattle.ts_sessions.specs.Step.{in_form}
 use Rattle.ts_sessions.proofs.FirstLaws.{answer_opens, said_as}
 use Rattle.ts_sessions.proofs.FormLaws.{form_fits}
+use Rattle.ts_sessions.proofs.QueueLaws.{fits_each, queue_consistent, queue_roster}
 use Rattle.ts_sessions.proofs.queries.answer.Goals as goal
+
+pub ask-requires-clause-fits : goal.ask-requires-clause-fits
+ask-requires-clause-fits g c = λ _ _ h stands.
+    let s = c.requires.stands in
+    fits_each c.roster-roster.result.now (queue_in (block_of c.args.block.now)) s.history h (c.roster-roster.ensures s.history s.holds) (c.roster-roster.ensures h stands) s.fits
 
 pub in_form-requires : goal.in_form-requires
 in_form-requires g c =
     let s = c.requires.stands in
-    form_fits c.roster.result.now s.history c.args.plan.form c.args.plan c.in_ok-answer.answer (c.roster.ensures s.history s.holds) s.allowed (c.requires.formed s.history s.holds s.allowed) (c.in_ok-answer.ensures.shown s.history s.holds)
+    let queue = queue_in (block_of c.args.block.now) in
+    let form = c.args.plan.form in
+    let same = sym (queue_roster queue s.history) in
+    form_fits c.roster-roster.result.now (with_queue queue s.history) form c.args.plan c.in_ok-answer.answer (c.roster-roster.ensures s.history s.holds ∙ same) (queue_consistent queue s.history s.allowed s.fits) (subst (λ r. IsFormed r c.args.plan form) same (c.requires.formed s.history s.holds s.allowed)) (c.in_ok-answer.ensures.shown s.history s.holds)
 
 pub returns-clause-opens : goal.returns-clause-opens
-returns-clause-opens g c = λ h stands p alone s.
+returns-clause-opens g c = λ h stands p alone s in_block.
     let form = c.args.plan.form in
-    let shown = c.in_ok-shown.ensures ∙ ap (λ r. in_form r form c.in_ok-answer.answer) (c.roster.ensures h stands) ∙ ap (in_form (roster h) form) (c.in_ok-answer.ensures.shown h stands) in
-    answer_opens alone s h p c.args.plan c.in_ok-shown.shown c.position.result c.answered-said.result c.say.result _ _ c.requires.counts shown (c.position.ensures h stands) c.answered-said.ensures c.say.ensures (c.in_ok-answer.ensures.read h stands)
+    let shown = c.in_ok-shown.ensures ∙ ap (λ r. in_form r form c.in_ok-answer.answer) (c.roster-roster.ensures h stands) ∙ ap (in_form (roster h) form) (c.in_ok-answer.ensures.shown h stands) in
+    answer_opens alone s h p (block_of c.args.block.now) c.args.plan c.in_ok-shown.shown c.position.result c.queue_count.result c.answered-said.result c.say.result _ _ c.requires.counts in_block shown (c.position.ensures h stands) c.queue_count.ensures c.answered-said.ensures c.say.ensures (c.in_ok-answer.ensures.read h stands)
 
 pub returns-clause-fits : goal.returns-clause-fits
 returns-clause-fits g c =

@@ -171,7 +171,7 @@ returns-in-Ask-clause-opens g c = λ s alone stands ok.
     let plan = c.plan_of-plan.ensures ∙ ap (λ r. plan_of r c.in-Ask.query) (c.roster-in-Ask.ensures h stands) in
     opens_as alone s (acted p c.args.bytes c.args.action p.block (makes_event (kind_of_action c.args.action)) h) (ends (answers p h c.plan_of-plan.result)) p c.answer.result s _ _
     (ap (λ x. acted p c.args.bytes x p.block (makes_event (kind_of_action x)) h) c.in-Ask.is ∙ acted_here p c.args.bytes a p.block h ∙ ap (λ q. ends (answers p h q)) (sym plan))
-    (c.answer.ensures.opens h stands p alone s)
+    (c.answer.ensures.opens h stands p alone s refl)
 
 pub returns-in-Ask-clause-fits : goal.returns-in-Ask-clause-fits
 returns-in-Ask-clause-fits g c =
@@ -204,4 +204,4 @@ returns-in_ok-plan-in-Calendar-clause-opens g c = λ s alone stands ok.
     let plan : c.in_ok-plan-in-Calendar.plan ≡ calendar_plan k.table (calendar_of k.number k.unit k.at k.fold) = c.in_ok-plan-in-Calendar.ensures ∙ ap (λ u. calendar_plan k.table (record { number = k.number; unit = u; at = k.at; fold = k.fold })) c.unit_of-unit.ensures in
     opens_as alone s (acted p c.args.bytes c.args.action p.block (makes_event (kind_of_action c.args.action)) h) (ends (answers p h c.in_ok-plan-in-Calendar.plan)) p c.answer-in-Calendar.result s _ _
     (ap (λ x. acted p c.args.bytes x p.block (makes_event (kind_of_action x)) h) k.is ∙ acted_here p c.args.bytes a p.block h ∙ ap (λ q. ends (answers p h q)) (sym plan))
-    (c.answer-in-Calendar.ensures.opens h stands p alone s)
+    (c.answer-in-Calendar.ensures.opens h stands p alone s refl)

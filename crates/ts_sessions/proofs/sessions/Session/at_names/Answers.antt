@@ -43,7 +43,7 @@ returns-in-Plan-clause-opens g c = λ s alone stands ok.
     let stmt = c.args.stmt.now in
     opens_as alone s (looked_at p c.args.bytes stmt h) (ends (answers p h c.roll_up_plan.result)) p c.answer.result s _ _
     (ap (looked_as p c.args.bytes stmt p.block (makes_event (kind_of stmt)) h) (upper_at h c.position.result c.roster.result.now stmt (uppers.Plan c.in-Plan.plan) (c.position.ensures h stands) (c.roster.ensures h stands) c.in-Plan.ensures.read) ∙ ap (λ q. ends (answers p h q)) (sym c.roll_up_plan.ensures))
-    (c.answer.ensures.opens h stands p alone s)
+    (c.answer.ensures.opens h stands p alone s refl)
 
 pub returns-in-Plan-clause-fits : goal.returns-in-Plan-clause-fits
 returns-in-Plan-clause-fits g c =
