@@ -1,6 +1,6 @@
 -- The rows of a hypertable are such as a grouping by buckets of the calendar takes.
 use Rattle.std.proofs.Common.{◌≡◌, ℕ, ◌<◌, Bool, true, false, cond, List, [], ◌∷◌, length, map, filter, Option, Some, None, sym, refl, ap, ◌∙◌, subst, arith}
-use Rattle.std.specs.Prelude.{◌&&◌, nat_lt, option_and_then, option_map, unwrap_or, IsTrue}
+use Rattle.std.specs.Prelude.{nat_lt, option_and_then, option_map, unwrap_or}
 use Rattle.std.specs.List.{AllByRecursion, list_all}
 use Rattle.std.proofs.lemmas.Bool.{and_from, and_parts, ltb-true}
 use Rattle.ts_schema.specs.Conditions.{passes_all}

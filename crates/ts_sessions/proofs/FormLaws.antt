@@ -8,7 +8,6 @@ use Rattle.ts_model.specs.History.{History, position}
 use Rattle.ts_model.specs.Roster.{roster, view_of}
 use Rattle.ts_model.proofs.SoundLaws.{view_width}
 use Rattle.stmt_reader.specs.declared.statements.Stmt.{Stmt}
-use Rattle.hier_agg.specs.declared.plans.UpperPlan.{UpperPlan}
 use Rattle.hier_agg.specs.declared.reads.UpperRead.{UpperRead}
 use Rattle.hier_agg.specs.Plans.{all_starts}
 use Rattle.hier_agg.specs.Reads.{upper_read}
