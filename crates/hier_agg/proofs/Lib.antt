@@ -4,8 +4,8 @@ pub mod Fresh
 pub mod Gathered
 pub mod Gathering
 pub mod Held
+pub mod Kept
 pub mod Nesting
-pub mod Parts
 pub mod Regrouping
 pub mod Showing
 pub mod Sorting

@@ -1,18 +1,24 @@
 -- Groups sorted and then merged from the back.
-use Rattle.std.proofs.Common.{◌≡◌, suc, ◌+◌, true, false, List, [], ◌∷◌, ◌++◌, get_or, refl, sym, ap, ◌∙◌, subst, arith}
+use Rattle.std.proofs.Common.{◌≡◌, ℕ, zero, suc, ◌+◌, ◌<◌, ◌≤◌, true, false, List, [], ◌∷◌, ◌++◌, length, get_or, set, refl, sym, ap, ◌∙◌, subst, arith}
 use Rattle.std.specs.Bool.{⊤}
 use Rattle.std.specs.List.{AllByRecursion}
-use Rattle.std.specs.List.Sorted.{IsSorted}
+use Rattle.std.specs.List.Sorted.{IsPermutation, IsSorted}
 use Rattle.std.specs.Ordering.{is_gt, is_lt}
-use Rattle.std.proofs.lemmas.List.Elements.{recursion_from_All}
-use Rattle.std.proofs.lemmas.List.Sorted.{ranks_by, sorted_far}
+use Rattle.std.specs.declared.cmp.Ordering.TheVariants.{Less}
+use Rattle.std.proofs.lemmas.List.{get_or-map, length-map}
+use Rattle.std.proofs.lemmas.List.Elements.{All-from_recursion, recursion_from_All}
+use Rattle.std.proofs.lemmas.List.Sorted.{All-permutation, ranks_by, sorted_far}
 use Rattle.partial_agg.specs.declared.groups.Group.{Group}
-use Rattle.partial_agg.specs.Groups.{group_cmp}
+use Rattle.partial_agg.specs.Groups.{AreInOrder, group_cmp}
 use Rattle.partial_agg.proofs.GroupLaws.{group_cmp_total}
 use Rattle.group_fold.specs.Gathering.{ordered}
 use Rattle.group_fold.specs.Merging.{merged, with_group, with_groups}
+use Rattle.group_fold.proofs.Gathers.{before_none as none_behind, in_front, none_in_order}
 use Rattle.group_fold.proofs.Insertions.{by_order, greater_back}
-use Rattle.hier_agg.specs.Taken.{IsNotAfter}
+use Rattle.hier_agg.specs.declared.groups.UpperGroup.{UpperGroup}
+use Rattle.hier_agg.specs.declared.ways.Column.{Column}
+use Rattle.hier_agg.specs.Kept.{as_group, as_groups}
+use Rattle.hier_agg.specs.Taken.{IsNotAfter, place_cmp}
 
 -- ---- sorted groups
 
@@ -46,7 +52,7 @@ ascend_sorted (x ∷ xs) up =
       ascend_sorted xs (sorted_rest x xs up),
     )
 
-all_last : {X : Type 0} (P : X → Type 0) (xs : List X) (y : X) → AllByRecursion P (xs ++ y ∷ []) → AllByRecursion P xs × P y
+pub all_last : {X : Type 0} (P : X → Type 0) (xs : List X) (y : X) → AllByRecursion P (xs ++ y ∷ []) → AllByRecursion P xs × P y
 all_last P [] y h = (tt, h.0)
 all_last P (x ∷ xs) y h = let rest = all_last P xs y h.1 in ((h.0, rest.0), rest.1)
 
@@ -101,3 +107,43 @@ merging_step groups left merged rest next g m is made =
       ascends = split.0;
       before = subst (λ xs. AllByRecursion (λ x. IsNotAfter x xs) rest) (sym made) (all_put rest g merged split.1 first);
     }
+
+-- ---- what is kept of groups
+
+-- what is kept of sorted groups is sorted
+pub sorted_kept : (ks : List Column) (gs : List UpperGroup) → IsSorted place_cmp gs → IsSorted group_cmp (as_groups ks gs)
+sorted_kept ks [] up = λ k d low h. absurd (omega (arith, h))
+sorted_kept ks (g ∷ gs) up = λ k d low h.
+    let many = length-map (g ∷ gs) (as_group ks) in
+    let later = get_or-map (as_group ks) (g ∷ gs) (k + 1) g d (omega (arith, h, many)) in
+    let earlier = get_or-map (as_group ks) (g ∷ gs) k g d (omega (arith, h, many)) in
+    ap (λ x. is_lt (group_cmp x (get_or (as_groups ks (g ∷ gs)) k d))) later
+    ∙ ap (λ y. is_lt (group_cmp (as_group ks (get_or (g ∷ gs) (k + 1) g)) y)) earlier
+    ∙ up k g low (omega (arith, h, many))
+
+-- a group before the first of others
+pub before_first : (ks : List Column) (g x : UpperGroup) (gs : List UpperGroup) → 1 ≤ length gs → x ≡ get_or gs 0 x → place_cmp g x ≡ Less → AreInOrder (as_groups ks gs) → AreInOrder (as_groups ks (g ∷ gs))
+before_first ks g x [] h is less sorted = absurd (omega (arith, h))
+before_first ks g x (y ∷ gs) h is less sorted = in_front (as_group ks g) (as_group ks y) (as_groups ks gs) (ap (place_cmp g) (sym is) ∙ less) sorted
+
+pub before_none : (ks : List Column) (g : UpperGroup) (gs : List UpperGroup) → length gs < 1 → AreInOrder (as_groups ks (g ∷ gs))
+before_none ks g [] h = none_behind (as_group ks g) [] (omega arith)
+before_none ks g (x ∷ gs) h = absurd (omega (arith, h))
+
+pub none_rise : (ks : List Column) (gs : List UpperGroup) → length gs < 1 → AreInOrder (as_groups ks gs)
+none_rise ks [] h = none_in_order [] (omega arith)
+none_rise ks (x ∷ gs) h = absurd (omega (arith, h))
+
+-- ---- lists of which a fact holds throughout
+
+pub all_push : {X : Type 0} (P : X → Type 0) (xs : List X) (y : X) → AllByRecursion P xs → P y → AllByRecursion P (xs ++ y ∷ [])
+all_push P [] y h p = (p, tt)
+all_push P (x ∷ xs) y h p = (h.0, all_push P xs y h.1 p)
+
+pub all_set : {X : Type 0} (P : X → Type 0) (xs : List X) (k : ℕ) (y : X) → AllByRecursion P xs → P y → AllByRecursion P (set xs k y)
+all_set P [] k y h p = h
+all_set P (x ∷ xs) zero y h p = (p, h.1)
+all_set P (x ∷ xs) (suc k) y h p = (h.0, all_set P xs k y h.1 p)
+
+pub all_permuted : {X : Type 0} (P : X → Type 0) (xs ys : List X) → IsPermutation xs ys → AllByRecursion P xs → AllByRecursion P ys
+all_permuted P xs ys p h = recursion_from_All P ys (All-permutation P xs ys p (All-from_recursion P xs h))

@@ -1,16 +1,17 @@
 //! The upper answer of a lower one.
-ghost use Rattle.std.specs.Prelude.{◌≡◌, ◌∷◌, ◌++◌, map, IfOk, OnOk};
+ghost use Rattle.std.specs.Prelude.{◌≡◌, [], ◌∷◌, ◌++◌, map, IfOk, OnOk};
 ghost use Rattle.ts_num.specs.Aggregates.{shown_or_null};
-ghost use Rattle.ts_model.specs.Groups.{cells_of, shown_each};
+ghost use Rattle.hier_agg.specs.Kept.{group_shown, tallies_shown};
 ghost use Rattle.hier_agg.specs.Plans.{agg_at};
 ghost use Rattle.hier_agg.specs.Stale.{AreUpperRanges, AreWholeRanges};
-ghost use Rattle.hier_agg.specs.Upper.{all_added, upper_answer, upper_fold, upper_rows};
+ghost use Rattle.hier_agg.specs.Upper.{upper_answer, upper_rows};
 
 use crate::gathers::gather;
 use crate::groups::UpperGroup;
 use crate::plans::UpperPlan;
 use crate::stale::widen;
 use crate::tallies::{Tally, shown_of, value_shown};
+use crate::ways::{Column, columns_of};
 use cell_rows::CellRows;
 use std::alloc::Global;
 use ts_model::{Answer, Fold, ViewDef};
@@ -45,41 +46,41 @@ fn answer_rows(
     ensures { IfOk result (λ upper. upper ≡ upper_rows lower.now plan.now rows.now) }
 {
     let _step = plan.width.step;
-    let groups = gather(alloc, plan, rows)?;
-    shown_rows(alloc, plan, lower, groups.as_slice())
+    let columns = columns_of(alloc, lower, plan.cols.items())?;
+    let groups = gather(alloc, plan, columns.as_slice(), rows)?;
+    shown_rows(alloc, columns.as_slice(), groups.as_slice())
 }
 
 /// What groups show, row by row.
 fn shown_rows(
     alloc: Global,
-    plan: &UpperPlan,
-    lower: &Fold,
+    columns: &[Column],
     groups: &[UpperGroup],
 ) -> Result<CellRows<Datum>, NoMemory>
-    ensures { IfOk result (λ rows. rows ≡ map (cells_of (upper_fold lower.now plan.now)) groups.now) }
+    ensures { IfOk result (λ rows. rows ≡ map (group_shown columns.now) groups.now) }
 {
     let mut rows = CellRows::new(alloc);
+    let mut cells = Vec::new(alloc);
     for group in groups {
-        let cells = shown_cells(alloc, plan, lower, group)?;
-        rows.push(cells.as_slice())?;
+        put_group(columns, group, &mut cells, &mut rows)?;
     }
     Ok(rows)
 }
 
-/// The result row of a group.
-fn shown_cells(
-    alloc: Global,
-    plan: &UpperPlan,
-    lower: &Fold,
+/// Appends the result row of a group. It is made where there is room for cells, of which none stays.
+fn put_group(
+    columns: &[Column],
     group: &UpperGroup,
-) -> Result<Vec<Datum>, NoMemory>
-    ensures { IfOk result (λ cells. cells.items ≡ cells_of (upper_fold lower.now plan.now) group.now) }
+    cells: &mut Vec<Datum>,
+    rows: &mut CellRows<Datum>,
+) -> Result<(), NoMemory>
+    ensures { OnOk result (rows.new ≡ rows.old ++ group_shown columns.now group.now ∷ []) }
 {
-    let mut cells = Vec::with_capacity(alloc, 1)?;
+    cells.clear();
     cells.push(Datum::Int(group.start))?;
-    put_keys(group.keys.items(), &mut cells)?;
-    put_tallies(lower, plan.cols.items(), group.tallies.items(), &mut cells)?;
-    Ok(cells)
+    put_keys(group.keys.items(), cells)?;
+    put_tallies(columns, group.tallies.items(), cells)?;
+    rows.push(cells.as_slice())
 }
 
 /// Appends keys as they are shown.
@@ -94,21 +95,20 @@ fn put_keys(keys: &[Option<i128>], cells: &mut Vec<Datum>) -> Result<(), NoMemor
 
 /// Appends what each column adds up to.
 fn put_tallies(
-    lower: &Fold,
-    cols: &[u32],
+    columns: &[Column],
     tallies: &[Tally],
     cells: &mut Vec<Datum>,
 ) -> Result<(), NoMemory>
-    ensures { OnOk result (cells.new.items ≡ cells.old.items ++ shown_each (all_added lower.now cols.now) tallies.now) }
+    ensures { OnOk result (cells.new.items ≡ cells.old.items ++ tallies_shown columns.now tallies.now) }
 {
-    let mut cols_left = cols;
+    let mut columns_left = columns;
     let mut tallies_left = tallies;
-    while let [col, more_cols @ ..] = cols_left {
+    while let [_, more_columns @ ..] = columns_left {
         let [tally, more_tallies @ ..] = tallies_left else {
             return Ok(());
         };
-        cells.push(shown_of(function_at(lower, *col), tally))?;
-        cols_left = more_cols;
+        cells.push(shown_of(tally))?;
+        columns_left = more_columns;
         tallies_left = more_tallies;
     }
     Ok(())

@@ -1,19 +1,20 @@
 //! One group of an answer's rows, and what it is made of.
-ghost use Rattle.std.specs.Prelude.{◌≡◌, suc, map, IfOk, OnOk, length};
+ghost use Rattle.std.specs.Prelude.{◌≡◌, ◌++◌, suc, map, IfOk, OnOk, length};
 ghost use Rattle.ts_model.specs.Scratch.{keys_of};
 ghost use Rattle.group_fold.specs.Merging.{joined_parts};
-ghost use Rattle.hier_agg.specs.Taken.{cell_group, cell_parts};
+ghost use Rattle.hier_agg.specs.Kept.{as_parts};
+ghost use Rattle.hier_agg.specs.Taken.{made_group, row_tallies};
 ghost use Rattle.hier_agg.specs.Upper.{row_of};
 
-use crate::cells::{field, wide_start};
+use crate::cells::field;
 use crate::plans::UpperPlan;
 use crate::tallies::{Tally, merge_tallies, tally_of};
+use crate::ways::Column;
 use std::alloc::Global;
-use std::marker::Model;
 use ts_num::Datum;
 use ts_schema::{NoMemory, Seq};
 
-/// A group of rows of an answer. Contracts see it as the group of these rows.
+/// A group of rows of an answer.
 #[derive(Drop)]
 pub(crate) struct UpperGroup {
     /// The start of the wider bucket.
@@ -24,28 +25,22 @@ pub(crate) struct UpperGroup {
     pub(crate) tallies: Seq<Tally>,
 }
 
-impl Model for UpperGroup {
-    ghost use Rattle.partial_agg.specs.declared.groups.Group.{Group};
-
-    ghost Value = { Group };
-
-    ghost view = { λ g. record { start = g.start; keys = g.keys; parts = g.tallies } };
-
-    ghost inverse = { λ v. record { start = v.start; keys = v.keys; tallies = v.parts } };
-}
-
-/// The group of one row.
+/// The group of one row, in the wider bucket that starts at `start`.
 pub(crate) fn group_of(
     alloc: Global,
     plan: &UpperPlan,
+    columns: &[Column],
     cells: &[Datum],
+    start: i128,
 ) -> Result<UpperGroup, NoMemory>
-    ensures { IfOk result (λ group. group ≡ cell_group plan.now cells.now) }
+    ensures { IfOk result (λ group. group ≡ made_group columns.now plan.now start cells.now) }
 {
+    let mut tallies = Vec::with_capacity(alloc, columns.len())?;
+    put_tallies(columns, cells, &mut tallies)?;
     Ok(UpperGroup {
-        start: wide_start(&plan.width, cells)?,
+        start,
         keys: Seq::of(keys_of_row(alloc, plan.keys.items(), cells)?),
-        tallies: Seq::of(tallies_of_row(alloc, plan.cols.items(), cells)?),
+        tallies: Seq::of(tallies),
     })
 }
 
@@ -60,23 +55,32 @@ fn keys_of_row(alloc: Global, cols: &[u32], cells: &[Datum]) -> Result<Vec<Optio
     Ok(keys)
 }
 
-/// The chosen columns of a row.
-fn tallies_of_row(alloc: Global, cols: &[u32], cells: &[Datum]) -> Result<Vec<Tally>, NoMemory>
-    ensures { IfOk result (λ tallies. tallies.items ≡ cell_parts cols.now cells.now) }
+/// Appends the tallies of a row's chosen columns.
+pub(crate) fn put_tallies(
+    columns: &[Column],
+    cells: &[Datum],
+    tallies: &mut Vec<Tally>,
+) -> Result<(), NoMemory>
+    ensures { OnOk result (tallies.new.items ≡ tallies.old.items ++ row_tallies columns.now cells.now) }
 {
-    let mut tallies = Vec::with_capacity(alloc, cols.len())?;
-    for col in cols {
-        tallies.push(tally_of(field(cells, *col)))?;
+    for column in columns {
+        tallies.push(tally_of(field(cells, column.col)))?;
     }
-    Ok(tallies)
+    Ok(())
 }
 
-/// Takes another group of the same bucket and keys into a group.
-pub(crate) fn take_in(group: &mut UpperGroup, other: &UpperGroup) -> Result<(), NoMemory>
-    requires { length group.old.parts ≡ length other.now.parts }
+/// Takes tallies of the same columns into a group.
+pub(crate) fn take_in(
+    columns: &[Column],
+    group: &mut UpperGroup,
+    tallies: &[Tally],
+) -> Result<(), NoMemory>
+    requires mine { length group.old.tallies ≡ length columns.now }
+    requires theirs { length tallies.now ≡ length columns.now }
     ensures start { group.new.start ≡ group.old.start }
     ensures keys { group.new.keys ≡ group.old.keys }
-    ensures parts { OnOk result (group.new.parts ≡ joined_parts group.old.parts other.now.parts) }
+    ensures many { length group.new.tallies ≡ length columns.now }
+    ensures parts { OnOk result (as_parts columns.now group.new.tallies ≡ joined_parts (as_parts columns.now group.old.tallies) (as_parts columns.now tallies.now)) }
 {
-    merge_tallies(&mut group.tallies, &other.tallies)
+    merge_tallies(columns, &mut group.tallies, tallies)
 }

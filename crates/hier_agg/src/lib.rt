@@ -10,7 +10,9 @@
 //! - `gathers`: the groups of an answer's rows.
 //! - `orders`: groups put in order.
 //! - `groups`: one group.
+//! - `prints`: numbers by which groups are found.
 //! - `tallies`: what a column of cells adds up to.
+//! - `ways`: how columns add up.
 //! - `cells`: the cells of a row, as columns.
 //! - `laws`: what roll-ups show, at every history.
 #![tactic(auto)]
@@ -23,10 +25,12 @@ mod groups;
 pub mod laws;
 mod orders;
 mod plans;
+mod prints;
 mod reads;
 mod stale;
 mod stops;
 mod tallies;
+mod ways;
 mod widths;
 
 pub use answers::answer_upper;

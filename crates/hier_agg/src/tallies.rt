@@ -1,72 +1,76 @@
 //! What a column of cells adds up to.
-ghost use Rattle.std.specs.Prelude.{◌≡◌, ◌+◌, ◌+ℤ◌, [], ◌∷◌, IfOk, OnOk, length};
+ghost use Rattle.std.specs.Prelude.{◌≡◌, ◌+◌, pos, IfOk, OnOk, length, unwrap_or};
 ghost use Rattle.ts_num.specs.Aggregates.{greater, lesser, shown_or_null};
-ghost use Rattle.partial_agg.specs.Summaries.{joined, shown, sum_shown, summary};
+ghost use Rattle.partial_agg.specs.Summaries.{joined};
 ghost use Rattle.group_fold.specs.Merging.{joined_parts};
-ghost use Rattle.hier_agg.specs.Plans.{added_by};
+ghost use Rattle.hier_agg.specs.declared.ways.Way.TheVariants.{Added, Least, Most};
+ghost use Rattle.hier_agg.specs.Kept.{as_part, as_parts, bound, cell_tally, tally_shown};
 
-use std::marker::Model;
-use ts_num::{Datum, Fun};
+use crate::ways::{Column, Way};
+use ts_num::Datum;
 use ts_schema::{NoMemory, Seq};
 
-/// What a column of cells adds up to. Contracts see it as the `Summary` of the column.
+/// What the cells of a column add up to. How they add up stands with the column.
 #[derive(Clone, Copy)]
 pub(crate) struct Tally {
-    /// The number of rows.
-    count: u64,
     /// The number of cells that aren't NULL.
-    values: u64,
-    /// The sum of these.
-    sum: i128,
-    /// The least of these, `None` where there are none.
-    least: Option<i128>,
-    /// The greatest of these, `None` where there are none.
-    most: Option<i128>,
-}
-
-impl Model for Tally {
-    ghost use Rattle.partial_agg.specs.Summaries.{Summary};
-
-    ghost Value = { Summary };
-
-    ghost view = { λ t. record { count = t.count; values = t.values; sum = t.sum; least = t.least; most = t.most } };
-
-    ghost inverse = { λ s. record { count = s.count; values = s.values; sum = s.sum; least = s.least; most = s.most } };
+    pub(crate) values: u64,
+    /// The sum of these, or the least or the greatest of them, where there are any.
+    pub(crate) number: i128,
 }
 
 /// The tally of one cell.
 pub(crate) fn tally_of(value: Option<i128>) -> Tally
-    ensures { result ≡ summary (value ∷ []) }
+    ensures { result ≡ cell_tally value }
 {
     match value {
         None => Tally {
-            count: 1,
             values: 0,
-            sum: 0,
-            least: None,
-            most: None,
+            number: 0,
         },
         Some(v) => Tally {
-            count: 1,
             values: 1,
-            sum: v,
-            least: Some(v),
-            most: Some(v),
+            number: v,
         },
     }
 }
 
-/// The tally of the cells of both.
-fn both(a: &Tally, b: &Tally) -> Result<Tally, NoMemory>
-    ensures { IfOk result (λ t. t ≡ joined a.now b.now) }
+/// The tally of the cells of both, in a column that adds up this way.
+fn both(way: Way, a: &Tally, b: &Tally) -> Result<Tally, NoMemory>
+    ensures { IfOk result (λ t. as_part way t ≡ joined (as_part way a.now) (as_part way b.now)) }
 {
-    Ok(Tally {
-        count: count_of_both(a.count, b.count)?,
-        values: count_of_both(a.values, b.values)?,
-        sum: sum_of_both(a.sum, b.sum)?,
-        least: lesser_of(a.least, b.least),
-        most: greater_of(a.most, b.most),
-    })
+    match way {
+        Way::Added => sum_of_both(a, b),
+        Way::Least => least_of_both(a, b),
+        Way::Most => most_of_both(a, b),
+    }
+}
+
+/// The same where their sum is what counts. For one that takes more than 128 bits there is no room.
+fn sum_of_both(a: &Tally, b: &Tally) -> Result<Tally, NoMemory>
+    ensures { IfOk result (λ t. as_part Added t ≡ joined (as_part Added a.now) (as_part Added b.now)) }
+{
+    let values = count_of_both(a.values, b.values)?;
+    match a.number.checked_add(b.number) {
+        Some(number) => Ok(Tally { values, number }),
+        None => Err(NoMemory),
+    }
+}
+
+/// The same where the least is what counts.
+fn least_of_both(a: &Tally, b: &Tally) -> Result<Tally, NoMemory>
+    ensures { IfOk result (λ t. as_part Least t ≡ joined (as_part Least a.now) (as_part Least b.now)) }
+{
+    let values = count_of_both(a.values, b.values)?;
+    Ok(tally_with(values, lesser_of(bound_of(a), bound_of(b))))
+}
+
+/// The same where the greatest is what counts.
+fn most_of_both(a: &Tally, b: &Tally) -> Result<Tally, NoMemory>
+    ensures { IfOk result (λ t. as_part Most t ≡ joined (as_part Most a.now) (as_part Most b.now)) }
+{
+    let values = count_of_both(a.values, b.values)?;
+    Ok(tally_with(values, greater_of(bound_of(a), bound_of(b))))
 }
 
 /// The sum of two counts, where there is room for it.
@@ -79,13 +83,24 @@ fn count_of_both(a: u64, b: u64) -> Result<u64, NoMemory>
     }
 }
 
-/// The sum of two sums. For one that takes more than 128 bits there is no room.
-fn sum_of_both(a: i128, b: i128) -> Result<i128, NoMemory>
-    ensures { IfOk result (λ sum. sum ≡ a +ℤ b) }
+/// The number of a tally, where it has one.
+fn bound_of(tally: &Tally) -> Option<i128>
+    ensures { result ≡ bound tally.now.values tally.now.number }
 {
-    match a.checked_add(b) {
-        Some(sum) => Ok(sum),
-        None => Err(NoMemory),
+    match tally.values {
+        0 => None,
+        _ => Some(tally.number),
+    }
+}
+
+/// The tally of so many cells with this number.
+fn tally_with(values: u64, number: Option<i128>) -> Tally
+    ensures values { result.values ≡ values }
+    ensures number { result.number ≡ unwrap_or number (pos 0) }
+{
+    match number {
+        None => Tally { values, number: 0 },
+        Some(number) => Tally { values, number },
     }
 }
 
@@ -111,36 +126,31 @@ fn greater_of(a: Option<i128>, b: Option<i128>) -> Option<i128>
     }
 }
 
-/// Adds tallies up, place by place.
-pub(crate) fn merge_tallies(mine: &mut Seq<Tally>, theirs: &Seq<Tally>) -> Result<(), NoMemory>
-    requires { length mine.old ≡ length theirs.now }
-    ensures { OnOk result (mine.new ≡ joined_parts mine.old theirs.now) }
+/// Adds other tallies of the same columns to tallies.
+pub(crate) fn merge_tallies(
+    columns: &[Column],
+    mine: &mut Seq<Tally>,
+    theirs: &[Tally],
+) -> Result<(), NoMemory>
+    requires mine { length mine.old ≡ length columns.now }
+    requires theirs { length theirs.now ≡ length columns.now }
+    ensures many { length mine.new ≡ length columns.now }
+    ensures parts { OnOk result (as_parts columns.now mine.new ≡ joined_parts (as_parts columns.now mine.old) (as_parts columns.now theirs.now)) }
 {
-    for k in 0..theirs.len() {
-        let tally = both(mine.get(k), theirs.get(k))?;
+    for k in 0..columns.len() {
+        let tally = both(columns[k].way, mine.get(k), &theirs[k])?;
         mine.set(k, tally);
     }
     Ok(())
 }
 
-/// What the function that adds up what `fun` shows itself shows of a tally.
-pub(crate) fn shown_of(fun: Fun, tally: &Tally) -> Datum
-    ensures { result ≡ shown (added_by fun) tally.now }
+/// What a tally shows.
+pub(crate) fn shown_of(tally: &Tally) -> Datum
+    ensures { result ≡ tally_shown tally.now }
 {
-    match fun {
-        Fun::CountAll | Fun::Count | Fun::Sum | Fun::Avg => sum_of(tally.values, tally.sum),
-        Fun::Min => value_shown(tally.least),
-        Fun::Max => value_shown(tally.most),
-    }
-}
-
-/// The sum of so many values.
-fn sum_of(values: u64, sum: i128) -> Datum
-    ensures { result ≡ sum_shown values sum }
-{
-    match values {
+    match tally.values {
         0 => Datum::Null,
-        _ => Datum::Int(sum),
+        _ => Datum::Int(tally.number),
     }
 }
 

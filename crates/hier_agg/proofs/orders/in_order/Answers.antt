@@ -1,16 +1,10 @@
-use Rattle.std.proofs.Common.{sym, ◌∙◌, rules}
-use Rattle.std.proofs.lemmas.List.Sorted.{ranks_by, answers_always}
-use Rattle.partial_agg.specs.declared.groups.Group.{Group}
-use Rattle.partial_agg.proofs.GroupLaws.{group_cmp_total}
-use Rattle.group_fold.proofs.AnyOrder.{ordered-permuted}
-use Rattle.hier_agg.proofs.Parts.{alike_permuted}
+use Rattle.std.proofs.Common.{sym, subst}
+use Rattle.partial_agg.specs.Groups.{AreInOrder}
+use Rattle.group_fold.proofs.Gathers.{ordered_already}
+use Rattle.hier_agg.specs.Kept.{as_groups}
 use Rattle.hier_agg.proofs.orders.in_order.Goals as goal
 
-pub merge_neighbours-requires-clause-sorted : goal.merge_neighbours-requires-clause-sorted
-merge_neighbours-requires-clause-sorted c = c.in_ok-sort_by.ensures.sorted _ (ranks_by group_cmp_total (λ (g : Group). g)) (answers_always _ _ _ (λ f a r f' k. search rules))
-
-pub merge_neighbours-requires-clause-alike : goal.merge_neighbours-requires-clause-alike
-merge_neighbours-requires-clause-alike c = alike_permuted c.args.groups.items c.sort_by.new.self.items c.sort_by.ensures.permutation c.requires
-
-pub returns : goal.returns
-returns c = c.from.ensures.0 ∙ (c.in_ok-merge_neighbours.ensures ∙ sym (ordered-permuted c.args.groups.items c.sort_by.new.self.items c.sort_by.ensures.permutation))
+pub returns-then-rises : goal.returns-then-rises
+returns-then-rises c =
+    let ks = c.args.columns.now in
+    sym (ordered_already (as_groups ks c.args.groups.items) (subst (λ gs. AreInOrder (as_groups ks gs)) c.as_slice.ensures.value (c.rises.ensures c.if-rises.true ks)))

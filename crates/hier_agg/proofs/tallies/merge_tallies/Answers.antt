@@ -1,25 +1,17 @@
-use Rattle.std.proofs.Common.{◌<◌, length, ap, ◌∙◌, arith}
-use Rattle.partial_agg.specs.Summaries.{joined}
-use Rattle.group_fold.proofs.Parts.{part_within, part_step, parts_whole}
+use Rattle.std.proofs.Common.{length, pos, ap, ◌∙◌, arith}
+use Rattle.std.proofs.lemmas.List.{length-set}
+use Rattle.hier_agg.specs.declared.ways.Way.TheVariants.{Added}
+use Rattle.hier_agg.proofs.Kept.{tallies_step, tallies_whole}
 use Rattle.hier_agg.proofs.tallies.merge_tallies.Goals as goal
-use Rattle.hier_agg.proofs.tallies.merge_tallies.Goals.{In-loop-k}
-
-turn : (c : In-loop-k) → c.loop-k.k < length c.args.mine.now
-turn c = omega (arith, c.requires)
-
-within : (c : In-loop-k) → c.loop-k.k < length c.loop-k.mine
-within c = part_within c.loop-k.k c.args.mine.now c.args.theirs.now c.loop-k.mine c.requires c.loop-k.invariant (turn c)
-
-pub get-requires : goal.get-requires
-get-requires c = within c
-
-pub set-requires : goal.set-requires
-set-requires c = within (goal.at.set-requires c).In-loop-k
 
 pub loop-k-preserved : goal.loop-k-preserved
-loop-k-preserved c =
-    part_step c.loop-k.k c.args.mine.now c.args.theirs.now c.loop-k.mine c.set.new.self c.get.result.now c.in_ok-tally.tally c.get.result.now c.get-in-loop-k.result.now
-    c.requires c.loop-k.invariant (omega (arith, c.requires)) c.get.ensures.item (c.in_ok-tally.ensures ∙ ap (joined c.get.result.now) c.get-in-loop-k.ensures.item) c.set.ensures.set
+loop-k-preserved c = record {
+  many = ap length c.set.ensures.set ∙ length-set c.loop-k.mine c.loop-k.k c.in_ok-tally.tally ∙ c.loop-k.invariant.many;
+  merged =
+      tallies_step c.args.columns.now c.args.mine.now c.args.theirs.now c.loop-k.mine c.set.new.self c.loop-k.k (record { col = 0; way = Added }) (record { values = 0; number = pos 0 }) c.get.result.now c.in_ok-tally.tally
+      c.requires.mine c.requires.theirs c.loop-k.invariant.many c.loop-k.invariant.merged (omega (arith, c.loop-k-test.true)) c.get.ensures.item c.in_ok-tally.ensures c.set.ensures.set;
+}
 
-pub returns : goal.returns
-returns c = parts_whole c.loop-k.k c.args.mine.now c.args.theirs.now c.loop-k.mine c.requires c.loop-k.invariant (omega (arith, c.requires))
+pub returns-clause-parts : goal.returns-clause-parts
+returns-clause-parts c =
+    tallies_whole c.args.columns.now c.args.mine.now c.args.theirs.now c.loop-k.mine c.loop-k.k c.requires.mine c.requires.theirs c.loop-k.invariant.merged (omega (arith, c.loop-k-test.false))
