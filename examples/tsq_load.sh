@@ -31,6 +31,13 @@ printf '%s,1\n' 100 110 120 50 130 55 10 140 105 >late.csv
 "$tsq" load late.csv --table m --columns time,v 2>&1
 "$tsq" load late.csv --table m --columns time,v --gap 100 2>/dev/null
 
+# Rows that lie further apart than the gap, in a file of late rows alone too; a step back within the gap is none.
+printf '%s,1\n' 0 60 30 3660 7200 7230 10000 9000 >hours.csv
+"$tsq" load hours.csv --table m --columns time,v 2>&1
+"$tsq" load hours.csv --table m --columns time,v --gap 3600 2>&1
+"$tsq" load hours.csv --table m --columns time,v --gap 1000 2>&1
+"$tsq" load hours.csv --table m --columns time,v --gap 0 2>&1 | wc -l
+
 # What is no CSV, and what the words ask for.
 printf '1,"2\n' | "$tsq" load - --table m --columns time,v 2>&1 || echo "status $?"
 echo "1,2" | "$tsq" load - --table m --columns time,v --session "x y" 2>&1 || echo "status $?"

@@ -158,16 +158,19 @@ class Statements:
         self.begin()
 
 
-def put_in_order(rows, at, statements):
-    """Puts the rows into statements as they come. Gives those that are left because they lie before the statement
-    that they would stand in, and the greatest step between two that do not."""
-    late, step, low, last = [], 0, None, None
+def put_in_order(rows, at, gap, statements):
+    """Puts the rows into statements as they come, with a new one behind a gap, where one is asked for. Gives those
+    that are left because they lie before the statement that they would stand in, and the greatest step between two
+    that do not."""
+    late, step, low, high, last = [], 0, None, None, None
     for row in rows:
         time = row[at]
         if low is not None and time < low:
             late.append(row)
             continue
-        low = time if statements.add(row) else min(low, time)
+        if gap is not None and high is not None and time - high > gap:
+            statements.end()
+        low, high = (time, time) if statements.add(row) else (low, max(high, time))
         step = max(step, time - last) if last is not None else 0
         last = time
     statements.end()
@@ -193,7 +196,7 @@ def load(options):
     rows = rows_of(options, columns)
     names = ", ".join(column.name for column in loaded)
     statements = Statements(f"{options.session}: INSERT INTO {options.table} ({names}) VALUES ")
-    late, step = put_in_order(rows, at, statements)
+    late, step = put_in_order(rows, at, options.gap, statements)
     in_order = len(statements.done)
     put_late(late, at, step if options.gap is None else options.gap, statements)
     print("".join(f"{statement}\n" for statement in statements.done), end="")

@@ -80,7 +80,7 @@ def add_load(commands):
     parser.add_argument("--header", action="store_true", help="the first line holds names, and isn't a row")
     scale_option(parser, "multiply a column by 10 so many times, as temp=2; may stand several times")
     times_option(parser, "times are dates, as 2024-01-31T12:00:00Z, and become seconds, milliseconds or microseconds")
-    gap = "late rows that lie further apart get statements of their own; without it the greatest step in the file"
+    gap = "no two neighbours in time in a statement lie further apart; without it only late rows are parted"
     parser.add_argument("--gap", type=int, metavar="N", help=gap)
     parser.add_argument("--session", default="load", help="the session that puts them in")
     delimiter = "what stands between the cells, instead of a comma"
