@@ -44,10 +44,10 @@ def is_stale(reply, row):
     return any((low is None or low <= start) and start < high for low, high in reply.stale)
 
 
-def range_text(bounds, unit, gap=" "):
+def range_text(bounds, unit, is_iso=False):
     """A stale range as the reply has it, with dates where times are dates."""
     low, high = bounds
-    return f"{'min' if low is None else time_text(low, unit, gap)}..{time_text(high, unit, gap)}"
+    return f"{'min' if low is None else time_text(low, unit, is_iso)}..{time_text(high, unit, is_iso)}"
 
 
 def number_text(text, style):
@@ -58,21 +58,21 @@ def number_text(text, style):
     return digits if style.padded or "." not in digits else digits.rstrip("0").rstrip(".")
 
 
-def column_texts(texts, name, is_time, style, gap):
+def column_texts(texts, name, is_time, style, is_iso):
     """The cells of a column, and the same as they are written: times as dates, fractions as decimals."""
     if is_time and style.unit:
-        return texts, [text if text == "null" else date(int(text), style.unit, gap) for text in texts]
+        return texts, [text if text == "null" else date(int(text), style.unit, is_iso) for text in texts]
     if power := style.scales.get(name):
         texts = [text if text == "null" else divided(text, power) for text in texts]
     return texts, [number_text(text, style) for text in texts]
 
 
-def columns_of(reply, output, style, gap=" "):
+def columns_of(reply, output, style, is_iso=False):
     """The columns of an answer. Behind an average stands its fraction, where the style asks for it."""
     columns = []
     for place, name in enumerate(output.names):
         cells = [row[place] for row in reply.rows]
-        fractions, texts = column_texts(cells, name, place in output.times, style, gap)
+        fractions, texts = column_texts(cells, name, place in output.times, style, is_iso)
         columns.append(Column(name, texts, name))
         if style.fractions and any("/" in cell for cell in cells):
             columns.append(Column(f"{name}_fraction", fractions, ""))
@@ -104,7 +104,7 @@ def table(reply, output, style):
 
 def cells_for_programs(reply, output, style):
     """The names of the columns, and the rows as lists of texts, with `true` or `false` for stale buckets."""
-    columns = columns_of(reply, output, style, "T")
+    columns = columns_of(reply, output, style, is_iso=True)
     if output.is_view:
         columns.append(Column("stale", [str(is_stale(reply, row)).lower() for row in reply.rows], ""))
     names = distinct([column.name for column in columns])

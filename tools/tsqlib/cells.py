@@ -34,18 +34,20 @@ def decimal(fraction, places):
     return sign + digits if places == 0 else f"{sign}{digits[:-places]}.{digits[-places:]}"
 
 
-def date(number, unit, gap=" "):
+def date(number, unit, is_iso=False):
     """A time as a date in UTC, with as many digits of seconds as the unit has; the number itself beyond the years
-    1 to 9999."""
+    1 to 9999. For other programs it has a `T` between and a `Z` behind."""
     seconds, rest = divmod(number, UNITS[unit])
     try:
         moment = EPOCH + timedelta(seconds=seconds)
     except OverflowError:
         return str(number)
-    text = moment.isoformat(gap)
-    return text if unit == "s" else f"{text}.{rest:0{len(str(UNITS[unit])) - 1}}"
+    text = moment.isoformat("T" if is_iso else " ")
+    if unit != "s":
+        text += f".{rest:0{len(str(UNITS[unit])) - 1}}"
+    return text + "Z" * is_iso
 
 
-def time_text(number, unit, gap=" "):
+def time_text(number, unit, is_iso=False):
     """A time as a date, or as the number that it is where no unit is asked for."""
-    return str(number) if unit is None else date(number, unit, gap)
+    return str(number) if unit is None else date(number, unit, is_iso)

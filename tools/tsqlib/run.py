@@ -58,7 +58,7 @@ class Printer:
         if lines:
             print(*lines, sep="\n")
         for bounds in reply.stale:
-            say(f"stale {range_text(bounds, self.style.unit, 'T')}")
+            say(f"stale {range_text(bounds, self.style.unit, is_iso=True)}")
 
 
 def style_of(options):
