@@ -12,9 +12,25 @@ feed: CREATE MATERIALIZED VIEW empty WITH (timescaledb.continuous) AS SELECT tim
 END
 "$tsq" plot seconds --columns mean --times ms --script
 "$tsq" plot seconds --script --out a --where "second >= 2000" | tail -n 6
+"$tsq" plot seconds --script --key host=1 | grep '^set'
+"$tsq" plot seconds --script --key host=1 --key host=2 --columns mean | grep -c '^\$'
 "$tsq" plot empty 2>&1 || echo "status $?"
 "$tsq" plot load 2>&1 || echo "status $?"
 "$tsq" plot seconds --columns v 2>&1 || echo "status $?"
+"$tsq" plot seconds --key second=0 2>&1 || echo "status $?"
+"$tsq" plot seconds --key host=3 2>&1 || echo "status $?"
+"$tsq" plot seconds --key host=x 2>&1 | tail -n 1 || true
+
+# At most seven labels stand below a picture, however long it is: two days, ten years, and numbers without a unit.
+tsctl run >/dev/null <<'END'
+feed: CREATE TABLE long (time BIGINT NOT NULL, v BIGINT)
+feed: SELECT create_hypertable('long', 'time', chunk_time_interval => 1000000000)
+feed: INSERT INTO long VALUES (0, 1), (172799, 1), (315360000, 1)
+feed: CREATE MATERIALIZED VIEW hours WITH (timescaledb.continuous) AS SELECT time_bucket(3600, time) AS hour, count(*), sum(v) FROM long GROUP BY hour
+END
+"$tsq" plot hours --times s --script --where "hour < 172800" | grep -e xtics -e label
+"$tsq" plot hours --times s --script | grep xtics
+"$tsq" plot hours --script --where "hour < 172800" | grep xtics
 
 # A Python without packages, and a PATH without gnuplot.
 python="$(python3 -c 'import sys; print(sys.executable)')"

@@ -33,6 +33,15 @@ def scale(text):
     return name, int(power)
 
 
+def key(text):
+    """A column and a value, as `sensor=8`, where a value is written as tsctl prints it."""
+    name, _, value = text.partition("=")
+    try:
+        return name, value if value == "null" else str(int(value))
+    except ValueError:
+        raise argparse.ArgumentTypeError(f"{text}: wanted is NAME=N, with a whole number or null") from None
+
+
 def character(text):
     """A single character."""
     if len(text) != 1:
@@ -93,6 +102,8 @@ def add_plot(commands):
     parser.add_argument("view", metavar="AGGREGATE")
     parser.add_argument("--columns", metavar="NAME,..", help="what is drawn; without it every function's column")
     parser.add_argument("--where", metavar="TESTS", help="tests on the bucket, as `minute >= 0 AND minute < 600`")
+    keys = "the rows alone whose key column has this value, as sensor=8; may stand several times"
+    parser.add_argument("--key", type=key, action="append", default=[], metavar="NAME=N", help=keys)
     parser.add_argument("--out", metavar="NAME", help="writes NAME.png and NAME.svg; without it the aggregate's name")
     parser.add_argument("--script", action="store_true", help="print the script for gnuplot, and draw nothing")
     scale_option(parser, "divide a column by 10 so many times, as mean=2; may stand several times")
