@@ -5,7 +5,7 @@ from typing import NamedTuple
 
 from .statements import Line
 
-ANSWER = re.compile(r"ANSWER @\d+ rows (\d+) stale (\d+)")
+ANSWER = re.compile(r"ANSWER @\d+(?: queue \d+)? rows (\d+) stale (\d+)")
 FAULT = re.compile(r"FAULT (E\d\d) (\w+)(?: at (\d+))?")
 STALE = re.compile(r"stale (min|-?\d+)\.\.(-?\d+)")
 
