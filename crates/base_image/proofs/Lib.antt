@@ -7,3 +7,7 @@ pub mod WideLaws
 pub mod PartLaws
 pub mod MakingLaws
 pub mod WritableLaws
+pub mod Neighbours
+pub mod Searching
+pub mod Covering
+pub mod HeldLaws

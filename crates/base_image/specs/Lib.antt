@@ -3,4 +3,6 @@ pub mod Formed
 pub mod Counting
 pub mod Reading
 pub mod Making
+pub mod Rising
+pub mod Held
 pub mod Laws

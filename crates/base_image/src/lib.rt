@@ -4,14 +4,21 @@
 
 mod frames;
 mod groups;
+mod held;
 mod images;
 pub mod laws;
+mod orders;
 mod parts;
+mod ranges;
 mod refreshes;
 mod relations;
+mod searches;
 mod shapes;
 mod sizes;
+mod sums;
+mod validity;
 mod views;
+mod waits;
 
 pub use images::{put, put_image_bytes, read_whole};
 pub use sizes::size;
