@@ -11,3 +11,4 @@ pub mod Neighbours
 pub mod Searching
 pub mod Covering
 pub mod HeldLaws
+pub mod ShiftLaws

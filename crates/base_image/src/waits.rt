@@ -1,6 +1,6 @@
 //! Whether the refreshes of an image may wait, and may have been finished.
 ghost use Rattle.std.specs.Prelude.{◌≡◌, ◌&&◌, ◌==◌, map, nat_le, nat_lt, not, true};
-ghost use Rattle.std.specs.List.{list_any};
+ghost use Rattle.std.specs.List.{list_all, list_any};
 ghost use Rattle.std.specs.Ordering.{nat_cmp};
 ghost use Rattle.ts_model.specs.Roster.{view_of};
 ghost use Rattle.ts_model.specs.Sound.{span_fits};
@@ -25,15 +25,19 @@ fn wait_is_fit(roster: &Roster, pos: u64, refresh: &Waiting) -> bool
     is_number(pos, refresh.cut) && span_is_fit(refresh.span, view_in(roster, refresh.view))
 }
 
+fn each_wait_is_fit(roster: &Roster, pos: u64, waiting: &[Waiting]) -> bool
+    ensures { result ≡ list_all (λ w. is_number pos w.cut && span_fits w.span (view_of roster.now w.view)) waiting.now }
+{
+    waiting
+        .iter()
+        .all(|refresh| wait_is_fit(roster, pos, refresh))
+}
+
 /// Whether these refreshes may wait at a position, and stand in order.
 pub fn waits_are_fit(roster: &Roster, pos: u64, waiting: &[Waiting]) -> bool
     ensures { result ≡ waiting_fits roster.now pos waiting.now }
 {
-    let each = waiting
-        .iter()
-        .all(|refresh| wait_is_fit(roster, pos, refresh));
-    let rising = waiting_rise(waiting);
-    each && rising
+    each_wait_is_fit(roster, pos, waiting) && waiting_rise(waiting)
 }
 
 /// Whether a refresh may have been finished up to a position where these wait.
