@@ -46,11 +46,11 @@ covered : (from until b : ℤ) (ss : List Span) → cover_from from until ss ≡
 covered from until b [] c low high = let past : until ≤ℤ from = int_le-true until from c in absurd (omega (arith, ints))
 covered from until b (s ∷ ss) c low high =
     by_test (int_le until from) (λ e. let past : until ≤ℤ from = int_le-true until from e in absurd (omega (arith, ints))) (λ e.
-      let parts = and_parts (not (int_lt from s.lo)) (cover_from (int_max from s.hi) until ss) (ap (λ (t : Bool). t || (not (int_lt from s.lo) && cover_from (int_max from s.hi) until ss)) (sym e) ∙ c) in
-      let first : s.lo ≤ℤ from = low_enough from s.lo parts.0 in
-      by_test (int_le s.hi b) (λ past.
-        or_right (in_span s b) (lies_in ss b) (covered (int_max from s.hi) until b ss parts.1 (at_most_greater from s.hi b low (int_le-true s.hi b past)) high)
-      ) (λ here. or_left (in_span s b) (lies_in ss b) (in_span-from_ends s b (omega (arith, ints)) (ended_before s.hi b here)))
+    let parts = and_parts (not (int_lt from s.lo)) (cover_from (int_max from s.hi) until ss) (ap (λ (t : Bool). t || (not (int_lt from s.lo) && cover_from (int_max from s.hi) until ss)) (sym e) ∙ c) in
+    let first : s.lo ≤ℤ from = low_enough from s.lo parts.0 in
+    by_test (int_le s.hi b) (λ past.
+    or_right (in_span s b) (lies_in ss b) (covered (int_max from s.hi) until b ss parts.1 (at_most_greater from s.hi b low (int_le-true s.hi b past)) high)
+    ) (λ here. or_left (in_span s b) (lies_in ss b) (in_span-from_ends s b (omega (arith, ints)) (ended_before s.hi b here)))
     )
 
 -- ---- and where a number isn't covered, a bucket lies in none
@@ -76,24 +76,24 @@ gap w from until [] rise ends starts c = record { bucket = from; starts = starts
 gap w from until (s ∷ ss) rise ends starts c =
     let none = or_parts (int_le until from) (not (int_lt from s.lo) && cover_from (int_max from s.hi) until ss) c in
     by_test (int_lt from s.lo) (λ below.
-      let some : s.lo <ℤ s.hi = rising_head s ss rise in
-      let less : from <ℤ s.lo = grind (arith, ints) in
-      record {
-        bucket = from;
-        starts = starts;
-        low = omega (arith, ints);
-        high = ended_before until from none.0;
-        outside = ap (λ (t : Bool). t || lies_in ss from) (outside_below s from below) ∙ below_later s ss from rise (omega (arith, ints));
-      }
+    let some : s.lo <ℤ s.hi = rising_head s ss rise in
+    let less : from <ℤ s.lo = grind (arith, ints) in
+    record {
+      bucket = from;
+      starts = starts;
+      low = omega (arith, ints);
+      high = ended_before until from none.0;
+      outside = ap (λ (t : Bool). t || lies_in ss from) (outside_below s from below) ∙ below_later s ss from rise (omega (arith, ints));
+    }
     ) (λ above.
-      let rest = gap w (int_max from s.hi) until ss (rising_tail s ss rise) ends.1 (greater_bucket w from s.hi starts ends.0) (ap (λ (t : Bool). not t && cover_from (int_max from s.hi) until ss) (sym above) ∙ none.1) in
-      record {
-        bucket = rest.bucket;
-        starts = rest.starts;
-        low = from_first from s.hi rest.bucket rest.low;
-        high = rest.high;
-        outside = ap (λ (t : Bool). t || lies_in ss rest.bucket) (outside_above s rest.bucket (from_second from s.hi rest.bucket rest.low)) ∙ rest.outside;
-      }
+    let rest = gap w (int_max from s.hi) until ss (rising_tail s ss rise) ends.1 (greater_bucket w from s.hi starts ends.0) (ap (λ (t : Bool). not t && cover_from (int_max from s.hi) until ss) (sym above) ∙ none.1) in
+    record {
+      bucket = rest.bucket;
+      starts = rest.starts;
+      low = from_first from s.hi rest.bucket rest.low;
+      high = rest.high;
+      outside = ap (λ (t : Bool). t || lies_in ss rest.bucket) (outside_above s rest.bucket (from_second from s.hi rest.bucket rest.low)) ∙ rest.outside;
+    }
     )
 
 -- ---- ranges that end at or below the first number play no part
@@ -129,10 +129,10 @@ skipped from until [] rise = refl
 skipped from until (l ∷ ls) rise =
     let next : 1 + prefix_len (λ (l : SavedLast). int_le l.span.hi from) ls ≡ suc (prefix_len (λ (l : SavedLast). int_le l.span.hi from) ls) = omega arith in
     by_test (int_le l.span.hi from) (λ past.
-      ap (λ (t : Bool). cover_from from until (spans_of (drop (cond t (1 + prefix_len (λ (l : SavedLast). int_le l.span.hi from) ls) 0) (l ∷ ls)))) past
-      ∙ ap (λ n. cover_from from until (spans_of (drop n (l ∷ ls)))) next
-      ∙ skipped from until ls (rising_tail l.span (spans_of ls) rise)
-      ∙ sym (passed_over from until l.span (spans_of ls) (rising_head l.span (spans_of ls) rise) (int_le-true l.span.hi from past))
+    ap (λ (t : Bool). cover_from from until (spans_of (drop (cond t (1 + prefix_len (λ (l : SavedLast). int_le l.span.hi from) ls) 0) (l ∷ ls)))) past
+    ∙ ap (λ n. cover_from from until (spans_of (drop n (l ∷ ls)))) next
+    ∙ skipped from until ls (rising_tail l.span (spans_of ls) rise)
+    ∙ sym (passed_over from until l.span (spans_of ls) (rising_head l.span (spans_of ls) rise) (int_le-true l.span.hi from past))
     ) (λ here. ap (λ (t : Bool). cover_from from until (spans_of (drop (cond t (1 + prefix_len (λ (l : SavedLast). int_le l.span.hi from) ls) 0) (l ∷ ls)))) here)
 
 -- ---- the buckets of a span
@@ -149,7 +149,7 @@ each_among test [] b all is = absurd (true≢false (sym is))
 each_among test (c ∷ bs) b all is =
     let parts = and_parts (test c) (list_all test bs) all in
     by_test (int_eq c b) (λ same. subst (λ z. test z ≡ true) ((Decides-int_eq c b).0 same) parts.0) (λ other.
-      each_among test bs b parts.1 (ap (λ (t : Bool). t || among b bs) (sym other) ∙ is)
+    each_among test bs b parts.1 (ap (λ (t : Bool). t || among b bs) (sym other) ∙ is)
     )
 
 -- the ends of a span that fits
@@ -178,20 +178,20 @@ cover_is def ls s fits rise whole = same_test _ _ there back
   where
     there : cover_from s.lo s.hi (spans_of ls) ≡ true → has_lasts def.fold.width ls s ≡ true
     there c = all_among (λ b. is_some (pos_in ls b)) (buckets_in def.fold.width s) (λ b e.
-      let asked = and_parts (in_span s b) (is_bucket def.fold.width b && int_le (first_of def.fold.width) b) (sym (among-buckets_in def.fold.width s b) ∙ e) in
-      let ends = in_span-ends s b asked.0 in
-      lasts_hold ls b ∙ covered s.lo s.hi b (spans_of ls) c ends.0 ends.1)
+        let asked = and_parts (in_span s b) (is_bucket def.fold.width b && int_le (first_of def.fold.width) b) (sym (among-buckets_in def.fold.width s b) ∙ e) in
+        let ends = in_span-ends s b asked.0 in
+        lasts_hold ls b ∙ covered s.lo s.hi b (spans_of ls) c ends.0 ends.1)
 
     back : has_lasts def.fold.width ls s ≡ true → cover_from s.lo s.hi (spans_of ls) ≡ true
     back h = by_test (cover_from s.lo s.hi (spans_of ls)) (λ c. c) (λ c.
-      let ends = whole_ends def s whole in
-      let g = gap def.fold.width s.lo s.hi (spans_of ls) rise (all_end def ls fits) ends.starts c in
-      let low : s.lo ≤ℤ g.bucket = g.low in
-      let first : first_of def.fold.width ≤ℤ s.lo = ends.first in
-      let among_them : among g.bucket (buckets_in def.fold.width s) ≡ true =
-      among-buckets_in def.fold.width s g.bucket
-      ∙ and_from _ _ (in_span-from_ends s g.bucket g.low g.high) (and_from _ _ g.starts (le-int_le (first_of def.fold.width) g.bucket (omega (arith, ints)))) in
-      absurd (true≢false (sym (each_among (λ b. is_some (pos_in ls b)) (buckets_in def.fold.width s) g.bucket h among_them) ∙ lasts_hold ls g.bucket ∙ g.outside)))
+        let ends = whole_ends def s whole in
+        let g = gap def.fold.width s.lo s.hi (spans_of ls) rise (all_end def ls fits) ends.starts c in
+        let low : s.lo ≤ℤ g.bucket = g.low in
+        let first : first_of def.fold.width ≤ℤ s.lo = ends.first in
+        let among_them : among g.bucket (buckets_in def.fold.width s) ≡ true =
+        among-buckets_in def.fold.width s g.bucket
+        ∙ and_from _ _ (in_span-from_ends s g.bucket g.low g.high) (and_from _ _ g.starts (le-int_le (first_of def.fold.width) g.bucket (omega (arith, ints)))) in
+        absurd (true≢false (sym (each_among (λ b. is_some (pos_in ls b)) (buckets_in def.fold.width s) g.bucket h among_them) ∙ lasts_hold ls g.bucket ∙ g.outside)))
 
 -- ---- what fits rises
 

@@ -12,3 +12,4 @@ pub mod Searching
 pub mod Covering
 pub mod HeldLaws
 pub mod ShiftLaws
+pub mod ReadLaws

@@ -24,8 +24,8 @@ all_neighbours e [] h = refl
 all_neighbours e (x ∷ []) h = refl
 all_neighbours e (x ∷ y ∷ xs) h =
     and_from _ _ (sym (h 0 x (omega arith))) (all_neighbours e (y ∷ xs) (λ k d l.
-      let next : suc k + 1 ≡ suc (k + 1) = omega arith in
-      subst (λ n. true ≡ e (get_or (y ∷ xs) k d) (get_or (x ∷ y ∷ xs) n d)) next (h (suc k) d (omega arith))))
+    let next : suc k + 1 ≡ suc (k + 1) = omega arith in
+    subst (λ n. true ≡ e (get_or (y ∷ xs) k d) (get_or (x ∷ y ∷ xs) n d)) next (h (suc k) d (omega arith))))
 
 none_after : (t : Bool) → (t && false) ≡ false
 none_after true = refl

@@ -228,49 +228,59 @@ abbrev fit_parts : Parts → Type 0
 fit_parts x =
     ((x.0 == 8) ≡ true) × (IsEight x.1.0 × (MakeRoster x.1.1.0 × (Many IsFramed x.1.1.1.0 × (AreViewsOf x.1.1.0.1.views x.1.1.1.1.0 × (Many IsWaiting x.1.1.1.1.1.0 × Many IsFinished x.1.1.1.1.1.1)))))
 
-image_exact : IsExact image IsReadable image_at
+-- an image with its roster
+abbrev pub WithRoster : Image × Roster → Type 0
+WithRoster x = IsReadable x.0 × (x.1 ≡ roster_over no_relations x.0.roster)
+
+abbrev spell_image : Image × Roster → List ℕ
+spell_image x = image x.0
+
+image_exact : IsExact spell_image WithRoster image_at
 unfolding image_at
-image_exact = map_exact to_image spell_parts fit_parts _ image IsReadable
+image_exact = map_exact to_image spell_parts fit_parts _ spell_image WithRoster
     (pair_exact _ _ _ _ _ _ (exact (byte_format (λ b. b == 8) 8 refl)) (λ kind h. pair_exact _ _ _ _ _ _ (exact any_eight_format) (λ pos i. pair_exact _ _ _ _ _ _ roster_exact (λ made j. pair_exact _ _ _ _ _ _ (many_exact _ _ _ framed_exact) (λ rows k. pair_exact _ _ _ _ _ _ (views_exact made.1.views) (λ views l. pair_exact _ _ _ _ _ _ (many_exact _ _ _ waiting_exact) (λ waiting m. many_exact _ _ _ finished_exact)))))))
     (record { there = there; back = back })
   where
-    there : (x : Parts) → fit_parts x → IsReadable (to_image x) × (image (to_image x) ≡ spell_parts x)
+    there : (x : Parts) → fit_parts x → WithRoster (to_image x) × (spell_image (to_image x) ≡ spell_parts x)
     there x h =
         let kind : x.0 ≡ 8 = eqb-true x.0 8 h.0 in (
-          record {
-            pos = h.1.0;
-            roster = h.1.1.0.0.0;
-            made = h.1.1.0.0.1;
-            rows = h.1.1.1.0;
-            views = subst (λ (r : Roster). AreViewsOf r.views x.1.1.1.1.0) h.1.1.0.1 h.1.1.1.1.0;
-            waiting = h.1.1.1.1.1.0;
-            done = h.1.1.1.1.1.1;
-          },
+          (
+            record {
+              pos = h.1.0;
+              roster = h.1.1.0.0.0;
+              made = h.1.1.0.0.1;
+              rows = h.1.1.1.0;
+              views = subst (λ (r : Roster). AreViewsOf r.views x.1.1.1.1.0) h.1.1.0.1 h.1.1.1.1.0;
+              waiting = h.1.1.1.1.1.0;
+              done = h.1.1.1.1.1.1;
+            },
+            h.1.1.0.1,
+          ),
           ap (λ (n : ℕ). n ∷ (eight x.1.0 ++ (many framed x.1.1.0.0 ++ (many framed x.1.1.1.0 ++ (many saved x.1.1.1.1.0 ++ (many waiting x.1.1.1.1.1.0 ++ many finished x.1.1.1.1.1.1)))))) (sym kind),
         )
 
-    back : (i : Image) → IsReadable i → Source to_image spell_parts fit_parts image i
-    back i h = record {
-      value = (8, (i.pos, ((i.roster, roster_over no_relations i.roster), (i.rows, (i.views, (i.waiting, i.done))))));
-      ok = (refl, (h.pos, (((h.roster, h.made), refl), (h.rows, (h.views, (h.waiting, h.done))))));
+    back : (x : Image × Roster) → WithRoster x → Source to_image spell_parts fit_parts spell_image x
+    back x h = record {
+      value = (8, (x.0.pos, ((x.0.roster, x.1), (x.0.rows, (x.0.views, (x.0.waiting, x.0.done))))));
+      ok = (refl, (h.0.pos, (((h.0.roster, h.0.made), h.1), (h.0.rows, (subst (λ (r : Roster). AreViewsOf r.views x.0.views) (sym h.1) h.0.views, (h.0.waiting, h.0.done))))));
       same = refl;
       spelled = refl;
     }
 
-ended : (i j : Image) (left end : List ℕ) → at_end i left ≡ Ok (j, end) → (i ≡ j) × (left ≡ [])
-ended i j [] end h = (same_value i j [] end h, refl)
-ended i j (b ∷ left) end h = absurd cc
+ended : (x y : Image × Roster) (left end : List ℕ) → at_end x left ≡ Ok (y, end) → (x ≡ y) × (left ≡ [])
+ended x y [] end h = (same_value x y [] end h, refl)
+ended x y (b ∷ left) end h = absurd cc
 
--- what is read is an image, and all of it
-pub image_read : (bytes : List ℕ) (i : Image) (end : List ℕ) → whole_image bytes ≡ Ok (i, end) → IsReadable i × (bytes ≡ image i)
+-- what is read is an image with its roster, and all of it
+pub image_read : (bytes : List ℕ) (x : Image × Roster) (end : List ℕ) → whole_image bytes ≡ Ok (x, end) → WithRoster x × (bytes ≡ image x.0)
 unfolding whole_image
-image_read bytes i end h =
-    let w = went_on (image_at bytes) at_end (i, end) h in
-    let last = ended w.0.0 i w.0.1 end w.2 in
+image_read bytes x end h =
+    let w = went_on (image_at bytes) at_end (x, end) h in
+    let last = ended w.0.0 x w.0.1 end w.2 in
     let one = image_exact.takes bytes w.0.0 w.0.1 w.1 in
-    (subst IsReadable last.0 one.ok, one.parts ∙ ap (λ (l : List ℕ). image w.0.0 ++ l) last.1 ∙ append-nil (image w.0.0) ∙ ap image last.0)
+    (subst WithRoster last.0 one.ok, one.parts ∙ ap (λ (l : List ℕ). spell_image w.0.0 ++ l) last.1 ∙ append-nil (spell_image w.0.0) ∙ ap spell_image last.0)
 
 -- an image is read
-pub image_again : (i : Image) → IsReadable i → whole_image (image i) ≡ Ok (i, [])
+pub image_again : (i : Image) → IsReadable i → whole_image (image i) ≡ Ok ((i, roster_over no_relations i.roster), [])
 unfolding whole_image
-image_again i h = ap (λ (l : List ℕ). go_on (image_at l) at_end) (sym (append-nil (image i))) ∙ ap (λ (r : Result (Image × List ℕ) (List ℕ)). go_on r at_end) (image_exact.again i [] h)
+image_again i h = ap (λ (l : List ℕ). go_on (image_at l) at_end) (sym (append-nil (image i))) ∙ ap (λ (r : Result ((Image × Roster) × List ℕ) (List ℕ)). go_on r at_end) (image_exact.again (i, roster_over no_relations i.roster) [] (h, refl))

@@ -57,13 +57,13 @@ found p q [] s = refl
 found p q (x ∷ xs) s =
     let next : 1 + prefix_len p xs ≡ suc (prefix_len p xs) = omega arith in
     by_test (p x) (λ passes.
-      ap (λ b. passes_there q (slice_get (x ∷ xs) (cond b (1 + prefix_len p xs) 0))) passes
-      ∙ ap (λ n. passes_there q (slice_get (x ∷ xs) n)) next
-      ∙ found p q xs s.1
-      ∙ ap (λ b. b || list_any q xs) (sym (s.0.1.0 passes))
+    ap (λ b. passes_there q (slice_get (x ∷ xs) (cond b (1 + prefix_len p xs) 0))) passes
+    ∙ ap (λ n. passes_there q (slice_get (x ∷ xs) n)) next
+    ∙ found p q xs s.1
+    ∙ ap (λ b. b || list_any q xs) (sym (s.0.1.0 passes))
     ) (λ fails.
-      ap (λ b. passes_there q (slice_get (x ∷ xs) (cond b (1 + prefix_len p xs) 0))) fails
-      ∙ sym (ap (λ b. q x || b) (s.0.1.1 fails) ∙ last (q x))
+    ap (λ b. passes_there q (slice_get (x ∷ xs) (cond b (1 + prefix_len p xs) 0))) fails
+    ∙ sym (ap (λ b. q x || b) (s.0.1.1 fails) ∙ last (q x))
     )
   where
     last : (t : Bool) → (t || false) ≡ t
@@ -146,14 +146,13 @@ module _ {X : Type 0} (span : X → Span) (b : ℤ) where
 
   pub spans_searched : (xs : List X) → are_rising (map span xs) ≡ true → IsSearched ends_below holds_it xs
   spans_searched [] e = tt
-  spans_searched (x ∷ xs) e =
-      (
-        (
-          (λ h. up_to (span x) (earlier_ends x xs e h)),
-          ((λ h. outside_above (span x) b (int_le-true (span x).hi b h)), (λ h. any_over xs ∙ below_later (span x) (map span xs) b e (not_ended (span x) h)))
-        ),
-        spans_searched xs (rising_tail (span x) (map span xs) e)
-      )
+  spans_searched (x ∷ xs) e = (
+    (
+      (λ h. up_to (span x) (earlier_ends x xs e h)),
+      ((λ h. outside_above (span x) b (int_le-true (span x).hi b h)), (λ h. any_over xs ∙ below_later (span x) (map span xs) b e (not_ended (span x) h))),
+    ),
+    spans_searched xs (rising_tail (span x) (map span xs) e),
+  )
 
 -- what spans hold, and what ranges of last refreshes do
 pub rising_same : (ss : List Span) → are_rising ss ≡ true → are_rising (map (λ (s : Span). s) ss) ≡ true
@@ -196,13 +195,12 @@ some_below k c (w ∷ ws) e h =
 pub cuts_searched : (c : ℕ) (ws : List Waiting) → all_rise nat_cmp (cuts_of ws) ≡ true → IsSearched (λ (w : Waiting). nat_lt w.cut c) (λ w. w.cut == c) ws
 cuts_searched c [] e = tt
 cuts_searched c (w ∷ ws) e =
-    let parts = and_parts (list_all (λ y. is_lt (nat_cmp w.cut y)) (cuts_of ws)) (all_rise nat_cmp (cuts_of ws)) e in
-    (
+    let parts = and_parts (list_all (λ y. is_lt (nat_cmp w.cut y)) (cuts_of ws)) (all_rise nat_cmp (cuts_of ws)) e in (
       (
         (λ h. some_below w.cut c ws parts.0 h),
-        ((λ h. apart w.cut c h), (λ h. none_upto w.cut c ws parts.0 (at_most w.cut c h)))
+        ((λ h. apart w.cut c h), (λ h. none_upto w.cut c ws parts.0 (at_most w.cut c h))),
       ),
-      cuts_searched c ws parts.1
+      cuts_searched c ws parts.1,
     )
   where
     apart : (n c : ℕ) → nat_lt n c ≡ true → (n == c) ≡ false

@@ -5,4 +5,5 @@ pub mod Reading
 pub mod Making
 pub mod Rising
 pub mod Held
+pub mod Answering
 pub mod Laws

@@ -113,26 +113,31 @@ unfoldable pub roster_at : Reads (List Event × Roster)
 roster_at = mapped with_roster (checked (make_relations no_relations) (many_of framed_at))
 
 abbrev pub to_image :
-    ℕ × (ℕ × ((List Event × Roster) × (List Event × (List SavedView × (List Waiting × List Finished))))) → Image
-to_image x = record {
-  pos = x.1.0;
-  roster = x.1.1.0.0;
-  rows = x.1.1.1.0;
-  views = x.1.1.1.1.0;
-  waiting = x.1.1.1.1.1.0;
-  done = x.1.1.1.1.1.1;
-}
+    ℕ × (ℕ × ((List Event × Roster) × (List Event × (List SavedView × (List Waiting × List Finished)))))
+    → Image × Roster
+to_image x = (
+  record {
+    pos = x.1.0;
+    roster = x.1.1.0.0;
+    rows = x.1.1.1.0;
+    views = x.1.1.1.1.0;
+    waiting = x.1.1.1.1.1.0;
+    done = x.1.1.1.1.1.1;
+  },
+  x.1.1.0.1,
+)
 
-unfoldable pub image_at : Reads Image
+-- an image with its roster
+unfoldable pub image_at : Reads (Image × Roster)
 image_at =
     mapped to_image
     (pair (byte_where (λ b. b == 8)) (λ kind. pair any_eight (λ pos. pair roster_at (λ made. pair (many_of framed_at)
     (λ rows. pair (views_at made.1.views) (λ views. pair (many_of waiting_at) (λ waiting. many_of finished_at)))))))
 
--- an image, where nothing is left
-abbrev pub at_end : Image → Reads Image
-at_end i [] = Ok (i, [])
-at_end i (b ∷ bytes) = Err (b ∷ bytes)
+-- what was read, where nothing is left
+abbrev pub at_end : {A : Type 0} → A → Reads A
+at_end a [] = Ok (a, [])
+at_end a (b ∷ bytes) = Err (b ∷ bytes)
 
-unfoldable pub whole_image : Reads Image
+unfoldable pub whole_image : Reads (Image × Roster)
 whole_image bytes = go_on (image_at bytes) at_end

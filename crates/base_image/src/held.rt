@@ -99,13 +99,7 @@ fn rows_by(table: u32, op: &Op) -> &[Row]
     ensures times { list_all (λ row. is_time row.at) result.now ≡ true }
 {
     match op {
-        Op::Insert { table: into, rows } => {
-            if *into == table {
-                rows.items()
-            } else {
-                &[]
-            }
-        }
+        Op::Insert { table: into, rows } => { if *into == table { rows.items() } else { &[] } }
         Op::Delete { .. } => &[],
     }
 }
@@ -199,7 +193,6 @@ fn commits_are_marked(def: &ViewDef, view: &SavedView, events: &[Event]) -> bool
 }
 
 /// Whether each row of the table of an aggregate is, too.
-#[tactic(auto, using(crate::proofs::HeldLaws::all_by_commit))]
 pub fn table_is_marked(def: &ViewDef, view: &SavedView, events: &[Event]) -> bool
     requires timed { list_all is_timed events.now ≡ true }
     requires lasts { are_rising (spans_of view.now.lasts) ≡ true }

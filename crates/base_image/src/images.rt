@@ -84,9 +84,9 @@ fn read_roster(reader: &mut Reader<'_>) -> Result<(Seq<Event>, Roster), ReadErro
     }
 }
 
-/// Reads an image.
+/// Reads an image, and makes its roster.
 #[tactic(auto, unfolding(crate::specs::Reading::image_at))]
-fn read_image(reader: &mut Reader<'_>) -> Result<Image, ReadError>
+fn read_image(reader: &mut Reader<'_>) -> Result<(Image, Roster), ReadError>
     ensures { Gives result (image_at reader.old) reader.new }
 {
     let _kind = read_kind(reader)?;
@@ -96,26 +96,27 @@ fn read_image(reader: &mut Reader<'_>) -> Result<Image, ReadError>
     let views = read_views(made.views.items(), reader)?;
     let waiting = read_many(Shape::none(), reader)?;
     let done = read_many(Shape::none(), reader)?;
-    Ok(Image {
+    let image = Image {
         pos,
         roster,
         rows,
         views,
         waiting,
         done,
-    })
+    };
+    Ok((image, made))
 }
 
-/// Reads an image whose events make a roster, and nothing after it. It may still not be valid.
+/// Reads an image with its roster, and nothing after it. It may still not be valid.
 #[tactic(auto, unfolding(crate::specs::Reading::whole_image))]
-pub fn read_whole(reader: &mut Reader<'_>) -> Result<Image, ReadError>
+pub(crate) fn read_whole(reader: &mut Reader<'_>) -> Result<(Image, Roster), ReadError>
     ensures { Gives result (whole_image reader.old) reader.new }
 {
-    let image = read_image(reader)?;
+    let found = read_image(reader)?;
     if !reader.left().is_empty() {
         return Err(ReadError::Bad);
     }
-    Ok(image)
+    Ok(found)
 }
 
 /// Appends the bytes of a valid image. Where memory runs out, the buffer is as before.

@@ -1,7 +1,8 @@
 //! The bytes of saved images: how many they are, how they are put, and how they are read from left to
-//! right. What is read has the roster that an image has; whether it is valid beyond that isn't looked at.
+//! right. What is read is a valid image, whose bytes these are and no others.
 #![tactic(auto)]
 
+mod answers;
 mod frames;
 mod groups;
 mod held;
@@ -20,5 +21,6 @@ mod validity;
 mod views;
 mod waits;
 
-pub use images::{put, put_image_bytes, read_whole};
+pub use answers::{ReadImage, read};
+pub use images::{put, put_image_bytes};
 pub use sizes::size;

@@ -16,6 +16,7 @@ const ROWS_LIMIT: u64 = 4_611_686_018_427_387_904;
 
 /// The greatest number of 64 bits, and one more than that.
 const GREATEST: i128 = 9_223_372_036_854_775_807;
+
 const PAST_GREATEST: i128 = 9_223_372_036_854_775_808;
 
 /// Whether there is a least or a greatest value exactly where there are values.
@@ -50,7 +51,11 @@ fn group_is_fit(def: &ViewDef, dirty: &[Span], group: &SavedGroup) -> bool
     let of_bucket = starts_bucket(def.fold.width, group.start);
     let keys = group.keys.len() == def.fold.keys.len();
     let parts = group.parts.len() == def.fold.aggs.len();
-    of_bucket && is_inside(dirty, group.start) && keys && parts && parts_are_fit(group.parts.items())
+    of_bucket
+        && is_inside(dirty, group.start)
+        && keys
+        && parts
+        && parts_are_fit(group.parts.items())
 }
 
 fn parts_are_fit(parts: &[Sums]) -> bool

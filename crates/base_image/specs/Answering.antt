@@ -1,0 +1,16 @@
+-- What reading an image answers.
+use Rattle.ts_model.specs.declared.images.Image.{Image}
+use Rattle.base_image.specs.declared.answers.ReadImage.{ReadImage}
+use Rattle.base_image.specs.declared.answers.ReadImage.TheVariants as answers
+
+-- P of an image that was read
+abbrev pub IfImage : ReadImage → (Image → Type 0) → Type 0
+IfImage (answers.Image i) P = P i
+IfImage answers.BadImage P = Unit {0}
+IfImage answers.NoMemory P = Unit {0}
+
+-- P where no image was read, and memory was enough
+abbrev pub IfBad : ReadImage → Type 0 → Type 0
+IfBad (answers.Image i) P = Unit {0}
+IfBad answers.BadImage P = P
+IfBad answers.NoMemory P = Unit {0}
