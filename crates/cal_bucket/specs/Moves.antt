@@ -1,5 +1,5 @@
 -- How the code groups by the place of a bucket: the place stands for the time, which is a column more.
-use Rattle.std.specs.Prelude.{ℕ, ◌+◌, List, ◌∷◌, map, ℤ, pos, Some}
+use Rattle.std.specs.Prelude.{ℕ, ◌+◌, List, ◌∷◌, map, ℤ, pos, Option, Some}
 use Rattle.ts_num.specs.declared.values.Datum.{Datum}
 use Rattle.partial_agg.specs.declared.groups.Group.{Group}
 use Rattle.ts_model.specs.Groups.{cells_of}
@@ -8,6 +8,10 @@ use Rattle.ts_schema.specs.declared.conditions.Test.{Test}
 use Rattle.ts_model.specs.declared.views.Agg.{Agg}
 use Rattle.ts_model.specs.declared.views.Fold.{Fold}
 use Rattle.cal_bucket.specs.Rows.{row_shown}
+
+-- the time of a row, and then its other columns' values
+abbrev pub moved_values : ℕ → List Datum → List (Option ℤ)
+moved_values at cells = Some (row_shown at cells).at ∷ (row_shown at cells).vals
 
 -- a row with the place of its bucket for its time
 abbrev pub moved : (ℤ → ℤ) → Row → Row

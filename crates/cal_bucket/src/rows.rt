@@ -1,11 +1,11 @@
 //! The rows that an answer shows, with the place of its bucket for each time.
-ghost use Rattle.std.specs.Prelude.{◌≡◌, ◌++◌, ◌∷◌, IfOk, OnOk, Some, map, IsTrue};
+ghost use Rattle.std.specs.Prelude.{◌≡◌, ◌++◌, ◌∷◌, [], IfOk, OnOk, map, IsTrue};
 ghost use Rattle.std.specs.List.{AllByRecursion};
 ghost use Rattle.ts_bucket.specs.Bucket.{is_time};
 ghost use Rattle.group_fold.specs.Grouping.{AreTimes};
 ghost use Rattle.cal_bucket.specs.Buckets.{IsNumber, HoldsATime};
 ghost use Rattle.cal_bucket.specs.Cells.{BeginWithATime, ShowsAValue};
-ghost use Rattle.cal_bucket.specs.Moves.{moved, moved_each};
+ghost use Rattle.cal_bucket.specs.Moves.{moved, moved_each, moved_values};
 ghost use Rattle.cal_bucket.specs.Plans.{places, starts};
 ghost use Rattle.cal_bucket.specs.Rows.{first_number, number_of, row_shown, ShowARow};
 
@@ -53,41 +53,56 @@ fn time_shown(cells: &[Datum]) -> i64
     }
 }
 
-/// A time, and then the numbers that these cells show.
-fn values_behind(
-    alloc: Global,
-    t: i64,
-    before: &[Datum],
-    after: &[Datum],
-) -> Result<SharedSlice<Option<i64>>, NoMemory>
-    requires before { AllByRecursion ShowsAValue before.now }
-    requires after { AllByRecursion ShowsAValue after.now }
-    ensures { IfOk result (λ values. values ≡ Some t ∷ (map number_of before.now ++ map number_of after.now)) }
+/// Appends the time of a row, and then its other columns' values. They are made where there is room for
+/// values, of which none stays.
+fn put_moved(
+    at: u32,
+    cells: &[Datum],
+    values: &mut Vec<Option<i64>>,
+    others: &mut CellRows<Option<i64>>,
+) -> Result<(), NoMemory>
+    requires { ShowARow at cells.now }
+    ensures { OnOk result (others.new ≡ others.old ++ moved_values at cells.now ∷ []) }
 {
-    let mut values = Vec::with_capacity(
-        alloc,
-        before.len().saturating_add(after.len()).saturating_add(1),
-    )?;
-    values.push(Some(t))?;
-    put_numbers(before, &mut values)?;
-    put_numbers(after, &mut values)?;
-    SharedSlice::of(alloc, Seq::of(values))
+    let (before, from) = cells.split_at(at as usize);
+    let (_time, after) = from.split_at(1);
+    values.clear();
+    values.push(Some(time_shown(from)))?;
+    put_numbers(before, values)?;
+    put_numbers(after, values)?;
+    others.push(values.as_slice())
 }
 
-/// The row of which these are the columns in declared order, with the place of its bucket for its time.
-fn moved_row(alloc: Global, plan: &CalPlan, cells: &[Datum]) -> Result<Row, NoMemory>
+/// For each row its time, and then its other columns' values. Those of all rows share one block.
+fn values_of_rows(
+    alloc: Global,
+    at: u32,
+    lower: &CellRows<Datum>,
+) -> Result<Seq<SharedSlice<Option<i64>>>, NoMemory>
+    requires { AllByRecursion (ShowARow at) lower.now }
+    ensures { IfOk result (λ values. values ≡ map (moved_values at) lower.now) }
+{
+    let mut others = CellRows::new(alloc);
+    let mut values = Vec::new(alloc);
+    for cells in lower.iter() {
+        put_moved(at, cells, &mut values, &mut others)?;
+    }
+    others.into_shared(alloc)
+}
+
+/// The row that cells show, with the place of its bucket for its time. Its time and its other columns' values
+/// are at hand.
+fn moved_row(plan: &CalPlan, cells: &[Datum], vals: SharedSlice<Option<i64>>) -> Row
     requires number { IsNumber plan.now.number }
     requires shown { ShowARow plan.now.at cells.now }
-    ensures row { IfOk result (λ row. row ≡ moved (places plan.now) (row_shown plan.now.at cells.now)) }
-    ensures held { IfOk result (λ row. HoldsATime (starts plan.now) row.at) }
-    ensures time { IfOk result (λ row. IsTrue (is_time row.at)) }
+    requires vals { vals ≡ moved_values plan.now.at cells.now }
+    ensures row { result ≡ moved (places plan.now) (row_shown plan.now.at cells.now) }
+    ensures held { HoldsATime (starts plan.now) result.at }
+    ensures time { IsTrue (is_time result.at) }
 {
-    let (before, from) = cells.split_at(plan.at as usize);
-    let (_time, after) = from.split_at(1);
-    let t = time_shown(from);
-    let vals = values_behind(alloc, t, before, after)?;
-    let at = place_of(plan.unit, plan.number, t);
-    Ok(Row { at, vals })
+    let (_before, from) = cells.split_at(plan.at as usize);
+    let at = place_of(plan.unit, plan.number, time_shown(from));
+    Row { at, vals }
 }
 
 /// The rows that an answer shows, with the places of their buckets for their times.
@@ -102,9 +117,10 @@ pub(crate) fn moved_rows(
     ensures held { IfOk result (λ rows. AllByRecursion (λ row. HoldsATime (starts plan.now) row.at) rows.items) }
     ensures times { IfOk result (λ rows. AreTimes rows.items) }
 {
+    let values = values_of_rows(alloc, plan.at, lower)?;
     let mut rows = Vec::with_capacity(alloc, lower.len())?;
-    for cells in lower.iter() {
-        rows.push(moved_row(alloc, plan, cells)?)?;
+    for (cells, vals) in lower.iter().zip(values.into_items()) {
+        rows.push(moved_row(plan, cells, vals))?;
     }
     Ok(rows)
 }
