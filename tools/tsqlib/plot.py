@@ -18,7 +18,7 @@ from .schema import Schema
 from .statements import lines_of
 
 SHADE = "#f4c7a1"
-SIZE = "size 1000,500"
+SIZE = "size 1000,600"
 # Not every gnuplot has the better one of its two ways to a PNG.
 PNG = f"set terminal pngcairo {SIZE} }} else {{ set terminal png {SIZE}"
 TERMINALS = [
@@ -34,6 +34,8 @@ COLOURS = [
 # Columns whose greatest values differ by more than this factor don't share an axis.
 MOST_FACTOR = 5
 MOST_LABELS = 7
+# Columns of the legend below.
+MOST_COLUMNS = 4
 DATE = "%Y-%m-%d\n%H:%M:%S"
 DAY = 86400
 # Steps of seconds, by which the labels of dates stand apart.
@@ -234,12 +236,14 @@ def axis_lines(picture):
         low, high = right_range(picture)
         lines += [f"set y2label {quoted(right)} noenhanced", f"set y2range [{low!r}:{high!r}]"]
         lines += ["set ytics nomirror", "set y2tics"]
+    else:
+        lines.append("set rmargin 9")
     return lines
 
 
 def gnuplot_script(picture, out):
     """The script that draws the picture into two files."""
-    script = [f"set title {quoted(picture.title)} noenhanced", "set key outside noenhanced"]
+    script = [f"set title {quoted(picture.title)} noenhanced", "set key below noenhanced"]
     script.append("set offsets 0, 0, graph 0.05, graph 0.05")
     script.append(f"set xrange [{picture.start!r}:{picture.end!r}]")
     script.append(f'set format x "{DATE}" time'.replace("\n", "\\n") if picture.has_dates else 'set format x "%.0f"')
@@ -252,7 +256,7 @@ def gnuplot_script(picture, out):
         )
     for number, line in enumerate(picture.lines, 1):
         script += data_block(number, line.pieces)
-        look = f"linewidth 2 linecolor rgb '{colour(number - 1)}'" + " dashtype 2" * line.is_right
+        look = f"linewidth {1 if line.is_right else 2} linecolor rgb '{colour(number - 1)}'"
         axes = "axes x1y2 " * line.is_right
         plots.append(f"$line{number} using 1:2 {axes}with lines {look} title {quoted(line.title)}")
     if picture.stale:
@@ -284,8 +288,8 @@ def draw_lines(picture, left, right):
         # Not a number parts the pieces.
         points = [point for piece in line.pieces for point in [*piece, (piece[-1][0], float("nan"))]]
         times = [place(at, picture.has_dates) for at, _ in points]
-        axes, dash = (right, "--") if line.is_right else (left, "-")
-        look = {"label": line.title, "color": colour(number), "linestyle": dash}
+        axes, width = (right, 1) if line.is_right else (left, 2)
+        look = {"label": line.title, "color": colour(number), "linewidth": width}
         shown += axes.plot(times, [value for _, value in points], **look)
     return shown
 
@@ -305,7 +309,7 @@ def draw_by_matplotlib(picture, out):
     matplotlib.use("Agg")
     from matplotlib import pyplot
 
-    figure, left = pyplot.subplots(figsize=(10, 5), layout="constrained")
+    figure, left = pyplot.subplots(figsize=(10, 6))
     times, left_name, right_name = picture.axes
     right = left.twinx() if right_name else left
     bounds = [place(at, picture.has_dates) for at in (picture.start, picture.end)]
@@ -317,9 +321,9 @@ def draw_by_matplotlib(picture, out):
     if right_name:
         right.set(ylabel=right_name, ylim=right_range(picture))
     put_labels(picture, left)
-    figure.legend(handles=shown, loc="outside right upper")
+    left.legend(handles=shown, loc="upper center", bbox_to_anchor=(0.5, -0.2), ncol=MOST_COLUMNS)
     for end in ("png", "svg"):
-        figure.savefig(f"{out}.{end}")
+        figure.savefig(f"{out}.{end}", bbox_inches="tight")
 
 
 def plot(options):
