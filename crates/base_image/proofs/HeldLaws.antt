@@ -1,5 +1,5 @@
 -- The rows of an image, commit by commit.
-use Rattle.std.proofs.Common.{◌≡◌, ℕ, zero, suc, Bool, true, false, ◌&&◌, ◌||◌, not, cond, nat_le, ◌==◌, List, [], ◌∷◌, ◌++◌, refl, sym, ap, ◌∙◌, subst}
+use Rattle.std.proofs.Common.{◌≡◌, ℕ, suc, Bool, true, false, ◌&&◌, cond, nat_le, List, [], ◌∷◌, ◌++◌, refl, sym, ap, ◌∙◌, subst}
 use Rattle.std.specs.List.{list_all}
 use Rattle.std.specs.Ordering.{is_gt}
 use Rattle.std.proofs.lemmas.Bool.{and_parts, and_from, true≢false}
@@ -10,7 +10,7 @@ use Rattle.ts_schema.proofs.Cases.{same_number}
 use Rattle.ts_schema.specs.declared.rows.Row.{Row}
 use Rattle.ts_schema.specs.Rows.{row_cmp}
 use Rattle.ts_model.specs.Laws.{fits_table}
-use Rattle.ts_model.specs.Rows.{with_row, with_rows, in_order}
+use Rattle.ts_model.specs.Rows.{with_row, in_order}
 use Rattle.ts_model.specs.Saved.{all_appended, appended_by, appended_over}
 use Rattle.ts_model.specs.Sound.{op_fits}
 use Rattle.ts_model.specs.Valid.{all_stand, hold_rows}

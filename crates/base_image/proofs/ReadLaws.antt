@@ -1,15 +1,13 @@
 -- What is read is a valid image, and each valid image is read.
-use Rattle.std.proofs.Common.{◌≡◌, ℕ, Bool, true, false, ◌&&◌, ◌==◌, List, [], ◌∷◌, length, Result, Ok, Err, refl, sym, ap, subst, ◌∙◌}
+use Rattle.std.proofs.Common.{◌≡◌, ℕ, true, false, ◌&&◌, ◌==◌, List, [], ◌∷◌, length, Ok, Err, sym, ap, ◌∙◌}
 use Rattle.std.specs.List.{list_all, AllByRecursion}
 use Rattle.std.proofs.lemmas.Bool.{and_parts, true≢false, eqb-true}
-use Rattle.partial_agg.specs.Groups.{group_cmp}
 use Rattle.ts_bucket.specs.Bucket.{is_bucket}
 use Rattle.ts_bucket.specs.Ranges.{lies_in}
 use Rattle.ts_bucket.specs.declared.spans.Span.{Span}
 use Rattle.ts_schema.specs.declared.rows.Row.{Row}
 use Rattle.ts_model.specs.Roster.{no_relations}
-use Rattle.ts_model.specs.Saved.{group_of}
-use Rattle.ts_model.specs.Valid.{all_rise, dirty_fits, group_fits, groups_fit, image_roster, lasts_fit, make_relations, mark_fits, row_marked, sums_fit, valid, view_kept, views_kept}
+use Rattle.ts_model.specs.Valid.{dirty_fits, group_fits, groups_fit, image_roster, lasts_fit, make_relations, mark_fits, row_marked, sums_fit, valid, view_kept, views_kept}
 use Rattle.ts_model.specs.declared.images.Image.{Image}
 use Rattle.ts_model.specs.declared.images.SavedGroup.{SavedGroup}
 use Rattle.ts_model.specs.declared.images.SavedView.{SavedView}
@@ -20,7 +18,7 @@ use Rattle.event_codec.proofs.Formats.{same_value}
 use Rattle.base_image.specs.Formed.{IsFormed, IsGroup, IsSaved}
 use Rattle.base_image.specs.Reading.{shape_of, whole_image}
 use Rattle.base_image.specs.Spelling.{image}
-use Rattle.base_image.proofs.PartLaws.{AreSavedOf, IsGroupOf, IsReadable, IsSavedOf, WithRoster, image_again, image_read}
+use Rattle.base_image.proofs.PartLaws.{AreSavedOf, IsGroupOf, IsReadable, IsSavedOf, image_again, image_read}
 
 -- ---- what is read is formed
 

@@ -1,5 +1,5 @@
 -- The rows of an image, commit by commit.
-use Rattle.std.specs.Prelude.{ℕ, zero, suc, Bool, true, false, ◌&&◌, nat_le, List, [], ◌∷◌}
+use Rattle.std.specs.Prelude.{ℕ, zero, suc, Bool, false, ◌&&◌, nat_le, [], ◌∷◌}
 use Rattle.std.specs.List.{list_all}
 use Rattle.ts_bucket.specs.Bucket.{is_time}
 use Rattle.ts_schema.specs.Rows.{row_cmp}

@@ -29,7 +29,8 @@ pub fn read(alloc: Global, bytes: &[u8]) -> ReadImage
     ensures valid { IfImage result (λ image. valid image ≡ true) }
     ensures formed { IfImage result IsFormed }
     ensures spelled { IfImage result (λ image. bytes.now ≡ spelling.image image) }
-    ensures no_image { IfBad result ((image : Image) → IsFormed image → valid image ≡ true → bytes.now ≡ spelling.image image → ⊥) }
+    ensures no_image { IfBad result ((image : Image) → IsFormed image → valid image ≡ true
+        → bytes.now ≡ spelling.image image → ⊥) }
 {
     let mut reader = Reader::new(alloc, bytes);
     match read_whole(&mut reader) {

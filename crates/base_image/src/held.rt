@@ -180,7 +180,8 @@ fn commits_are_marked(def: &ViewDef, view: &SavedView, events: &[Event]) -> bool
     requires timed { list_all is_timed events.now ≡ true }
     requires lasts { are_rising (spans_of view.now.lasts) ≡ true }
     requires dirty { are_rising view.now.dirty ≡ true }
-    ensures { result ≡ list_all (λ event. list_all (row_marked def.now.fold view.now) (appended_over def.now.table (event ∷ []))) events.now }
+    ensures { result ≡ list_all (λ event. list_all (row_marked def.now.fold view.now)
+        (appended_over def.now.table (event ∷ []))) events.now }
 {
     let mut left = events;
     while let [event, rest @ ..] = left {
@@ -197,7 +198,8 @@ pub fn table_is_marked(def: &ViewDef, view: &SavedView, events: &[Event]) -> boo
     requires timed { list_all is_timed events.now ≡ true }
     requires lasts { are_rising (spans_of view.now.lasts) ≡ true }
     requires dirty { are_rising view.now.dirty ≡ true }
-    ensures { result ≡ list_all (row_marked def.now.fold view.now) (in_order (appended_over def.now.table events.now)) }
+    ensures { result ≡ list_all (row_marked def.now.fold view.now)
+        (in_order (appended_over def.now.table events.now)) }
 {
     commits_are_marked(def, view, events)
 }

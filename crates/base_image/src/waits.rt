@@ -20,13 +20,15 @@ fn is_number(pos: u64, number: u64) -> bool
 
 /// Whether a refresh may wait at a position.
 fn wait_is_fit(roster: &Roster, pos: u64, refresh: &Waiting) -> bool
-    ensures { result ≡ (is_number pos refresh.now.cut && span_fits refresh.now.span (view_of roster.now refresh.now.view)) }
+    ensures { result ≡ (is_number pos refresh.now.cut
+        && span_fits refresh.now.span (view_of roster.now refresh.now.view)) }
 {
     is_number(pos, refresh.cut) && span_is_fit(refresh.span, view_in(roster, refresh.view))
 }
 
 fn each_wait_is_fit(roster: &Roster, pos: u64, waiting: &[Waiting]) -> bool
-    ensures { result ≡ list_all (λ w. is_number pos w.cut && span_fits w.span (view_of roster.now w.view)) waiting.now }
+    ensures { result ≡ list_all (λ w. is_number pos w.cut && span_fits w.span (view_of roster.now w.view))
+        waiting.now }
 {
     waiting
         .iter()

@@ -1,6 +1,5 @@
-use Rattle.std.proofs.Common.{◌≡◌, length}
+use Rattle.std.proofs.Common.{length}
 use Rattle.std.proofs.Common.{◌&&◌, Some}
-use Rattle.std.specs.List.{list_all}
 use Rattle.ts_model.specs.Sound.{span_fits}
 use Rattle.ts_model.specs.Valid.{has_lasts}
 use Rattle.base_image.proofs.ListLaws.{IsToldBy}

@@ -1,5 +1,5 @@
-use Rattle.std.proofs.Common.{◌≡◌, ◌∙◌, subst, FitsSigned, rules}
-use Rattle.std.specs.Int.{w64, int_rem_euclid}
+use Rattle.std.proofs.Common.{◌≡◌, ◌∙◌, subst, rules}
+use Rattle.std.specs.Int.{int_rem_euclid}
 use Rattle.std.specs.Ordering.{int_eq}
 use Rattle.ts_bucket.specs.Bucket.{IsWidth}
 use Rattle.base_image.proofs.ShiftLaws.{shift_is}

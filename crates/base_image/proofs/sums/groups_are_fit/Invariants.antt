@@ -1,4 +1,4 @@
-use Rattle.std.proofs.Common.{◌≡◌, length}
+use Rattle.std.proofs.Common.{length}
 use Rattle.ts_model.specs.Valid.{group_fits}
 use Rattle.base_image.proofs.ListLaws.{IsToldBy}
 use Rattle.base_image.proofs.sums.groups_are_fit.Given as goal

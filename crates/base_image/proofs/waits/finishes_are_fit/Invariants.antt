@@ -1,4 +1,4 @@
-use Rattle.std.proofs.Common.{◌≡◌, length}
+use Rattle.std.proofs.Common.{length}
 use Rattle.std.proofs.Common.{◌&&◌, ◌==◌, nat_le, nat_lt, not}
 use Rattle.std.specs.List.{list_any}
 use Rattle.ts_model.specs.Valid.{is_number}
