@@ -17,5 +17,5 @@ bash -e block4
 bash -e block5 >late
 grep -v -e COMMIT -e '^$' late | diff - block6 && echo "the same table"
 bash -e <(sed 's/$/ --script/' block7)
-sed -n 's/.*`\(echo .* | tsq\)`.*/\1/p' "$top/docs/TSQ.md" >mend
-bash -e mend
+bash -e block8
+bash -e <(sed 's/$/ --script/' block7) | grep object
