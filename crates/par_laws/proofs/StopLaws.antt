@@ -342,7 +342,7 @@ meets_outside last p bytes stmt = let q = enters none p in meets_here last q byt
 
 -- ---- in a write block
 
--- a statement that only ends there
+-- a statement that makes no event there
 meets_queue : (last : Option ℕ) (p : Places) (bytes : ℕ) (stmt : Stmt) (ops : List Op) (n : ℕ) → ((h : History) → IsEnded (acts (enters (writing ops n) p) bytes h (action_of (roster h) stmt))) → Meets ReplyStopsAt last (named_here (enters (writing ops n) p) bytes stmt)
 meets_queue last p bytes stmt ops n i = let q = enters (writing ops n) p in meets_here last q bytes stmt (λ h look. refl) (λ h hidden. hidden_so q bytes stmt h (ended_named q bytes stmt h (i h)))
 
@@ -366,9 +366,9 @@ meets_writing last p bytes stmts.Begin ops n e = refused_here _ e
 meets_writing last p bytes stmts.BeginRead ops n e = refused_here _ e
 meets_writing last p bytes stmts.Commit ops n e = meets_commit last p bytes ops n
 meets_writing last p bytes stmts.Rollback ops n e = meets_queue last p bytes stmts.Rollback ops n (λ h. tt)
-meets_writing last p bytes (stmts.Buckets fold) ops n e = refused_here _ e
-meets_writing last p bytes (stmts.Calendar number unit fold) ops n e = refused_here _ e
-meets_writing last p bytes (stmts.Rows table tests) ops n e = refused_here _ e
+meets_writing last p bytes (stmts.Buckets fold) ops n e = meets_queue last p bytes (stmts.Buckets fold) ops n (λ h. tt)
+meets_writing last p bytes (stmts.Calendar number unit fold) ops n e = meets_queue last p bytes (stmts.Calendar number unit fold) ops n (λ h. tt)
+meets_writing last p bytes (stmts.Rows table tests) ops n e = meets_queue last p bytes (stmts.Rows table tests) ops n (λ h. tt)
 
 -- ---- in a read block
 
@@ -409,7 +409,7 @@ block_other none kinds.Commits = below NO_BLOCK (omega arith)
 block_other none kinds.RollsBack = below NO_BLOCK (omega arith)
 block_other (writing ops n) kinds.Defines = below IN_WRITE_BLOCK (omega arith)
 block_other (writing ops n) kinds.Changes = tt
-block_other (writing ops n) kinds.Asks = below IN_WRITE_BLOCK (omega arith)
+block_other (writing ops n) kinds.Asks = tt
 block_other (writing ops n) kinds.Snaps = below IN_WRITE_BLOCK (omega arith)
 block_other (writing ops n) kinds.Finishes = below IN_WRITE_BLOCK (omega arith)
 block_other (writing ops n) kinds.Begins = below IN_WRITE_BLOCK (omega arith)
