@@ -13,7 +13,7 @@ use Rattle.stmt_check.specs.Queries.{starts_of}
 use Rattle.stmt_check.specs.declared.actions.Action.TheVariants as actions
 use Rattle.ts_sessions.specs.Places.{Block}
 use Rattle.ts_sessions.specs.Procedures.{ending_as, tries_at}
-use Rattle.ts_sessions.specs.Step.{changes, committed as said_committed}
+use Rattle.ts_sessions.specs.Step.{changes, committed as said_committed, shown_in}
 use Rattle.demo_laws.specs.Acts.{answer_act}
 use Rattle.demo_laws.specs.Histories.{demo_history, history_after_rounds}
 use Rattle.demo_laws.specs.ReadLaws.{DefinitionsReadNothing, InsertsReadNothing, QueriesReadARound}
@@ -45,7 +45,9 @@ inserts_read_nothing = record {
 
 -- a query of the aggregate changes nothing
 asks : (h : History) (read : ℕ) → reads_of_view 0 h (starts_of []) (view_of (roster h) 0) ≡ read → Does h answer_act h read
-asks h read e p bytes outside = record { after = refl; reads = e; fault = refl; outside = outside }
+asks h read e p bytes outside =
+    let Reads : Block → Type 0 = λ block. reads_of_view 0 (shown_in block h) (starts_of []) (view_of (roster (shown_in block h)) 0) ≡ read in
+    record { after = refl; reads = subst Reads (sym outside) e; fault = refl; outside = outside }
 
 -- the begin of a round is asked for
 asked_from : (round : ℕ) → (starts_of []).lo ≤ℤ start_of round
