@@ -107,7 +107,7 @@ windows_same n def lo (Some hi) g h a there = refl
 
 -- ---- calls
 
-refusal_same : (code mark : ℕ) (g h : History) → position g ≡ position h → refusal code g mark ≡ refusal code h mark
+pub refusal_same : (code mark : ℕ) (g h : History) → position g ≡ position h → refusal code g mark ≡ refusal code h mark
 refusal_same code mark g h e = ap (λ p. record { code = code; pos = p; mark = mark }) e
 
 -- an event is made at both, or at neither

@@ -23,6 +23,7 @@ use Rattle.ts_model.specs.Groups.{groups_in, stood, groups_at}
 use Rattle.ts_model.specs.Pending.{finished_by, is_waiting, is_known, pending}
 use Rattle.ts_model.specs.Refreshes.{span_of_cut, is_covered, is_met, last, touches, last_touch, touched, top_in, top_of, watermark}
 use Rattle.ts_model.specs.Allowed.{allowed, all_allowed}
+use Rattle.ts_model.specs.Answers.{with_queue}
 use Rattle.ts_model.specs.Bytes.{event_bytes}
 use Rattle.ts_model.specs.Limits.{bytes_limit, last_position}
 use Rattle.ts_model.specs.Sound.{finish_fits, sound_in, sound_at, sound}
@@ -263,6 +264,21 @@ alike_further p g h e ok_g ok_h from a =
       touched_since = since_same p g h e a;
     }
 
+-- alike histories stay so with the same commit on top, whatever it holds: one that isn't allowed too
+pub alike_commit : (g h : History) (ops : List Op) → all_allowed g ≡ true → all_allowed h ≡ true → Alike g h → Alike (g ▸ Commit ops) (h ▸ Commit ops)
+alike_commit g h ops ok_g ok_h a = record {
+  places = ap suc a.places;
+  relations = a.relations;
+  stored = stored_same g h (Commit ops) a.stored;
+  refreshes = a.refreshes;
+  spans = a.spans;
+  views = λ n def is. view_commit n def g h ops a.places a.stored ok_g ok_h (a.views n def is);
+}
+
+queued : (g h : History) (ops : List Op) → all_allowed g ≡ true → all_allowed h ≡ true → Alike g h → Alike (with_queue ops g) (with_queue ops h)
+queued g h [] ok_g ok_h a = a
+queued g h (op ∷ ops) ok_g ok_h a = alike_commit g h (op ∷ ops) ok_g ok_h a
+
 -- ---- the beginning
 
 -- an image has nothing touched above it
@@ -348,4 +364,5 @@ alike_stays = record {
       let ok_i : all_allowed (resumed i) ≡ true = allowed_begins (begins_followed (resumed i) es) ok in
       let both = and_parts (all_allowed (h ▸▸ es)) (are_from i.pos es) (sym (allowed_over i.pos h (resumed i) es refl ok_h ok_i (since_start h i a)) ∙ ok) in
       (alike_over i.pos h (resumed i) es refl both.0 ok both.1 (since_start h i a)).now;
+  queued = queued;
 }

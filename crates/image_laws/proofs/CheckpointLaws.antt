@@ -35,7 +35,7 @@ waiting_over g h (e ∷ es) p w = waiting_over (g ▸ e) (h ▸ e) es (ap suc p)
 -- ---- at a position from the image on
 
 -- the first so many events
-abbrev upto : ℕ → List Event → List Event
+abbrev pub upto : ℕ → List Event → List Event
 upto k [] = []
 upto zero (e ∷ es) = []
 upto (suc k) (e ∷ es) = e ∷ upto k es
@@ -47,7 +47,7 @@ prefix_over h (e ∷ es) (suc k) =
     let moved : position h + suc k ≡ suc (position h) + k = omega arith in
     ap (prefix ((h ▸ e) ▸▸ es)) moved ∙ prefix_over (h ▸ e) es k
 
-prefix_from : (h : History) (es : List Event) (q : ℕ) → position h ≤ q → prefix (h ▸▸ es) q ≡ h ▸▸ upto (q - position h) es
+pub prefix_from : (h : History) (es : List Event) (q : ℕ) → position h ≤ q → prefix (h ▸▸ es) q ≡ h ▸▸ upto (q - position h) es
 prefix_from h es q l =
     let whole : q ≡ position h + (q - position h) = omega arith in
     ap (prefix (h ▸▸ es)) whole ∙ prefix_over h es (q - position h)

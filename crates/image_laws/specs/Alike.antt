@@ -15,7 +15,7 @@ use Rattle.ts_model.specs.Rows.{rows}
 use Rattle.ts_model.specs.Groups.{groups_at}
 use Rattle.ts_model.specs.Pending.{is_waiting, pending}
 use Rattle.ts_model.specs.Refreshes.{span_of_cut, last, touched, watermark}
-use Rattle.ts_model.specs.Answers.{answer}
+use Rattle.ts_model.specs.Answers.{answer, with_queue}
 use Rattle.ts_model.specs.Windows.{window}
 use Rattle.ts_model.specs.Allowed.{all_allowed}
 use Rattle.ts_model.specs.Calls.{making_table, making_hyper, making_view, setting_mode, committing, cutting, finishing}
@@ -60,6 +60,9 @@ pub record AlikeStays : Type 0 where
   pub alike :
       (h : History) (i : Image) (es : List Event) → all_allowed h ≡ true → all_allowed (resumed i ▸▸ es) ≡ true
       → Alike h (resumed i) → Alike (h ▸▸ es) (resumed i ▸▸ es)
+  -- so do histories with a queue on top, also where there is no room to commit it
+  pub queued : (g h : History) (ops : List Op) → all_allowed g ≡ true → all_allowed h ≡ true → Alike g h
+      → Alike (with_queue ops g) (with_queue ops h)
 
 -- alike histories give the same answers and windows, and each call does the same at both
 pub record AlikeAnswers : Type 0 where
