@@ -1,0 +1,7 @@
+mod PlaceLaws
+mod TwinLaws
+mod CallLaws
+mod AskLaws
+mod ActLaws
+mod LineLaws
+mod ScriptLaws
