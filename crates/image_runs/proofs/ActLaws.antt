@@ -39,6 +39,14 @@ use Rattle.image_runs.proofs.PlaceLaws.{BlockFits, PlacesFit, places_on}
 use Rattle.image_runs.proofs.TwinLaws.{Same, Twins, along_as, along_call, along_ends, along_then, along_tries, twins_alike, twins_allowed, twins_base, twins_on}
 
 module _ (h : History) (i : Image) (ok : all_allowed h ≡ true) (is : IsImage h i) (used bytes : ℕ) (few : used + bytes ≤ longest_input) (p : Places) (g k : History) (t : Twins h i g k) (fit : PlacesFit i.pos used k p) where
+  -- the session has the same turn at both
+  abbrev Along : Procedure (Turn Places) → Procedure (Turn Places) → Type 0
+  Along d e = TurnsAlong i.pos (used + bytes) g k d e
+
+  -- a turn that makes no event
+  quiet : (x y : Turn Places) → SameTurn i.pos (used + bytes) k x y → Along (ends x) (ends y)
+  quiet x y same_turn = along_ends (SameTurn i.pos (used + bytes)) g k x y t.allowed same_turn
+
   alike : Alike g k
   alike = twins_alike h i ok is g k t
 
@@ -54,8 +62,8 @@ module _ (h : History) (i : Image) (ok : all_allowed h ≡ true) (is : IsImage h
   entered l b block f = record { block = block; held = f.held }
 
   -- the end of a turn that makes no event
-  ended : (q : Places) (s : Said) → PlacesFit i.pos (used + bytes) k q → TurnsAlong i.pos (used + bytes) g k (ends (turns q s)) (ends (turns q s))
-  ended q s f = along_ends (SameTurn i.pos (used + bytes)) g k _ _ t.allowed (same_said i.pos (used + bytes) k q s f)
+  ended : (q : Places) (s : Said) → PlacesFit i.pos (used + bytes) k q → Along (ends (turns q s)) (ends (turns q s))
+  ended q s f = quiet _ _ (same_said i.pos (used + bytes) k q s f)
 
   -- ---- what is said of calls
 
@@ -74,15 +82,15 @@ module _ (h : History) (i : Image) (ok : all_allowed h ≡ true) (is : IsImage h
 
   -- ---- operations
 
-  commits_along : (after : Places) (ops : List Op) → ((es : List Event) → PlacesFit i.pos (used + bytes) (k ▸▸ es) after) → sound k (Commit ops) ≡ true → TurnsAlong i.pos (used + bytes) g k (commits p after g ops) (commits p after k ops)
+  commits_along : (after : Places) (ops : List Op) → ((es : List Event) → PlacesFit i.pos (used + bytes) (k ▸▸ es) after) → sound k (Commit ops) ≡ true → Along (commits p after g ops) (commits p after k ops)
   commits_along after ops f s = along_call (SameTurn i.pos (used + bytes)) g k (committing ops g) (committing ops k) (committed p after) (alike_answers.commits ops g k alike) t.allowed (calls_make_allowed.commits ops k s) (commits_said after f)
 
-  changes_along : (op : Op) (b : Block) → BlockFits i.pos used k b → IsOperation k bytes op → TurnsAlong i.pos (used + bytes) g k (changes p bytes g op b) (changes p bytes k op b)
+  changes_along : (op : Op) (b : Block) → BlockFits i.pos used k b → IsOperation k bytes op → Along (changes p bytes g op b) (changes p bytes k op b)
   changes_along op none f s = commits_along p (op ∷ []) later s.event.is_sound
   changes_along op (writing ops n) f s = ended _ said.Queued (entered k (writing (ops ++ op ∷ []) (n + bytes)) (queues_are_sound.grows k n bytes ops op f.0 s, omega (arith, f.1)) now)
   changes_along op (reading at) f s = commits_along p (op ∷ []) later s.event.is_sound
 
-  closes_along : (b : Block) → BlockFits i.pos used k b → TurnsAlong i.pos (used + bytes) g k (closes p g b) (closes p k b)
+  closes_along : (b : Block) → BlockFits i.pos used k b → Along (closes p g b) (closes p k b)
   closes_along none f = ended _ said.End (entered k none tt now)
   closes_along (writing [] n) f = ended _ said.CommitEmpty (entered k none tt now)
   closes_along (writing (op ∷ ops) n) f =
@@ -109,10 +117,10 @@ module _ (h : History) (i : Image) (ok : all_allowed h ≡ true) (is : IsImage h
   -- ---- actions
 
   -- what differs by the roster alone is the same
-  by_roster : (d : Roster → Procedure (Turn Places)) (e : Procedure (Turn Places)) → TurnsAlong i.pos (used + bytes) g k (d (roster k)) e → TurnsAlong i.pos (used + bytes) g k (d (roster g)) e
-  by_roster d e a = subst (λ r. TurnsAlong i.pos (used + bytes) g k (d r) e) (sym alike.relations) a
+  by_roster : (d : Roster → Procedure (Turn Places)) (e : Procedure (Turn Places)) → Along (d (roster k)) e → Along (d (roster g)) e
+  by_roster d e a = subst (λ r. Along (d r) e) (sym alike.relations) a
 
-  pub acts_along : (a : Action) → IsSound k bytes a → TurnsAlong i.pos (used + bytes) g k (acts p bytes g a) (acts p bytes k a)
+  pub acts_along : (a : Action) → IsSound k bytes a → Along (acts p bytes g a) (acts p bytes k a)
   acts_along (actions.Table def) s = along_call (SameTurn i.pos (used + bytes)) g k (making_table def g) (making_table def k) (reported p said.Table) (alike_answers.tables def g k alike) t.allowed (calls_make_allowed.tables def k s.is_sound) (reported_same said.Table)
   acts_along (actions.Hyper n hyper) s = along_call (SameTurn i.pos (used + bytes)) g k (making_hyper n hyper g) (making_hyper n hyper k) (reported p said.Hypertable) (alike_answers.hypers n hyper g k alike) t.allowed (calls_make_allowed.hypers n hyper k s.is_sound) (reported_same said.Hypertable)
   acts_along (actions.View def filled) s =
@@ -128,10 +136,10 @@ module _ (h : History) (i : Image) (ok : all_allowed h ≡ true) (is : IsImage h
   acts_along (actions.Cut n lo hi) s =
       by_roster (λ r. ending_as (cut_turn p (least_start (view_of r n))) (tries_at g (cutting n lo hi g))) _
       (along_call (SameTurn i.pos (used + bytes)) g k (cutting n lo hi g) (cutting n lo hi k) (cut_turn p (least_start (view_of (roster k) n))) (alike_answers.cuts n lo hi g k alike) t.allowed (calls_make_allowed.cuts n lo hi k (consistent_of k t.allowed) s.high) (cut_said (least_start (view_of (roster k) n))))
-  acts_along (actions.Snap cut) s = along_ends (SameTurn i.pos (used + bytes)) g k _ _ t.allowed (snaps_along h i ok is (used + bytes) few p (refresh_meant p cut) g k t now)
+  acts_along (actions.Snap cut) s = quiet _ _ (snaps_along h i ok is (used + bytes) few p (refresh_meant p cut) g k t now)
   acts_along (actions.Finish cut) s = finishes_along h i ok is (used + bytes) few p (refresh_meant p cut) g k t now
   acts_along actions.Begin s = ended _ said.Begin (entered k (writing [] 0) (queues_are_sound.begins k, omega arith) now)
-  acts_along actions.BeginRead s = along_ends (SameTurn i.pos (used + bytes)) g k _ _ t.allowed (record {
+  acts_along actions.BeginRead s = quiet _ _ (record {
     places = ap (λ at. enters (reading at) p) alike.places;
     said = ap (λ at. said.BeginRead at ∷ []) alike.places;
     fit = entered k (reading (position k)) (now_from i.pos k (twins_base h i g k t)) now;
@@ -140,5 +148,5 @@ module _ (h : History) (i : Image) (ok : all_allowed h ≡ true) (is : IsImage h
   acts_along actions.Rollback s = ended _ (given_up p.block) (entered k none tt now)
   acts_along (actions.Ask q) s =
       by_roster (λ r. ends (answers p g (plan_of r q))) _
-      (along_ends (SameTurn i.pos (used + bytes)) g k _ _ t.allowed (answers_along i.pos (used + bytes) p (plan_of (roster k) q) g k k alike (twins_allowed h i ok is g k t) t.allowed now))
-  acts_along (actions.Calendar n number unit at fold) s = along_ends (SameTurn i.pos (used + bytes)) g k _ _ t.allowed (answers_along i.pos (used + bytes) p (calendar_plan n (record { number = number; unit = unit_of unit; at = at; fold = fold })) g k k alike (twins_allowed h i ok is g k t) t.allowed now)
+      (quiet _ _ (answers_along i.pos (used + bytes) p (plan_of (roster k) q) g k k alike (twins_allowed h i ok is g k t) t.allowed now))
+  acts_along (actions.Calendar n number unit at fold) s = quiet _ _ (answers_along i.pos (used + bytes) p (calendar_plan n (record { number = number; unit = unit_of unit; at = at; fold = fold })) g k k alike (twins_allowed h i ok is g k t) t.allowed now)

@@ -25,8 +25,8 @@ use Rattle.hier_agg.specs.declared.reads.UpperRead.{UpperRead}
 use Rattle.hier_agg.specs.declared.reads.UpperRead.TheVariants as uppers
 use Rattle.hier_agg.specs.Reads.{upper_read}
 use Rattle.result_text.specs.declared.replies.Said.TheVariants as said
-use Rattle.ts_sessions.specs.Places.{Block, none, writing, reading, Places, enters, refuses, turns}
-use Rattle.ts_sessions.specs.Procedures.{ends}
+use Rattle.ts_sessions.specs.Places.{Block, none, writing, reading, Places, Turn, enters, refuses, turns}
+use Rattle.ts_sessions.specs.Procedures.{Procedure, ends}
 use Rattle.ts_sessions.specs.Sound.{AsksSoundly}
 use Rattle.ts_sessions.specs.Step.{acts, answers, block_refusal, calendar_plan, closes, given_up, kind_of, let_pass, makes_event, misread, named, named_as, named_first, named_here, passed, passed_first, performs_in, plan_of, read_at, reads_as, refusal_reading, roll_up_plan, step, unit_of}
 use Rattle.ts_sessions.proofs.SoundLaws.{asks_soundly}
@@ -37,99 +37,107 @@ use Rattle.image_runs.proofs.PlaceLaws.{BlockFits, IsFrom, PlacesFit, places_on}
 use Rattle.image_runs.proofs.TwinLaws.{Twins, along_ends, along_sees, twins_alike, twins_allowed, twins_prefix}
 
 module _ (h : History) (i : Image) (ok : all_allowed h ≡ true) (is : IsImage h i) (used bytes : ℕ) (few : used + bytes ≤ longest_input) (p : Places) (g k : History) (t : Twins h i g k) (fit : PlacesFit i.pos used k p) where
+  -- the session has the same turn at both
+  abbrev Along : Procedure (Turn Places) → Procedure (Turn Places) → Type 0
+  Along d e = TurnsAlong i.pos (used + bytes) g k d e
+
+  -- a turn that makes no event
+  quiet : (x y : Turn Places) → SameTurn i.pos (used + bytes) k x y → Along (ends x) (ends y)
+  quiet x y same_turn = along_ends (SameTurn i.pos (used + bytes)) g k x y t.allowed same_turn
+
   same_now : PlacesFit i.pos (used + bytes) k p
   same_now = places_on i.pos used (used + bytes) k k p same (omega arith) (omega (arith, few)) fit
 
-  refused : (r : Refusal) → TurnsAlong i.pos (used + bytes) g k (ends (refuses p r)) (ends (refuses p r))
-  refused r = along_ends (SameTurn i.pos (used + bytes)) g k _ _ t.allowed (same_said i.pos (used + bytes) k p (said.Fault r) same_now)
+  refused : (r : Refusal) → Along (ends (refuses p r)) (ends (refuses p r))
+  refused r = quiet _ _ (same_said i.pos (used + bytes) k p (said.Fault r) same_now)
 
   -- ---- a statement whose names are looked at in two histories that are alike
 
-  module _ (stmt : Stmt) (l m : History) (there : Twins h i l m) (checked : refusal_of (position m) (roster m) stmt ≡ None → TurnsAlong i.pos (used + bytes) g k (acts p bytes l (action_of (roster l) stmt)) (acts p bytes m (action_of (roster m) stmt))) where
+  module _ (stmt : Stmt) (l m : History) (there : Twins h i l m) (checked : refusal_of (position m) (roster m) stmt ≡ None → Along (acts p bytes l (action_of (roster l) stmt)) (acts p bytes m (action_of (roster m) stmt))) where
     looks : Alike l m
     looks = twins_alike h i ok is l m there
 
     same_refusals : refusal_of (position l) (roster l) stmt ≡ refusal_of (position m) (roster m) stmt
     same_refusals = ap (λ q. refusal_of q (roster l) stmt) looks.places ∙ ap (λ r. refusal_of (position m) r stmt) looks.relations
 
-    passed_along : (r : Option Refusal) → refusal_of (position m) (roster m) stmt ≡ r → TurnsAlong i.pos (used + bytes) g k (passed p bytes l stmt r) (passed p bytes m stmt r)
+    passed_along : (r : Option Refusal) → refusal_of (position m) (roster m) stmt ≡ r → Along (passed p bytes l stmt r) (passed p bytes m stmt r)
     passed_along (Some r) e = refused r
     passed_along None e = checked e
 
-    checked_along : TurnsAlong i.pos (used + bytes) g k (passed p bytes l stmt (refusal_of (position l) (roster l) stmt)) (passed p bytes m stmt (refusal_of (position m) (roster m) stmt))
-    checked_along = subst (λ r. TurnsAlong i.pos (used + bytes) g k (passed p bytes l stmt r) (passed p bytes m stmt (refusal_of (position m) (roster m) stmt))) (sym same_refusals) (passed_along (refusal_of (position m) (roster m) stmt) refl)
+    checked_along : Along (passed p bytes l stmt (refusal_of (position l) (roster l) stmt)) (passed p bytes m stmt (refusal_of (position m) (roster m) stmt))
+    checked_along = subst (λ r. Along (passed p bytes l stmt r) (passed p bytes m stmt (refusal_of (position m) (roster m) stmt))) (sym same_refusals) (passed_along (refusal_of (position m) (roster m) stmt) refl)
 
-    read_along : (u : UpperRead) → TurnsAlong i.pos (used + bytes) g k (named_as p bytes l stmt u) (named_as p bytes m stmt u)
-    read_along (uppers.Plan plan) = along_ends (SameTurn i.pos (used + bytes)) g k _ _ t.allowed (answers_along i.pos (used + bytes) p (roll_up_plan plan) l m k looks (twins_allowed h i ok is l m there) there.allowed same_now)
+    read_along : (u : UpperRead) → Along (named_as p bytes l stmt u) (named_as p bytes m stmt u)
+    read_along (uppers.Plan plan) = quiet _ _ (answers_along i.pos (used + bytes) p (roll_up_plan plan) l m k looks (twins_allowed h i ok is l m there) there.allowed same_now)
     read_along (uppers.Refused r) = refused r
     read_along uppers.NotUpper = checked_along
     read_along uppers.NoMemory = checked_along
 
-    named_along : TurnsAlong i.pos (used + bytes) g k (named p bytes stmt l) (named p bytes stmt m)
+    named_along : Along (named p bytes stmt l) (named p bytes stmt m)
     named_along =
-        subst (λ u. TurnsAlong i.pos (used + bytes) g k (named_as p bytes l stmt u) (named p bytes stmt m))
+        subst (λ u. Along (named_as p bytes l stmt u) (named p bytes stmt m))
         (sym (ap (λ q. upper_read q (roster l) stmt) looks.places ∙ ap (λ r. upper_read (position m) r stmt) looks.relations))
         (read_along (upper_read (position m) (roster m) stmt))
 
   -- ---- outside a block, and in a write block
 
   module _ (stmt : Stmt) (asks : AsksSoundly bytes stmt) where
-    acting : refusal_of (position k) (roster k) stmt ≡ None → TurnsAlong i.pos (used + bytes) g k (acts p bytes g (action_of (roster g) stmt)) (acts p bytes k (action_of (roster k) stmt))
+    acting : refusal_of (position k) (roster k) stmt ≡ None → Along (acts p bytes g (action_of (roster g) stmt)) (acts p bytes k (action_of (roster k) stmt))
     acting e =
-        subst (λ r. TurnsAlong i.pos (used + bytes) g k (acts p bytes g (action_of r stmt)) (acts p bytes k (action_of (roster k) stmt))) (sym (twins_alike h i ok is g k t).relations)
+        subst (λ r. Along (acts p bytes g (action_of r stmt)) (acts p bytes k (action_of (roster k) stmt))) (sym (twins_alike h i ok is g k t).relations)
         (acts_along h i ok is used bytes few p g k t fit (action_of (roster k) stmt) (asks k t.allowed e))
 
-    first_as : (r : Option Refusal) → refusal_of (position k) (roster k) stmt ≡ r → TurnsAlong i.pos (used + bytes) g k (passed_first p bytes g stmt r) (passed_first p bytes k stmt r)
+    first_as : (r : Option Refusal) → refusal_of (position k) (roster k) stmt ≡ r → Along (passed_first p bytes g stmt r) (passed_first p bytes k stmt r)
     first_as (Some r) e = refused r
     first_as None e = along_sees (SameTurn i.pos (used + bytes)) g k _ _ (λ x. acts p bytes x (action_of (roster g) stmt)) (λ x. acts p bytes x (action_of (roster k) stmt)) (acting e)
 
-    first_along : TurnsAlong i.pos (used + bytes) g k (named_first p bytes stmt) (named_first p bytes stmt)
+    first_along : Along (named_first p bytes stmt) (named_first p bytes stmt)
     first_along =
         along_sees (SameTurn i.pos (used + bytes)) g k _ _ (λ x. passed_first p bytes x stmt (refusal_of (position x) (roster x) stmt)) (λ x. passed_first p bytes x stmt (refusal_of (position x) (roster x) stmt))
-        (subst (λ r. TurnsAlong i.pos (used + bytes) g k (passed_first p bytes g stmt r) (passed_first p bytes k stmt (refusal_of (position k) (roster k) stmt)))
+        (subst (λ r. Along (passed_first p bytes g stmt r) (passed_first p bytes k stmt (refusal_of (position k) (roster k) stmt)))
         (sym (same_refusals stmt g k t acting))
         (first_as (refusal_of (position k) (roster k) stmt) refl))
 
     -- at the look of now
-    here_along : (b : Block) → p.block ≡ b → TurnsAlong i.pos (used + bytes) g k (named p bytes stmt (read_at b g)) (named p bytes stmt (read_at b k)) → TurnsAlong i.pos (used + bytes) g k (named_here p bytes stmt) (named_here p bytes stmt)
-    here_along b e a = along_sees (SameTurn i.pos (used + bytes)) g k _ _ (λ x. named p bytes stmt (read_at p.block x)) (λ x. named p bytes stmt (read_at p.block x)) (subst (λ c. TurnsAlong i.pos (used + bytes) g k (named p bytes stmt (read_at c g)) (named p bytes stmt (read_at c k))) (sym e) a)
+    here_along : (b : Block) → p.block ≡ b → Along (named p bytes stmt (read_at b g)) (named p bytes stmt (read_at b k)) → Along (named_here p bytes stmt) (named_here p bytes stmt)
+    here_along b e a = along_sees (SameTurn i.pos (used + bytes)) g k _ _ (λ x. named p bytes stmt (read_at p.block x)) (λ x. named p bytes stmt (read_at p.block x)) (subst (λ c. Along (named p bytes stmt (read_at c g)) (named p bytes stmt (read_at c k))) (sym e) a)
 
-    now_along : TurnsAlong i.pos (used + bytes) g k (named p bytes stmt g) (named p bytes stmt k)
+    now_along : Along (named p bytes stmt g) (named p bytes stmt k)
     now_along = named_along stmt g k t acting
 
-    outside_along : (makes : Bool) → p.block ≡ none → TurnsAlong i.pos (used + bytes) g k (cond makes (named_first p bytes stmt) (named_here p bytes stmt)) (cond makes (named_first p bytes stmt) (named_here p bytes stmt))
+    outside_along : (makes : Bool) → p.block ≡ none → Along (cond makes (named_first p bytes stmt) (named_here p bytes stmt)) (cond makes (named_first p bytes stmt) (named_here p bytes stmt))
     outside_along true e = first_along
     outside_along false e = here_along none e now_along
 
   -- ---- in a read block
 
-  left : (s : _) → TurnsAlong i.pos (used + bytes) g k (ends (turns (enters none p) s)) (ends (turns (enters none p) s))
-  left s = along_ends (SameTurn i.pos (used + bytes)) g k _ _ t.allowed (same_said i.pos (used + bytes) k (enters none p) s (record { block = tt; held = same_now.held }))
+  left : (s : _) → Along (ends (turns (enters none p) s)) (ends (turns (enters none p) s))
+  left s = quiet _ _ (same_said i.pos (used + bytes) k (enters none p) s (record { block = tt; held = same_now.held }))
 
   module _ (at : ℕ) (e : p.block ≡ reading at) (l m : History) (there : Twins h i l m) where
     looks_there : Alike l m
     looks_there = twins_alike h i ok is l m there
 
-    asked : (a : Action) (q : Query) → a ≡ actions.Ask q → TurnsAlong i.pos (used + bytes) g k (acts p bytes l a) (acts p bytes m a)
+    asked : (a : Action) (q : Query) → a ≡ actions.Ask q → Along (acts p bytes l a) (acts p bytes m a)
     asked a q e =
-        subst (λ b. TurnsAlong i.pos (used + bytes) g k (acts p bytes l b) (acts p bytes m b)) (sym e)
-        (along_ends (SameTurn i.pos (used + bytes)) g k _ _ t.allowed
+        subst (λ b. Along (acts p bytes l b) (acts p bytes m b)) (sym e)
+        (quiet _ _
         (subst (λ r. SameTurn i.pos (used + bytes) k (answers p l (plan_of r q)) (answers p m (plan_of (roster m) q))) (sym looks_there.relations)
         (answers_along i.pos (used + bytes) p (plan_of (roster m) q) l m k looks_there (twins_allowed h i ok is l m there) there.allowed same_now)))
 
-    asked_calendar : (a : Action) (n number : ℕ) (unit : List ℕ) (at : ℕ) (fold : Fold) → a ≡ actions.Calendar n number unit at fold → TurnsAlong i.pos (used + bytes) g k (acts p bytes l a) (acts p bytes m a)
+    asked_calendar : (a : Action) (n number : ℕ) (unit : List ℕ) (at : ℕ) (fold : Fold) → a ≡ actions.Calendar n number unit at fold → Along (acts p bytes l a) (acts p bytes m a)
     asked_calendar a n number unit at fold e =
-        subst (λ b. TurnsAlong i.pos (used + bytes) g k (acts p bytes l b) (acts p bytes m b)) (sym e)
-        (along_ends (SameTurn i.pos (used + bytes)) g k _ _ t.allowed
+        subst (λ b. Along (acts p bytes l b) (acts p bytes m b)) (sym e)
+        (quiet _ _
         (answers_along i.pos (used + bytes) p (calendar_plan n (record { number = number; unit = unit_of unit; at = at; fold = fold })) l m k looks_there (twins_allowed h i ok is l m there) there.allowed same_now))
 
-    by_roster : (stmt : Stmt) → TurnsAlong i.pos (used + bytes) g k (acts p bytes l (action_of (roster m) stmt)) (acts p bytes m (action_of (roster m) stmt)) → TurnsAlong i.pos (used + bytes) g k (acts p bytes l (action_of (roster l) stmt)) (acts p bytes m (action_of (roster m) stmt))
-    by_roster stmt a = subst (λ r. TurnsAlong i.pos (used + bytes) g k (acts p bytes l (action_of r stmt)) (acts p bytes m (action_of (roster m) stmt))) (sym looks_there.relations) a
+    by_roster : (stmt : Stmt) → Along (acts p bytes l (action_of (roster m) stmt)) (acts p bytes m (action_of (roster m) stmt)) → Along (acts p bytes l (action_of (roster l) stmt)) (acts p bytes m (action_of (roster m) stmt))
+    by_roster stmt a = subst (λ r. Along (acts p bytes l (action_of r stmt)) (acts p bytes m (action_of (roster m) stmt))) (sym looks_there.relations) a
 
     refused_there : (C : Type 0) (r : Refusal) → Some r ≡ None → C
     refused_there C r is_none = absurd (true≢false (ap is_some is_none))
 
-    reads_along : (stmt : Stmt) → refusal_reading (kind_of stmt) ≡ None → TurnsAlong i.pos (used + bytes) g k (acts p bytes l (action_of (roster l) stmt)) (acts p bytes m (action_of (roster m) stmt))
+    reads_along : (stmt : Stmt) → refusal_reading (kind_of stmt) ≡ None → Along (acts p bytes l (action_of (roster l) stmt)) (acts p bytes m (action_of (roster m) stmt))
     reads_along (stmts.Table name cols) pass = refused_there _ _ pass
     reads_along (stmts.Hyper table col interval) pass = refused_there _ _ pass
     reads_along (stmts.View name only filled fold) pass = refused_there _ _ pass
@@ -143,7 +151,7 @@ module _ (h : History) (i : Image) (ok : all_allowed h ≡ true) (is : IsImage h
     reads_along (stmts.Finish number) pass = refused_there _ _ pass
     reads_along stmts.Begin pass = refused_there _ _ pass
     reads_along stmts.BeginRead pass = refused_there _ _ pass
-    reads_along stmts.Commit pass = subst (λ b. TurnsAlong i.pos (used + bytes) g k (closes p l b) (closes p m b)) (sym e) (left said.End)
+    reads_along stmts.Commit pass = subst (λ b. Along (closes p l b) (closes p m b)) (sym e) (left said.End)
     reads_along stmts.Rollback pass = left (given_up p.block)
     reads_along (stmts.Buckets fold) pass = by_roster (stmts.Buckets fold) (asked (action_of (roster m) (stmts.Buckets fold)) _ refl)
     reads_along (stmts.Calendar number unit fold) pass = by_roster (stmts.Calendar number unit fold) (asked_calendar (action_of (roster m) (stmts.Calendar number unit fold)) _ _ _ _ _ refl)
@@ -151,7 +159,7 @@ module _ (h : History) (i : Image) (ok : all_allowed h ≡ true) (is : IsImage h
 
   -- ---- lines
 
-  performs_along : (stmt : Stmt) (b : Block) → AsksSoundly bytes stmt → p.block ≡ b → block_refusal b (kind_of stmt) ≡ None → TurnsAlong i.pos (used + bytes) g k (performs_in p bytes stmt b) (performs_in p bytes stmt b)
+  performs_along : (stmt : Stmt) (b : Block) → AsksSoundly bytes stmt → p.block ≡ b → block_refusal b (kind_of stmt) ≡ None → Along (performs_in p bytes stmt b) (performs_in p bytes stmt b)
   performs_along stmt none asks e pass = outside_along stmt asks (makes_event (kind_of stmt)) e
   performs_along stmt (writing ops n) asks e pass = here_along stmt asks (writing ops n) e (now_along stmt asks)
   performs_along stmt (reading at) asks e pass =
@@ -159,11 +167,11 @@ module _ (h : History) (i : Image) (ok : all_allowed h ≡ true) (is : IsImage h
       let there = twins_prefix h i ok is g k t at began.above in
       here_along stmt asks (reading at) e (named_along stmt (prefix g at) (prefix k at) there (λ _. reads_along at e (prefix g at) (prefix k at) there stmt pass))
 
-  passes_along : (stmt : Stmt) (r : Option Refusal) → AsksSoundly bytes stmt → block_refusal p.block (kind_of stmt) ≡ r → TurnsAlong i.pos (used + bytes) g k (let_pass p bytes stmt r) (let_pass p bytes stmt r)
+  passes_along : (stmt : Stmt) (r : Option Refusal) → AsksSoundly bytes stmt → block_refusal p.block (kind_of stmt) ≡ r → Along (let_pass p bytes stmt r) (let_pass p bytes stmt r)
   passes_along stmt (Some r) asks e = refused r
   passes_along stmt None asks e = performs_along stmt p.block asks refl e
 
-  said_along : (r : Result (Stmt × Stream) Fault) → ((stmt : Stmt) (rest : Stream) → r ≡ Ok (stmt, rest) → AsksSoundly bytes stmt) → TurnsAlong i.pos (used + bytes) g k (reads_as p bytes r) (reads_as p bytes r)
+  said_along : (r : Result (Stmt × Stream) Fault) → ((stmt : Stmt) (rest : Stream) → r ≡ Ok (stmt, rest) → AsksSoundly bytes stmt) → Along (reads_as p bytes r) (reads_as p bytes r)
   said_along (Ok read) asks = passes_along read.0 (block_refusal p.block (kind_of read.0)) (asks read.0 read.1 refl) refl
   said_along (Err f) asks = refused (misread f)
 
