@@ -31,25 +31,25 @@ const PARTS: Parts = Parts {
     done: 5,
 };
 
-fn put_event(out: &mut Vec<u8>, bytes: &[u8]) -> Result<(), Fail> {
-    put_four(out, bytes.len() as u32)?;
+fn put_event(out: &mut Vec<u8>, count: u32, bytes: &[u8]) -> Result<(), Fail> {
+    put_four(out, count)?;
     out.extend_from_slice(bytes)?;
     Ok(())
 }
 
 fn put_roster(alloc: Global, out: &mut Vec<u8>) -> Result<(), Fail> {
     put_four(out, 3)?;
-    put_event(out, &TABLE)?;
+    put_event(out, 13, &TABLE)?;
     let mut hyper = Vec::new(alloc);
     hyper.extend_from_slice(&[2, 0, 0, 0, 0, 0, 0, 0, 0])?;
     put_signed(&mut hyper, 100)?;
-    put_event(out, hyper.as_slice())?;
+    put_event(out, 17, hyper.as_slice())?;
     let mut view = Vec::new(alloc);
     view.extend_from_slice(&[3, 1, 0x63, 0, 0, 0, 0])?;
     put_signed(&mut view, 10)?;
     put_signed(&mut view, 0)?;
     view.extend_from_slice(&[0, 1, 1, 0, 0, 0, 0, 0, 0, 0, 0, 2, 1, 0x62, 1, 0x6e, 0])?;
-    put_event(out, view.as_slice())
+    put_event(out, 40, view.as_slice())
 }
 
 fn put_view(out: &mut Vec<u8>, parts: Parts) -> Result<(), Fail> {
