@@ -9,7 +9,7 @@ use Rattle.ts_schema.specs.declared.rows.Row.{Row}
 use Rattle.ts_model.specs.declared.tables.Hyper.{Hyper}
 use Rattle.ts_model.specs.declared.tables.TableDef.{TableDef}
 use Rattle.ts_model.specs.declared.tables.TableInfo.{TableInfo}
-use Rattle.ts_model.specs.Allowed.{all_allowed}
+use Rattle.ts_model.specs.Allowed.{all_consistent}
 use Rattle.ts_model.specs.Answers.{answer, all_columns, passing_rows}
 use Rattle.ts_model.specs.History.{History, position}
 use Rattle.ts_model.specs.Laws.{fits_table}
@@ -36,8 +36,8 @@ by_table None [] fit = refl
 by_table None (x ∷ xs) fit = absurd (true≢false (sym fit))
 by_table (Some info) xs fit = by_hyper info.def info.hyper xs fit
 
-rows_fit : (h : History) → all_allowed h ≡ true → list_all (fits_table (roster h) 0) (rows 0 h) ≡ true
-rows_fit h allowed = subst (λ g. list_all (fits_table (roster h) 0) (rows 0 g) ≡ true) (prefix_end h (position h) (omega arith)) (rows_fit_tables.rows 0 h (position h) allowed)
+rows_fit : (h : History) → all_consistent h ≡ true → list_all (fits_table (roster h) 0) (rows 0 h) ≡ true
+rows_fit h consistent = subst (λ g. list_all (fits_table (roster h) 0) (rows 0 g) ≡ true) (prefix_end h (position h) (omega arith)) (rows_fit_tables.rows 0 h (position h) consistent)
 
-pub shown_are_rows : (h : History) → all_allowed h ≡ true → length (answer all_rows h).rows ≡ length (rows 0 h)
-shown_are_rows h allowed = by_table (table_of (roster h) 0) (rows 0 h) (rows_fit h allowed)
+pub shown_are_rows : (h : History) → all_consistent h ≡ true → length (answer all_rows h).rows ≡ length (rows 0 h)
+shown_are_rows h consistent = by_table (table_of (roster h) 0) (rows 0 h) (rows_fit h consistent)

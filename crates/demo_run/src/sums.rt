@@ -1,6 +1,6 @@
 //! What a history comes to.
 ghost use Rattle.std.specs.Prelude.{◌≡◌, length, IfOk, IsTrue};
-ghost use Rattle.ts_model.specs.Allowed.{all_allowed};
+ghost use Rattle.ts_model.specs.Allowed.{all_consistent};
 ghost use Rattle.ts_model.specs.Answers.{answer};
 ghost use Rattle.ts_model.specs.History.{History};
 ghost use Rattle.ts_model.specs.Roster.{roster, view_of};
@@ -29,7 +29,7 @@ pub(crate) fn summary_of<R: Threads + Sync, T: Shown>(
     shot: &T,
     reads: u64,
 ) -> Result<Summary, NoMemory>
-    requires allowed { (h : History) → T.stands shot.now h → IsTrue (all_allowed h) }
+    requires consistent { (h : History) → T.stands shot.now h → IsTrue (all_consistent h) }
     ensures { (h : History) → T.stands shot.now h → IfOk result (λ sum. sum ≡ summary_of number h reads) }
 {
     let rows = count_rows(rt, alloc, shot)?;
@@ -48,7 +48,7 @@ pub(crate) fn summary_of<R: Threads + Sync, T: Shown>(
 
 /// How many rows the first table has.
 fn count_rows<R: Threads + Sync, T: Shown>(rt: &R, alloc: Global, shot: &T) -> Result<u64, NoMemory>
-    requires allowed { (h : History) → T.stands shot.now h → IsTrue (all_allowed h) }
+    requires consistent { (h : History) → T.stands shot.now h → IsTrue (all_consistent h) }
     ensures { (h : History) → T.stands shot.now h → IfOk result (λ count. count ≡ length (rows 0 h)) }
 {
     shown_rows(rt, alloc, shot)
