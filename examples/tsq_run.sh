@@ -26,6 +26,13 @@ echo "wall: SELECT * FROM minutes" >ask.sql
 "$tsq" run ask.sql --json --fractions 2>/dev/null
 "$tsq" run ask.sql --places 1 | tail -n 4
 
+# The greatest time in a month of the calendar, and in the days of a roll-up, are dates too.
+cat >dates.sql <<'END'
+wall: SELECT calendar_bucket(1, 'month', time) AS month, count(*), max(time) AS last FROM load GROUP BY month
+wall: SELECT time_bucket(86400, minute) AS day, max(max) AS last FROM minutes GROUP BY day
+END
+"$tsq" run dates.sql --times s
+
 # A script with Windows line ends; replies that were kept; sessions at once.
 mkdir other
 sed 's/$/\r/' script.sql >windows.sql

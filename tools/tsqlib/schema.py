@@ -49,17 +49,22 @@ def list_end(tokens):
     return len(tokens)
 
 
-def fold_output(tokens, is_view):
-    """The columns of a fold, from the tokens behind its SELECT."""
+def bucket_column(bucket):
+    """The column whose buckets these tokens make, of a fixed width or of the calendar."""
+    return bucket[6] if bucket[0] == "calendar_bucket" else bucket[4]
+
+
+def fold_output(tokens, is_view, times_read=frozenset()):
+    """The columns of a fold, from the tokens behind its SELECT, over columns of which these are times too."""
     items = split(tokens[: list_end(tokens)])
-    time = items[0][4]
+    times_read |= {bucket_column(items[0])}
     names, times, keys = [], {0}, 0
     for place, item in enumerate(items):
         is_key = len(item) == 1
         keys += is_key
         named = item[-1] if is_key or item[-2] == "as" else item[0]
         names.append(named)
-        if item[0] == time or item[:1] in (["min"], ["max"]) and item[2] == time:
+        if item[0] in times_read or item[:1] in (["min"], ["max"]) and item[2] in times_read:
             times.add(place)
     # An aggregate's names are different; those of a query may repeat, as in `sum(v), sum(w)`.
     if len(set(names)) < len(names):
@@ -112,4 +117,6 @@ class Schema:
         """The columns of the answer to a SELECT, and nothing where they aren't known."""
         if tokens[:3] == ["select", "*", "from"]:
             return self.outputs.get(tokens[3])
-        return fold_output(tokens[1:], False)
+        source = self.outputs.get(tokens[list_end(tokens) + 1])
+        times = frozenset(source.names[place] for place in source.times) if source else frozenset()
+        return fold_output(tokens[1:], False, times)
