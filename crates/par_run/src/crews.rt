@@ -7,8 +7,8 @@ ghost use Rattle.par_lines.specs.Sorted.{sorted};
 ghost use Rattle.par_run.specs.Crews.{AreFew, AreOf, AreReady, IsCrew};
 
 use crate::workers::SessionWorker;
-use par_workers::Slot;
 use par_lines::{SessionLines, into_phases, sort_lines};
+use par_workers::Slot;
 use std::alloc::Global;
 use ts_model::{Backend, Gate, Shown};
 use ts_schema::NoMemory;

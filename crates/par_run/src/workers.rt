@@ -5,8 +5,8 @@ ghost use Rattle.par_lines.specs.Places.{script_of, IsWithin};
 
 use crate::executors::{Executor, Reads};
 use crate::replies::Replies;
-use par_workers::Worker;
 use par_lines::{LinePlace, SessionLines};
+use par_workers::Worker;
 use std::alloc::Global;
 use std::thread::Threads;
 use ts_model::{Backend, Gate, Shown};
