@@ -1,0 +1,2 @@
+pub mod PolicyRules
+pub mod Judging

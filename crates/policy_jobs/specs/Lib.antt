@@ -1,0 +1,5 @@
+pub mod Words
+pub mod Grammar
+pub mod Reading
+pub mod Answers
+pub mod Policies

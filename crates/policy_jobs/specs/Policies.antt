@@ -1,0 +1,49 @@
+-- Policies that a session keeps: which of them are due at a time, and the statements that they run.
+use Rattle.std.specs.Prelude.{ℕ, ℤ, ◌-ℤ◌, Bool, true, int_le, List, ◌++◌, filter, Option, Some, None, codes}
+use Rattle.std.specs.Fmt.{signed_decimal}
+use Rattle.std.specs.Int.{int_max}
+use Rattle.ts_bucket.specs.Bucket.{min_time}
+use Rattle.policy_jobs.specs.declared.jobs.Job.{Job}
+use Rattle.policy_jobs.specs.declared.jobs.Job.TheVariants as jobs
+use Rattle.policy_jobs.specs.declared.policies.Policy.{Policy}
+
+-- ---- which are due
+
+-- its last run lies this interval back or further
+abbrev pub is_back : ℤ → ℤ → Option ℤ → Bool
+is_back now every None = true
+is_back now every (Some last) = int_le every (now -ℤ last)
+
+-- it never ran, or its last run lies its interval back or further
+abbrev pub is_due : ℤ → Policy → Bool
+is_due now p = is_back now p.every p.ran
+
+-- those that are due, in the order of adding
+abbrev pub due : ℤ → List Policy → List Policy
+due now ps = filter (is_due now) ps
+
+-- ---- the statement of one that is due
+
+-- the time so long before another, or the least time where it would lie below that
+abbrev pub end_of : ℤ → ℤ → ℤ
+end_of now before = int_max min_time (now -ℤ before)
+
+-- an end of a window
+abbrev pub end_text : ℤ → Option ℤ → List ℕ
+end_text now None = codes "NULL"
+end_text now (Some before) = signed_decimal (end_of now before)
+
+abbrev pub refresh_text : ℤ → List ℕ → Option ℤ → Option ℤ → List ℕ
+refresh_text now view from to =
+    (((((codes "CALL refresh_continuous_aggregate('" ++ view) ++ codes "', ") ++ end_text now from) ++ codes ", ")
+    ++ end_text now to)
+    ++ codes ")"
+
+abbrev pub retention_text : ℤ → List ℕ → ℤ → List ℕ
+retention_text now table after =
+    (((codes "SELECT drop_chunks('" ++ table) ++ codes "', ") ++ signed_decimal (end_of now after)) ++ codes ")"
+
+-- the text of the statement that a job runs
+abbrev pub due_text : ℤ → Job → List ℕ
+due_text now (jobs.Refresh view from to) = refresh_text now view from to
+due_text now (jobs.Drop table after) = retention_text now table after

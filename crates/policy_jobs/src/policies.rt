@@ -1,0 +1,107 @@
+//! Policies that a session keeps: which of them are due at a time, and the statements that they run.
+ghost use Rattle.std.specs.Prelude.{◌≡◌, ◌++◌, length, IfOk, OnOk, Some};
+ghost use Rattle.policy_jobs.specs.Policies.{due, due_text, end_of, end_text, is_due, refresh_text, retention_text};
+ghost use Rattle.policy_jobs.specs.Policies as spec;
+
+use crate::jobs::Job;
+use std::alloc::Global;
+use ts_bucket::MIN_TIME;
+use ts_num::put_int;
+use ts_schema::{Name, NoMemory, Seq};
+
+/// A policy.
+#[derive(Drop, Debug, PartialEq, Eq)]
+pub struct Policy {
+    /// What it does.
+    pub job: Job,
+    /// The least time between two runs.
+    pub every: i64,
+    /// The time of its last run, where it ran.
+    pub ran: Option<i64>,
+}
+
+impl Policy {
+    /// Whether it is due at a time: it never ran, or its last run lies its interval back or further.
+    pub fn is_due(&self, now: i64) -> bool
+        ensures due { result ≡ is_due now self.now }
+    {
+        match self.ran {
+            None => true,
+            Some(last) => is_back(now, self.every, last),
+        }
+    }
+
+    /// The statement that it runs at a time.
+    pub fn text(&self, alloc: Global, now: i64) -> Result<Seq<u8>, NoMemory>
+        ensures text { IfOk result (λ text. text ≡ due_text now self.now.job) }
+    {
+        match &self.job {
+            Job::Refresh { view, from, to } => refresh_at(alloc, now, view, *from, *to),
+            Job::Drop { table, after } => retention_at(alloc, now, table, *after),
+        }
+    }
+}
+
+/// Whether a time lies this interval before another, or further.
+fn is_back(now: i64, every: i64, last: i64) -> bool
+    ensures { result ≡ spec.is_back now every (Some last) }
+{
+    every as i128 <= now as i128 - last as i128
+}
+
+/// How many policies are due at a time.
+pub fn count_due(policies: &[Policy], now: i64) -> usize
+    ensures count { result ≡ length (due now policies.now) }
+{
+    policies.iter().filter(|policy| policy.is_due(now)).count()
+}
+
+/// `CALL refresh_continuous_aggregate` of the window that a refresh policy means at a time.
+fn refresh_at(
+    alloc: Global,
+    now: i64,
+    view: &Name,
+    from: Option<i64>,
+    to: Option<i64>,
+) -> Result<Seq<u8>, NoMemory>
+    ensures { IfOk result (λ text. text ≡ refresh_text now view.now from to) }
+{
+    let mut text = Vec::from_slice(alloc, b"CALL refresh_continuous_aggregate('")?;
+    text.extend_from_slice(view.bytes())?;
+    text.extend_from_slice(b"', ")?;
+    put_end(now, from, &mut text)?;
+    text.extend_from_slice(b", ")?;
+    put_end(now, to, &mut text)?;
+    text.extend_from_slice(b")")?;
+    Ok(Seq::of(text))
+}
+
+/// `SELECT drop_chunks` of what a retention policy means at a time.
+fn retention_at(alloc: Global, now: i64, table: &Name, after: i64) -> Result<Seq<u8>, NoMemory>
+    ensures { IfOk result (λ text. text ≡ retention_text now table.now after) }
+{
+    let mut text = Vec::from_slice(alloc, b"SELECT drop_chunks('")?;
+    text.extend_from_slice(table.bytes())?;
+    text.extend_from_slice(b"', ")?;
+    put_int(end_at(now, after), &mut text)?;
+    text.extend_from_slice(b")")?;
+    Ok(Seq::of(text))
+}
+
+/// Appends an end of a window.
+fn put_end(now: i64, offset: Option<i64>, out: &mut Vec<u8>) -> Result<(), NoMemory>
+    ensures { OnOk result (out.new.items ≡ out.old.items ++ end_text now offset) }
+{
+    match offset {
+        None => out.extend_from_slice(b"NULL")?,
+        Some(before) => put_int(end_at(now, before), out)?,
+    }
+    Ok(())
+}
+
+/// The time so long before another, or the least time where it would lie below that.
+fn end_at(now: i64, before: i64) -> i128
+    ensures { result ≡ end_of now before }
+{
+    (MIN_TIME as i128).max(now as i128 - before as i128)
+}
