@@ -1,9 +1,9 @@
 -- The reading of a statement on policies reads its rule of the grammar.
-use Rattle.std.proofs.Common.{◌≡◌, ℕ, ℤ, pos, Bool, false, List, refl, sym, subst, ap, ◌∙◌, inl, inr}
+use Rattle.std.proofs.Common.{◌≡◌, ℕ, pos, Bool, false, List, refl, sym, subst, ap, ◌∙◌, inl, inr}
 use Rattle.stmt_reader.specs.Tokens.{Token, word}
 use Rattle.stmt_reader.specs.Scan.{Seen}
 use Rattle.stmt_reader.specs.Words.{is_keyword, is_spelled, is_mark}
-use Rattle.stmt_reader.specs.Streams.{Stream, onto, plain, heads}
+use Rattle.stmt_reader.specs.Streams.{onto, heads}
 use Rattle.stmt_reader.specs.Reading as base
 use Rattle.stmt_reader.specs.Grammar as grammar
 use Rattle.stmt_reader.specs.Grammar.{Rule, means, sequence, either}
