@@ -13,3 +13,4 @@ pub mod Covering
 pub mod HeldLaws
 pub mod ShiftLaws
 pub mod ReadLaws
+pub mod TakingLaws

@@ -5,5 +5,6 @@ pub mod Reading
 pub mod Making
 pub mod Rising
 pub mod Held
+pub mod Taking
 pub mod Answering
 pub mod Laws

@@ -1,0 +1,73 @@
+//! States of a history of which an image can be taken.
+use ts_bucket::Span;
+use ts_model::{Finished, Roster, SavedGroup, SavedLast, Waiting};
+use ts_schema::{NoMemory, Row, Seq};
+
+/// A state of a history, which gives what the image of the history is made of. It need not store one: that
+/// it stands for a history is a relation between what it holds and that history, and each of its promises
+/// is for every history that it stands for.
+pub trait Imaged {
+    ghost use Rattle.std.specs.Prelude.{◌≡◌, ◌≤◌, [], ◌∷◌, length, Some, IsSome, IfOk};
+    ghost use Rattle.ts_bucket.specs.Ranges.{IsWholeRange};
+    ghost use Rattle.ts_model.specs.declared.views.ViewDef.{ViewDef};
+    ghost use Rattle.ts_model.specs.History.{History, position};
+    ghost use Rattle.ts_model.specs.Pending.{waiting};
+    ghost use Rattle.ts_model.specs.Refreshes.{watermark};
+    ghost use Rattle.ts_model.specs.Roster.{roster, table_of, view_of};
+    ghost use Rattle.ts_model.specs.Rows.{rows};
+    ghost use Rattle.image_laws.specs.Images.{finished_upto};
+    ghost use Rattle.base_image.specs.Taking.{AreDirty, AreLasts, AreLeft};
+
+    ghost stands: { Self → History → Type 0 };
+
+    /// The position of the history.
+    fn position(&self) -> u64
+        ensures { (h : History) → stands self.now h → result ≡ position h };
+
+    /// Its tables and aggregates, at most 64 of each.
+    fn roster(&self) -> &Roster
+        ensures roster { (h : History) → stands self.now h → result.now ≡ roster h }
+        ensures few_tables { length result.now.tables ≤ 64 }
+        ensures few_views { length result.now.views ≤ 64 };
+
+    /// The rows of a table, in order.
+    fn rows(&self, table: u32) -> Result<Seq<Row>, NoMemory>
+        requires table { (h : History) → stands self.now h → IsSome (table_of (roster h) table) }
+        ensures rows { (h : History) → stands self.now h → IfOk result (λ found. found ≡ rows table h) };
+
+    /// The last refreshes of an aggregate, as ranges that are as long as can be.
+    fn lasts(&self, view: u32) -> Result<Seq<SavedLast>, NoMemory>
+        requires view { (h : History) → stands self.now h → IsSome (view_of (roster h) view) }
+        ensures lasts { (h : History) (def : ViewDef) → stands self.now h → view_of (roster h) view ≡ Some def
+            → IfOk result (AreLasts view def h) };
+
+    /// The buckets of an aggregate that were touched after their last refresh, as ranges that are as long
+    /// as can be.
+    fn dirty(&self, view: u32) -> Result<Seq<Span>, NoMemory>
+        requires view { (h : History) → stands self.now h → IsSome (view_of (roster h) view) }
+        ensures dirty { (h : History) (def : ViewDef) → stands self.now h → view_of (roster h) view ≡ Some def
+            → IfOk result (AreDirty view def h) };
+
+    /// What the last refreshes of an aggregate have left in the buckets of a span of whole ones, in order.
+    fn groups(&self, view: u32, span: Span) -> Result<Seq<SavedGroup>, NoMemory>
+        requires view { (h : History) → stands self.now h → IsSome (view_of (roster h) view) }
+        requires whole { (h : History) (def : ViewDef) → stands self.now h → view_of (roster h) view ≡ Some def
+            → IsWholeRange def.fold.width span }
+        ensures groups { (h : History) (def : ViewDef) → stands self.now h → view_of (roster h) view ≡ Some def
+            → IfOk result (AreLeft view def h (span ∷ [])) };
+
+    /// The watermark of an aggregate.
+    fn mark(&self, view: u32) -> Option<i64>
+        requires view { (h : History) → stands self.now h → IsSome (view_of (roster h) view) }
+        ensures mark { (h : History) (def : ViewDef) → stands self.now h → view_of (roster h) view ≡ Some def
+            → result ≡ watermark view def h };
+
+    /// The refreshes that were cut and not finished, in order of their cuts.
+    fn waiting(&self) -> Result<Seq<Waiting>, NoMemory>
+        ensures waiting { (h : History) → stands self.now h → IfOk result (λ found. found ≡ waiting h) };
+
+    /// The refreshes that were finished, in order of their cuts.
+    fn done(&self) -> Result<Seq<Finished>, NoMemory>
+        ensures done { (h : History) → stands self.now h
+            → IfOk result (λ found. found ≡ finished_upto h (position h)) };
+}
