@@ -14,6 +14,8 @@ groups_in-requires-clause-rise g c = λ h def stands is.
     subst RiseApart (sym c.items.ensures.items) (c.in_ok-dirty.ensures.dirty h def stands is).rise
 
 pub returns : goal.returns
-returns g c = record { saved = λ h def stands is.
-    let left = subst (λ ss. AreLeft c.args.view def h ss c.in_ok-groups.groups) c.items.ensures.items (c.in_ok-groups.ensures.groups h def stands is) in
-    saved_is c.args.view def h _ _ _ _ (c.in_ok-lasts.ensures.lasts h def stands is) (c.in_ok-dirty.ensures.dirty h def stands is) left (c.mark.ensures.mark h def stands is) }
+returns g c = record {
+  saved = λ h def stands is.
+      let left = subst (λ ss. AreLeft c.args.view def h ss c.in_ok-groups.groups) c.items.ensures.items (c.in_ok-groups.ensures.groups h def stands is) in
+      saved_is c.args.view def h _ _ _ _ (c.in_ok-lasts.ensures.lasts h def stands is) (c.in_ok-dirty.ensures.dirty h def stands is) left (c.mark.ensures.mark h def stands is);
+}
