@@ -1,5 +1,6 @@
-//! The bytes of saved images: how many they are, how they are put, and how they are read from left to
-//! right. What is read is a valid image, whose bytes these are and no others.
+//! Saved images: how the image of a history is taken of a state that stands for it, and the bytes of an
+//! image: how many they are, how they are put, and how they are read from left to right. What is read is a
+//! valid image, whose bytes these are and no others.
 #![tactic(auto)]
 
 mod answers;
