@@ -4,7 +4,7 @@ use Rattle.std.specs.Int.{int_min, int_max}
 use Rattle.std.proofs.lemmas.Int.{ints, clamps}
 use Rattle.ts_bucket.specs.Spans.{HullValue}
 use Rattle.ts_schema.specs.declared.rows.Row.{Row}
-use Rattle.seg_rows.specs.Hulls.{joined_hull, hull_at, hull_of}
+use Rattle.seg_rows.specs.Hulls.{joined_hull, hull_at, hull_of, most_of}
 use Rattle.seg_rows.specs.Versions.{later_time, latest_of}
 
 int_min-assoc : (x y z : ℤ) → int_min x (int_min y z) ≡ int_min (int_min x y) z
@@ -68,8 +68,15 @@ latest_of-append (x ∷ xs) ys =
 pub hull_push : (rows : List Row) (row : Row) → hull_of (rows ++ row ∷ []) ≡ joined_hull (hull_of rows) (hull_at row.at)
 hull_push rows row = hull_of-append rows (row ∷ [])
 
-pub latest_push : (rows : List Row) (row : Row) → latest_of (rows ++ row ∷ []) ≡ later_time (latest_of rows) (Some row.at)
-latest_push rows row = latest_of-append rows (row ∷ [])
+-- the greatest time is the greatest of the hull
+pub most_joined : (a b : Option HullValue) → most_of (joined_hull a b) ≡ later_time (most_of a) (most_of b)
+most_joined None b = refl
+most_joined (Some g) None = refl
+most_joined (Some g) (Some h) = refl
+
+pub latest_of-hull : (rows : List Row) → latest_of rows ≡ most_of (hull_of rows)
+latest_of-hull [] = refl
+latest_of-hull (row ∷ rows) = ap (later_time (Some row.at)) (latest_of-hull rows) ∙ sym (most_joined (hull_at row.at) (hull_of rows))
 
 -- a time to which two others add nothing together: neither adds anything alone
 pub later_apart : (a b c : Option ℤ) → later_time a (later_time b c) ≡ a → (later_time a b ≡ a) × (later_time a c ≡ a)

@@ -1,3 +1,4 @@
+pub mod DeathLaws
 pub mod HullLaws
 pub mod LifeLaws
 pub mod StepLaws

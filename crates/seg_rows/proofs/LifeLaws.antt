@@ -1,13 +1,16 @@
 -- Laws of rows with their lives.
-use Rattle.std.proofs.Common.{◌≡◌, ℕ, ℤ, Option, suc, zero, ◌<◌, ◌+◌, List, [], ◌∷◌, ◌++◌, length, get_or, take, map, replicate, refl, sym, ◌∙◌, ap, subst, arith}
-use Rattle.std.proofs.lemmas.List.{take_more, length-take-le, length-append, map-append, append_assoc}
+use Rattle.std.proofs.Common.{◌≡◌, ℕ, Option, suc, zero, ◌<◌, ◌+◌, List, [], ◌∷◌, ◌++◌, length, get_or, take, map, replicate, refl, sym, ◌∙◌, ap, subst, arith}
+use Rattle.std.proofs.lemmas.List.{length-replicate, take_more, length-take-le, length-append, map-append, append_assoc}
 use Rattle.ts_schema.specs.declared.rows.Row.{Row}
 use Rattle.seg_rows.specs.declared.lives.Life.{Life}
-use Rattle.seg_rows.specs.Versions.{Version, newborn, rows_of, later_time}
-use Rattle.seg_rows.proofs.HullLaws.{latest_of-append}
+use Rattle.ts_bucket.specs.Spans.{HullValue}
+use Rattle.seg_rows.specs.Hulls.{hull_of, joined_hull}
+use Rattle.seg_rows.specs.Versions.{Version, newborn, rows_of, died_out, later_death}
+use Rattle.seg_rows.proofs.DeathLaws.{died_out-append, died_out-lives}
+use Rattle.seg_rows.proofs.HullLaws.{hull_of-append}
 use Rattle.seg_rows.specs.declared.lives.Lives.{Lives}
-use Rattle.seg_rows.specs.declared.lives.Lives.TheVariants.{Together, Born}
-use Rattle.seg_rows.specs.Lives.{AreUnharmed, Covers, IsSealed, lives_of, unharmed, with_life, with_lives, versions_of}
+use Rattle.seg_rows.specs.declared.lives.Lives.TheVariants.{Together, Born, Each}
+use Rattle.seg_rows.specs.Lives.{AreUnharmed, all_died, Covers, IsSealed, lives_of, unharmed, with_life, with_lives, versions_of}
 
 pub length-with_lives : (rows : List Row) (lives : List Life) → length lives ≡ length rows → length (with_lives rows lives) ≡ length rows
 length-with_lives [] lives e = refl
@@ -94,13 +97,35 @@ pub rows_of-versions : (rows : List Row) (lives : Lives) → Covers (length rows
 rows_of-versions rows lives covers = rows_of-with_lives rows (lives_of (length rows) lives) covers
 
 -- two sealed lists, one after the other
-pub joined_sealed : (first second rows : List Row) (l m lives : Lives) (a b latest : Option ℤ) → IsSealed first l a → IsSealed second m b → rows ≡ first ++ second
-    → ((n : ℕ) → lives_of n lives ≡ lives_of (length first) l ++ lives_of (length second) m) → latest ≡ later_time a b → IsSealed rows lives latest
-joined_sealed first second rows l m lives a b latest one two rows_are lives_are latest_are =
+pub joined_sealed : (first second rows : List Row) (l m lives : Lives) (g h hull : Option HullValue) (d e dead : Option ℕ) → IsSealed first l g d → IsSealed second m h e → rows ≡ first ++ second
+    → ((n : ℕ) → lives_of n lives ≡ lives_of (length first) l ++ lives_of (length second) m) → hull ≡ joined_hull g h → dead ≡ later_death d e → IsSealed rows lives hull dead
+joined_sealed first second rows l m lives g h hull d e dead one two rows_are lives_are hull_is dead_is =
     let covers_one : length (lives_of (length first) l) ≡ length first = one.covers in
     let covers_two : length (lives_of (length second) m) ≡ length second = two.covers in
     let many : length rows ≡ length first + length second = ap length rows_are ∙ length-append first second in
+    let versions : versions_of rows lives ≡ versions_of first l ++ versions_of second m =
+    ap (with_lives rows) (lives_are (length rows)) ∙ (ap (λ rs. with_lives rs (lives_of (length first) l ++ lives_of (length second) m)) rows_are
+    ∙ with_lives-append first second (lives_of (length first) l) (lives_of (length second) m) covers_one) in
     record {
       covers = ap length (lives_are (length rows)) ∙ (length-append (lives_of (length first) l) (lives_of (length second) m) ∙ omega (arith, covers_one, covers_two, many));
-      latest_is = rw (rows_are, latest_of-append first second, ← one.latest_is, ← two.latest_is) latest_are;
+      hull_is = rw (rows_are, hull_of-append first second, ← one.hull_is, ← two.hull_is) hull_is;
+      dead_is = rw (versions, died_out-append (versions_of first l) (versions_of second m), ← one.dead_is, ← two.dead_is) dead_is;
     }
+
+-- rows that were born together
+pub sealed_together : (rows : List Row) (n p : ℕ) (hull : Option HullValue) (dead : Option ℕ) → n ≡ length rows → hull ≡ hull_of rows → dead ≡ all_died (replicate n (unharmed p))
+    → IsSealed rows (Together p) hull dead
+sealed_together rows n p hull dead many hull_is dead_is = record {
+  covers = length-replicate (length rows) (unharmed p);
+  hull_is = hull_is;
+  dead_is = dead_is ∙ (ap (λ k. all_died (replicate k (unharmed p))) many ∙ sym (died_out-lives rows (replicate (length rows) (unharmed p)) (length-replicate (length rows) (unharmed p))));
+}
+
+-- the same rows with other lives
+pub sealed_anew : (rows : List Row) (lives : Lives) (after : List Life) (hull : Option HullValue) (old dead : Option ℕ) → IsSealed rows lives hull old → length after ≡ length rows
+    → dead ≡ all_died after → IsSealed rows (Each after) hull dead
+sealed_anew rows lives after hull old dead sealed many dead_is = record {
+  covers = many;
+  hull_is = sealed.hull_is;
+  dead_is = dead_is ∙ sym (died_out-lives rows after many);
+}

@@ -18,3 +18,8 @@ hull_at t = Some (record { least = t; most = t })
 abbrev pub hull_of : List Row → Option HullValue
 hull_of [] = None
 hull_of (row ∷ rows) = joined_hull (hull_at row.at) (hull_of rows)
+
+-- the greatest number of a hull
+abbrev pub most_of : Option HullValue → Option ℤ
+most_of None = None
+most_of (Some h) = Some h.most

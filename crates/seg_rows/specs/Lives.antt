@@ -1,7 +1,9 @@
 -- How the positions of a segment's versions are kept.
-use Rattle.std.specs.Prelude.{◌≡◌, ℕ, ℤ, Bool, not, ◌&&◌, nat_le, List, [], ◌∷◌, length, map, replicate, Option, None}
+use Rattle.std.specs.Prelude.{◌≡◌, ℕ, Bool, not, ◌&&◌, nat_le, List, [], ◌∷◌, length, map, replicate, Option, Some, None}
 use Rattle.ts_schema.specs.declared.rows.Row.{Row}
-use Rattle.seg_rows.specs.Versions.{Version, is_dead_at, latest_of}
+use Rattle.seg_rows.specs.Versions.{Version, died_out, is_dead_at, later_death}
+use Rattle.seg_rows.specs.Hulls.{hull_of}
+use Rattle.ts_bucket.specs.Spans.{HullValue}
 use Rattle.seg_rows.specs.declared.lives.Life.{Life}
 use Rattle.seg_rows.specs.declared.lives.Lives.{Lives}
 use Rattle.seg_rows.specs.declared.lives.Lives.TheVariants.{Together, Born, Each}
@@ -23,6 +25,11 @@ lives_of n (Each lives) = lives
 -- none of these has died
 abbrev pub AreUnharmed : List Life → Type 0
 AreUnharmed lives = map unharmed (map (λ life. life.born) lives) ≡ lives
+
+-- the position at which the last of these ended, where all have; where there is none, the first position
+abbrev pub all_died : List Life → Option ℕ
+all_died [] = Some 0
+all_died (life ∷ lives) = later_death life.died (all_died lives)
 
 -- there is a life for each of n rows
 abbrev pub Covers : ℕ → Lives → Type 0
@@ -46,7 +53,8 @@ with_lives (row ∷ rows) (life ∷ lives) = with_life row life ∷ with_lives r
 abbrev pub versions_of : List Row → Lives → List Version
 versions_of rows lives = with_lives rows (lives_of (length rows) lives)
 
--- these are the lives of these rows, and their greatest time
-pub record IsSealed (rows : List Row) (lives : Lives) (latest : Option ℤ) : Type 0 where
+-- these are the lives of these rows, the hull of their times, and the position at which the last one died
+pub record IsSealed (rows : List Row) (lives : Lives) (hull : Option HullValue) (dead : Option ℕ) : Type 0 where
   pub covers : Covers (length rows) lives
-  pub latest_is : latest ≡ latest_of rows
+  pub hull_is : hull ≡ hull_of rows
+  pub dead_is : dead ≡ died_out (versions_of rows lives)

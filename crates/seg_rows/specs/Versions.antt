@@ -1,5 +1,5 @@
 -- Versions of rows: a row with the positions at which it was born and died, and what a position sees.
-use Rattle.std.specs.Prelude.{ℕ, ◌+◌, Bool, false, cond, not, ◌&&◌, nat_le, List, [], ◌∷◌, ◌++◌, map, filter, take, count_by, ◌≡◌, ℤ, Option, Some, None}
+use Rattle.std.specs.Prelude.{ℕ, ◌+◌, max, Bool, false, cond, not, ◌&&◌, nat_le, List, [], ◌∷◌, ◌++◌, map, filter, take, count_by, ◌≡◌, ℤ, Option, Some, None}
 use Rattle.std.specs.Int.{int_max}
 use Rattle.ts_bucket.specs.Spans.{SpanValue, in_span}
 use Rattle.ts_schema.specs.declared.rows.Row.{Row}
@@ -63,6 +63,17 @@ latest_of (row ∷ rows) = later_time (Some row.at) (latest_of rows)
 -- the greatest time that is visible at p
 abbrev pub latest_at : ℕ → List Version → Option ℤ
 latest_at p vs = latest_of (rows_of (filter (visible_at p) vs))
+
+-- the later of two positions, where both are known
+abbrev pub later_death : Option ℕ → Option ℕ → Option ℕ
+later_death None q = None
+later_death (Some p) None = None
+later_death (Some p) (Some q) = Some (max p q)
+
+-- the position at which the last of these versions died, where none lives on; where there is none, the first position
+abbrev pub died_out : List Version → Option ℕ
+died_out [] = Some 0
+died_out (v ∷ vs) = later_death v.died (died_out vs)
 
 -- the same items, each as often, in some order: every test passes as many of both
 abbrev pub AsOften : {X : Type 0} → List X → List X → Type 0

@@ -1,9 +1,7 @@
-//! Hulls of the times of rows, and the greatest of these times.
+//! Hulls of the times of rows.
 ghost use Rattle.std.specs.Prelude.{◌≡◌};
-ghost use Rattle.seg_rows.specs.Hulls.{hull_at, hull_of, joined_hull};
-ghost use Rattle.seg_rows.specs.Versions.{latest_of};
+ghost use Rattle.seg_rows.specs.Hulls.{hull_at, hull_of, joined_hull, most_of};
 
-use crate::scans::later;
 use ts_bucket::Hull;
 use ts_schema::Row;
 
@@ -18,6 +16,16 @@ pub fn join_hulls(a: Option<Hull>, b: Option<Hull>) -> Option<Hull>
             least: g.least.min(h.least),
             most: g.most.max(h.most),
         }),
+    }
+}
+
+/// The greatest number of a hull.
+pub fn greatest_time(hull: Option<Hull>) -> Option<i64>
+    ensures most { result ≡ most_of hull }
+{
+    match hull {
+        None => None,
+        Some(hull) => Some(hull.most),
     }
 }
 
@@ -41,16 +49,4 @@ pub fn row_hull(rows: &[Row]) -> Option<Hull>
         hull = join_hulls(hull, point(row));
     }
     hull
-}
-
-/// The greatest time of these rows.
-#[tactic(auto, using(crate::proofs::HullLaws::latest_push, std::proofs::lemmas::Grind::common_steps))]
-pub fn latest_time(rows: &[Row]) -> Option<i64>
-    ensures latest { result ≡ latest_of rows.now }
-{
-    let mut latest = None;
-    for row in rows {
-        latest = later(latest, Some(row.at));
-    }
-    latest
 }

@@ -5,6 +5,7 @@
 //! seeing what it saw.
 #![tactic(auto)]
 
+mod deaths;
 mod hulls;
 mod joins;
 mod kills;
@@ -12,6 +13,7 @@ mod lives;
 mod scans;
 mod segments;
 
-pub use hulls::{join_hulls, row_hull};
+pub use deaths::{both_died, has_died};
+pub use hulls::{greatest_time, join_hulls, row_hull};
 pub use scans::{is_no_later, later};
 pub use segments::{Killed, Segment};

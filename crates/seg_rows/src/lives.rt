@@ -1,8 +1,8 @@
 //! Positions of versions: when each was born and when it died.
 ghost use Rattle.std.specs.Prelude.{◌≡◌, ◌<◌, ℕ, true, slice_index_or};
 ghost use Rattle.seg_rows.specs.Lives.{AreUnharmed, Covers, is_alive_at, lives_of};
-ghost use Rattle.seg_rows.specs.Versions.{is_dead_at};
 
+use crate::deaths::has_died;
 use ts_schema::Seq;
 
 /// The positions of one version.
@@ -29,17 +29,7 @@ impl Life {
     pub fn is_visible(&self, pos: u64) -> bool
         ensures visible { result ≡ is_alive_at pos self.now }
     {
-        self.born <= pos && !self.is_dead(pos)
-    }
-
-    /// Whether such a version died at or before a position.
-    fn is_dead(&self, pos: u64) -> bool
-        ensures { result ≡ is_dead_at pos self.now.died }
-    {
-        match self.died {
-            None => false,
-            Some(died) => died <= pos,
-        }
+        self.born <= pos && !has_died(self.died, pos)
     }
 }
 

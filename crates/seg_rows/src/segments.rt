@@ -1,10 +1,11 @@
 //! Segments.
 ghost use Rattle.std.specs.Prelude.{◌≡◌, ◌+◌, ◌-◌, ◌<◌, ◌++◌, length, map, IfOk, OnOk, OnErr};
 ghost use Rattle.seg_rows.specs.Hulls.{hull_of};
-ghost use Rattle.seg_rows.specs.Versions.{after_kill, later_time, latest_at, latest_of, newborn, rows_at, rows_of, taken_at, GainsFirst};
+ghost use Rattle.seg_rows.specs.Versions.{after_kill, died_out, later_time, latest_at, latest_of, newborn, rows_at, rows_of, taken_at, GainsFirst};
 ghost use Rattle.ts_schema.specs.Counts.{raised_by, RaisedUpTo};
 
-use crate::hulls::latest_time;
+use crate::deaths::{both_died, last_death, newborn_death};
+use crate::hulls::{greatest_time, join_hulls, row_hull};
 use crate::joins::{joined_lives, joined_rows};
 use crate::kills::{lives_after, taken_by};
 use crate::lives::Lives;
@@ -23,8 +24,10 @@ pub struct Segment {
     alloc: Global,
     rows: Arc<Seq<Row>>,
     lives: Arc<Lives>,
-    /// The greatest time of all rows, visible or not.
-    latest: Option<i64>,
+    /// The hull of the times of all rows, visible or not.
+    hull: Option<Hull>,
+    /// The position at which the last version died, where none lives on.
+    dead: Option<u64>,
 }
 
 impl Model for Segment {
@@ -37,7 +40,7 @@ impl Model for Segment {
 
     ghost view = { λ s. versions_of s.rows.value s.lives.value };
 
-    ghost invariant = { λ s. IsSealed s.rows.value s.lives.value s.latest };
+    ghost invariant = { λ s. IsSealed s.rows.value s.lives.value s.hull s.dead };
 }
 
 /// What a delete made of a segment.
@@ -56,12 +59,14 @@ impl Segment {
     pub fn seal(alloc: Global, rows: Seq<Row>, born: u64) -> Result<Segment, NoMemory>
         ensures born { IfOk result (λ s. s ≡ map (newborn born) rows) }
     {
-        let latest = latest_time(rows.items());
+        let hull = row_hull(rows.items());
+        let dead = newborn_death(rows.len());
         Ok(Segment {
             alloc,
             rows: Arc::new(alloc, rows)?,
             lives: Arc::new(alloc, Lives::Together(born))?,
-            latest,
+            hull,
+            dead,
         })
     }
 
@@ -80,7 +85,8 @@ impl Segment {
             alloc: self.alloc,
             rows: Arc::try_clone(&self.rows)?,
             lives: Arc::try_clone(&self.lives)?,
-            latest: self.latest,
+            hull: self.hull,
+            dead: self.dead,
         })
     }
 
@@ -100,7 +106,8 @@ impl Segment {
             alloc: self.alloc,
             rows: Arc::new(self.alloc, rows)?,
             lives: Arc::new(self.alloc, lives)?,
-            latest: later(self.latest, other.latest),
+            hull: join_hulls(self.hull, other.hull),
+            dead: both_died(self.dead, other.dead),
         })
     }
 
@@ -136,11 +143,13 @@ impl Segment {
         ensures after { IfOk result (λ s. s ≡ map (after_kill pos tests.now) self.now) }
     {
         let lives = lives_after(self.alloc, self.rows.items(), &self.lives, tests, pos)?;
+        let dead = last_death(lives.items());
         Ok(Segment {
             alloc: self.alloc,
             rows: Arc::try_clone(&self.rows)?,
             lives: Arc::new(self.alloc, Lives::Each(lives))?,
-            latest: self.latest,
+            hull: self.hull,
+            dead,
         })
     }
 
@@ -167,11 +176,27 @@ impl Segment {
     {
         last_time(self.rows.items(), &self.lives, pos)
     }
+
+    /// The hull of the times of all versions, visible or not.
+    pub fn hull(&self) -> Option<Hull>
+        ensures hull { result ≡ hull_of (rows_of self.now) }
+    {
+        self.hull
+    }
+
+    /// The position at which the last version died, where none lives on. Where there is no version,
+    /// it is the first position.
+    pub fn died_out(&self) -> Option<u64>
+        ensures dead { result ≡ died_out self.now }
+    {
+        self.dead
+    }
+
     /// The greatest time of all versions, visible or not.
     pub fn latest(&self) -> Option<i64>
         ensures latest { result ≡ latest_of (rows_of self.now) }
     {
-        self.latest
+        greatest_time(self.hull)
     }
 
     /// The greatest of a time and the times that are visible at a position. Where no version has a
@@ -179,7 +204,7 @@ impl Segment {
     pub fn last_of(&self, pos: u64, best: Option<i64>) -> Option<i64>
         ensures last { result ≡ later_time best (latest_at pos self.now) }
     {
-        if is_no_later(self.latest, best) {
+        if is_no_later(self.latest(), best) {
             best
         } else {
             later(best, self.last(pos))

@@ -9,7 +9,7 @@ pub invariant_of-result : goal.invariant_of-result
 invariant_of-result c =
     let rows : c.in_ok-new.field-0.value ≡ c.self.inside.rows.value ++ c.other.inside.rows.value =
     rw (c.in_ok-new.ensures.ok, c.in_ok-rows.ensures.rows, c.items.ensures.items, c.items-2.ensures.items, c.deref.ensures, c.deref-2.ensures) refl in
-    joined_sealed c.self.inside.rows.value c.other.inside.rows.value _ c.self.inside.lives.value c.other.inside.lives.value _ c.self.inside.latest c.other.inside.latest _
+    joined_sealed c.self.inside.rows.value c.other.inside.rows.value _ c.self.inside.lives.value c.other.inside.lives.value _ c.self.inside.hull c.other.inside.hull _ c.self.inside.dead c.other.inside.dead _
     c.self.invariant c.other.invariant rows
     (λ n. rw (c.in_ok-new-2.ensures.ok, c.in_ok-lives.ensures.lives n, c.len.ensures.len, c.len-2.ensures.len, c.deref-3.ensures, c.deref-4.ensures, c.deref-5.ensures, c.deref-6.ensures) refl)
-    c.later.ensures.later
+    c.join_hulls.ensures.joined c.both_died.ensures.later

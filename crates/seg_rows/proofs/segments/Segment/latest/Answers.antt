@@ -1,9 +1,13 @@
 use Rattle.std.proofs.Common.{◌∙◌, ap, sym}
-use Rattle.seg_rows.specs.Versions.{latest_of, rows_of}
+use Rattle.seg_rows.specs.Hulls.{hull_of, most_of}
+use Rattle.seg_rows.specs.Versions.{rows_of}
+use Rattle.seg_rows.proofs.HullLaws.{latest_of-hull}
 use Rattle.seg_rows.proofs.LifeLaws.{rows_of-versions}
 use Rattle.seg_rows.proofs.segments.Segment.latest.Goals as goal
 
 pub returns : goal.returns
 returns c = record {
-  latest = c.self.invariant.latest_is ∙ ap latest_of (sym (rows_of-versions c.self.inside.rows.value c.self.inside.lives.value c.self.invariant.covers) ∙ ap rows_of c.self.view_is);
+  latest = c.greatest_time.ensures.most
+      ∙ (ap most_of (c.self.invariant.hull_is ∙ ap hull_of (sym (rows_of-versions c.self.inside.rows.value c.self.inside.lives.value c.self.invariant.covers) ∙ ap rows_of c.self.view_is))
+      ∙ sym (latest_of-hull (rows_of c.args.self.now)));
 }

@@ -1,0 +1,46 @@
+//! When versions have died, all of them.
+ghost use Rattle.std.specs.Prelude.{◌≡◌, ℕ, replicate};
+ghost use Rattle.seg_rows.specs.Lives.{all_died, unharmed};
+ghost use Rattle.seg_rows.specs.Versions.{is_dead_at, later_death};
+
+use crate::lives::Life;
+
+/// Whether what died at a position, or not at all, is dead at another one.
+pub fn has_died(died: Option<u64>, pos: u64) -> bool
+    ensures dead { result ≡ is_dead_at pos died }
+{
+    match died {
+        None => false,
+        Some(died) => died <= pos,
+    }
+}
+
+/// The later of two positions at which versions had died. Where a version lives on, there is none.
+pub fn both_died(a: Option<u64>, b: Option<u64>) -> Option<u64>
+    ensures later { result ≡ later_death a b }
+{
+    match (a, b) {
+        (None, _) => None,
+        (Some(_), None) => None,
+        (Some(p), Some(q)) => Some(p.max(q)),
+    }
+}
+
+/// The position at which the last of these versions died, where none lives on.
+#[tactic(auto, using(crate::proofs::DeathLaws::death_push, std::proofs::lemmas::Grind::common_steps))]
+pub fn last_death(lives: &[Life]) -> Option<u64>
+    ensures last { result ≡ all_died lives.now }
+{
+    let mut dead = Some(0);
+    for life in lives {
+        dead = both_died(dead, life.died);
+    }
+    dead
+}
+
+/// The same of so many versions that were born at a position and live on.
+pub fn newborn_death(count: usize) -> Option<u64>
+    ensures last { (p : ℕ) → result ≡ all_died (replicate count (unharmed p)) }
+{
+    if count == 0 { Some(0) } else { None }
+}
