@@ -4,8 +4,11 @@ use Rattle.std.specs.Prelude.{nat_le}
 use Rattle.std.proofs.Math.Nat.{pow-suc, lt_of_not-le}
 use Rattle.std.proofs.lemmas.Bool.{leb-true}
 use Rattle.std.proofs.lemmas.List.{length-append}
-use Rattle.seg_rows.specs.Versions.{Version, HasMore, rows_of, latest_of, later_time, after_kill}
-use Rattle.seg_rows.proofs.HullLaws.{latest_of-append, later_time-assoc, later_time-comm}
+use Rattle.ts_bucket.specs.Spans.{HullValue}
+use Rattle.seg_rows.specs.Hulls.{hull_of, joined_hull}
+use Rattle.seg_rows.specs.Versions.{Version, HasMore, rows_of, died_out, later_death, later_time, after_kill}
+use Rattle.seg_rows.proofs.DeathLaws.{died_out-append}
+use Rattle.seg_rows.proofs.HullLaws.{hull_of-append, later_time-assoc, later_time-comm}
 use Rattle.seg_rows.proofs.VersionLaws.{rows_of-killed}
 use Rattle.ts_schema.specs.declared.conditions.Test.{Test}
 use Rattle.std.proofs.lemmas.List.{length-map, map-append}
@@ -80,12 +83,13 @@ even_grown l r new even few more lean some = record {
 }
 
 -- two piles that are even hang side by side
-pub fork_is : (left right l r : List Version × ℕ) (n : ℕ) (t a b : Option ℤ) → AreEven left right → l ≡ left → r ≡ right → n ≡ length left.0 + length right.0
-    → a ≡ latest_of (rows_of left.0) → b ≡ latest_of (rows_of right.0) → t ≡ later_time a b → IsFork l r n t
-fork_is left right l r n t a b even l_is r_is many a_is b_is latest = record {
+pub fork_is : (left right l r : List Version × ℕ) (n : ℕ) (hull g h : Option HullValue) (dead d e : Option ℕ) → AreEven left right → l ≡ left → r ≡ right → n ≡ length left.0 + length right.0
+    → g ≡ hull_of (rows_of left.0) → h ≡ hull_of (rows_of right.0) → hull ≡ joined_hull g h → d ≡ died_out left.0 → e ≡ died_out right.0 → dead ≡ later_death d e → IsFork l r n hull dead
+fork_is left right l r n hull g h dead d e even l_is r_is many g_is h_is hull_is d_is e_is dead_is = record {
   even = rw (l_is, r_is) even;
   counted = rw (l_is, r_is) (many ∙ sym (length-append left.0 right.0));
-  latest_is = rw (l_is, r_is, map-append (λ (v : Version). v.row) left.0 right.0, latest_of-append (rows_of left.0) (rows_of right.0), ← a_is, ← b_is) latest;
+  hull_is = rw (l_is, r_is, map-append (λ (v : Version). v.row) left.0 right.0, hull_of-append (rows_of left.0) (rows_of right.0), ← g_is, ← h_is) hull_is;
+  dead_is = rw (l_is, r_is, died_out-append left.0 right.0, ← d_is, ← e_is) dead_is;
 }
 
 -- what a count tells of a pile that it is of
@@ -93,9 +97,9 @@ pub few_for : (seen pile : List Version × ℕ) (n : ℕ) → seen ≡ pile → 
 few_for seen pile n same many few = few_of seen.1 (2 * n) pile.1 (2 * length pile.0) few (omega (arith, ap (λ d. d.1) same)) (omega (arith, many))
 
 -- a delete leaves how two piles hang side by side
-pub fork_killed : (l r l2 r2 : List Version × ℕ) (n p : ℕ) (t : Option ℤ) (tests : List Test) → IsFork l r n t
-    → l2.0 ≡ map (after_kill p tests) l.0 → r2.0 ≡ map (after_kill p tests) r.0 → l2.1 ≡ l.1 → r2.1 ≡ r.1 → IsFork l2 r2 n t
-fork_killed l r l2 r2 n p t tests fork left right left_levels right_levels =
+pub fork_killed : (l r l2 r2 : List Version × ℕ) (n p : ℕ) (hull : Option HullValue) (old dead : Option ℕ) (tests : List Test) → IsFork l r n hull old
+    → l2.0 ≡ map (after_kill p tests) l.0 → r2.0 ≡ map (after_kill p tests) r.0 → l2.1 ≡ l.1 → r2.1 ≡ r.1 → dead ≡ later_death (died_out l2.0) (died_out r2.0) → IsFork l2 r2 n hull dead
+fork_killed l r l2 r2 n p hull old dead tests fork left right left_levels right_levels dead_is =
     let many_left : length l2.0 ≡ length l.0 = ap length left ∙ length-map l.0 (after_kill p tests) in
     let many_right : length r2.0 ≡ length r.0 = ap length right ∙ length-map r.0 (after_kill p tests) in
     let before : length (l.0 ++ r.0) ≡ length l.0 + length r.0 = length-append l.0 r.0 in
@@ -111,7 +115,8 @@ fork_killed l r l2 r2 n p t tests fork left right left_levels right_levels =
         few = few_of (suc (max l.1 r.1)) (2 * length (l.0 ++ r.0)) (suc (max l2.1 r2.1)) (2 * length (l2.0 ++ r2.0)) fork.even.few (omega (arith, left_levels, right_levels)) (omega (arith, before, after, many_left, many_right));
       };
       counted = fork.counted ∙ omega (arith, before, after, many_left, many_right);
-      latest_is = fork.latest_is ∙ ap latest_of (sym rows);
+      hull_is = fork.hull_is ∙ ap hull_of (sym rows);
+      dead_is = dead_is ∙ sym (died_out-append l2.0 r2.0);
     }
 
 -- the later part first, or in order: the greatest time is the same

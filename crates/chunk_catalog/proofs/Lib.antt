@@ -4,4 +4,5 @@ pub mod LevelLaws
 pub mod PartLaws
 pub mod PlaceLaws
 pub mod ReachLaws
+pub mod SpareLaws
 pub mod TreeLaws

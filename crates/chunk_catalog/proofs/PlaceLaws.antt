@@ -76,7 +76,7 @@ out_killed r p tests (x ∷ ps) h =
     rw here (ap (λ qs. x ∷ qs) (out_killed r p tests ps (and_second (not (in_reach r x.start)) (list_all (λ y. not (in_reach r y.start)) ps) h)))
 
 -- a delete that takes nothing changes nothing
-killed_nothing_in : (r : Reach) (p : ℕ) (tests : List Test) (ps : List Placed) → length (taken_at p tests (reached r ps)) ≡ 0 → map (after_kill_in r p tests) ps ≡ ps
+pub killed_nothing_in : (r : Reach) (p : ℕ) (tests : List Test) (ps : List Placed) → length (taken_at p tests (reached r ps)) ≡ 0 → map (after_kill_in r p tests) ps ≡ ps
 killed_nothing_in r p tests [] h = refl
 killed_nothing_in r p tests (x ∷ ps) h =
     elim (in_reach r x.start) as (λ b. length (taken_at p tests (versions_of (cond b (x ∷ filter (λ y. in_reach r y.start) ps) (filter (λ y. in_reach r y.start) ps)))) ≡ 0
@@ -102,7 +102,7 @@ apart_out r h (x ∷ ps) apart inside =
     rw here (apart_out r h ps apart (and_second (in_hull h x.start) (list_all (λ y. in_hull h y.start) ps) inside))
 
 -- a joined hull holds what either holds
-in_joined_first : (g : HullValue) (b : Option HullValue) (h : HullValue) (t : ℤ) → Some h ≡ joined_hull (Some g) b → in_hull g t ≡ true → in_hull h t ≡ true
+pub in_joined_first : (g : HullValue) (b : Option HullValue) (h : HullValue) (t : ℤ) → Some h ≡ joined_hull (Some g) b → in_hull g t ≡ true → in_hull h t ≡ true
 in_joined_first g None h t e p = let same : h ≡ g = cc in rw same p
 in_joined_first g (Some k) h t e p =
     let same : h ≡ record { least = int_min g.least k.least; most = int_max g.most k.most } = cc in

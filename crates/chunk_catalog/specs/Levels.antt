@@ -1,7 +1,8 @@
 -- How many levels a tree has beside how much it holds.
-use Rattle.std.specs.Prelude.{◌≡◌, ℕ, suc, ◌+◌, ◌*◌, ◌^◌, ◌≤◌, max, List, [], ◌++◌, length, Some}
+use Rattle.std.specs.Prelude.{◌≡◌, ℕ, suc, ◌+◌, ◌*◌, ◌^◌, ◌≤◌, max, List, [], ◌++◌, length, Option, Some}
 use Rattle.ts_bucket.specs.Spans.{HullValue}
-use Rattle.chunk_catalog.specs.Places.{Kept, Placed, StartsIn, in_chunk}
+use Rattle.seg_rows.specs.Versions.{died_out}
+use Rattle.chunk_catalog.specs.Places.{Kept, Placed, StartsIn, in_chunk, versions_of}
 
 -- so many levels are few for so large a size: every second level doubles the least size
 abbrev pub AreFew : ℕ → ℕ → Type 0
@@ -55,11 +56,13 @@ no_tree = ([], record { chunks = 0; segments = 0 })
 abbrev pub tree_over : TreeValue → Kept → TreeValue → TreeValue
 tree_over l chunk r = (l.0 ++ in_chunk chunk.start chunk.versions ++ r.0, levels_over l.1 chunk.levels r.1)
 
--- what holds of a chunk between two trees, with a hull and a number of levels: the starts lie in the hull, the number
--- is that of
--- the levels of chunks, both sides are level, and there are few levels
-pub record IsOver (l : TreeValue) (chunk : Kept) (r : TreeValue) (starts : HullValue) (height : ℕ) : Type 0 where
+-- what holds of a chunk between two trees, with a hull, a number of levels and a position: the starts lie in the hull,
+-- the number is that of the levels of chunks, both sides are level, there are few levels, and at the position the last
+-- version died
+pub record IsOver (l : TreeValue) (chunk : Kept) (r : TreeValue) (starts : HullValue) (height : ℕ) (dead : Option ℕ)
+    : Type 0 where
   pub starts_in : StartsIn (Some starts) (tree_over l chunk r).0
   pub counted : height ≡ (tree_over l chunk r).1.chunks
   pub even : AreLevel l.1 r.1
   pub few : FewLevels (tree_over l chunk r).1 (length (tree_over l chunk r).0)
+  pub dead_is : dead ≡ died_out (versions_of (tree_over l chunk r).0)

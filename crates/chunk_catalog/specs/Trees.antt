@@ -5,8 +5,8 @@ use Rattle.chunk_catalog.specs.declared.trees.Node.TheVariants.{Empty, Fork}
 
 abbrev pub tree_view : Node → TreeValue
 tree_view Empty = no_tree
-tree_view (Fork l chunk r starts height) = tree_over l.value chunk r.value
+tree_view (Fork l chunk r starts height dead) = tree_over l.value chunk r.value
 
 abbrev pub IsTree : Node → Type 0
 IsTree Empty = Unit {0}
-IsTree (Fork l chunk r starts height) = IsOver l.value chunk r.value starts height
+IsTree (Fork l chunk r starts height dead) = IsOver l.value chunk r.value starts height dead

@@ -7,7 +7,7 @@ ghost use Rattle.chunk_catalog.specs.Chunks.{AreLow, HaveTimes, after_drop, drop
 ghost use Rattle.ts_bucket.specs.Chunks.{IsInterval};
 
 use crate::parts::put_rows;
-use crate::reach::{drop_reach, span_reach, test_reach};
+use crate::reach::{drop_reach, span_reach, start_reach, test_times};
 use crate::trees::Tree;
 use std::alloc::Global;
 use std::marker::Model;
@@ -111,16 +111,17 @@ impl Chunks {
     }
 
     /// A delete at a position, which is at least those of the earlier changes: the versions that are
-    /// visible there and pass every test die there. Chunks that can't hold such a row aren't looked
-    /// at.
+    /// visible there and pass every test die there. Chunks and segments that can't hold such a row, and
+    /// those of which nothing lives, aren't looked at.
     pub fn kill(&self, tests: &Seq<Test>, pos: u64) -> Result<KilledChunks, NoMemory>
         ensures interval { IfOk result (λ k. k.chunks.interval ≡ self.now.interval) }
         ensures after { IfOk result (λ k. k.chunks.versions ≡ map (after_kill pos tests.now) self.now.versions) }
         ensures removed { IfOk result (λ k. k.removed ≡ length (taken_at pos tests.now self.now.versions)) }
         ensures hull { IfOk result (λ k. k.hull ≡ hull_of (taken_at pos tests.now self.now.versions)) }
     {
-        let reach = test_reach(self.interval, tests);
-        let killed = self.tree.kill(self.alloc, reach, tests, pos)?;
+        let times = test_times(tests.items());
+        let reach = start_reach(self.interval, times);
+        let killed = self.tree.kill(self.alloc, reach, times, tests, pos)?;
         Ok(KilledChunks {
             chunks: Chunks {
                 alloc: self.alloc,
@@ -143,9 +144,9 @@ impl Chunks {
         ensures hull { IfOk result (λ k. k.hull ≡ hull_of (dropped_at self.now.interval n pos self.now.versions)) }
     {
         let reach = drop_reach(self.interval, n);
-        let killed = self
-            .tree
-            .kill(self.alloc, reach, &Seq::new(self.alloc), pos)?;
+        let tests = Seq::new(self.alloc);
+        let times = test_times(tests.items());
+        let killed = self.tree.kill(self.alloc, reach, times, &tests, pos)?;
         Ok(KilledChunks {
             chunks: Chunks {
                 alloc: self.alloc,

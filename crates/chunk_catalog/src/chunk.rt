@@ -1,10 +1,11 @@
 //! One chunk.
 ghost use Rattle.std.specs.Prelude.{◌≡◌, ◌<◌, ◌+◌, ◌*◌, ◌^◌, ◌++◌, length, map, IfOk, OnOk, OnErr};
 ghost use Rattle.seg_rows.specs.Hulls.{hull_of};
-ghost use Rattle.seg_rows.specs.Versions.{after_kill, latest_at, later_time, rows_at, taken_at};
+ghost use Rattle.seg_rows.specs.Versions.{after_kill, died_out, latest_at, later_time, rows_at, taken_at};
 ghost use Rattle.ts_bucket.specs.Chunks.{IsInterval};
 ghost use Rattle.chunk_catalog.specs.Levels.{AreFew};
 ghost use Rattle.chunk_catalog.specs.Places.{ArePlaced, after_kill_in, reached, placed_in};
+ghost use Rattle.chunk_catalog.specs.Reach.{HoldsPassing};
 ghost use Rattle.ts_schema.specs.Counts.{raised_by, RaisedUpTo};
 
 use crate::piles::Pile;
@@ -69,6 +70,13 @@ impl Chunk {
         self.pile.count()
     }
 
+    /// The position at which the last version died, where none lives on.
+    pub fn died_out(&self) -> Option<u64>
+        ensures dead { result ≡ died_out self.now.versions }
+    {
+        self.pile.died_out()
+    }
+
     /// The same chunk again.
     pub fn copy(&self) -> Result<Chunk, NoMemory>
         ensures same { IfOk result (λ copy. copy ≡ self.now) }
@@ -92,16 +100,23 @@ impl Chunk {
         })
     }
 
-    /// A delete at a position.
-    pub fn kill(&self, alloc: Global, tests: &Seq<Test>, pos: u64) -> Result<KilledChunk, NoMemory>
+    /// A delete at a position, where all times that pass the tests lie in a range.
+    pub fn kill(
+        &self,
+        alloc: Global,
+        times: Reach,
+        tests: &Seq<Test>,
+        pos: u64,
+    ) -> Result<KilledChunk, NoMemory>
         requires countable { length self.now.versions < 2 ^ 64 }
+        requires times { HoldsPassing tests.now times }
         ensures start { IfOk result (λ k. k.chunk.start ≡ self.now.start) }
         ensures levels { IfOk result (λ k. k.chunk.levels ≡ self.now.levels) }
         ensures after { IfOk result (λ k. k.chunk.versions ≡ map (after_kill pos tests.now) self.now.versions) }
         ensures removed { IfOk result (λ k. k.removed ≡ length (taken_at pos tests.now self.now.versions)) }
         ensures hull { IfOk result (λ k. k.hull ≡ hull_of (taken_at pos tests.now self.now.versions)) }
     {
-        let killed = self.pile.kill(alloc, tests, pos)?;
+        let killed = self.pile.kill(alloc, times, tests, pos)?;
         Ok(KilledChunk {
             chunk: Chunk {
                 start: self.start,
@@ -127,16 +142,19 @@ impl Chunk {
         self.pile.scan(pos, span, out, steps)
     }
 
-    /// A delete at a position, where the start lies in a range.
+    /// A delete at a position, where the start lies in a range, and all times that pass the tests in
+    /// another one.
     #[tactic(auto, using(crate::proofs::PlaceLaws::reached_in, crate::proofs::PlaceLaws::reached_out, crate::proofs::PlaceLaws::killed_in, crate::proofs::PlaceLaws::killed_out, seg_rows::proofs::VersionLaws::parts))]
     pub fn kill_in(
         &self,
         alloc: Global,
         reach: Reach,
+        times: Reach,
         tests: &Seq<Test>,
         pos: u64,
     ) -> Result<KilledChunk, NoMemory>
         requires countable { length self.now.versions < 2 ^ 64 }
+        requires times { HoldsPassing tests.now times }
         ensures levels { IfOk result (λ k. k.chunk.levels ≡ self.now.levels) }
         ensures after { IfOk result (λ k.
             placed_in k.chunk ≡ map (after_kill_in reach pos tests.now) (placed_in self.now)) }
@@ -146,7 +164,7 @@ impl Chunk {
             k.hull ≡ hull_of (taken_at pos tests.now (reached reach (placed_in self.now)))) }
     {
         if reach.holds(self.start) {
-            return self.kill(alloc, tests, pos);
+            return self.kill(alloc, times, tests, pos);
         }
         Ok(KilledChunk {
             chunk: self.copy()?,

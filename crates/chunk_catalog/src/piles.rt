@@ -3,15 +3,18 @@
 //! Small segments are joined as they gather, as in a binary counter: a row is copied about once for
 //! each doubling of the segment that holds it, up to the limit. Beyond it segments hang in a tree
 //! whose right side is no larger than its left, so that a new segment changes one path.
-ghost use Rattle.std.specs.Prelude.{◌≡◌, ◌<◌, ◌+◌, ◌*◌, ◌^◌, ◌++◌, length, map, IfOk, IfSome, OnOk, OnErr};
+ghost use Rattle.std.specs.Prelude.{◌≡◌, ◌<◌, ◌+◌, ◌*◌, ◌^◌, ◌++◌, ℕ, List, [], true, length, map, IfOk, IfSome, OnOk, OnErr};
 ghost use Rattle.std.specs.Arc.{arc_value};
 ghost use Rattle.seg_rows.specs.Hulls.{hull_of};
-ghost use Rattle.seg_rows.specs.Versions.{after_kill, later_time, latest_at, latest_of, rows_at, rows_of, taken_at};
+ghost use Rattle.seg_rows.specs.Versions.{after_kill, died_out, later_time, latest_at, rows_at, rows_of, taken_at};
 ghost use Rattle.ts_schema.specs.Counts.{raised_by, RaisedUpTo};
 ghost use Rattle.chunk_catalog.specs.Levels.{AreFew};
 ghost use Rattle.chunk_catalog.specs.Piles.{AreEven};
+ghost use Rattle.chunk_catalog.specs.Reach.{HoldsPassing};
+ghost use Rattle.ts_schema.specs.declared.conditions.Test.{Test};
 
-use seg_rows::{Segment, is_no_later, join_hulls, later};
+use crate::reach::Reach;
+use seg_rows::{Segment, both_died, greatest_time, has_died, is_no_later, join_hulls};
 use std::alloc::Global;
 use std::marker::Model;
 use std::sync::Arc;
@@ -35,9 +38,9 @@ pub struct Pile {
 #[derive(Drop)]
 enum Shape {
     Leaf(Segment),
-    /// The earlier segments, the later ones, how many versions there are, and the greatest of their
-    /// times.
-    Fork(Arc<Pile>, Arc<Pile>, u64, Option<i64>),
+    /// The earlier segments, the later ones, how many versions there are, the hull of their times, and
+    /// the position at which the last one died, where none lives on.
+    Fork(Arc<Pile>, Arc<Pile>, u64, Option<Hull>, Option<u64>),
 }
 
 impl Model for Pile {
@@ -87,18 +90,55 @@ impl Pile {
     {
         match &self.shape {
             Shape::Leaf(segment) => segment.count(),
-            Shape::Fork(_, _, count, _) => *count,
+            Shape::Fork(_, _, count, _, _) => *count,
         }
     }
 
-    /// The greatest time of all versions, visible or not.
-    fn latest(&self) -> Option<i64>
-        ensures latest { result ≡ latest_of (rows_of self.now.0) }
+    /// The hull of the times of all versions, visible or not.
+    fn hull(&self) -> Option<Hull>
+        ensures hull { result ≡ hull_of (rows_of self.now.0) }
     {
         match &self.shape {
-            Shape::Leaf(segment) => segment.latest(),
-            Shape::Fork(_, _, _, latest) => *latest,
+            Shape::Leaf(segment) => segment.hull(),
+            Shape::Fork(_, _, _, hull, _) => *hull,
         }
+    }
+
+    /// The position at which the last version died, where none lives on.
+    pub fn died_out(&self) -> Option<u64>
+        ensures dead { result ≡ died_out self.now.0 }
+    {
+        match &self.shape {
+            Shape::Leaf(segment) => segment.died_out(),
+            Shape::Fork(_, _, _, _, dead) => *dead,
+        }
+    }
+
+    /// Whether the hull of all times shows that none lies in a range.
+    fn misses(&self, times: Reach) -> bool
+        ensures out { result ≡ true → (tests : List Test) → HoldsPassing tests times → (pos : ℕ) →
+            taken_at pos tests self.now.0 ≡ [] }
+    {
+        match self.hull() {
+            None => false,
+            Some(hull) => !times.meets(hull),
+        }
+    }
+
+    /// Whether a delete at a position takes nothing where all times that pass its tests lie in a
+    /// range: no version lives there, or none has such a time.
+    fn is_spared(&self, times: Reach, pos: u64) -> bool
+        ensures spared { result ≡ true → (tests : List Test) → HoldsPassing tests times →
+            taken_at pos tests self.now.0 ≡ [] }
+    {
+        has_died(self.died_out(), pos) || self.misses(times)
+    }
+
+    /// Whether no version that is visible at a position has a time above the best so far.
+    fn is_past(&self, pos: u64, best: Option<i64>) -> bool
+        ensures past { result ≡ true → later_time best (latest_at pos self.now.0) ≡ best }
+    {
+        has_died(self.died_out(), pos) || is_no_later(greatest_time(self.hull()), best)
     }
 
     /// The same pile again.
@@ -109,12 +149,13 @@ impl Pile {
             Shape::Leaf(segment) => Ok(Pile {
                 shape: Shape::Leaf(segment.copy()?),
             }),
-            Shape::Fork(left, right, count, latest) => Ok(Pile {
+            Shape::Fork(left, right, count, hull, dead) => Ok(Pile {
                 shape: Shape::Fork(
                     Arc::try_clone(left)?,
                     Arc::try_clone(right)?,
                     *count,
-                    *latest,
+                    *hull,
+                    *dead,
                 ),
             }),
         }
@@ -128,7 +169,7 @@ impl Pile {
     {
         match &self.shape {
             Shape::Leaf(_) => beside(alloc, self.copy()?, Pile::of(segment)),
-            Shape::Fork(left, right, _, _) => {
+            Shape::Fork(left, right, _, _, _) => {
                 if right.count() + segment.count() > left.count() {
                     return beside(alloc, self.copy()?, Pile::of(segment));
                 }
@@ -145,7 +186,7 @@ impl Pile {
     {
         match &self.shape {
             Shape::Leaf(segment) => other.joined_after(segment),
-            Shape::Fork(_, _, _, _) => Ok(None),
+            Shape::Fork(_, _, _, _, _) => Ok(None),
         }
     }
 
@@ -155,19 +196,29 @@ impl Pile {
     {
         match &self.shape {
             Shape::Leaf(second) => joined_if_small(first, second),
-            Shape::Fork(_, _, _, _) => Ok(None),
+            Shape::Fork(_, _, _, _, _) => Ok(None),
         }
     }
 
-    /// A delete at a position.
+    /// A delete at a position, where all times that pass the tests lie in a range.
     #[tactic(auto, using(seg_rows::proofs::VersionLaws::parts, seg_rows::proofs::VersionLaws::kill_nothing, ts_schema::proofs::Cases::and_first, ts_schema::proofs::Cases::and_second, seg_rows::proofs::VersionLaws::taken_few))]
-    pub fn kill(&self, alloc: Global, tests: &Seq<Test>, pos: u64) -> Result<KilledPile, NoMemory>
+    pub fn kill(
+        &self,
+        alloc: Global,
+        times: Reach,
+        tests: &Seq<Test>,
+        pos: u64,
+    ) -> Result<KilledPile, NoMemory>
         requires countable { length self.now.0 < 2 ^ 64 }
+        requires times { HoldsPassing tests.now times }
         ensures after { IfOk result (λ k. k.pile.0 ≡ map (after_kill pos tests.now) self.now.0) }
         ensures levels { IfOk result (λ k. k.pile.1 ≡ self.now.1) }
         ensures removed { IfOk result (λ k. k.removed ≡ length (taken_at pos tests.now self.now.0)) }
         ensures hull { IfOk result (λ k. k.hull ≡ hull_of (taken_at pos tests.now self.now.0)) }
     {
+        if self.is_spared(times, pos) {
+            return Ok(untouched(self.copy()?));
+        }
         match &self.shape {
             Shape::Leaf(segment) => {
                 let killed = segment.kill(tests, pos)?;
@@ -177,14 +228,15 @@ impl Pile {
                     hull: killed.hull,
                 })
             }
-            Shape::Fork(left, right, count, latest) => {
-                let first = left.kill(alloc, tests, pos)?;
-                let second = right.kill(alloc, tests, pos)?;
+            Shape::Fork(left, right, count, hull, _) => {
+                let first = left.kill(alloc, times, tests, pos)?;
+                let second = right.kill(alloc, times, tests, pos)?;
                 let left = changed(alloc, left, first.pile, first.removed)?;
                 let right = changed(alloc, right, second.pile, second.removed)?;
+                let dead = both_died(left.died_out(), right.died_out());
                 Ok(KilledPile {
                     pile: Pile {
-                        shape: Shape::Fork(left, right, *count, *latest),
+                        shape: Shape::Fork(left, right, *count, *hull, dead),
                     },
                     removed: first.removed + second.removed,
                     hull: join_hulls(first.hull, second.hull),
@@ -208,7 +260,7 @@ impl Pile {
         let _so_far = steps.count();
         match &self.shape {
             Shape::Leaf(segment) => segment.scan(pos, span, out, steps),
-            Shape::Fork(left, right, _, _) => {
+            Shape::Fork(left, right, _, _, _) => {
                 left.scan(pos, span, out, steps)?;
                 right.scan(pos, span, out, steps)
             }
@@ -221,13 +273,26 @@ impl Pile {
     pub fn last_of(&self, pos: u64, best: Option<i64>) -> Option<i64>
         ensures last { result ≡ later_time best (latest_at pos self.now.0) }
     {
-        if is_no_later(self.latest(), best) {
+        if self.is_past(pos, best) {
             return best;
         }
         match &self.shape {
             Shape::Leaf(segment) => segment.last_of(pos, best),
-            Shape::Fork(left, right, _, _) => left.last_of(pos, right.last_of(pos, best)),
+            Shape::Fork(left, right, _, _, _) => left.last_of(pos, right.last_of(pos, best)),
         }
+    }
+}
+
+/// A pile that a delete left alone.
+fn untouched(pile: Pile) -> KilledPile
+    ensures pile { result.pile ≡ pile }
+    ensures removed { result.removed ≡ 0 }
+    ensures hull { result.hull ≡ None }
+{
+    KilledPile {
+        pile,
+        removed: 0,
+        hull: None,
     }
 }
 
@@ -251,11 +316,12 @@ fn fork(alloc: Global, left: Pile, right: Pile) -> Result<Pile, NoMemory>
     ensures versions { IfOk result (λ pile. pile.0 ≡ left.0 ++ right.0) }
 {
     let count = left.count() + right.count();
-    let latest = later(left.latest(), right.latest());
+    let hull = join_hulls(left.hull(), right.hull());
+    let dead = both_died(left.died_out(), right.died_out());
     let left = Arc::new(alloc, left)?;
     let right = Arc::new(alloc, right)?;
     Ok(Pile {
-        shape: Shape::Fork(left, right, count, latest),
+        shape: Shape::Fork(left, right, count, hull, dead),
     })
 }
 

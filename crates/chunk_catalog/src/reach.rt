@@ -1,7 +1,8 @@
 //! Ranges of starts of chunks, and of times.
-ghost use Rattle.std.specs.Prelude.{◌≡◌, ◌≤ℤ◌, ◌<ℤ◌, ◌+ℤ◌, ◌-ℤ◌, ℤ, pos, true, false, int_le, FitsSigned};
+ghost use Rattle.std.specs.Prelude.{◌≡◌, ◌≤ℤ◌, ◌<ℤ◌, ◌+ℤ◌, ◌-ℤ◌, List, ℤ, pos, true, false, int_le, FitsSigned};
 ghost use Rattle.std.specs.Int.{w64};
 ghost use Rattle.ts_schema.specs.Conditions.{compares};
+ghost use Rattle.ts_schema.specs.declared.conditions.Test.{Test};
 ghost use Rattle.seg_rows.specs.Versions.{later_time};
 ghost use Rattle.chunk_catalog.specs.Chunks.{chunk_meets};
 ghost use Rattle.ts_bucket.specs.Chunks.{IsInterval};
@@ -9,7 +10,7 @@ ghost use Rattle.chunk_catalog.specs.Reach.{in_reach, HoldsPassing, Narrows};
 ghost use Rattle.chunk_catalog.specs.Places.{NonePassesOutside};
 
 use ts_bucket::{Hull, Span};
-use ts_schema::{Cmp, Seq, Test};
+use ts_schema::{Cmp, Test};
 
 /// The numbers from `first` to `last`, both included. Where `first` is above `last`, there is none.
 #[derive(Clone, Copy, Debug)]
@@ -74,12 +75,11 @@ pub fn drop_reach(interval: i64, n: i64) -> Reach
     }
 }
 
-/// The starts of the chunks that may hold a row that passes every test.
-pub fn test_reach(interval: i64, tests: &Seq<Test>) -> Reach
+/// The starts of the chunks that may hold a row that passes tests, where its time lies in a range.
+pub fn start_reach(interval: i64, times: Reach) -> Reach
     requires { IsInterval interval }
-    ensures missed { NonePassesOutside interval tests.now result }
+    ensures missed { (tests : List Test) → HoldsPassing tests times → NonePassesOutside interval tests result }
 {
-    let times = test_times(tests.items());
     Reach {
         first: lowered(times.first, interval - 1),
         last: times.last,
@@ -87,7 +87,7 @@ pub fn test_reach(interval: i64, tests: &Seq<Test>) -> Reach
 }
 
 /// Times among which are those of all rows that pass every test.
-fn test_times(tests: &[Test]) -> Reach
+pub fn test_times(tests: &[Test]) -> Reach
     ensures every { HoldsPassing tests.now result }
 {
     let mut times = Reach {

@@ -1,16 +1,18 @@
 //! Chunks in the order of their starts, in a balanced tree of which a change copies one path.
-ghost use Rattle.std.specs.Prelude.{◌≡◌, ◌<◌, ◌+◌, ◌^◌, ◌++◌, ℕ, suc, max, true, length, map, IfOk, OnOk, OnErr};
+ghost use Rattle.std.specs.Prelude.{◌≡◌, ◌<◌, ◌+◌, ◌^◌, ◌++◌, ℕ, List, [], suc, max, true, length, map, IfOk, OnOk, OnErr};
 ghost use Rattle.std.specs.Arc.{arc_value};
 ghost use Rattle.seg_rows.specs.Hulls.{hull_at, hull_of, joined_hull};
-ghost use Rattle.seg_rows.specs.Versions.{latest_at, later_time, rows_at, taken_at, HasMore};
+ghost use Rattle.seg_rows.specs.Versions.{died_out, latest_at, later_time, rows_at, taken_at, HasMore};
 ghost use Rattle.ts_schema.specs.Counts.{raised_by, RaisedUpTo};
 ghost use Rattle.ts_bucket.specs.Chunks.{IsInterval};
 ghost use Rattle.chunk_catalog.specs.Levels.{AreLevel, AreNear, Balances, FewLevels, Grows, no_tree, tree_over};
+ghost use Rattle.chunk_catalog.specs.Reach.{HoldsPassing};
+ghost use Rattle.ts_schema.specs.declared.conditions.Test.{Test};
 ghost use Rattle.chunk_catalog.specs.Places.{AreOut, after_kill_in, in_chunk, reached, versions_of, ArePlaced, StartsIn};
 
 use crate::chunk::{Chunk, KilledChunk};
 use crate::reach::{Reach, is_past};
-use seg_rows::{Segment, join_hulls};
+use seg_rows::{Segment, both_died, has_died, join_hulls};
 use std::alloc::Global;
 use std::marker::Model;
 use std::sync::Arc;
@@ -28,9 +30,9 @@ pub struct Tree {
 #[derive(Drop)]
 enum Node {
     Empty,
-    /// The chunks before this one, this one, the chunks after it, the hull of all their starts, and
-    /// how many levels there are.
-    Fork(Arc<Tree>, Chunk, Arc<Tree>, Hull, u64),
+    /// The chunks before this one, this one, the chunks after it, the hull of all their starts, how
+    /// many levels there are, and the position at which the last version died, where none lives on.
+    Fork(Arc<Tree>, Chunk, Arc<Tree>, Hull, u64, Option<u64>),
 }
 
 impl Model for Tree {
@@ -74,7 +76,7 @@ impl Tree {
     {
         match &self.node {
             Node::Empty => 0,
-            Node::Fork(_, _, _, _, height) => *height,
+            Node::Fork(_, _, _, _, height, _) => *height,
         }
     }
 
@@ -84,7 +86,7 @@ impl Tree {
     {
         match &self.node {
             Node::Empty => None,
-            Node::Fork(_, _, _, starts, _) => Some(*starts),
+            Node::Fork(_, _, _, starts, _, _) => Some(*starts),
         }
     }
 
@@ -94,8 +96,35 @@ impl Tree {
     {
         match &self.node {
             Node::Empty => true,
-            Node::Fork(_, _, _, starts, _) => !reach.meets(*starts),
+            Node::Fork(_, _, _, starts, _, _) => !reach.meets(*starts),
         }
+    }
+
+    /// The position at which the last version died, where none lives on.
+    fn died_out(&self) -> Option<u64>
+        ensures dead { result ≡ died_out (versions_of self.now.0) }
+    {
+        match &self.node {
+            Node::Empty => Some(0),
+            Node::Fork(_, _, _, _, _, dead) => *dead,
+        }
+    }
+
+    /// Whether a delete at a position takes nothing from the chunks whose starts lie in a range: no
+    /// version lives there, or there is no such chunk.
+    fn is_spared(&self, reach: Reach, pos: u64) -> bool
+        ensures spared { result ≡ true → (tests : List Test) → taken_at pos tests (reached reach self.now.0) ≡ [] }
+    {
+        has_died(self.died_out(), pos) || self.misses(reach)
+    }
+
+    /// Whether no version that is visible at a position has a time above the best so far.
+    fn has_no_later(&self, interval: i64, pos: u64, best: Option<i64>) -> bool
+        requires interval { IsInterval interval }
+        requires placed { ArePlaced interval self.now.0 }
+        ensures past { result ≡ true → later_time best (latest_at pos (versions_of self.now.0)) ≡ best }
+    {
+        has_died(self.died_out(), pos) || self.is_past(interval, best)
     }
 
     /// Whether no chunk holds a time above the best so far.
@@ -106,7 +135,7 @@ impl Tree {
     {
         match &self.node {
             Node::Empty => true,
-            Node::Fork(_, _, _, starts, _) => is_past(interval, starts.most, best),
+            Node::Fork(_, _, _, starts, _, _) => is_past(interval, starts.most, best),
         }
     }
 
@@ -116,13 +145,14 @@ impl Tree {
     {
         match &self.node {
             Node::Empty => Ok(Tree { node: Node::Empty }),
-            Node::Fork(left, chunk, right, starts, height) => Ok(Tree {
+            Node::Fork(left, chunk, right, starts, height, dead) => Ok(Tree {
                 node: Node::Fork(
                     Arc::try_clone(left)?,
                     chunk.copy()?,
                     Arc::try_clone(right)?,
                     *starts,
                     *height,
+                    *dead,
                 ),
             }),
         }
@@ -141,7 +171,7 @@ impl Tree {
                 let right = Arc::new(alloc, Tree::new())?;
                 Ok(fork(left, Chunk::of(start, segment), right))
             }
-            Node::Fork(left, chunk, right, _, _) => {
+            Node::Fork(left, chunk, right, _, _, _) => {
                 let here = chunk.start();
                 if start < here {
                     let left = left.with(alloc, start, segment)?;
@@ -158,30 +188,33 @@ impl Tree {
         }
     }
 
-    /// A delete at a position in the chunks whose starts lie in a range.
+    /// A delete at a position in the chunks whose starts lie in a range, where all times that pass the
+    /// tests lie in another one.
     #[tactic(auto, using(crate::proofs::PlaceLaws::out_reached, crate::proofs::PlaceLaws::out_killed))]
     pub fn kill(
         &self,
         alloc: Global,
         reach: Reach,
+        times: Reach,
         tests: &Seq<Test>,
         pos: u64,
     ) -> Result<KilledTree, NoMemory>
         requires countable { length self.now.0 < 2 ^ 64 }
+        requires times { HoldsPassing tests.now times }
         ensures after { IfOk result (λ k. k.tree.0 ≡ map (after_kill_in reach pos tests.now) self.now.0) }
         ensures levels { IfOk result (λ k. k.tree.1 ≡ self.now.1) }
         ensures removed { IfOk result (λ k. k.removed ≡ length (taken_at pos tests.now (reached reach self.now.0))) }
         ensures hull { IfOk result (λ k. k.hull ≡ hull_of (taken_at pos tests.now (reached reach self.now.0))) }
     {
-        if self.misses(reach) {
+        if self.is_spared(reach, pos) {
             return Ok(untouched(self.copy()?));
         }
         match &self.node {
             Node::Empty => Ok(untouched(Tree::new())),
-            Node::Fork(left, chunk, right, _, _) => {
-                let first = left.kill(alloc, reach, tests, pos)?;
-                let middle = chunk.kill_in(alloc, reach, tests, pos)?;
-                let second = right.kill(alloc, reach, tests, pos)?;
+            Node::Fork(left, chunk, right, _, _, _) => {
+                let first = left.kill(alloc, reach, times, tests, pos)?;
+                let middle = chunk.kill_in(alloc, reach, times, tests, pos)?;
+                let second = right.kill(alloc, reach, times, tests, pos)?;
                 after_kills(alloc, left, first, middle, right, second)
             }
         }
@@ -208,7 +241,7 @@ impl Tree {
         }
         match &self.node {
             Node::Empty => Ok(()),
-            Node::Fork(left, chunk, right, _, _) => {
+            Node::Fork(left, chunk, right, _, _, _) => {
                 left.scan(reach, pos, span, out, steps)?;
                 chunk.scan_in(reach, pos, span, out, steps)?;
                 right.scan(reach, pos, span, out, steps)
@@ -227,7 +260,7 @@ impl Tree {
         }
         match &self.node {
             Node::Empty => 0,
-            Node::Fork(left, chunk, right, _, _) => {
+            Node::Fork(left, chunk, right, _, _, _) => {
                 left.held(reach) + chunk.count_in(reach) + right.held(reach)
             }
         }
@@ -241,12 +274,12 @@ impl Tree {
         requires placed { ArePlaced interval self.now.0 }
         ensures last { result ≡ later_time best (latest_at pos (versions_of self.now.0)) }
     {
-        if self.is_past(interval, best) {
+        if self.has_no_later(interval, pos, best) {
             return best;
         }
         match &self.node {
             Node::Empty => best,
-            Node::Fork(left, chunk, right, _, _) => {
+            Node::Fork(left, chunk, right, _, _, _) => {
                 let best = right.last(interval, pos, best);
                 let best = chunk.last_of(interval, pos, best);
                 left.last(interval, pos, best)
@@ -319,8 +352,12 @@ fn fork(left: Arc<Tree>, chunk: Chunk, right: Arc<Tree>) -> Tree
     let _some = chunk.count();
     let starts = hull_with(&chunk, join_hulls(left.starts(), right.starts()));
     let height = left.height().max(right.height()) + 1;
+    let dead = both_died(
+        both_died(left.died_out(), chunk.died_out()),
+        right.died_out(),
+    );
     Tree {
-        node: Node::Fork(left, chunk, right, starts, height),
+        node: Node::Fork(left, chunk, right, starts, height, dead),
     }
 }
 
@@ -423,7 +460,7 @@ fn lean_right(
 {
     match &left.node {
         Node::Empty => joined(left, chunk, right),
-        Node::Fork(first, before, second, _, _) => {
+        Node::Fork(first, before, second, _, _, _) => {
             if second.height() > first.height() {
                 return spread_left(alloc, first, before, second, chunk, right);
             }
@@ -455,7 +492,7 @@ fn spread_left(
             let lower = shared(alloc, second, chunk, third)?;
             joined(first, before, &lower)
         }
-        Node::Fork(near, middle, far, _, _) => {
+        Node::Fork(near, middle, far, _, _, _) => {
             let left = shared(alloc, first, before, near)?;
             let right = shared(alloc, far, chunk, third)?;
             joined(&left, middle, &right)
@@ -478,7 +515,7 @@ fn lean_left(
 {
     match &right.node {
         Node::Empty => joined(left, chunk, right),
-        Node::Fork(first, after, second, _, _) => {
+        Node::Fork(first, after, second, _, _, _) => {
             if first.height() > second.height() {
                 return spread_right(alloc, left, chunk, first, after, second);
             }
@@ -510,7 +547,7 @@ fn spread_right(
             let lower = shared(alloc, first, chunk, second)?;
             joined(&lower, after, third)
         }
-        Node::Fork(near, middle, far, _, _) => {
+        Node::Fork(near, middle, far, _, _, _) => {
             let left = shared(alloc, first, chunk, near)?;
             let right = shared(alloc, far, after, third)?;
             joined(&left, middle, &right)

@@ -1,7 +1,9 @@
 use Rattle.std.proofs.Common.{◌*◌, length, ◌∙◌, ap, subst, arith}
 use Rattle.seg_rows.specs.Hulls.{joined_hull, hull_at}
 use Rattle.chunk_catalog.specs.Levels.{AreFew, FewLevels, TreeValue}
-use Rattle.chunk_catalog.specs.Places.{StartsIn}
+use Rattle.seg_rows.specs.Versions.{died_out}
+use Rattle.chunk_catalog.specs.Places.{StartsIn, versions_of}
+use Rattle.chunk_catalog.proofs.SpareLaws.{dead_over}
 use Rattle.chunk_catalog.proofs.PlaceLaws.{starts_of_fork}
 use Rattle.chunk_catalog.proofs.LevelLaws.{few_over, few_counted, sides_within}
 use Rattle.chunk_catalog.proofs.trees.fork.Goals as goal
@@ -33,4 +35,7 @@ invariant_of-result c =
       few = few_over c.args.left.value c.args.right.value c.args.chunk c.requires.even left right
           (subst (λ n. AreFew c.args.chunk.levels (2 * n)) c.count-some.ensures.count c.count-some.ensures.few)
           (omega (arith, c.count-some.ensures.count, c.count-some.ensures.some));
+      dead_is = dead_over c.args.left.value.0 c.args.right.value.0 c.args.chunk.start c.args.chunk.versions c.died_out.result c.died_out-2.result c.both_died.result c.died_out-3.result c.both_died-dead.result
+          (c.died_out.ensures.dead ∙ ap (λ (v : TreeValue). died_out (versions_of v.0)) c.deref-5.ensures) c.died_out-2.ensures.dead c.both_died.ensures.later
+          (c.died_out-3.ensures.dead ∙ ap (λ (v : TreeValue). died_out (versions_of v.0)) c.deref-6.ensures) c.both_died-dead.ensures.later;
     }

@@ -17,8 +17,8 @@ invariant_of-result c =
     let fits : FitsSigned w64 c.self.inside.interval = search rules in
     record {
       wide = simp to_z-of_z c.self.invariant.wide;
-      placed = simp to_z-of_z (rw c.in_ok-killed.ensures.after (killed_placed c.self.inside.interval c.drop_reach-reach.result c.args.pos c.new.result c.self.inside.tree.0 c.self.invariant.placed));
-      counted = c.self.invariant.counted ∙ (sym (length-map c.self.inside.tree.0 (after_kill_in c.drop_reach-reach.result c.args.pos c.new.result)) ∙ ap length (sym c.in_ok-killed.ensures.after));
+      placed = simp to_z-of_z (rw c.in_ok-killed.ensures.after (killed_placed c.self.inside.interval c.drop_reach-reach.result c.args.pos c.new-tests.result c.self.inside.tree.0 c.self.invariant.placed));
+      counted = c.self.invariant.counted ∙ (sym (length-map c.self.inside.tree.0 (after_kill_in c.drop_reach-reach.result c.args.pos c.new-tests.result)) ∙ ap length (sym c.in_ok-killed.ensures.after));
       few = c.self.invariant.few;
     }
 
@@ -30,7 +30,7 @@ returns-clause-after c =
     let fits_n : FitsSigned w64 c.args.n = c.ranges.n in
     let ended : (s : ℤ) → negsuc (2 ^ 63 - 1) ≤ℤ s → in_reach c.drop_reach-reach.result s ≡ int_le (s +ℤ c.self.inside.interval) c.args.n = simp to_z-of_z at c.drop_reach-reach.ensures.ended in
     ap versions_of c.in_ok-killed.ensures.after
-    ∙ (ap (λ (ts : List Test). versions_of (map (after_kill_in c.drop_reach-reach.result c.args.pos ts) c.self.inside.tree.0)) c.new.ensures.items
+    ∙ (ap (λ (ts : List Test). versions_of (map (after_kill_in c.drop_reach-reach.result c.args.pos ts) c.self.inside.tree.0)) c.new-tests.ensures.items
     ∙ (dropped_killed c.self.inside.interval c.args.n c.drop_reach-reach.result c.self.invariant.wide ended c.args.pos c.self.inside.tree.0 c.self.invariant.placed
     ∙ (ap (λ i. map (after_drop i c.args.n c.args.pos) (versions_of c.self.inside.tree.0)) interval_is ∙ ap (map (after_drop c.args.self.now.interval c.args.n c.args.pos)) versions_is)))
 
@@ -42,7 +42,7 @@ returns-clause-removed c =
     let fits_n : FitsSigned w64 c.args.n = c.ranges.n in
     let ended : (s : ℤ) → negsuc (2 ^ 63 - 1) ≤ℤ s → in_reach c.drop_reach-reach.result s ≡ int_le (s +ℤ c.self.inside.interval) c.args.n = simp to_z-of_z at c.drop_reach-reach.ensures.ended in
     c.in_ok-killed.ensures.removed
-    ∙ ap length (ap (λ (ts : List Test). taken_at c.args.pos ts (reached c.drop_reach-reach.result c.self.inside.tree.0)) c.new.ensures.items
+    ∙ ap length (ap (λ (ts : List Test). taken_at c.args.pos ts (reached c.drop_reach-reach.result c.self.inside.tree.0)) c.new-tests.ensures.items
     ∙ (dropped_reached c.self.inside.interval c.args.n c.drop_reach-reach.result c.self.invariant.wide ended c.args.pos c.self.inside.tree.0 c.self.invariant.placed
     ∙ (ap (λ i. dropped_at i c.args.n c.args.pos (versions_of c.self.inside.tree.0)) interval_is ∙ ap (dropped_at c.args.self.now.interval c.args.n c.args.pos) versions_is)))
 
@@ -54,6 +54,6 @@ returns-clause-hull c =
     let fits_n : FitsSigned w64 c.args.n = c.ranges.n in
     let ended : (s : ℤ) → negsuc (2 ^ 63 - 1) ≤ℤ s → in_reach c.drop_reach-reach.result s ≡ int_le (s +ℤ c.self.inside.interval) c.args.n = simp to_z-of_z at c.drop_reach-reach.ensures.ended in
     c.in_ok-killed.ensures.hull
-    ∙ ap hull_of (ap (λ (ts : List Test). taken_at c.args.pos ts (reached c.drop_reach-reach.result c.self.inside.tree.0)) c.new.ensures.items
+    ∙ ap hull_of (ap (λ (ts : List Test). taken_at c.args.pos ts (reached c.drop_reach-reach.result c.self.inside.tree.0)) c.new-tests.ensures.items
     ∙ (dropped_reached c.self.inside.interval c.args.n c.drop_reach-reach.result c.self.invariant.wide ended c.args.pos c.self.inside.tree.0 c.self.invariant.placed
     ∙ (ap (λ i. dropped_at i c.args.n c.args.pos (versions_of c.self.inside.tree.0)) interval_is ∙ ap (dropped_at c.args.self.now.interval c.args.n c.args.pos) versions_is)))

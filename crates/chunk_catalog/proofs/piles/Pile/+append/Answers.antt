@@ -8,7 +8,7 @@ pub beside-requires-then-count-clause-even : goal.beside-requires-then-count-cla
 beside-requires-then-count-clause-even t c =
     let left = c.in-Fork.left.value in
     let right = c.in-Fork.right.value in
-    let fork : IsFork left right c.in-Fork.field-2 c.in-Fork.field-3 = subst IsPile c.in-Fork.is c.self.invariant in
+    let fork : IsFork left right c.in-Fork.field-2 c.in-Fork.field-3 c.in-Fork.field-4 = subst IsPile c.in-Fork.is c.self.invariant in
     let same = c.in_ok-copy-in-Fork.ensures.same ∙ (sym c.self.view_is ∙ ap pile_view c.in-Fork.is) in
     let right_is : c.count.result ≡ length right.0 = c.count.ensures.count ∙ ap (λ p. length p.0) c.deref.ensures in
     let left_is : c.count-in-Fork-2.result ≡ length left.0 = c.count-in-Fork-2.ensures.count ∙ ap (λ p. length p.0) c.deref-in-Fork.ensures in
@@ -25,7 +25,7 @@ pub beside-requires-in-Fork-clause-even : goal.beside-requires-in-Fork-clause-ev
 beside-requires-in-Fork-clause-even t c =
     let left = c.in-Fork.left.value in
     let right = c.in-Fork.right.value in
-    let fork : IsFork left right c.in-Fork.field-2 c.in-Fork.field-3 = subst IsPile c.in-Fork.is c.self.invariant in
+    let fork : IsFork left right c.in-Fork.field-2 c.in-Fork.field-3 c.in-Fork.field-4 = subst IsPile c.in-Fork.is c.self.invariant in
     let right_is : c.count.result ≡ length right.0 = c.count.ensures.count ∙ ap (λ p. length p.0) c.deref.ensures in
     let left_is : c.count-in-Fork-2.result ≡ length left.0 = c.count-in-Fork-2.ensures.count ∙ ap (λ p. length p.0) c.deref-in-Fork.ensures in
     let left_same = c.in_ok-copy-in-Fork-2.ensures.same ∙ c.deref-in-Fork-3.ensures in

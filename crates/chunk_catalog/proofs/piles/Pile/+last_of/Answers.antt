@@ -1,14 +1,9 @@
 use Rattle.std.proofs.Common.{◌≡◌, ◌∙◌, ◌++◌, ap, sym}
 use Rattle.seg_rows.specs.Versions.{later_time, latest_at}
-use Rattle.seg_rows.proofs.VersionLaws.{latest_at-append, no_later}
+use Rattle.seg_rows.proofs.VersionLaws.{latest_at-append}
 use Rattle.chunk_catalog.specs.Piles.{pile_view}
 use Rattle.chunk_catalog.proofs.LevelLaws.{later_back}
 use Rattle.chunk_catalog.proofs.piles.Pile.+last_of.Goals as goal
-
-pub returns-then-is_no_later : goal.returns-then-is_no_later
-returns-then-is_no_later t c = record {
-  last = sym (no_later c.args.pos c.args.best c.args.self.now.0 (ap (later_time c.args.best) (sym c.latest.ensures.latest) ∙ c.is_no_later.ensures.no_later c.if-is_no_later.true));
-}
 
 pub returns-in-Fork : goal.returns-in-Fork
 returns-in-Fork t c =

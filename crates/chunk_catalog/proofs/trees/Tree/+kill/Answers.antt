@@ -6,9 +6,14 @@ use Rattle.seg_rows.specs.Versions.{taken_at}
 use Rattle.chunk_catalog.specs.Levels.{AreLevel, IsOver, Levels, levels_over}
 use Rattle.chunk_catalog.specs.Places.{after_kill_in, placed_in, reached}
 use Rattle.chunk_catalog.specs.Trees.{IsTree, tree_view}
-use Rattle.chunk_catalog.proofs.PlaceLaws.{kill_nothing_in}
+use Rattle.chunk_catalog.proofs.PlaceLaws.{kill_nothing_in, killed_nothing_in}
 use Rattle.chunk_catalog.proofs.TreeLaws.{killed_over, counted_over, hull_over, few_over_all}
 use Rattle.chunk_catalog.proofs.trees.Tree.+kill.Goals as goal
+
+pub returns-then-is_spared-clause-after : goal.returns-then-is_spared-clause-after
+returns-then-is_spared-clause-after t c =
+    let none = c.is_spared.ensures.spared c.if-is_spared.true c.args.tests.now in
+    ap (λ v. v.0) (c.untouched.ensures.tree ∙ c.in_ok-copy.ensures.same) ∙ sym (killed_nothing_in c.args.reach c.args.pos c.args.tests.now c.args.self.now.0 (ap length none))
 
 pub after_kills-requires : goal.after_kills-requires
 after_kills-requires t c =
@@ -19,7 +24,7 @@ after_kills-requires t c =
     let here = placed_in c.in-Fork.chunk in
     let e = c.in-Fork.right.value in
     let whole : c.args.self.now.0 ≡ l.0 ++ here ++ e.0 = ap (λ d. d.0) (sym c.self.view_is) ∙ ap (λ n. (tree_view n).0) c.in-Fork.is in
-    let over : IsOver l c.in-Fork.chunk e _ _ = subst IsTree c.in-Fork.is c.self.invariant in
+    let over : IsOver l c.in-Fork.chunk e _ _ _ = subst IsTree c.in-Fork.is c.self.invariant in
     let first = c.in_ok-first-in-Fork.first in
     let middle = c.in_ok-middle-in-Fork.middle in
     let second = c.in_ok-second-in-Fork.second in

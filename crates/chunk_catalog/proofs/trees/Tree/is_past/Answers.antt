@@ -11,7 +11,7 @@ use Rattle.chunk_catalog.proofs.trees.Tree.is_past.Goals as goal
 pub returns-in-Fork : goal.returns-in-Fork
 returns-in-Fork c =
     let shown = ap (λ d. d.0) (sym c.self.view_is) ∙ ap (λ n. (tree_view n).0) c.in-Fork.is in
-    let over : IsOver _ _ _ c.in-Fork.starts _ = subst IsTree c.in-Fork.is c.self.invariant in
+    let over : IsOver _ _ _ c.in-Fork.starts _ _ = subst IsTree c.in-Fork.is c.self.invariant in
     let inside : StartsIn (Some c.in-Fork.starts) c.args.self.now.0 = subst (StartsIn (Some c.in-Fork.starts)) (sym shown) over.starts_in in
     let fits_interval : FitsSigned w64 c.args.interval = c.ranges.interval in
     let fits_most : FitsSigned w64 c.starts.inside.most = search rules in
