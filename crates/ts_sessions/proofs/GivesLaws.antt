@@ -176,6 +176,14 @@ events_given all stop from at so_far (ends x) (p ∷ ps) last given y a g = absu
 pub gives_events : {A : Type 0} (all : History) (stop : Option ℕ) (at : ℕ) (procedure : Procedure A) (looks : List (Option ℕ)) (last : ℕ) (given : List (ℕ × Event)) (y : A) → Gives all stop at [] procedure looks last given y → AreEvents all at given last
 gives_events all stop at procedure looks last given y g = events_given all stop at at [] procedure looks last given y (omega arith) g
 
+events_on : (all : History) (at last : ℕ) (es : List (ℕ × Event)) → AreEvents all at es last → at ≤ last
+events_on all at last [] a = a
+events_on all at last (e ∷ es) a = let up = a.0 in let on = events_on all e.0 last es a.2 in omega (arith, up, on)
+
+-- the last position isn't before the one that was looked at
+pub gives_on : {A : Type 0} (all : History) (stop : Option ℕ) (at : ℕ) (procedure : Procedure A) (looks : List (Option ℕ)) (last : ℕ) (given : List (ℕ × Event)) (y : A) → Gives all stop at [] procedure looks last given y → at ≤ last
+gives_on all stop at procedure looks last given y g = events_on all at last given (gives_events all stop at procedure looks last given y g)
+
 -- ---- determined by printed looks
 
 first_same : (p q : ℕ) (ps qs : List ℕ) → q ∷ qs ≡ p ∷ ps → q ≡ p

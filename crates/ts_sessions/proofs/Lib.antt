@@ -24,3 +24,10 @@ pub mod StepLaws
 pub mod ReplyLaws
 pub mod SteadyLaws
 mod QueueLaws
+pub mod RefusalCodes
+mod UpperCodes
+pub mod StopLaws
+pub mod GivenNames
+pub mod TogetherLaws
+pub mod BegunLaws
+pub mod ActorLaws

@@ -19,7 +19,8 @@ use Rattle.ts_sessions.specs.declared.blocks.Open.{Open}
 use Rattle.ts_sessions.specs.declared.blocks.Open.TheVariants.{Nothing, Write, Read}
 use Rattle.ts_sessions.specs.declared.sessions.Session.{Session}
 use Rattle.ts_sessions.specs.declared.sessions.Snapshot.{Snapshot}
-use Rattle.ts_sessions.specs.Held.{GoesOn, HoldsBlock, HoldsJob, HoldsSnapshots, HoldsOf, WaitsInside, is_finished, is_lost, queued}
+use Rattle.ts_sessions.specs.Held.{GoesOn, HoldsBlock, block_of, HoldsJob, HoldsSnapshots, HoldsOf, WaitsInside, is_finished, is_lost, queued}
+use Rattle.ts_sessions.specs.LineLaws.{ReadsWithin}
 use Rattle.ts_sessions.specs.Places.{Block, none, writing, reading, block_kind}
 use Rattle.stmt_check.proofs.QueueLaws.{queues_are_sound}
 use Rattle.ts_model.specs.declared.snapshots.Shown.{Ghosts as Shown}
@@ -151,3 +152,13 @@ pub waits_inside : (b : Block) → WaitsInside (block_kind b) (queued b)
 waits_inside none = refl
 waits_inside (writing ops n) = tt
 waits_inside (reading at) = refl
+
+-- ---- when blocks began
+
+-- the block of a session that goes with what its store has seen began by then
+pub reads_within :
+    {T : Type 0} (stands : T → History → Type 0) (block : Open T) (h : History) → HoldsBlock stands block h
+    → ReadsWithin (block_of block) (position h)
+reads_within stands Nothing h holds = tt
+reads_within stands (Write queue) h holds = tt
+reads_within stands (Read at shot) h holds = holds.1

@@ -9,6 +9,9 @@ pub mod Steady
 pub mod Laws
 pub mod Replies
 pub mod LineLaws
+pub mod Stopped
+pub mod Named
+pub mod Actors
 pub mod Held
 pub mod Holding
 pub mod Tried

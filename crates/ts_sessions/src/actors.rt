@@ -13,8 +13,10 @@ pub trait Actor {
     ghost use Rattle.std.specs.Prelude.{◌≡◌, ℕ, ◌+◌, ◌≤◌, List, length};
     ghost use Rattle.std.specs.Thread.{IsSync};
     ghost use Rattle.ts_model.specs.States.{State};
+    ghost use Rattle.ts_sessions.specs.Actors.{HadBegun, TellsReplies};
     ghost use Rattle.ts_sessions.specs.Held.{GoesOn, WaitsInside, most_queued};
-    ghost use Rattle.ts_sessions.specs.Places.{Block as BlockPlace, block_kind};
+    ghost use Rattle.ts_sessions.specs.Places.{Block as BlockPlace, Turn, block_kind};
+    ghost use Rattle.ts_sessions.specs.Procedures.{Procedure};
     ghost use Rattle.ts_sessions.specs.Script.{Semantics};
     ghost use Rattle.ts_sessions.specs.Sessions.{IfAnswered, Stepped};
 
@@ -26,6 +28,9 @@ pub trait Actor {
 
     // What its lines do.
     ghost semantics: { Semantics Self.Places };
+
+    // What the reply to a line says, by its places, the bytes of the line and how many stand before its statement.
+    ghost replies: { Self.Places → List ℕ → ℕ → Procedure (Turn Self.Places) };
 
     ghost places: { Self → Self.Places };
 
@@ -92,7 +97,16 @@ pub trait Actor {
         ensures holds { IfAnswered result (Self.holds self.new (B.state backend.new)) }
         ensures kin { B.kin backend.new ≡ B.kin backend.old };
 
+    /// Tells of its lines that what they do is what the replies to them say, over each history that comes after
+    /// them. It does nothing: its clause is the law.
+    fn tells_replies()
+        ensures { TellsReplies Self.within Self.semantics.does Self.replies };
+
     ghost holds_on: { (actor : Self) (g h : State) → GoesOn g h → Self.holds actor g → Self.holds actor h };
+
+    // The block of one whose holdings go with what its store has seen had begun by then.
+    ghost begun: { (actor : Self) (s : State) → Self.holds actor s
+        → HadBegun Self.within (Self.places actor) s.history };
 }
 
 impl<T: Shown + Drop> Actor for Session<T>
@@ -101,14 +115,17 @@ where
 {
     ghost use Rattle.ts_sessions.specs.Held.{HoldsOf, places_in, waiting_bytes};
     ghost use Rattle.ts_sessions.specs.Places.{Places};
+    ghost use Rattle.ts_sessions.specs.Replies.{reply_to};
     ghost use Rattle.ts_sessions.specs.Script.{session_semantics};
-    ghost use Rattle.ts_sessions.specs.Holding.{holds_on as goes_on, waits_inside};
+    ghost use Rattle.ts_sessions.specs.Holding.{holds_on as goes_on, reads_within, waits_inside};
 
     type Shot = T;
 
     ghost Places = { Places };
 
     ghost semantics = { session_semantics };
+
+    ghost replies = { reply_to };
 
     ghost places = { λ s. places_in s };
 
@@ -125,6 +142,8 @@ where
     ghost holds = { λ s h. HoldsOf T.Shown s h };
 
     ghost holds_on = { λ s g h b k. goes_on T.Shown.own T.fits_on s g h b k };
+
+    ghost begun = { λ s h k. reads_within T.Shown.stands s.block h.history k.block };
 
     fn begin(alloc: Global, name: Name, number: u32) -> Session<T> {
         Session::new(alloc, name, number)
@@ -154,4 +173,6 @@ where
     ) -> StepEnd {
         self.step(rt, alloc, backend, gate, text, skip, steps)
     }
+
+    fn tells_replies() {}
 }

@@ -1,5 +1,8 @@
 //! Laws of what lines do. Each is the clause of a function that does nothing, at any types.
 ghost use Rattle.ts_sessions.specs.LineLaws.{LinesMakeFewEvents, NamesStay, OnlyCommitsMakeEvents, OthersSeeNoQueue, QueriesShowTheQueue, RepliesAreSteady, StepsAreReplies};
+ghost use Rattle.ts_sessions.specs.Replies.{reply_to};
+ghost use Rattle.ts_sessions.specs.Named.{RepliesNameTheirEvents};
+ghost use Rattle.ts_sessions.specs.Stopped.{OnlyStopsAreReported};
 ghost use Rattle.ts_sessions.specs.Laws.{GivesEvents, GivesOverLonger, LastIsPrinted, PrintedLooksDetermine, PutTogether, WalksAreGiven};
 
 /// A procedure that was walked, and then the procedure that follows it, are the walk of both.
@@ -46,6 +49,16 @@ pub fn steps_are_replies()
 /// What the reply to a line says is steady from each history on at which its session's block had begun.
 pub fn replies_are_steady()
     ensures { RepliesAreSteady }
+{}
+
+/// A reply is `E24` only where the store had stopped, with that position.
+pub fn only_stops_are_reported()
+    ensures { OnlyStopsAreReported reply_to }
+{}
+
+/// A reply names exactly the events that its line made, in order.
+pub fn replies_name_their_events()
+    ensures { RepliesNameTheirEvents reply_to }
 {}
 
 /// A line of a session makes at most three events: an aggregate that is made, and the cut and the finish of its

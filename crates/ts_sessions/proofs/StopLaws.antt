@@ -40,18 +40,12 @@ use Rattle.ts_sessions.specs.Gives.{Gives}
 use Rattle.ts_sessions.specs.Places.{Block, none, writing, reading, Places, Turn, cuts, enters, held_for}
 use Rattle.ts_sessions.specs.Procedures.{Procedure, sees, adds, ends, followed_by, ending_as, tries_at}
 use Rattle.ts_sessions.specs.Replies.{replies_as, replies_in, reply_to}
-use Rattle.ts_sessions.specs.Script.{SessionLine, SessionScript}
 use Rattle.ts_sessions.specs.Step.{Taken, acts, after_cut, after_line, after_snapshot, after_view, begins, block_refusal, changes, closes, commits, committed, cut_turn, finish_turn, finishes, finishes_held, given_up, kind_of, least_start, misread, named, named_here, passed, prints, read_at, refresh_meant, refreshed, refreshes, reported, snap_turn, snaps, taken, taken_of, unfinished, view_made}
 use Rattle.ts_sessions.specs.Steady.{IsEnded}
 use Rattle.ts_sessions.proofs.BlockWalks.{block_is}
-use Rattle.par_laws.specs.Answered.{LineAnswer, Answered}
-use Rattle.par_laws.specs.Laws.{OnlyStopsAreReported}
-use Rattle.par_laws.specs.Parallel.{AreReplies, SessionReplies, lines_in, places_after}
-use Rattle.par_laws.specs.Phases.{AllExplained}
-use Rattle.par_laws.specs.Stopped.{StopsAt, ReplyStopsAt, RepliesStopAt}
-use Rattle.par_laws.proofs.NumberLaws.{gives_on}
-use Rattle.par_laws.proofs.RefusalCodes.{IsOther, Other, checks_other, below}
-use Rattle.par_laws.proofs.UpperCodes.{rolled_other}
+use Rattle.ts_sessions.specs.Stopped.{OnlyStopsAreReported, StopsAt, ReplyStopsAt}
+use Rattle.ts_sessions.proofs.RefusalCodes.{IsOther, Other, checks_other, below}
+use Rattle.ts_sessions.proofs.UpperCodes.{rolled_other}
 use Rattle.ts_sessions.proofs.NamedLaws.{named_holds}
 use Rattle.ts_sessions.proofs.SteadyLaws.{ended_passed, refused_here}
 
@@ -447,24 +441,5 @@ meets_text last p bytes (Err f) = λ stop. (other_fault stop (misread f) (misrea
 pub meets_reply : (last : Option ℕ) (p : Places) (text : List ℕ) (skip : ℕ) → Meets ReplyStopsAt last (reply_to p text skip)
 meets_reply last p text skip = meets_text last p (length text) (statement (stream text skip))
 
-pub reply_stops : OnlyStopsAreReported
+pub reply_stops : OnlyStopsAreReported reply_to
 reply_stops all stop at p text skip looks last given y low g = gives_meets ReplyStopsAt all stop at [] (reply_to p text skip) looks last given y None low tt (meets_reply None p text skip) g
-
--- ---- sessions
-
-answered_stops : (all : History) (stop : Option ℕ) (at : ℕ) (p : Places) (lines : List SessionLine) (answers : List (LineAnswer (Turn Places))) → base_position all ≤ at → Answered reply_to places_after all stop at p lines answers → AllByRecursion (λ a. ReplyStopsAt stop a.end) answers
-answered_stops all stop at p [] [] low t = tt
-answered_stops all stop at p [] (a ∷ answers) low t = absurd t
-answered_stops all stop at p (line ∷ lines) [] low t = absurd t
-answered_stops all stop at p (line ∷ lines) (a ∷ answers) low t =
-    let on : at ≤ a.last = gives_on all stop at (reply_to p line.text line.skip) a.looks a.last a.given a.end t.0 in
-    (reply_stops all stop at p line.text line.skip a.looks a.last a.given a.end low t.0, answered_stops all stop a.last (places_after a.end) lines answers (omega (arith, low, on)) t.1)
-
--- of sessions whose lines are answered, each reply is so
-pub explained_stop : (all : History) (stop : Option ℕ) (from to : ℕ) (p : Places) (sessions : List SessionScript) (replies : List SessionReplies) (answers : List (List (LineAnswer (Turn Places)))) → base_position all ≤ from → AllExplained lines_in AreReplies reply_to places_after all stop from to p sessions replies answers → RepliesStopAt stop answers
-explained_stop all stop from to p [] [] [] low x = tt
-explained_stop all stop from to p [] [] (a ∷ answers) low x = absurd x
-explained_stop all stop from to p [] (r ∷ replies) answers low x = absurd x
-explained_stop all stop from to p (v ∷ sessions) [] answers low x = absurd x
-explained_stop all stop from to p (v ∷ sessions) (r ∷ replies) [] low x = absurd x
-explained_stop all stop from to p (v ∷ sessions) (r ∷ replies) (a ∷ answers) low x = (answered_stops all stop from p v.lines a low x.0.answered, explained_stop all stop from to p sessions replies answers low x.1)

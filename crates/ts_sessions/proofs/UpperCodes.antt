@@ -27,7 +27,7 @@ use Rattle.hier_agg.specs.declared.reads.UpperRead.TheVariants as uppers
 use Rattle.hier_agg.specs.Plans.{agg_at}
 use Rattle.hier_agg.specs.Reads.{fold_read, plan_of, read_as, upper_read, view_numbered}
 use Rattle.hier_agg.specs.Refusals.{agg_named, agg_refusal, aggs_refusal, argument_refusal, bad_rollup, divided, fits, key_named, key_refusal, keys_refusal, tests_refusal, upper_refusal, width_refusal}
-use Rattle.par_laws.proofs.RefusalCodes.{IsOther, Other, marked_other, then_other}
+use Rattle.ts_sessions.proofs.RefusalCodes.{IsOther, Other, marked_other, then_other}
 
 -- ---- parts
 

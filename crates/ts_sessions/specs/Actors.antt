@@ -1,0 +1,57 @@
+-- What the replies of those who execute the lines of sessions tell of what the lines do.
+use Rattle.std.specs.Prelude.{◌≡◌, ◌≤◌, ℕ, Bool, true, List, [], ◌++◌, Option}
+use Rattle.ts_model.specs.declared.events.Event.{Event}
+use Rattle.ts_model.specs.Allowed.{all_allowed}
+use Rattle.ts_model.specs.History.{History, position, Begins}
+use Rattle.ts_model.specs.States.{State, stop_of}
+use Rattle.ts_sessions.specs.Gives.{Gives, StopsLater, numbers}
+use Rattle.ts_sessions.specs.LineLaws.{ReadsWithin}
+use Rattle.ts_sessions.specs.Named.{RepliesNameTheirEvents}
+use Rattle.ts_sessions.specs.Places.{Block, Turn}
+use Rattle.ts_sessions.specs.Procedures.{Procedure}
+use Rattle.ts_sessions.specs.Stopped.{OnlyStopsAreReported}
+use Rattle.ts_sessions.specs.Walks.{Walks}
+
+-- over a whole history, which stopped at a position if it did, a procedure gives what was walked between two states
+-- by one who had looked at `at` last, with the events that were made
+pub record IsGivenOver {A : Type 0} (all : History) (stop : Option ℕ) (old new : State) (at : ℕ)
+    (procedure : Procedure A) (y : A) : Type 0 where
+  pub looks : List (Option ℕ)
+  pub last : ℕ
+  pub given : List (ℕ × Event)
+  pub gives : Gives all stop at [] procedure looks last given y
+  pub made : new.made ≡ old.made ++ numbers given
+  pub within : last ≤ position new.history
+
+-- places, by the block that they are in
+module _ {P : Type 0} (within : P → Block) where
+  -- the block had begun by then
+  abbrev pub HadBegun : P → History → Type 0
+  HadBegun p h = ReadsWithin (within p) (position h)
+
+  -- what lines do
+  module _ (does : P → List ℕ → ℕ → Procedure (Turn P)) where
+    -- the block after a line had begun by its end
+    abbrev pub BlocksBegin : Type 0
+    BlocksBegin =
+        (alone failed : Bool) (old : State) (p : P) (text : List ℕ) (skip : ℕ) (new : State) (y : Turn P)
+        → HadBegun p old.history → Walks alone failed old (does p text skip) new y → HadBegun y.places new.history
+
+    -- and the replies to them
+    module _ (reply : P → List ℕ → ℕ → Procedure (Turn P)) where
+      -- what was walked of a line its reply gives over each longer history that is allowed, also over one whose store
+      -- stopped later
+      abbrev pub LinesAreAnswered : Type 0
+      LinesAreAnswered =
+          (alone failed : Bool) (all : History) (stop : Option ℕ) (at : ℕ) (old : State) (p : P) (text : List ℕ)
+          (skip : ℕ) (new : State) (y : Turn P)
+          → HadBegun p old.history → at ≤ position old.history → all_allowed all ≡ true → Begins new.history all
+          → StopsLater (stop_of new) stop → Walks alone failed old (does p text skip) new y
+          → IsGivenOver all stop old new at (reply p text skip) y
+
+      -- what lines did is told by the replies to them. They are E24 only at stops, and name the events that were made
+      pub record TellsReplies : Type 0 where
+        pub answered : LinesAreAnswered
+        pub began : BlocksBegin
+        pub stops : OnlyStopsAreReported reply
+        pub named : RepliesNameTheirEvents reply

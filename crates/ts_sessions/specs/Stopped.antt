@@ -1,0 +1,28 @@
+-- Replies that the store stands still.
+use Rattle.std.specs.Prelude.{◌≡◌, ◌≤◌, ℕ, List, [], Option, Some, ⊤}
+use Rattle.std.specs.List.{AllByRecursion}
+use Rattle.ts_model.specs.Calls.{stopped}
+use Rattle.ts_model.specs.declared.events.Event.{Event}
+use Rattle.ts_model.specs.History.{History, base_position}
+use Rattle.result_text.specs.declared.replies.Said.{Said}
+use Rattle.result_text.specs.declared.replies.Said.TheVariants as said
+use Rattle.ts_sessions.specs.Gives.{Gives}
+use Rattle.ts_sessions.specs.Places.{Turn}
+use Rattle.ts_sessions.specs.Procedures.{Procedure}
+
+-- a line of a reply is E24 only where the store had stopped, with that position
+abbrev pub StopsAt : Option ℕ → Said → Type 0
+StopsAt stop (said.Fault refusal) = refusal.code ≡ stopped → stop ≡ Some refusal.pos
+StopsAt stop other = ⊤
+
+-- so is each line of the reply that a session's line came to
+abbrev pub ReplyStopsAt : {P : Type 0} → Option ℕ → Turn P → Type 0
+ReplyStopsAt stop turn = AllByRecursion (StopsAt stop) turn.said
+
+-- a reply is E24 only where the store had stopped, with that position; the session had looked at what the history
+-- begins with, or later
+abbrev pub OnlyStopsAreReported : {P : Type 0} → (P → List ℕ → ℕ → Procedure (Turn P)) → Type 0
+OnlyStopsAreReported {P} reply =
+    (all : History) (stop : Option ℕ) (at : ℕ) (p : P) (text : List ℕ) (skip : ℕ) (looks : List (Option ℕ))
+    (last : ℕ) (given : List (ℕ × Event)) (y : Turn P)
+    → base_position all ≤ at → Gives all stop at [] (reply p text skip) looks last given y → ReplyStopsAt stop y
