@@ -1,8 +1,9 @@
 -- The texts of replies.
 use Rattle.std.specs.Prelude.{ℕ, List, ◌++◌, codes, decimal}
+use Rattle.std.specs.Fmt.{signed_decimal}
 use Rattle.ts_model.specs.declared.outcomes.Refusal.{Refusal}
 use Rattle.result_text.specs.declared.replies.Said.{Said}
-use Rattle.result_text.specs.declared.replies.Said.TheVariants.{Table, Hypertable, View, Mode, Commit, Queued, Refresh, Nothing, Cut, Snap, Finish, Begin, BeginRead, CommitEmpty, Rollback, End, Answered, Fault}
+use Rattle.result_text.specs.declared.replies.Said.TheVariants.{Table, Hypertable, View, Mode, Commit, Queued, Refresh, Nothing, Cut, Snap, Finish, Begin, BeginRead, CommitEmpty, Rollback, End, Answered, Policy, Tick, Fault}
 use Rattle.result_text.specs.Answers.{answer_lines}
 use Rattle.result_text.specs.Refusals.{refusal_text}
 use Rattle.result_text.specs.Spans.{span_end}
@@ -34,6 +35,8 @@ said_text CommitEmpty = codes "COMMIT EMPTY\n"
 said_text Rollback = codes "ROLLBACK\n"
 said_text End = codes "END\n"
 said_text (Answered answer pos queue min) = answer_lines answer pos queue min
+said_text (Policy number pos) = codes "POLICY " ++ decimal number ++ codes " @" ++ decimal pos ++ codes "\n"
+said_text (Tick time due) = codes "TICK " ++ signed_decimal time ++ codes " due " ++ decimal due ++ codes "\n"
 said_text (Fault refusal) = refusal_text refusal
 
 -- a reply of a session

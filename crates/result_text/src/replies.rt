@@ -71,6 +71,16 @@ pub enum Said {
         queue: Option<u64>,
         min: i64,
     },
+    /// A policy was added, with this number in its session, counted from 1, at this position.
+    Policy {
+        number: u64,
+        pos: u64,
+    },
+    /// It is this time, at which so many policies are due.
+    Tick {
+        time: i64,
+        due: u64,
+    },
     /// The statement is refused.
     Fault(Refusal),
 }
@@ -150,6 +160,8 @@ fn put_said(text: &mut Text, said: &Said) -> Result<(), NoMemory>
             queue,
             min,
         } => put_answer_lines(text, answer, *pos, *queue, *min),
+        Said::Policy { number, pos } => put_policy(text, *number, *pos),
+        Said::Tick { time, due } => put_tick(text, *time, *due),
         Said::Fault(refusal) => put_refusal_line(text, refusal),
     }
 }
@@ -238,4 +250,26 @@ fn put_finish(text: &mut Text, cut: u64, pos: u64, snap: u64) -> Result<(), NoMe
     text.bytes(b" @")?;
     text.number(pos)?;
     put_at(text, b" snap ", snap)
+}
+
+/// Appends that a policy was added.
+fn put_policy(text: &mut Text, number: u64, pos: u64) -> Result<(), NoMemory>
+    ensures written { OnOk result (text.new.after ≡ text.old.after ++ said_text (Said.Policy number pos)) }
+    ensures kept { text.new.before ≡ text.old.before }
+{
+    text.bytes(b"POLICY ")?;
+    text.number(number)?;
+    put_at(text, b" @", pos)
+}
+
+/// Appends what time it is, and how many policies are due.
+fn put_tick(text: &mut Text, time: i64, due: u64) -> Result<(), NoMemory>
+    ensures written { OnOk result (text.new.after ≡ text.old.after ++ said_text (Said.Tick time due)) }
+    ensures kept { text.new.before ≡ text.old.before }
+{
+    text.bytes(b"TICK ")?;
+    text.signed(i128::from(time))?;
+    text.bytes(b" due ")?;
+    text.number(due)?;
+    text.bytes(b"\n")
 }

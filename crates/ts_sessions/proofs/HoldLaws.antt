@@ -1,5 +1,5 @@
 -- What statements bring to their session, and what it holds after them.
-use Rattle.std.proofs.Common.{◌≡◌, ℕ, ◌+◌, ◌≤◌, Bool, [], sym, refl, subst, arith}
+use Rattle.std.proofs.Common.{◌≡◌, ℕ, ◌+◌, ◌≤◌, Bool, [], sym, refl, ap, subst, arith}
 use Rattle.std.specs.Prelude.{Result, Ok, Err, IsTrue}
 use Rattle.ts_schema.specs.declared.memory.NoMemory.{NoMemory}
 use Rattle.ts_model.specs.declared.events.Op.{Op}
@@ -55,6 +55,15 @@ change_queues shown bytes h (changes.Holds c at job) p k = omega arith
 change_queues shown bytes h (changes.GivesUp c) p k = omega arith
 change_queues shown bytes h (changes.Enters o) p k = let e : queued (block_of o) ≡ 0 = k.1 in omega (arith, e)
 change_queues shown bytes h (changes.Queues op more) p k = let is : more ≡ bytes = k.1 in omega (arith, is, queued_push op more p.block)
+
+-- outside a block nothing waits after it
+pub change_quiet : {T J : Type 0} (shown : Shown T J) (bytes : ℕ) (h : History) (c : Change T J) (p : Places) → p.block ≡ none → ChangeHolds shown bytes c h → queued (changed c p).block ≡ 0
+change_quiet shown bytes h changes.Nothing p out k = ap queued out
+change_quiet shown bytes h (changes.Cuts c) p out k = ap queued out
+change_quiet shown bytes h (changes.Holds c at job) p out k = ap queued out
+change_quiet shown bytes h (changes.GivesUp c) p out k = ap queued out
+change_quiet shown bytes h (changes.Enters o) p out k = k.1
+change_quiet shown bytes h (changes.Queues op more) p out k = ap (λ b. queued (queued_on op more b)) out
 
 -- ---- going on
 

@@ -29,5 +29,7 @@ mod UpperCodes
 pub mod StopLaws
 pub mod GivenNames
 pub mod TogetherLaws
+mod TurnBlocks
 pub mod BegunLaws
+mod OutsideLaws
 pub mod ActorLaws

@@ -47,7 +47,7 @@ ready_is_sound bytes h pos r stmt action asks ok p e c =
     subst (IsSound h bytes) (sym at.1) (asks h ok at.0)
 
 -- the kind of an action is that of its statement
-kinds_agree : (r : Roster) (stmt : Stmt) → kind_of_action (action_of r stmt) ≡ kind_of stmt
+pub kinds_agree : (r : Roster) (stmt : Stmt) → kind_of_action (action_of r stmt) ≡ kind_of stmt
 kinds_agree r (stmts.Table name cols) = refl
 kinds_agree r (stmts.Hyper table col interval) = refl
 kinds_agree r (stmts.View name only filled fold) = refl

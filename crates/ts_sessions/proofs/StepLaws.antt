@@ -16,7 +16,7 @@ use Rattle.ts_sessions.specs.Sessions.{AnswersSo, ChangeHolds, Ends, IfAnswered,
 use Rattle.ts_sessions.specs.Step.{step}
 use Rattle.ts_sessions.specs.Walks.{Walks}
 use Rattle.ts_sessions.proofs.EndLaws.{raised_up}
-use Rattle.ts_sessions.proofs.HoldLaws.{change_queues}
+use Rattle.ts_sessions.proofs.HoldLaws.{change_queues, change_quiet}
 use Rattle.ts_sessions.proofs.MadeLaws.{step_made}
 use Rattle.ts_sessions.proofs.SessionLaws.{carried_places, spared}
 use Rattle.ts_sessions.proofs.WalkLaws.{walks_break}
@@ -87,3 +87,12 @@ pub queue_then : {T J : Type 0} (meant : Option ℕ) (shown : Shown T J) (bytes 
 queue_then meant shown bytes h c p q (steps.Reply r) k e s = subst (λ x. queued x.block ≤ queued p.block + bytes) (sym e) (change_queues shown bytes h c p k)
 queue_then meant shown bytes h c p q (steps.DiskFault r) k e s = subst (λ x. queued x.block ≤ queued p.block + bytes) (sym e) (change_queues shown bytes h c p k)
 queue_then meant shown bytes h c p q steps.NoMemory k e s = spared_queue meant p q bytes s
+
+spared_quiet : (meant : Option ℕ) (p q : Places) → p.block ≡ none → Spares meant p q → queued q.block ≡ 0
+spared_quiet meant p q out s = ap (λ x. queued x.block) s.same ∙ ap queued (without_block s.gone p) ∙ ap queued out
+
+-- outside a block nothing waits after the line
+pub quiet_then : {T J : Type 0} (meant : Option ℕ) (shown : Shown T J) (bytes : ℕ) (h : History) (c : Change T J) (p q : Places) (end : StepEnd) → p.block ≡ none → ChangeHolds shown bytes c h → IfAnswered end (q ≡ changed c p) → IfNoMemory end (Spares meant p q) → queued q.block ≡ 0
+quiet_then meant shown bytes h c p q (steps.Reply r) out k e s = ap (λ x. queued x.block) e ∙ change_quiet shown bytes h c p out k
+quiet_then meant shown bytes h c p q (steps.DiskFault r) out k e s = ap (λ x. queued x.block) e ∙ change_quiet shown bytes h c p out k
+quiet_then meant shown bytes h c p q steps.NoMemory out k e s = spared_quiet meant p q out s

@@ -1,14 +1,19 @@
 -- What the replies of those who execute the lines of sessions tell of what the lines do.
-use Rattle.std.specs.Prelude.{◌≡◌, ◌≤◌, ℕ, Bool, true, List, [], ◌++◌, Option}
+use Rattle.std.specs.Prelude.{◌≡◌, ◌≤◌, ℕ, Bool, true, List, [], ◌++◌, Option, Result, Ok, Err}
 use Rattle.ts_model.specs.declared.events.Event.{Event}
 use Rattle.ts_model.specs.Allowed.{all_allowed}
 use Rattle.ts_model.specs.History.{History, position, Begins}
 use Rattle.ts_model.specs.States.{State, stop_of}
+use Rattle.stmt_reader.specs.declared.faults.Fault.{Fault}
+use Rattle.stmt_reader.specs.declared.statements.Stmt.{Stmt}
+use Rattle.stmt_reader.specs.Reading.{statement}
+use Rattle.stmt_reader.specs.Streams.{Stream, stream}
 use Rattle.ts_sessions.specs.Gives.{Gives, StopsLater, numbers}
 use Rattle.ts_sessions.specs.LineLaws.{ReadsWithin}
 use Rattle.ts_sessions.specs.Named.{RepliesNameTheirEvents}
-use Rattle.ts_sessions.specs.Places.{Block, Turn}
+use Rattle.ts_sessions.specs.Places.{Block, none, Turn}
 use Rattle.ts_sessions.specs.Procedures.{Procedure}
+use Rattle.ts_sessions.specs.Step.{kind_of, makes_event}
 use Rattle.ts_sessions.specs.Stopped.{OnlyStopsAreReported}
 use Rattle.ts_sessions.specs.Walks.{Walks}
 
@@ -23,6 +28,11 @@ pub record IsGivenOver {A : Type 0} (all : History) (stop : Option ℕ) (old new
   pub made : new.made ≡ old.made ++ numbers given
   pub within : last ≤ position new.history
 
+-- a statement that makes an event was read
+abbrev pub ReadsEvent : Result (Stmt × Stream) Fault → Type 0
+ReadsEvent (Ok read) = makes_event (kind_of read.0) ≡ true
+ReadsEvent (Err fault) = ⊥
+
 -- places, by the block that they are in
 module _ {P : Type 0} (within : P → Block) where
   -- the block had begun by then
@@ -36,6 +46,13 @@ module _ {P : Type 0} (within : P → Block) where
     BlocksBegin =
         (alone failed : Bool) (old : State) (p : P) (text : List ℕ) (skip : ℕ) (new : State) (y : Turn P)
         → HadBegun p old.history → Walks alone failed old (does p text skip) new y → HadBegun y.places new.history
+
+    -- a line of a statement that makes an event leaves its session outside a block, if it was there
+    abbrev pub StaysOutside : Type 0
+    StaysOutside =
+        (alone failed : Bool) (old : State) (p : P) (text : List ℕ) (skip : ℕ) (new : State) (y : Turn P)
+        → within p ≡ none → ReadsEvent (statement (stream text skip)) → Walks alone failed old (does p text skip) new y
+        → within y.places ≡ none
 
     -- and the replies to them
     module _ (reply : P → List ℕ → ℕ → Procedure (Turn P)) where

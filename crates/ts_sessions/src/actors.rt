@@ -13,9 +13,9 @@ pub trait Actor {
     ghost use Rattle.std.specs.Prelude.{◌≡◌, ℕ, ◌+◌, ◌≤◌, List, length};
     ghost use Rattle.std.specs.Thread.{IsSync};
     ghost use Rattle.ts_model.specs.States.{State};
-    ghost use Rattle.ts_sessions.specs.Actors.{HadBegun, TellsReplies};
+    ghost use Rattle.ts_sessions.specs.Actors.{HadBegun, StaysOutside, TellsReplies};
     ghost use Rattle.ts_sessions.specs.Held.{GoesOn, WaitsInside, most_queued};
-    ghost use Rattle.ts_sessions.specs.Places.{Block as BlockPlace, Turn, block_kind};
+    ghost use Rattle.ts_sessions.specs.Places.{Block as BlockPlace, Turn, block_kind, none};
     ghost use Rattle.ts_sessions.specs.Procedures.{Procedure};
     ghost use Rattle.ts_sessions.specs.Script.{Semantics};
     ghost use Rattle.ts_sessions.specs.Sessions.{IfAnswered, Stepped};
@@ -59,6 +59,10 @@ pub trait Actor {
         ensures waiting { Self.waiting result ≡ 0 }
         ensures holds { (s : State) → Self.holds result s };
 
+    /// Its name.
+    fn name(&self) -> &Name
+        ensures { result.now ≡ Self.named self.now };
+
     /// Its number.
     fn number(&self) -> u32
         ensures { result ≡ Self.numbered self.now };
@@ -94,6 +98,7 @@ pub trait Actor {
         ensures name { Self.named self.new ≡ Self.named self.old }
         ensures number { Self.numbered self.new ≡ Self.numbered self.old }
         ensures waiting { Self.waiting self.new ≤ Self.waiting self.old + length text.now }
+        ensures quiet { Self.within (Self.places self.old) ≡ none → Self.waiting self.new ≡ 0 }
         ensures holds { IfAnswered result (Self.holds self.new (B.state backend.new)) }
         ensures kin { B.kin backend.new ≡ B.kin backend.old };
 
@@ -101,6 +106,11 @@ pub trait Actor {
     /// them. It does nothing: its clause is the law.
     fn tells_replies()
         ensures { TellsReplies Self.within Self.semantics.does Self.replies };
+
+    /// A line of a statement that makes an event leaves it outside a block, if it was there. It does nothing: its
+    /// clause is the law.
+    fn stays_outside()
+        ensures { StaysOutside Self.within Self.semantics.does };
 
     ghost holds_on: { (actor : Self) (g h : State) → GoesOn g h → Self.holds actor g → Self.holds actor h };
 
@@ -149,6 +159,10 @@ where
         Session::new(alloc, name, number)
     }
 
+    fn name(&self) -> &Name {
+        &self.name
+    }
+
     fn number(&self) -> u32 {
         self.number
     }
@@ -175,4 +189,6 @@ where
     }
 
     fn tells_replies() {}
+
+    fn stays_outside() {}
 }

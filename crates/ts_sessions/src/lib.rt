@@ -40,6 +40,6 @@ pub use actors::Actor;
 pub use blocks::{Block, Open, Queue};
 pub use kinds::Kind;
 pub use refreshes::{Snapped, cut, finish, take_snapshot};
-pub use replies::{Reply, StepEnd};
+pub use replies::{Reply, StepEnd, write_reply};
 pub use sessions::{Session, Snapshot};
 pub use tries::Tried;

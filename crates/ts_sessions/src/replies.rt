@@ -42,7 +42,7 @@ pub(crate) fn replied(reply: Reply, failed: bool) -> StepEnd
 }
 
 /// The reply of the session with a name that has these lines.
-pub(crate) fn write_reply(alloc: Global, name: &Name, said: &[Said]) -> Result<Reply, NoMemory>
+pub fn write_reply(alloc: Global, name: &Name, said: &[Said]) -> Result<Reply, NoMemory>
     ensures { IfOk result (λ r. IsReply name.now said.now r) }
 {
     let mut text = Vec::new(alloc);
@@ -101,6 +101,8 @@ fn put_made(said: &Said, events: &mut Seq<u64>) -> Result<(), NoMemory>
         Said::Rollback => Ok(()),
         Said::End => Ok(()),
         Said::Answered { .. } => Ok(()),
+        Said::Policy { .. } => Ok(()),
+        Said::Tick { .. } => Ok(()),
         Said::Fault(_) => Ok(()),
     }
 }

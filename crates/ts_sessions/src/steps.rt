@@ -3,6 +3,7 @@ ghost use Rattle.std.specs.Prelude.{◌≡◌, ◌+◌, ◌<◌, ◌≤◌, ◌^
 ghost use Rattle.std.specs.Thread.{IsSync};
 ghost use Rattle.ts_sessions.specs.Deeds.{NextFits, OpensTo, Takes, taken_next};
 ghost use Rattle.ts_sessions.specs.Held.{Carries, HoldsOf, most_queued, places_in, waiting_bytes};
+ghost use Rattle.ts_sessions.specs.Places.{none};
 ghost use Rattle.ts_sessions.specs.Sessions.{AnswersSo, Brings, ChangeFits, DoesReading, HoldsAfter, IfAnswered, IfNoMemory, IsReplied, Spares, Stepped, changed, finish_in, finish_meant};
 ghost use Rattle.ts_sessions.specs.Sound.{AsksSoundly};
 ghost use Rattle.ts_sessions.specs.Step.{block_refusal, kind_of as kind_of_stmt, passes_block, performs, step as step_of};
@@ -51,6 +52,7 @@ where
         ensures number { self.new.number ≡ self.old.number }
         ensures holds { HoldsOf T.Shown self.new (B.state backend.new) }
         ensures queued { waiting_bytes self.new ≤ waiting_bytes self.old + length text.now }
+        ensures quiet { (places_in self.old).block ≡ none → waiting_bytes self.new ≡ 0 }
         ensures kin { B.kin backend.new ≡ B.kin backend.old }
     {
         let _so_far = steps.count();

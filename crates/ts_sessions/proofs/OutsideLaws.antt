@@ -1,0 +1,74 @@
+-- A statement that makes an event outside a block leaves its session there.
+use Rattle.std.proofs.Common.{◌≡◌, ℕ, ◌≤◌, Bool, true, false, List, [], ◌∷◌, length, Option, Some, None, sym, refl, ap, ◌∙◌, subst, arith}
+use Rattle.std.specs.Prelude.{Result, Ok, Err}
+use Rattle.std.proofs.lemmas.Bool.{true≢false}
+use Rattle.ts_model.specs.declared.events.Op.{Op}
+use Rattle.ts_model.specs.declared.outcomes.Refusal.{Refusal}
+use Rattle.ts_model.specs.Calls.{cutting, making_hyper, making_table, making_view, setting_mode}
+use Rattle.ts_model.specs.History.{History, position}
+use Rattle.ts_model.specs.Roster.{roster, view_of}
+use Rattle.stmt_reader.specs.declared.faults.Fault.{Fault}
+use Rattle.stmt_reader.specs.declared.statements.Stmt.{Stmt}
+use Rattle.stmt_reader.specs.Reading.{statement}
+use Rattle.stmt_reader.specs.Streams.{Stream, stream}
+use Rattle.stmt_check.specs.declared.actions.Action.{Action}
+use Rattle.stmt_check.specs.declared.actions.Action.TheVariants as actions
+use Rattle.stmt_check.specs.Check.{action_of, refusal_of}
+use Rattle.result_text.specs.declared.replies.Said.TheVariants as said
+use Rattle.ts_sessions.specs.Actors.{ReadsEvent, StaysOutside}
+use Rattle.ts_sessions.specs.Places.{Block, none, Places, Turn}
+use Rattle.ts_sessions.specs.Procedures.{Procedure, sees}
+use Rattle.ts_sessions.specs.Sound.{kind_of_action}
+use Rattle.ts_sessions.specs.Step.{acts, after_cut, after_view, block_refusal, changes, cut_turn, kind_of, least_start, let_pass, makes_event, named_first, named_here, passed_first, performs_in, reads_as, reported, step}
+use Rattle.ts_sessions.specs.Walks.{Walks}
+use Rattle.ts_sessions.proofs.SoundLaws.{kinds_agree}
+use Rattle.ts_sessions.proofs.TurnBlocks.{EndsBy, InTurn, by_commits, by_cut, by_cut_turn, by_reported, by_view, call_by, one_by, walks_by}
+
+-- the session is outside a block
+abbrev IsOutside : Block → Type 0
+IsOutside b = b ≡ none
+
+module _ (n : ℕ) where
+  -- and after a turn
+  abbrev IsOut : Turn Places → Type 0
+  IsOut y = InTurn IsOutside n y
+
+  -- the places before it
+  module _ (p : Places) (out : p.block ≡ none) where
+    out_acts : (bytes : ℕ) (h : History) (a : Action) → makes_event (kind_of_action a) ≡ true → EndsBy IsOut n (acts p bytes h a)
+    out_acts bytes h (actions.Table def) e = one_by IsOut n h (making_table def h) (reported p said.Table) (by_reported IsOutside n p out said.Table)
+    out_acts bytes h (actions.Hyper t hyper) e = one_by IsOut n h (making_hyper t hyper h) (reported p said.Hypertable) (by_reported IsOutside n p out said.Hypertable)
+    out_acts bytes h (actions.View def filled) e = let k = length (roster h).views in call_by IsOut n h (making_view def h) (after_view p k def filled) (by_view IsOutside n p out k def filled)
+    out_acts bytes h (actions.Mode k only) e = one_by IsOut n h (setting_mode k only h) (reported p said.Mode) (by_reported IsOutside n p out said.Mode)
+    out_acts bytes h (actions.Change op) e = subst (λ b. EndsBy IsOut n (changes p bytes h op b)) (sym out) (by_commits IsOutside n p out p out h (op ∷ []))
+    out_acts bytes h (actions.Refresh k lo hi) e = let min = least_start (view_of (roster h) k) in call_by IsOut n h (cutting k lo hi h) (after_cut p min) (by_cut IsOutside n p out min)
+    out_acts bytes h (actions.Cut k lo hi) e = let min = least_start (view_of (roster h) k) in one_by IsOut n h (cutting k lo hi h) (cut_turn p min) (by_cut_turn IsOutside n p out min)
+    out_acts bytes h (actions.Snap cut) e = absurd (true≢false (sym e))
+    out_acts bytes h (actions.Finish cut) e = absurd (true≢false (sym e))
+    out_acts bytes h actions.Begin e = absurd (true≢false (sym e))
+    out_acts bytes h actions.BeginRead e = absurd (true≢false (sym e))
+    out_acts bytes h actions.Commit e = absurd (true≢false (sym e))
+    out_acts bytes h actions.Rollback e = absurd (true≢false (sym e))
+    out_acts bytes h (actions.Calendar table number unit at fold) e = absurd (true≢false (sym e))
+    out_acts bytes h (actions.Ask q) e = absurd (true≢false (sym e))
+
+    out_first : (bytes : ℕ) (g : History) (stmt : Stmt) (o : Option Refusal) → makes_event (kind_of stmt) ≡ true → EndsBy IsOut n (passed_first p bytes g stmt o)
+    out_first bytes g stmt None e = λ h le. out_acts bytes h (action_of (roster g) stmt) (ap makes_event (kinds_agree (roster g) stmt) ∙ e)
+    out_first bytes g stmt (Some r) e = out
+
+    out_performs : (bytes : ℕ) (stmt : Stmt) → makes_event (kind_of stmt) ≡ true → EndsBy IsOut n (performs_in p bytes stmt none)
+    out_performs bytes stmt e = rw e (λ g le. out_first bytes g stmt (refusal_of (position g) (roster g) stmt) e)
+
+    out_let : (bytes : ℕ) (stmt : Stmt) (o : Option Refusal) → makes_event (kind_of stmt) ≡ true → EndsBy IsOut n (let_pass p bytes stmt o)
+    out_let bytes stmt None e = subst (λ b. EndsBy IsOut n (performs_in p bytes stmt b)) (sym out) (out_performs bytes stmt e)
+    out_let bytes stmt (Some r) e = out
+
+    out_read : (bytes : ℕ) (r : Result (Stmt × Stream) Fault) → ReadsEvent r → EndsBy IsOut n (reads_as p bytes r)
+    out_read bytes (Ok read) e = out_let bytes read.0 (block_refusal p.block (kind_of read.0)) e
+    out_read bytes (Err f) e = absurd e
+
+pub stays_outside : StaysOutside (λ (p : Places). p.block) step
+stays_outside alone failed old p text skip new y out e w =
+    let n = position new.history in
+    walks_by (IsOut n) n alone failed old (step p text skip) new y (omega arith)
+    (out_read n p out (length text) (statement (stream text skip)) e) w

@@ -1,0 +1,131 @@
+-- What holds of the block of a session after what its statements come to.
+use Rattle.std.proofs.Common.{◌≡◌, ℕ, ◌≤◌, Bool, true, false, cond, List, [], ◌∷◌, length, Option, Some, None, inl, inr, refl, ap, subst, sym, arith}
+use Rattle.std.specs.Prelude.{Result, Ok, Err, ℤ}
+use Rattle.ts_bucket.specs.Bucket.{first_of}
+use Rattle.ts_bucket.specs.declared.spans.Span.{Span}
+use Rattle.ts_model.specs.declared.events.Op.{Op}
+use Rattle.ts_model.specs.declared.outcomes.Committed.{Committed}
+use Rattle.ts_model.specs.declared.outcomes.CutDone.{CutDone}
+use Rattle.ts_model.specs.declared.outcomes.CutDone.TheVariants.{Cut as CutMade, Nothing as NothingDone}
+use Rattle.ts_model.specs.declared.outcomes.Refusal.{Refusal}
+use Rattle.ts_model.specs.declared.views.ViewDef.{ViewDef}
+use Rattle.ts_model.specs.Calls.{Act, refuses as refuses_call, returns, makes, committing, cutting, finishing, making_hyper, making_table, making_view, setting_mode}
+use Rattle.ts_model.specs.History.{History, position, prefix}
+use Rattle.ts_model.specs.Roster.{roster, view_of}
+use Rattle.ts_model.specs.States.{State}
+use Rattle.ts_model.proofs.HistoryLaws.{begins_prefix, position_begins}
+use Rattle.stmt_reader.specs.declared.faults.Fault.{Fault}
+use Rattle.stmt_reader.specs.declared.statements.Stmt.{Stmt}
+use Rattle.stmt_reader.specs.Reading.{statement}
+use Rattle.stmt_reader.specs.Streams.{Stream, stream}
+use Rattle.stmt_check.specs.declared.actions.Action.{Action}
+use Rattle.stmt_check.specs.declared.actions.Action.TheVariants as actions
+use Rattle.stmt_check.specs.Check.{action_of, refusal_of}
+use Rattle.result_text.specs.declared.replies.Said.{Said}
+use Rattle.result_text.specs.declared.replies.Said.TheVariants as said
+use Rattle.ts_sessions.specs.Actors.{BlocksBegin}
+use Rattle.ts_sessions.specs.LineLaws.{ReadsWithin}
+use Rattle.ts_sessions.specs.Places.{Block, none, writing, reading, Places, Turn, enters, held_for}
+use Rattle.ts_sessions.specs.Procedures.{Procedure, sees, adds, ends, followed_by, ending_as, tries_at}
+use Rattle.ts_sessions.specs.Step.{Taken, acts, after_cut, after_line, after_snapshot, after_view, block_refusal, changes, closes, commits, committed, cut_turn, finish_turn, finishes, finishes_held, kind_of, least_start, let_pass, makes_event, named, named_first, named_here, passed, passed_first, performs_in, read_at, reads_as, refresh_meant, refreshed, refreshes, reported, snap_turn, snaps, step, taken, view_made}
+use Rattle.ts_sessions.specs.Walks.{Walks}
+use Rattle.ts_sessions.proofs.NamedLaws.{named_holds}
+use Rattle.ts_sessions.proofs.WalkLaws.{goes_walks}
+
+-- ---- procedures
+
+-- whatever a procedure looks at up to a position, this holds of its end
+abbrev pub EndsBy : {A : Type 0} → (A → Type 0) → ℕ → Procedure A → Type 0
+EndsBy N n (sees shown f) = (h : History) → position h ≤ n → EndsBy N n (f h)
+EndsBy N n (adds e next stop) = EndsBy N n next × EndsBy N n stop
+EndsBy N n (ends a) = N a
+
+pub walks_by : {A : Type 0} (N : A → Type 0) (n : ℕ) (alone failed : Bool) (old : State) (procedure : Procedure A) (new : State) (y : A) → position new.history ≤ n → EndsBy N n procedure → Walks alone failed old procedure new y → N y
+walks_by N n alone failed old (sees shown f) new y le t w =
+    let up = position_begins (goes_walks alone failed w.mid (f w.mid.history) new y w.rest).begins in
+    walks_by N n alone failed w.mid (f w.mid.history) new y le (t w.mid.history (omega (arith, le, up))) w.rest
+walks_by N n alone failed old (adds e next stop) new y le t (inl w) = walks_by N n alone failed old stop new y le t.1 w.1
+walks_by N n alone failed old (adds e next stop) new y le t (inr (inl w)) = walks_by N n alone failed w.mid next new y le t.0 w.rest
+walks_by N n alone failed old (adds e next stop) new y le t (inr (inr w)) = walks_by N n alone false w.1.mid stop new y le t.1 w.1.rest
+walks_by N n alone failed old (ends a) new y le t w = subst N (sym w.2) t
+
+pub call_by : {A B : Type 0} (N : B → Type 0) (n : ℕ) (h : History) (act : Act A) (k : Result A Refusal → Procedure B) → ((r : Result A Refusal) → EndsBy N n (k r)) → EndsBy N n (followed_by (tries_at h act) k)
+call_by N n h (refuses_call r) k t = t (Err r)
+call_by N n h (returns a) k t = t (Ok a)
+call_by N n h (makes e a) k t = (t (Ok a), t (Err _))
+
+pub one_by : {A B : Type 0} (N : B → Type 0) (n : ℕ) (h : History) (act : Act A) (g : Result A Refusal → B) → ((r : Result A Refusal) → N (g r)) → EndsBy N n (ending_as g (tries_at h act))
+one_by N n h act g t = call_by N n h act (λ r. ends (g r)) t
+
+as_by : {A B : Type 0} (N : A → Type 0) (M : B → Type 0) (n : ℕ) (g : A → B) (procedure : Procedure A) → ((a : A) → N a → M (g a)) → EndsBy N n procedure → EndsBy M n (ending_as g procedure)
+as_by N M n g (sees shown f) k t = λ h le. as_by N M n g (f h) k (t h le)
+as_by N M n g (adds e next stop) k t = (as_by N M n g next k t.0, as_by N M n g stop k t.1)
+as_by N M n g (ends a) k t = k a t
+
+-- ---- turns
+
+-- what holds of blocks, of whatever is looked at up to a position
+module _ (Holds : Block → Type 0) (n : ℕ) where
+  -- it holds of the block after a turn
+  abbrev pub InTurn : Turn Places → Type 0
+  InTurn y = Holds y.places.block
+
+  -- the places before a turn, of whose block it holds
+  module _ (p : Places) (held : Holds p.block) where
+    pub by_reported : {A : Type 0} (line : A → Said) (r : Result A Refusal) → InTurn (reported p line r)
+    by_reported line (Ok a) = held
+    by_reported line (Err r) = held
+
+    by_refreshed : (c : ℕ) (span : Span) (min : ℤ) (t : Taken) (r : Result ℕ Refusal) → InTurn (refreshed p c span min t r)
+    by_refreshed c span min t (Ok k) = held
+    by_refreshed c span min t (Err r) = held
+
+    by_snapshot : (c : ℕ) (span : Span) (min : ℤ) (t : Result Taken Refusal) → EndsBy InTurn n (after_snapshot p c span min t)
+    by_snapshot c span min (Ok t) = λ h le. one_by InTurn n h (finishing c t.at h) (refreshed p c span min t) (by_refreshed c span min t)
+    by_snapshot c span min (Err r) = held
+
+  module _ (p : Places) (held : Holds p.block) where
+    pub by_cut_turn : (min : ℤ) (r : Result CutDone Refusal) → InTurn (cut_turn p min r)
+    by_cut_turn min (Ok (CutMade c span)) = held
+    by_cut_turn min (Ok (NothingDone at)) = held
+    by_cut_turn min (Err r) = held
+
+    pub by_cut : (min : ℤ) (r : Result CutDone Refusal) → EndsBy InTurn n (after_cut p min r)
+    by_cut min (Ok (CutMade c span)) = λ h le. by_snapshot _ held c span min (taken c h)
+    by_cut min (Ok (NothingDone at)) = held
+    by_cut min (Err r) = held
+
+    by_filled : (k : ℕ) (min : ℤ) (number : ℕ) (filled : Bool) → EndsBy InTurn n (view_made p k min number filled)
+    by_filled k min number false = held
+    by_filled k min number true = as_by InTurn InTurn n (after_line (said.View number)) (refreshes p k None None min) (λ t w. w) (λ h le. call_by InTurn n h (cutting k None None h) (after_cut p min) (by_cut min))
+
+    pub by_view : (k : ℕ) (def : ViewDef) (filled : Bool) (r : Result ℕ Refusal) → EndsBy InTurn n (after_view p k def filled r)
+    by_view k def filled (Ok number) = by_filled k (first_of def.fold.width) number filled
+    by_view k def filled (Err r) = held
+
+    by_snap_turn : (c : ℕ) (t : Result Taken Refusal) → InTurn (snap_turn p c t)
+    by_snap_turn c (Ok t) = held
+    by_snap_turn c (Err r) = held
+
+    pub by_snaps : (h : History) (m : Option ℕ) → InTurn (snaps p h m)
+    by_snaps h None = held
+    by_snaps h (Some c) = by_snap_turn c (taken c h)
+
+    by_finish_turn : (c at : ℕ) (r : Result ℕ Refusal) → InTurn (finish_turn p c at r)
+    by_finish_turn c at (Ok k) = held
+    by_finish_turn c at (Err r) = held
+
+    by_held : (h : History) (c : ℕ) (o : Option ℕ) → EndsBy InTurn n (finishes_held p h c o)
+    by_held h c None = held
+    by_held h c (Some at) = one_by InTurn n h (finishing c at h) (finish_turn p c at) (by_finish_turn c at)
+
+    pub by_finishes : (h : History) (m : Option ℕ) → EndsBy InTurn n (finishes p h m)
+    by_finishes h None = held
+    by_finishes h (Some c) = by_held h c (held_for c p.held)
+
+    by_committed : (after : Places) → Holds after.block → (r : Result Committed Refusal) → InTurn (committed p after r)
+    by_committed after w (Ok done) = w
+    by_committed after w (Err r) = held
+
+    pub by_commits : (after : Places) → Holds after.block → (h : History) (ops : List Op) → EndsBy InTurn n (commits p after h ops)
+    by_commits after w h ops = one_by InTurn n h (committing ops h) (committed p after) (by_committed after w)
