@@ -9,11 +9,12 @@ use Rattle.ts_model.specs.History.{History, ◌▸◌, event_at, position, prefi
 use Rattle.ts_model.specs.States.{State, Makes, stands_still, stop_of}
 use Rattle.ts_model.proofs.HistoryLaws.{position_begins, prefix_begins}
 use Rattle.ts_sessions.specs.Procedures.{Procedure, sees, adds, ends}
-use Rattle.ts_sessions.specs.Gives.{Gives, numbers, printed}
+use Rattle.ts_sessions.specs.Actors.{IsGivenOver}
+use Rattle.ts_sessions.specs.Gives.{Gives, StopsLater, numbers, printed}
 use Rattle.ts_sessions.specs.Laws.{IsGiven}
 use Rattle.ts_sessions.specs.Steady.{IsEnded, Steady}
 use Rattle.ts_sessions.specs.Walks.{Walks, Sees}
-use Rattle.ts_sessions.proofs.GivesLaws.{all_above, last_event, steady_later}
+use Rattle.ts_sessions.proofs.GivesLaws.{all_above, gives_longer, last_event, steady_later}
 use Rattle.ts_sessions.proofs.StateLaws.{goes_failed, goes_made, goes_seen}
 use Rattle.ts_sessions.proofs.WalkLaws.{goes_walks}
 use Rattle.ts_sessions.proofs.MadeLaws.{seen_made}
@@ -157,3 +158,17 @@ pub walks_are_given : {A : Type 0} (alone failed : Bool) (old : State) (at : ℕ
 walks_are_given alone failed old at procedure new y s le w =
     let g = walk_so alone failed false old at [] procedure new y s le (λ f. absurd (true≢false (sym f))) w in
     record { looks = g.looks; last = g.last; given = g.more; gives = g.gives; seen = g.seen; made = g.made; within = g.within }
+
+-- what was walked from a steady procedure on, it gives over each longer history too, also over one whose store stopped later
+pub given_over : {A : Type 0} (alone failed : Bool) (all : History) (stop : Option ℕ) (at : ℕ) (old : State) (procedure : Procedure A) (new : State) (y : A) → Steady false old.history procedure → at ≤ position old.history → Begins new.history all → StopsLater (stop_of new) stop → Walks alone failed old procedure new y → IsGivenOver all stop old new at procedure y
+given_over alone failed all stop at old procedure new y s le on st w =
+    let one = walks_are_given alone failed old at procedure new y s le w in
+    let begun = (goes_walks alone failed old procedure new y w).begins in
+    record {
+      looks = one.looks;
+      last = one.last;
+      given = one.given;
+      gives = gives_longer false old.history new.history all (stop_of new) stop at [] procedure one.looks one.last one.given y s begun one.seen on st one.gives;
+      made = one.made;
+      within = one.within;
+    }

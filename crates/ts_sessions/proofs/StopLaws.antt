@@ -1,7 +1,6 @@
 -- A reply is E24 only where the store had stopped, with that position.
 use Rattle.std.proofs.Common.{◌≡◌, ℕ, suc, ◌≤◌, Bool, true, false, cond, nat_lt, List, [], ◌∷◌, ◌++◌, length, Option, Some, None, inl, inr, sym, refl, ap, ◌∙◌, subst, arith}
 use Rattle.std.specs.Prelude.{Result, Ok, Err, ℤ, IfSome, is_some, not, ⊤}
-use Rattle.std.specs.List.{AllByRecursion}
 use Rattle.std.proofs.lemmas.Bool.{true≢false, ltb-true, ltb-false}
 use Rattle.ts_bucket.specs.declared.spans.Span.{Span}
 use Rattle.ts_model.specs.declared.events.Event.{Event}

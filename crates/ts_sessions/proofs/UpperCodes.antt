@@ -1,9 +1,9 @@
 -- A roll-up is never refused because the store stands still.
-use Rattle.std.proofs.Common.{◌≡◌, ℕ, ◌<◌, Bool, true, false, List, [], ◌∷◌, length, Option, Some, None, subst, arith}
+use Rattle.std.proofs.Common.{◌≡◌, ℕ, Bool, true, false, List, [], ◌∷◌, length, Option, Some, None, subst, arith}
 use Rattle.std.specs.Prelude.{not, nat_le, is_none, unwrap_or, ◌-ℤ◌, ⊤}
 use Rattle.ts_num.specs.declared.values.Fun.{Fun}
 use Rattle.ts_schema.specs.Counts.{raised_by}
-use Rattle.ts_model.specs.Calls.{stopped, too_many}
+use Rattle.ts_model.specs.Calls.{too_many}
 use Rattle.ts_model.specs.Limits.{most_columns}
 use Rattle.ts_model.specs.declared.outcomes.Refusal.{Refusal}
 use Rattle.ts_model.specs.declared.rosters.Roster.{Roster}

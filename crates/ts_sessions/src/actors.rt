@@ -67,6 +67,10 @@ pub trait Actor {
     fn number(&self) -> u32
         ensures { result ≡ Self.numbered self.now };
 
+    /// Its name.
+    fn name(&self) -> &Name
+        ensures { result.now ≡ Self.named self.now };
+
     /// The bytes of the texts whose operations wait for the end of its write block, or 0.
     fn queued(&self) -> u64
         ensures { result ≡ Self.waiting self.now };
@@ -114,6 +118,9 @@ pub trait Actor {
 
     ghost holds_on: { (actor : Self) (g h : State) → GoesOn g h → Self.holds actor g → Self.holds actor h };
 
+    // All begin alike.
+    ghost alike: { (m n : ℕ) → Self.semantics.opening m ≡ Self.semantics.opening n };
+
     // The block of one whose holdings go with what its store has seen had begun by then.
     ghost begun: { (actor : Self) (s : State) → Self.holds actor s
         → HadBegun Self.within (Self.places actor) s.history };
@@ -123,6 +130,7 @@ impl<T: Shown + Drop> Actor for Session<T>
 where
     T::Job: Drop,
 {
+    ghost use Rattle.std.specs.Prelude.{refl};
     ghost use Rattle.ts_sessions.specs.Held.{HoldsOf, places_in, waiting_bytes};
     ghost use Rattle.ts_sessions.specs.Places.{Places};
     ghost use Rattle.ts_sessions.specs.Replies.{reply_to};
@@ -153,6 +161,8 @@ where
 
     ghost holds_on = { λ s g h b k. goes_on T.Shown.own T.fits_on s g h b k };
 
+    ghost alike = { λ m n. refl };
+
     ghost begun = { λ s h k. reads_within T.Shown.stands s.block h.history k.block };
 
     fn begin(alloc: Global, name: Name, number: u32) -> Session<T> {
@@ -165,6 +175,10 @@ where
 
     fn number(&self) -> u32 {
         self.number
+    }
+
+    fn name(&self) -> &Name {
+        &self.name
     }
 
     fn queued(&self) -> u64 {
