@@ -46,10 +46,6 @@ events_within all at last (e ∷ es) es_are =
       lie = ((up, on), within_wider e.0 last at last (numbers es) (omega (arith, up)) (omega arith) rest.lie);
     }
 
--- the last position that a line looked at or made isn't before the one that its session had looked at
-pub gives_on : {A : Type 0} (all : History) (stop : Option ℕ) (at : ℕ) (procedure : Procedure A) (looks : List (Option ℕ)) (last : ℕ) (given : List (ℕ × Event)) (y : A) → Gives all stop at [] procedure looks last given y → at ≤ last
-gives_on all stop at procedure looks last given y g = (events_within all at last given (gives_events all stop at procedure looks last given y g)).order
-
 -- ---- events and looks of one line after the other
 
 events_from : (all : History) (a b c : ℕ) (es : List (ℕ × Event)) → a ≤ b → AreEvents all b es c → AreEvents all a es c

@@ -6,10 +6,10 @@ use Rattle.ts_model.specs.History.{History, ◌▸▸◌, position, Begins}
 use Rattle.ts_model.specs.States.{State, stop_of}
 use Rattle.ts_model.specs.Allowed.{all_allowed}
 use Rattle.ts_model.proofs.HistoryLaws.{begins_trans, position_begins}
+use Rattle.ts_sessions.specs.Actors.{IsGivenOver}
 use Rattle.ts_sessions.specs.Procedures.{Procedure}
 use Rattle.ts_sessions.specs.Gives.{StopsLater}
 use Rattle.ts_sessions.specs.Script.{SessionLine}
-use Rattle.ts_sessions.specs.Steady.{Steady}
 use Rattle.ts_sessions.specs.Walks.{Walks}
 use Rattle.turn_lock.specs.Pass.{closed_of}
 use Rattle.shared_store.specs.Stores.{Shared, Ticket, history_of}
@@ -40,11 +40,10 @@ module _ {B : Type 0} (state : B → State) (store : Shared B) where
     pub whole : new.history ≡ history_of state store last
     pub shut : new.failed ≡ closed_of last
 
--- workers of a store: their sessions with their lines, and what they reply to them; what lines do, and the replies to them, which what walked a line walked too, and which are steady
+-- workers of a store: their sessions with their lines, and what they reply to them; what lines do, and the replies to them, which give what was walked of a line over each longer history that is allowed
 module _ {B : Type 0} (state : B → State) (store : Shared B) {X V W P A : Type 0} (session_of : X → V) (replies_of : X → W) (lines_of : V → List SessionLine) (AreReplies : V → W → List A → Type 0)
     (does reply : P → List ℕ → ℕ → Procedure A) (next : A → P) (Fits : P → History → Type 0)
-    (replies : (alone failed : Bool) (old : State) (p : P) (text : List ℕ) (skip : ℕ) (new : State) (y : A) → all_allowed new.history ≡ true → Walks alone failed old (does p text skip) new y → Walks alone failed old (reply p text skip) new y)
-    (steady : (p : P) (text : List ℕ) (skip : ℕ) (base : History) → Fits p base → Steady false base (reply p text skip)) where
+    (told : (alone failed : Bool) (all : History) (stop : Option ℕ) (at : ℕ) (old : State) (p : P) (text : List ℕ) (skip : ℕ) (new : State) (y : A) → Fits p old.history → at ≤ position old.history → all_allowed all ≡ true → Begins new.history all → StopsLater (stop_of new) stop → Walks alone failed old (does p text skip) new y → IsGivenOver all stop old new at (reply p text skip) y) where
   record Answers (all : History) (stop : Option ℕ) (from to : ℕ) (p : P) (old new : X) (made : List ℕ) : Type 0 where
     answers : List (LineAnswer A)
     explained : Explained lines_of AreReplies reply next all stop from to p (session_of old) (replies_of new) answers
@@ -58,7 +57,7 @@ module _ {B : Type 0} (state : B → State) (store : Shared B) {X V W P A : Type
       let later = knows.1 e was.0 in
       (ends.shut ∙ later.0, ends.whole ∙ ap (λ es. (state store.opened.value).history ▸▸ es) later.1 ∙ was.1)) in
       let did = o.did in
-      let t = walked_is_answered does next Fits reply replies steady false new.history (stop_of new) (begun_at state store start) p (lines_of (session_of old)) did.to.turns o.left did.places ends.ok begins stop did.to.walked in
+      let t = walked_is_answered does next Fits reply told false new.history (stop_of new) (begun_at state store start) p (lines_of (session_of old)) did.to.turns o.left did.places ends.ok begins stop did.to.walked in
       record {
         answers = t.answers;
         explained = record {

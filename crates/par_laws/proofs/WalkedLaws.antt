@@ -1,34 +1,24 @@
 -- What was walked line by line is answered over each longer history.
-use Rattle.std.proofs.Common.{◌≡◌, ℕ, ◌≤◌, Bool, true, false, List, [], ◌∷◌, ◌++◌, append_assoc, append-nil, Option, Some, None, sym, refl, ap, ◌∙◌, subst, arith}
-use Rattle.std.specs.Prelude.{IsTrue, cond}
+use Rattle.std.proofs.Common.{◌≡◌, ℕ, ◌≤◌, Bool, true, List, [], ◌∷◌, ◌++◌, append_assoc, append-nil, Option, sym, refl, ap, ◌∙◌, subst, arith}
+use Rattle.std.specs.Prelude.{IsTrue}
 use Rattle.ts_model.specs.History.{History, position, Begins}
 use Rattle.ts_model.specs.States.{State, stands_still, stop_of}
 use Rattle.ts_model.specs.Allowed.{all_allowed}
 use Rattle.ts_model.proofs.AllowedLaws.{allowed_begins}
 use Rattle.ts_model.proofs.HistoryLaws.{begins_trans}
-use Rattle.ts_sessions.specs.Procedures.{Procedure, ends}
+use Rattle.ts_sessions.specs.Actors.{IsGivenOver}
+use Rattle.ts_sessions.specs.Procedures.{Procedure}
 use Rattle.ts_sessions.specs.Gives.{StopsLater, numbers}
 use Rattle.ts_sessions.specs.Held.{GoesOn}
 use Rattle.ts_sessions.specs.Script.{SessionLine}
-use Rattle.ts_sessions.specs.Steady.{Steady}
 use Rattle.ts_sessions.specs.Walks.{Walks}
 use Rattle.ts_sessions.proofs.StateLaws.{goes_same, goes_trans}
 use Rattle.ts_sessions.proofs.WalkLaws.{goes_walks}
-use Rattle.ts_sessions.proofs.GivesLaws.{gives_longer}
-use Rattle.ts_sessions.proofs.GivenWalks.{walks_are_given, history_stays}
+use Rattle.ts_sessions.proofs.GivenWalks.{given_over, history_stays}
+use Rattle.ts_sessions.proofs.TogetherLaws.{stops_on}
 use Rattle.par_laws.specs.Walked.{WalkedOne, Walked}
 use Rattle.par_laws.specs.Laws.{AreSteady, WalkedLinesAreAnswered}
 use Rattle.par_laws.specs.Answered.{LineAnswer, ends_of, numbers_of, last_in, Answered, IsAnswered}
-
--- ---- where a store stands still
-
--- a store that stopped by a state stopped there for good
-pub stops_on : (mid new : State) (later : Option ℕ) → GoesOn mid new → (IsTrue (stands_still mid) → new.history ≡ mid.history) → StopsLater (stop_of new) later → StopsLater (stop_of mid) later
-stops_on mid new later goes stays stop =
-    elim (stands_still mid) as (λ t. stands_still mid ≡ t → StopsLater (cond t (Some (position mid.history)) None) later) [
-      | true ↦ λ is. subst (λ t. StopsLater (cond t (Some (position new.history)) None) later) (goes.still is) stop ∙ ap (λ h. Some (position h)) (stays is)
-      | false ↦ λ _. tt
-    ] refl
 
 module _ {P A : Type 0} (does : P → List ℕ → ℕ → Procedure A) (next : A → P) (Fits : P → History → Type 0) where
   -- ---- what a walk of lines leaves goes on from where it began
@@ -68,10 +58,9 @@ module _ {P A : Type 0} (does : P → List ℕ → ℕ → Procedure A) (next : 
 
   -- ---- answered
 
-  -- the replies, which what walked a line over an allowed history walked too, and which are steady
+  -- the replies, which give what was walked of a line over each longer history that is allowed
   module _ (reply : P → List ℕ → ℕ → Procedure A)
-      (replies : (alone failed : Bool) (old : State) (p : P) (text : List ℕ) (skip : ℕ) (new : State) (y : A) → all_allowed new.history ≡ true → Walks alone failed old (does p text skip) new y → Walks alone failed old (reply p text skip) new y)
-      (steady : (p : P) (text : List ℕ) (skip : ℕ) (base : History) → Fits p base → Steady false base (reply p text skip)) where
+      (told : (alone failed : Bool) (all : History) (stop : Option ℕ) (at : ℕ) (old : State) (p : P) (text : List ℕ) (skip : ℕ) (new : State) (y : A) → Fits p old.history → at ≤ position old.history → all_allowed all ≡ true → Begins new.history all → StopsLater (stop_of new) stop → Walks alone failed old (does p text skip) new y → IsGivenOver all stop old new at (reply p text skip) y) where
     -- the same of a session that had looked at a position last
     record AnsweredFrom (all : History) (later : Option ℕ) (at : ℕ) (s new : State) (p : P) (lines : List SessionLine) (ys : List A) : Type 0 where
       answers : List (LineAnswer A)
@@ -92,17 +81,13 @@ module _ {P A : Type 0} (does : P → List ℕ → ℕ → Procedure A) (next : 
     answered_from alone all later at s p (line ∷ lines) [] new q le ok on stop w = absurd w
     answered_from alone all later at s p (line ∷ lines) (y ∷ ys) new q le ok on stop w =
         let mid = w.mid in
-        let procedure = reply p line.text line.skip in
         let goes = goes_walked alone mid (next y) lines ys new q w.rest in
-        let there = begins_trans goes.begins on in
-        let same = steady p line.text line.skip s.history w.first.fits in
-        let one = walks_are_given alone w.first.failed s at procedure mid y same le (replies alone w.first.failed s p line.text line.skip mid y (allowed_begins there ok) w.first.walks) in
-        let rest = answered_from alone all later one.last mid (next y) lines ys new q one.within ok on stop w.rest in
         let halt = stops_on mid new later goes (λ still. walked_stays alone mid (next y) lines ys new q still w.rest) stop in
-        let begun = (goes_walks alone w.first.failed s (does p line.text line.skip) mid y w.first.walks).begins in
+        let one = told alone w.first.failed all later at s p line.text line.skip mid y w.first.fits le ok (begins_trans goes.begins on) halt w.first.walks in
+        let rest = answered_from alone all later one.last mid (next y) lines ys new q one.within ok on stop w.rest in
         record {
           answers = record { looks = one.looks; last = one.last; given = one.given; end = y } ∷ rest.answers;
-          answered = (gives_longer false s.history mid.history all (stop_of mid) later at [] procedure one.looks one.last one.given y same begun one.seen there halt one.gives, rest.answered);
+          answered = (one.gives, rest.answered);
           ends = ap (λ es. y ∷ es) rest.ends;
           made = rest.made ∙ ap (λ m. m ++ numbers_of rest.answers) one.made ∙ append_assoc s.made (numbers one.given) (numbers_of rest.answers);
           within = rest.within;
@@ -118,4 +103,6 @@ module _ {P A : Type 0} (does : P → List ℕ → ℕ → Procedure A) (next : 
 
 pub walked_lines_are_answered : {P A : Type 0} → WalkedLinesAreAnswered P A
 walked_lines_are_answered {P} {A} does reply next alone all later s p lines ys new q replies ok on stop w =
-    walked_is_answered does next (AreSteady reply) reply replies (λ p text skip base steady. steady text skip) alone all later s p lines ys new q ok on stop w
+    walked_is_answered does next (AreSteady reply) reply
+    (λ alone failed all stop at old p text skip new y steady le ok on st v. given_over alone failed all stop at old (reply p text skip) new y (steady text skip) le on st (replies alone failed old p text skip new y (allowed_begins on ok) v))
+    alone all later s p lines ys new q ok on stop w

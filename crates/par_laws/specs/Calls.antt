@@ -1,6 +1,6 @@
 -- What the calls promise by which sessions run over one store: three crews of workers one after the other, the close
 -- of the store, and a snapshot of the backend that it hands back.
-use Rattle.std.specs.Prelude.{◌≡◌, Bool, false, List, [], map, IsPermutation, IsTrue}
+use Rattle.std.specs.Prelude.{◌≡◌, ℕ, Bool, false, List, [], map, IsPermutation, IsTrue}
 use Rattle.std.specs.List.{list_any}
 use mathlib.Core.List.{IsPrefix}
 use Rattle.ts_model.specs.Allowed.{all_allowed}
@@ -11,14 +11,18 @@ use Rattle.turn_lock.specs.Pass.{seen_of, closed_of, made_of, StaysIn}
 use Rattle.turn_lock.specs.Positions.{positions_between}
 use Rattle.shared_store.specs.Stores.{Shared, Ticket, history_of}
 use Rattle.par_workers.specs.Outcomes.{Ran}
+use Rattle.ts_sessions.specs.Places.{Block, Turn}
+use Rattle.ts_sessions.specs.Procedures.{Procedure}
 use Rattle.ts_sessions.specs.Script.{SessionScript}
 use Rattle.par_laws.specs.Parallel.{SessionReplies, SessionExecuted}
 
--- workers by the session whose lines they execute, what it replied, and whether memory ran out
-module _ {W : Type 0} (session_of : W → SessionScript) (replies_of : W → SessionReplies) (ran_out : W → Bool) where
+-- workers by what the lines of their sessions do, and the places of these at their first lines; by the session whose
+-- lines they execute, what it replied, and whether memory ran out
+module _ {P : Type 0} (within : P → Block) (does : P → List ℕ → ℕ → Procedure (Turn P)) (p : P) {W : Type 0}
+    (session_of : W → SessionScript) (replies_of : W → SessionReplies) (ran_out : W → Bool) where
   -- a worker executed all lines of its session, unless memory ran out
   abbrev pub Worked : Bool → W → State → W → State → Type 0
-  Worked alone old s new t = ran_out new ≡ false → SessionExecuted alone (session_of old) s (replies_of new) t
+  Worked alone old s new t = ran_out new ≡ false → SessionExecuted within does p alone (session_of old) s (replies_of new) t
 
   module _ {B : Type 0} (state : B → State) (store : Shared B) where
     -- a crew of workers was at the store between two passes: these were its sessions, and memory sufficed

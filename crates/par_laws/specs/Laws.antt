@@ -1,14 +1,12 @@
 -- The laws, each in one sentence.
-use Rattle.std.specs.Prelude.{◌≡◌, ◌≤◌, ℕ, Bool, true, false, List, [], Option}
-use Rattle.ts_model.specs.declared.events.Event.{Event}
+use Rattle.std.specs.Prelude.{◌≡◌, ℕ, Bool, true, false, List, Option}
 use Rattle.ts_model.specs.Allowed.{all_allowed}
-use Rattle.ts_model.specs.History.{History, Begins, base_position}
+use Rattle.ts_model.specs.History.{History, Begins}
 use Rattle.ts_model.specs.States.{State, stop_of}
-use Rattle.ts_sessions.specs.Gives.{AreEvents, Gives, StopsLater, numbers}
-use Rattle.ts_sessions.specs.Made.{made_in}
-use Rattle.ts_sessions.specs.Places.{Places, Turn}
+use Rattle.ts_sessions.specs.Actors.{TellsReplies}
+use Rattle.ts_sessions.specs.Gives.{AreEvents, StopsLater}
+use Rattle.ts_sessions.specs.Places.{Block, Turn}
 use Rattle.ts_sessions.specs.Procedures.{Procedure}
-use Rattle.ts_sessions.specs.Replies.{reply_to}
 use Rattle.ts_sessions.specs.Script.{SessionLine, SessionScript}
 use Rattle.ts_sessions.specs.Steady.{Steady}
 use Rattle.ts_sessions.specs.Walks.{Walks}
@@ -16,7 +14,6 @@ use Rattle.shared_store.specs.Stores.{Shared}
 use Rattle.par_laws.specs.Answered.{LineAnswer, looks_of, given_by, last_in, NeverFall, Answered, IsAnswered}
 use Rattle.par_laws.specs.Calls.{RanOverStore}
 use Rattle.par_laws.specs.Parallel.{SessionReplies, RanInParallel}
-use Rattle.par_laws.specs.Stopped.{ReplyStopsAt}
 use Rattle.par_laws.specs.Walked.{Walked}
 
 -- ---- lines
@@ -56,28 +53,15 @@ AnswersGiveEvents P A =
     (lines : List SessionLine) (answers : List (LineAnswer A))
     → Answered reply next all stop at p lines answers → AreEvents all at (given_by answers) (last_in at answers)
 
--- a reply is E24 only where the store had stopped, with that position; the session had looked at what the history
--- begins with, or later
-abbrev pub OnlyStopsAreReported : Type 0
-OnlyStopsAreReported =
-    (all : History) (stop : Option ℕ) (at : ℕ) (p : Places) (text : List ℕ) (skip : ℕ) (looks : List (Option ℕ))
-    (last : ℕ) (given : List (ℕ × Event)) (y : Turn Places)
-    → base_position all ≤ at → Gives all stop at [] (reply_to p text skip) looks last given y → ReplyStopsAt stop y
-
--- a reply names exactly the events that its line made, in order
-abbrev pub RepliesNameTheirEvents : Type 0
-RepliesNameTheirEvents =
-    (all : History) (stop : Option ℕ) (at : ℕ) (p : Places) (text : List ℕ) (skip : ℕ) (looks : List (Option ℕ))
-    (last : ℕ) (given : List (ℕ × Event)) (y : Turn Places)
-    → base_position all ≤ at → Gives all stop at [] (reply_to p text skip) looks last given y
-    → numbers given ≡ made_in y.said
-
 -- ---- sessions
 
 -- sessions that ran over one store, some at once, came to what their lines mean over the one history that was left
-abbrev pub ParallelRunsHaveOneHistory : (W : Type 0) {B : Type 0} → Bool → (B → State) → Type 0
-ParallelRunsHaveOneHistory W {B} alone state =
-    (session_of : W → SessionScript) (replies_of : W → SessionReplies) (ran_out : W → Bool) (store : Shared B)
-    (setup others final : List SessionScript) (new : State) (before between after : List SessionReplies)
-    → RanOverStore session_of replies_of ran_out state store alone setup others final new before between after
-    → RanInParallel (state store.opened.value).history setup others final new before between after
+abbrev pub ParallelRunsHaveOneHistory : (P W : Type 0) {B : Type 0} → Bool → (B → State) → Type 0
+ParallelRunsHaveOneHistory P W {B} alone state =
+    (within : P → Block) (does reply : P → List ℕ → ℕ → Procedure (Turn P)) (p : P) (session_of : W → SessionScript)
+    (replies_of : W → SessionReplies) (ran_out : W → Bool) (store : Shared B) (setup others final : List SessionScript)
+    (new : State) (before between after : List SessionReplies)
+    → TellsReplies within does reply
+    → RanOverStore within does p session_of replies_of ran_out state store alone setup others final new before between
+    after
+    → RanInParallel reply p (state store.opened.value).history setup others final new before between after

@@ -3,13 +3,13 @@ use Rattle.std.specs.Prelude.{◌≡◌, List}
 use Rattle.std.specs.List.{AllByRecursion}
 use Rattle.ts_sessions.specs.Gives.{numbers}
 use Rattle.ts_sessions.specs.Made.{made_in}
-use Rattle.ts_sessions.specs.Places.{Places, Turn}
+use Rattle.ts_sessions.specs.Places.{Turn}
 use Rattle.par_laws.specs.Answered.{LineAnswer}
 
 -- a reply names the numbers of the events that its line made, in order
-abbrev pub NamesEvents : LineAnswer (Turn Places) → Type 0
+abbrev pub NamesEvents : {P : Type 0} → LineAnswer (Turn P) → Type 0
 NamesEvents answer = numbers answer.given ≡ made_in answer.end.said
 
 -- so does each reply of several sessions
-abbrev pub RepliesNameEvents : List (List (LineAnswer (Turn Places))) → Type 0
+abbrev pub RepliesNameEvents : {P : Type 0} → List (List (LineAnswer (Turn P))) → Type 0
 RepliesNameEvents sessions = AllByRecursion (λ answers. AllByRecursion NamesEvents answers) sessions

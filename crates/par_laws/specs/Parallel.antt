@@ -4,11 +4,10 @@ use Rattle.std.specs.List.{list_any}
 use Rattle.ts_schema.specs.Counts.{raised_by}
 use Rattle.ts_model.specs.History.{History, position, Begins}
 use Rattle.ts_model.specs.States.{State, stop_of}
-use Rattle.ts_sessions.specs.LineLaws.{ReadsWithin}
-use Rattle.ts_sessions.specs.Places.{Places, Turn, no_places}
-use Rattle.ts_sessions.specs.Replies.{reply_to}
+use Rattle.ts_sessions.specs.Actors.{HadBegun}
+use Rattle.ts_sessions.specs.Places.{Block, Turn}
+use Rattle.ts_sessions.specs.Procedures.{Procedure}
 use Rattle.ts_sessions.specs.Script.{SessionLine, SessionScript, has_fault, text_of}
-use Rattle.ts_sessions.specs.Step.{step}
 use Rattle.par_laws.specs.declared.exchanges.Exchange.{Exchange}
 use Rattle.par_laws.specs.Named.{RepliesNameEvents}
 use Rattle.par_laws.specs.Phases.{ExecutedTo, Executed, Phase}
@@ -29,59 +28,60 @@ abbrev pub lines_in : SessionScript → List SessionLine
 lines_in session = session.lines
 
 -- the places of a session after its turn
-abbrev pub places_after : Turn Places → Places
+abbrev pub places_after : {P : Type 0} → Turn P → P
 places_after turn = turn.places
 
--- the block of a session had begun by then
-abbrev pub HadBegun : Places → History → Type 0
-HadBegun p h = ReadsWithin p.block (position h)
-
 -- a line of the session with a name, with the text of the reply that it came to
-abbrev pub exchange_of : List ℕ → SessionLine → Turn Places → Exchange
+abbrev pub exchange_of : {P : Type 0} → List ℕ → SessionLine → Turn P → Exchange
 exchange_of name line turn = record { line = line.text; reply = text_of name turn.said }
 
 -- its lines, each with its reply
-abbrev pub exchanges_of : List ℕ → List SessionLine → List (Turn Places) → List Exchange
+abbrev pub exchanges_of : {P : Type 0} → List ℕ → List SessionLine → List (Turn P) → List Exchange
 exchanges_of name [] turns = []
 exchanges_of name (line ∷ lines) [] = []
 exchanges_of name (line ∷ lines) (turn ∷ turns) = exchange_of name line turn ∷ exchanges_of name lines turns
 
 -- a session replied with what its lines came to
-pub record AreReplies (session : SessionScript) (replies : SessionReplies) (turns : List (Turn Places)) : Type 0 where
+pub record AreReplies {P : Type 0} (session : SessionScript) (replies : SessionReplies) (turns : List (Turn P)) : Type 0 where
   pub name : replies.name ≡ session.name
   pub exchanges : replies.exchanges ≡ exchanges_of session.name session.lines turns
   pub fault : replies.fault ≡ list_any (λ turn. has_fault turn.said) turns
   pub reads : replies.reads ≡ raised_by (sum_by (λ turn. turn.reads) turns) 0
 
--- a session that had begun at its first line executed these lines from a state on, which left a state and its places
-abbrev pub SessionExecutedTo : Bool → SessionScript → State → SessionReplies → State → Places → Type 0
-SessionExecutedTo alone session s replies t q =
-    ExecutedTo lines_in AreReplies step places_after HadBegun alone no_places session s replies t q
+-- what lines do by the places of their session, the block that places are in, and the places of each session at its
+-- first line
+module _ {P : Type 0} (within : P → Block) (does : P → List ℕ → ℕ → Procedure (Turn P)) (p : P) where
+  -- a session that had begun at its first line executed these lines from a state on, which left a state and its places
+  abbrev pub SessionExecutedTo : Bool → SessionScript → State → SessionReplies → State → P → Type 0
+  SessionExecutedTo alone session s replies t q =
+      ExecutedTo lines_in AreReplies does places_after (HadBegun within) alone p session s replies t q
 
--- and left some places
-abbrev pub SessionExecuted : Bool → SessionScript → State → SessionReplies → State → Type 0
-SessionExecuted alone session s replies t =
-    Executed lines_in AreReplies step places_after HadBegun alone no_places session s replies t
+  -- and left some places
+  abbrev pub SessionExecuted : Bool → SessionScript → State → SessionReplies → State → Type 0
+  SessionExecuted alone session s replies t =
+      Executed lines_in AreReplies does places_after (HadBegun within) alone p session s replies t
 
 -- ---- several
 
--- over a whole history, which stopped at a position if it did, sessions ran in a phase between two positions: their
--- lines are answered there, a reply is E24 only where the store had stopped, with that position, and each names the
--- events that its line made
-pub record SessionsRan (all : History) (stop : Option ℕ) (from to : ℕ) (sessions : List SessionScript)
-    (replies : List SessionReplies) : Type 0 where
-  pub phase : Phase lines_in AreReplies reply_to places_after all stop from to no_places sessions replies
-  pub stops : RepliesStopAt stop phase.answers
-  pub named : RepliesNameEvents phase.answers
+-- the replies to lines by the places of their session, and the places of each session at its first line
+module _ {P : Type 0} (reply : P → List ℕ → ℕ → Procedure (Turn P)) (p : P) where
+  -- over a whole history, which stopped at a position if it did, sessions ran in a phase between two positions: their
+  -- lines are answered there, a reply is E24 only where the store had stopped, with that position, and each names the
+  -- events that its line made
+  pub record SessionsRan (all : History) (stop : Option ℕ) (from to : ℕ) (sessions : List SessionScript)
+      (replies : List SessionReplies) : Type 0 where
+    pub phase : Phase lines_in AreReplies reply places_after all stop from to p sessions replies
+    pub stops : RepliesStopAt stop phase.answers
+    pub named : RepliesNameEvents phase.answers
 
--- over an opening history first the sessions of `setup` ran, then `others` all at once, then those of `final`. They
--- left a state, and replied so: all over the one history that was left, one phase after the other
-pub record RanInParallel (opening : History) (setup others final : List SessionScript) (new : State)
-    (before between after : List SessionReplies) : Type 0 where
-  -- the positions at which `setup` ended, and at which `others` did
-  pub first : ℕ
-  pub second : ℕ
-  pub begins : Begins opening new.history
-  pub setup_ran : SessionsRan new.history (stop_of new) (position opening) first setup before
-  pub others_ran : SessionsRan new.history (stop_of new) first second others between
-  pub final_ran : SessionsRan new.history (stop_of new) second (position new.history) final after
+  -- over an opening history first the sessions of `setup` ran, then `others` all at once, then those of `final`. They
+  -- left a state, and replied so: all over the one history that was left, one phase after the other
+  pub record RanInParallel (opening : History) (setup others final : List SessionScript) (new : State)
+      (before between after : List SessionReplies) : Type 0 where
+    -- the positions at which `setup` ended, and at which `others` did
+    pub first : ℕ
+    pub second : ℕ
+    pub begins : Begins opening new.history
+    pub setup_ran : SessionsRan new.history (stop_of new) (position opening) first setup before
+    pub others_ran : SessionsRan new.history (stop_of new) first second others between
+    pub final_ran : SessionsRan new.history (stop_of new) second (position new.history) final after

@@ -1,5 +1,5 @@
 //! Laws of sessions that share a store. Each is the clause of a function that does nothing.
-ghost use Rattle.par_laws.specs.Laws.{AnswersGiveEvents, LooksNeverFall, ParallelRunsHaveOneHistory, OnlyStopsAreReported, RepliesNameTheirEvents, WalkedLinesAreAnswered};
+ghost use Rattle.par_laws.specs.Laws.{AnswersGiveEvents, LooksNeverFall, ParallelRunsHaveOneHistory, WalkedLinesAreAnswered};
 
 use ts_model::Backend;
 
@@ -19,18 +19,8 @@ pub fn answers_give_events_of_the_history<P, A>()
     ensures { AnswersGiveEvents P A }
 {}
 
-/// A reply is `E24` only where the store had stopped, with that position.
-pub fn only_stops_are_reported()
-    ensures { OnlyStopsAreReported }
-{}
-
-/// A reply names exactly the events that its line made, in order.
-pub fn replies_name_their_events()
-    ensures { RepliesNameTheirEvents }
-{}
-
 /// Sessions that ran over one store, some at once, came to what their lines mean over the one history
-/// that was left.
-pub fn parallel_runs_have_one_history<W, B: Backend>()
-    ensures { ParallelRunsHaveOneHistory W B.alone B.state }
+/// that was left. Whoever executed their lines tells by the replies what the lines did.
+pub fn parallel_runs_have_one_history<P, W, B: Backend>()
+    ensures { ParallelRunsHaveOneHistory P W B.alone B.state }
 {}
