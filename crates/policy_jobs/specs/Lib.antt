@@ -3,3 +3,6 @@ pub mod Grammar
 pub mod Reading
 pub mod Answers
 pub mod Policies
+pub mod Adding
+pub mod Turns
+pub mod Runs

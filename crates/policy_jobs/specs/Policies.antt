@@ -1,5 +1,5 @@
 -- Policies that a session keeps: which of them are due at a time, and the statements that they run.
-use Rattle.std.specs.Prelude.{ℕ, ℤ, ◌-ℤ◌, Bool, true, int_le, List, ◌++◌, filter, Option, Some, None, codes}
+use Rattle.std.specs.Prelude.{ℕ, ℤ, ◌-ℤ◌, Bool, true, cond, int_le, List, ◌++◌, filter, map, Option, Some, None, codes}
 use Rattle.std.specs.Fmt.{signed_decimal}
 use Rattle.std.specs.Int.{int_max}
 use Rattle.ts_bucket.specs.Bucket.{min_time}
@@ -47,3 +47,17 @@ retention_text now table after =
 abbrev pub due_text : ℤ → Job → List ℕ
 due_text now (jobs.Refresh view from to) = refresh_text now view from to
 due_text now (jobs.Drop table after) = retention_text now table after
+
+-- the texts of the statements that those which are due run, in the order of adding
+abbrev pub due_texts : ℤ → List Policy → List (List ℕ)
+due_texts now ps = map (λ p. due_text now p.job) (due now ps)
+
+-- ---- their last runs
+
+-- one that is due ran at this time
+abbrev pub ticked_one : ℤ → Policy → Policy
+ticked_one now p = record p { ran = cond (is_due now p) (Some now) p.ran }
+
+-- so did each that is due
+abbrev pub ticked : ℤ → List Policy → List Policy
+ticked now ps = map (ticked_one now) ps

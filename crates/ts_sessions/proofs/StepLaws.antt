@@ -11,7 +11,7 @@ use Rattle.ts_sessions.specs.declared.replies.StepEnd.{StepEnd}
 use Rattle.ts_sessions.specs.declared.replies.StepEnd.TheVariants as steps
 use Rattle.ts_sessions.specs.declared.sessions.Session.{Session}
 use Rattle.ts_sessions.specs.Held.{Carries, places_in, queued}
-use Rattle.ts_sessions.specs.Places.{Places, Turn}
+use Rattle.ts_sessions.specs.Places.{none, Places, Turn}
 use Rattle.ts_sessions.specs.Sessions.{AnswersSo, ChangeHolds, Ends, IfAnswered, IfNoMemory, IsReplied, IsReply, Spares, Stepped, Reports, changed, turn_of, without}
 use Rattle.ts_sessions.specs.Step.{step}
 use Rattle.ts_sessions.specs.Walks.{Walks}

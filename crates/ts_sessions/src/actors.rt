@@ -59,10 +59,6 @@ pub trait Actor {
         ensures waiting { Self.waiting result ≡ 0 }
         ensures holds { (s : State) → Self.holds result s };
 
-    /// Its name.
-    fn name(&self) -> &Name
-        ensures { result.now ≡ Self.named self.now };
-
     /// Its number.
     fn number(&self) -> u32
         ensures { result ≡ Self.numbered self.now };
@@ -167,10 +163,6 @@ where
 
     fn begin(alloc: Global, name: Name, number: u32) -> Session<T> {
         Session::new(alloc, name, number)
-    }
-
-    fn name(&self) -> &Name {
-        &self.name
     }
 
     fn number(&self) -> u32 {

@@ -8,7 +8,7 @@ use result_text::codes;
 use ts_model::Refusal;
 
 /// A refusal without a position.
-pub(crate) fn bare(code: u8) -> Refusal
+pub fn bare(code: u8) -> Refusal
     ensures { result ≡ bare_refusal code }
 {
     Refusal {
@@ -19,7 +19,7 @@ pub(crate) fn bare(code: u8) -> Refusal
 }
 
 /// A refusal of the text at a place of the line.
-pub(crate) fn placed(code: u8, place: u32) -> Refusal
+pub fn placed(code: u8, place: u32) -> Refusal
     ensures { result ≡ placed_refusal code place }
 {
     Refusal {

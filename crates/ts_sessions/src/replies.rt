@@ -32,7 +32,7 @@ pub enum StepEnd {
 }
 
 /// The answer with this reply, where the disk failed or not.
-pub(crate) fn replied(reply: Reply, failed: bool) -> StepEnd
+pub fn replied(reply: Reply, failed: bool) -> StepEnd
     ensures { IsReplied failed reply result }
 {
     match failed {

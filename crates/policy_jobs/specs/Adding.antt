@@ -1,0 +1,68 @@
+-- Which policies are refused.
+use Rattle.std.specs.Prelude.{ℕ, suc, ◌^◌, ℤ, pos, ◌-ℤ◌, Bool, true, ◌&&◌, not, int_le, nat_le, List, Option, Some, None}
+use Rattle.std.specs.Int.{◌*ℤ◌}
+use Rattle.ts_model.specs.declared.outcomes.Refusal.{Refusal}
+use Rattle.ts_model.specs.declared.rosters.Roster.{Roster}
+use Rattle.ts_model.specs.declared.views.ViewDef.{ViewDef}
+use Rattle.ts_model.specs.Roster.{view_of}
+use Rattle.ts_catalog.specs.declared.relations.Found.{Found}
+use Rattle.ts_catalog.specs.declared.relations.Found.TheVariants as found
+use Rattle.ts_catalog.specs.Relations.{found_in}
+use Rattle.stmt_check.specs.Refusals.{◌⊳◌, hypertable_refusal, marked, refused, view_refusal}
+use Rattle.result_text.specs.declared.codes.TheConstants.{BAD_POLICY, TOO_MANY_POLICIES}
+use Rattle.policy_jobs.specs.declared.jobs.Job.{Job}
+use Rattle.policy_jobs.specs.declared.jobs.Job.TheVariants as jobs
+
+-- the most policies of a session
+abbrev pub most_policies : ℕ
+most_policies = 64
+
+-- the greatest offset and the greatest interval
+abbrev pub longest : ℤ
+longest = pos (2 ^ 50)
+
+-- a number from a least one on and up to the greatest
+abbrev pub is_from : ℤ → ℤ → Bool
+is_from least z = int_le least z && int_le z longest
+
+-- an offset is NULL, or from 0 on
+abbrev pub is_offset : Option ℤ → Bool
+is_offset None = true
+is_offset (Some z) = is_from (pos 0) z
+
+-- an interval is from 1 on
+abbrev pub is_interval : ℤ → Bool
+is_interval every = is_from (pos 1) every
+
+-- a window with two ends is at least twice the step wide
+abbrev pub is_wide : Option ViewDef → Option ℤ → Option ℤ → Bool
+is_wide (Some def) (Some from) (Some to) = int_le (pos 2 *ℤ def.fold.width.step) (from -ℤ to)
+is_wide def from to = true
+
+-- the aggregate that was found
+abbrev pub view_found : Roster → Found → Option ViewDef
+view_found r (found.View n) = view_of r n
+view_found r other = None
+
+-- its offsets are within bounds
+abbrev pub has_offsets : Job → Bool
+has_offsets (jobs.Refresh view from to) = is_offset from && is_offset to
+has_offsets (jobs.Drop table after) = is_from (pos 0) after
+
+-- its window is wide enough for the step
+abbrev pub fits_step : Roster → Job → Bool
+fits_step r (jobs.Refresh view from to) = is_wide (view_found r (found_in r view)) from to
+fits_step r (jobs.Drop table after) = true
+
+-- what it refreshes is an aggregate, and what it drops chunks of a hypertable
+abbrev pub relation_refusal : ℕ → Roster → Job → Option Refusal
+relation_refusal at r (jobs.Refresh view from to) = view_refusal at (found_in r view)
+relation_refusal at r (jobs.Drop table after) = hypertable_refusal at (found_in r table)
+
+-- why a policy is refused at a position, of a session with so many: first by its relation, then by its numbers, and
+-- then because there are as many as there may be
+abbrev pub adding_refusal : ℕ → Roster → ℕ → Job → ℤ → Option Refusal
+adding_refusal at r many job every =
+    relation_refusal at r job
+    ⊳ refused at BAD_POLICY (not (has_offsets job && is_interval every && fits_step r job))
+    ⊳ marked at TOO_MANY_POLICIES (suc most_policies) (nat_le most_policies many)
