@@ -12,26 +12,26 @@ use Rattle.ts_sessions.specs.Script.{SessionScript}
 use Rattle.par_run.specs.declared.workers.SessionWorker.{SessionWorker}
 use Rattle.par_run.specs.Workers.{worker_script, IsReady}
 use Rattle.par_run.specs.Crews.{scripts_in, IsCrew}
-use Rattle.ts_model.specs.declared.snapshots.Shown.{Ghosts as Shown}
+use Rattle.ts_sessions.specs.declared.actors.Actor.{Ghosts as Actor}
 
-module _ {T G J B : Type 0} (shown : Shown T J) (input : List ℕ) where
+module _ {A G T J B : Type 0} (actors : Actor A T J) (input : List ℕ) where
   -- nobody yet
-  pub crew_begun : (crew : List (Slot (SessionWorker T G J) B)) → crew ≡ [] → IsCrew {B = B} shown (scripts_of input []) crew
-  crew_begun crew none = subst (λ c. IsCrew {B = B} shown (scripts_of input []) c) (sym none) (record { scripts = refl; ready = All-nil (IsReady shown) })
+  pub crew_begun : (crew : List (Slot (SessionWorker A G) B)) → crew ≡ [] → IsCrew {B = B} actors (scripts_of input []) crew
+  crew_begun crew none = subst (λ c. IsCrew {B = B} actors (scripts_of input []) c) (sym none) (record { scripts = refl; ready = All-nil (IsReady actors) })
 
   -- one worker more
-  pub crew_more : (sessions : List SessionLines) (crew : List (Slot (SessionWorker T G J) B)) (session : SessionLines) (slot : Slot (SessionWorker T G J) B) (now : List (Slot (SessionWorker T G J) B))
-      → IsCrew {B = B} shown (scripts_of input sessions) crew → worker_script slot.0 ≡ script_of input session → IsReady shown slot.0
-      → now ≡ crew ++ slot ∷ [] → IsCrew {B = B} shown (scripts_of input (sessions ++ session ∷ [])) now
+  pub crew_more : (sessions : List SessionLines) (crew : List (Slot (SessionWorker A G) B)) (session : SessionLines) (slot : Slot (SessionWorker A G) B) (now : List (Slot (SessionWorker A G) B))
+      → IsCrew {B = B} actors (scripts_of input sessions) crew → worker_script actors.named slot.0 ≡ script_of input session → IsReady actors slot.0
+      → now ≡ crew ++ slot ∷ [] → IsCrew {B = B} actors (scripts_of input (sessions ++ session ∷ [])) now
   crew_more sessions crew session slot now is script ready same =
-      subst (λ c. IsCrew {B = B} shown (scripts_of input (sessions ++ session ∷ [])) c) (sym same)
+      subst (λ c. IsCrew {B = B} actors (scripts_of input (sessions ++ session ∷ [])) c) (sym same)
       (record {
-        scripts = ap (map worker_script) (map-append (λ s. s.0) crew (slot ∷ []))
-            ∙ map-append worker_script (workers_of crew) (slot.0 ∷ [])
-            ∙ ap (λ xs. xs ++ worker_script slot.0 ∷ []) is.scripts
+        scripts = ap (map (worker_script actors.named)) (map-append (λ s. s.0) crew (slot ∷ []))
+            ∙ map-append (worker_script actors.named) (workers_of crew) (slot.0 ∷ [])
+            ∙ ap (λ xs. xs ++ worker_script actors.named slot.0 ∷ []) is.scripts
             ∙ ap (λ x. scripts_of input sessions ++ x ∷ []) script
             ∙ sym (map-append (script_of input) sessions (session ∷ []));
-        ready = subst (All (IsReady shown)) (sym (map-append (λ s. s.0) crew (slot ∷ []))) (All-push (IsReady shown) (workers_of crew) slot.0 is.ready ready);
+        ready = subst (All (IsReady actors)) (sym (map-append (λ s. s.0) crew (slot ∷ []))) (All-push (IsReady actors) (workers_of crew) slot.0 is.ready ready);
       })
 
 -- ---- the sessions of an input
@@ -47,6 +47,6 @@ one_listed None sessions same = let none = ap length same in omega arith
 one_listed (Some s) sessions same = let one = ap length same in omega arith
 
 -- workers for the sessions of a phase have those of the sorted lines
-pub of_phase : {T G J B : Type 0} (input : List ℕ) (lines : SortedLines) (phase : List SessionScript → List SessionScript) (sessions listed : List SessionLines) (crew : List (Slot (SessionWorker T G J) B))
-    → scripts_in crew ≡ scripts_of input listed → listed ≡ sessions → scripts_of input sessions ≡ phase (scripts_of input lines.sessions.items) → sorted_of input lines ≡ sorted input → scripts_in crew ≡ phase (sorted input).sessions
-of_phase input lines phase sessions listed crew have same in_phase sorted_so = have ∙ ap (scripts_of input) same ∙ in_phase ∙ ap (λ s. phase s.sessions) sorted_so
+pub of_phase : {A G B : Type 0} (named : A → List ℕ) (input : List ℕ) (lines : SortedLines) (phase : List SessionScript → List SessionScript) (sessions listed : List SessionLines) (crew : List (Slot (SessionWorker A G) B))
+    → scripts_in named crew ≡ scripts_of input listed → listed ≡ sessions → scripts_of input sessions ≡ phase (scripts_of input lines.sessions.items) → sorted_of input lines ≡ sorted input → scripts_in named crew ≡ phase (sorted input).sessions
+of_phase named input lines phase sessions listed crew have same in_phase sorted_so = have ∙ ap (scripts_of input) same ∙ in_phase ∙ ap (λ s. phase s.sessions) sorted_so

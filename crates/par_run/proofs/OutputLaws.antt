@@ -131,46 +131,46 @@ raised_join x y one two both e f join = omega arith
 -- ---- the workers of a crew
 
 -- how many rows a worker has read
-abbrev pub reads_by : {T G J : Type 0} → SessionWorker T G J → ℕ
-reads_by w = (replies_of w).reads
+abbrev pub reads_by : {A G : Type 0} → SessionWorker A G → ℕ
+reads_by w = w.executor.steps
 
-module _ {T G J B : Type 0} where
+module _ {A G B : Type 0} where
   -- a worker after others
-  workers_push : (crew : List (Slot (SessionWorker T G J) B)) (slot : Slot (SessionWorker T G J) B) → workers_of (crew ++ slot ∷ []) ≡ workers_of crew ++ slot.0 ∷ []
+  workers_push : (crew : List (Slot (SessionWorker A G) B)) (slot : Slot (SessionWorker A G) B) → workers_of (crew ++ slot ∷ []) ≡ workers_of crew ++ slot.0 ∷ []
   workers_push crew slot = map-append (λ s. s.0) crew (slot ∷ [])
 
   -- there was memory for one more
-  pub enough_more : (crew : List (Slot (SessionWorker T G J) B)) (slot : Slot (SessionWorker T G J) B) → list_any ran_out (workers_of crew) ≡ false → ran_out slot.0 ≡ false → list_any ran_out (workers_of (crew ++ slot ∷ [])) ≡ false
+  pub enough_more : (crew : List (Slot (SessionWorker A G) B)) (slot : Slot (SessionWorker A G) B) → list_any ran_out (workers_of crew) ≡ false → ran_out slot.0 ≡ false → list_any ran_out (workers_of (crew ++ slot ∷ [])) ≡ false
   enough_more crew slot so_far one =
       ap (list_any ran_out) (workers_push crew slot) ∙ list_any-append ran_out (workers_of crew) (slot.0 ∷ [])
       ∙ ap (λ b. b || (ran_out slot.0 || false)) so_far ∙ ap (λ b. b || false) one
 
   -- and its output comes last
-  pub output_more : (crew : List (Slot (SessionWorker T G J) B)) (slot : Slot (SessionWorker T G J) B) (old now next : Output) → now ≡ with_sessions (map replies_of (workers_of crew)) old → next ≡ with_session (replies_of slot.0) now
-      → next ≡ with_sessions (map replies_of (workers_of (crew ++ slot ∷ []))) old
-  output_more crew slot old now next so_far more =
-      more ∙ ap (with_session (replies_of slot.0)) so_far ∙ sym (with_more (map replies_of (workers_of crew)) (replies_of slot.0) old)
-      ∙ ap (λ rs. with_sessions rs old) (sym (ap (map replies_of) (workers_push crew slot) ∙ map-append replies_of (workers_of crew) (slot.0 ∷ [])))
+  pub output_more : (named : A → List ℕ) (crew : List (Slot (SessionWorker A G) B)) (slot : Slot (SessionWorker A G) B) (old now next : Output) → now ≡ with_sessions (map (replies_of named) (workers_of crew)) old → next ≡ with_session (replies_of named slot.0) now
+      → next ≡ with_sessions (map (replies_of named) (workers_of (crew ++ slot ∷ []))) old
+  output_more named crew slot old now next so_far more =
+      more ∙ ap (with_session (replies_of named slot.0)) so_far ∙ sym (with_more (map (replies_of named) (workers_of crew)) (replies_of named slot.0) old)
+      ∙ ap (λ rs. with_sessions rs old) (sym (ap (map (replies_of named)) (workers_push crew slot) ∙ map-append (replies_of named) (workers_of crew) (slot.0 ∷ [])))
 
   -- a test of workers in their slots
-  pub any_worker : (crew : List (Slot (SessionWorker T G J) B)) → list_any (λ slot. slot.0.out_of_memory) crew ≡ list_any ran_out (workers_of crew)
+  pub any_worker : (crew : List (Slot (SessionWorker A G) B)) → list_any (λ slot. slot.0.out_of_memory) crew ≡ list_any ran_out (workers_of crew)
   any_worker [] = refl
   any_worker (slot ∷ crew) = ap (λ b. ran_out slot.0 || b) (any_worker crew)
 
   -- ---- rows that they read
 
   -- by the workers up to a place, and the one there
-  pub reads_more : (crew : List (Slot (SessionWorker T G J) B)) (i : ℕ) (slot : Slot (SessionWorker T G J) B) (before after : ℕ) → i < length crew → slot ≡ get_or crew i slot
+  pub reads_more : (crew : List (Slot (SessionWorker A G) B)) (i : ℕ) (slot : Slot (SessionWorker A G) B) (before after : ℕ) → i < length crew → slot ≡ get_or crew i slot
       → before ≡ raised_by (sum_by reads_by (workers_of (take i crew))) 0 → after ≡ raised_by (reads_by slot.0) before → after ≡ raised_by (sum_by reads_by (workers_of (take (i + 1) crew))) 0
   reads_more crew i slot before after lt same so_far more =
       raised_sum (sum_by reads_by (workers_of (take i crew))) (reads_by slot.0) before after so_far more
       ∙ ap (λ n. raised_by n 0) (sym (ap (sum_by reads_by) (map_more (λ s. s.0) crew i slot lt ∙ ap (λ s. workers_of (take i crew) ++ s.0 ∷ []) (sym same)) ∙ sum_by_push reads_by (workers_of (take i crew)) slot.0))
 
-  pub reads_all : (crew : List (Slot (SessionWorker T G J) B)) (i reads : ℕ) → length crew ≤ i → reads ≡ raised_by (sum_by reads_by (workers_of (take i crew))) 0 → reads ≡ raised_by (sum_by reads_by (workers_of crew)) 0
+  pub reads_all : (crew : List (Slot (SessionWorker A G) B)) (i reads : ℕ) → length crew ≤ i → reads ≡ raised_by (sum_by reads_by (workers_of (take i crew))) 0 → reads ≡ raised_by (sum_by reads_by (workers_of crew)) 0
   reads_all crew i reads le so_far = so_far ∙ ap (λ c. raised_by (sum_by reads_by (workers_of c)) 0) (take_all i crew le)
 
 -- by those of three crews
-pub reads_three : {T G J : Type 0} (a b d : List (SessionWorker T G J)) (one two three both all : ℕ) → one ≡ raised_by (sum_by reads_by a) 0 → two ≡ raised_by (sum_by reads_by b) 0 → three ≡ raised_by (sum_by reads_by d) 0
+pub reads_three : {A G : Type 0} (a b d : List (SessionWorker A G)) (one two three both all : ℕ) → one ≡ raised_by (sum_by reads_by a) 0 → two ≡ raised_by (sum_by reads_by b) 0 → three ≡ raised_by (sum_by reads_by d) 0
     → both ≡ raised_by two one → all ≡ raised_by three both → all ≡ raised_by (sum_by reads_by (a ++ b ++ d)) 0
 reads_three a b d one two three both all e f h join last =
     let whole : sum_by reads_by (a ++ b ++ d) ≡ (sum_by reads_by a + sum_by reads_by b) + sum_by reads_by d = sum_by-append reads_by (a ++ b) d ∙ ap (λ n. n + sum_by reads_by d) (sum_by-append reads_by a b) in
@@ -178,11 +178,11 @@ reads_three a b d one two three both all e f h join last =
     raised_join (sum_by reads_by a + sum_by reads_by b) (sum_by reads_by d) both three all first h last ∙ ap (λ n. raised_by n 0) (sym whole)
 
 -- what is summed of workers is that of their replies
-pub reads_mapped : {T G J : Type 0} (workers : List (SessionWorker T G J)) → sum_by reads_by workers ≡ sum_by (λ replies. replies.reads) (map replies_of workers)
-reads_mapped [] = refl
-reads_mapped (w ∷ workers) = sum_by-cons reads_by w workers ∙ ap (λ n. reads_by w + n) (reads_mapped workers) ∙ sym (sum_by-cons (λ replies. replies.reads) (replies_of w) (map replies_of workers))
+pub reads_mapped : {A G : Type 0} (named : A → List ℕ) (workers : List (SessionWorker A G)) → sum_by reads_by workers ≡ sum_by (λ replies. replies.reads) (map (replies_of named) workers)
+reads_mapped named [] = refl
+reads_mapped named (w ∷ workers) = sum_by-cons reads_by w workers ∙ ap (λ n. reads_by w + n) (reads_mapped named workers) ∙ sym (sum_by-cons (λ replies. replies.reads) (replies_of named w) (map (replies_of named) workers))
 
-pub reads_replied : {T G J : Type 0} (a b d : List (SessionWorker T G J)) (reads : ℕ) → reads ≡ raised_by (sum_by reads_by (a ++ b ++ d)) 0 → reads ≡ raised_by (sum_by (λ replies. replies.reads) (map replies_of a ++ map replies_of b ++ map replies_of d)) 0
-reads_replied a b d reads counted =
-    let joined : map replies_of (a ++ b ++ d) ≡ map replies_of a ++ map replies_of b ++ map replies_of d = map-append replies_of (a ++ b) d ∙ ap (λ l. l ++ map replies_of d) (map-append replies_of a b) in
-    counted ∙ ap (λ n. raised_by n 0) (reads_mapped (a ++ b ++ d) ∙ ap (sum_by (λ replies. replies.reads)) joined)
+pub reads_replied : {A G : Type 0} (named : A → List ℕ) (a b d : List (SessionWorker A G)) (reads : ℕ) → reads ≡ raised_by (sum_by reads_by (a ++ b ++ d)) 0 → reads ≡ raised_by (sum_by (λ replies. replies.reads) (map (replies_of named) a ++ map (replies_of named) b ++ map (replies_of named) d)) 0
+reads_replied named a b d reads counted =
+    let joined : map (replies_of named) (a ++ b ++ d) ≡ map (replies_of named) a ++ map (replies_of named) b ++ map (replies_of named) d = map-append (replies_of named) (a ++ b) d ∙ ap (λ l. l ++ map (replies_of named) d) (map-append (replies_of named) a b) in
+    counted ∙ ap (λ n. raised_by n 0) (reads_mapped named (a ++ b ++ d) ∙ ap (sum_by (λ replies. replies.reads)) joined)

@@ -3,17 +3,15 @@ use Rattle.std.proofs.Common.{◌≡◌, ℕ, ◌+◌, ◌<◌, ◌≤◌, Bool,
 use Rattle.std.specs.Prelude.{Result, OnOk}
 use Rattle.std.proofs.lemmas.List.{length-drop, length-take-le, map_more, take_all}
 use Rattle.ts_schema.specs.declared.memory.NoMemory.{NoMemory}
-use Rattle.ts_model.specs.History.{position}
 use Rattle.ts_model.specs.States.{State}
 use Rattle.ts_sessions.specs.declared.replies.Reply.{Reply}
 use Rattle.ts_sessions.specs.declared.replies.StepEnd.{StepEnd}
 use Rattle.ts_sessions.specs.declared.replies.StepEnd.TheVariants as steps
-use Rattle.ts_sessions.specs.Held.{queued}
-use Rattle.ts_sessions.specs.LineLaws.{ReadsWithin}
-use Rattle.ts_sessions.specs.Places.{Places, no_places}
+use Rattle.ts_sessions.specs.Actors.{HadBegun}
+use Rattle.ts_sessions.specs.Places.{Block, Turn}
+use Rattle.ts_sessions.specs.Procedures.{Procedure}
 use Rattle.ts_sessions.specs.Script.{SessionLine}
-use Rattle.ts_sessions.specs.Sessions.{Stepped}
-use Rattle.ts_sessions.specs.Step.{step}
+use Rattle.ts_sessions.specs.Sessions.{IfAnswered, Stepped}
 use Rattle.par_laws.specs.Parallel.{SessionReplies, SessionExecuted, SessionExecutedTo}
 use Rattle.par_laws.proofs.SessionSteps.{begun, executed_all, executed_more, with_exchange}
 use Rattle.par_lines.specs.declared.sessions.LinePlace.{LinePlace}
@@ -28,6 +26,12 @@ kept_end line (steps.Reply r) reply result old new is kept = subst (λ x. OnOk r
 kept_end line (steps.DiskFault r) reply result old new is kept = subst (λ x. OnOk result (Keeps line x old new)) (let same : reply ≡ r = cc in same) kept
 kept_end line steps.NoMemory reply result old new is kept = absurd cc
 
+-- so the step ended with a reply
+pub answered_kept : (line : List ℕ) (end : StepEnd) (old new : Replies) (P : Type 0) → KeepsEnd line end old new → IfAnswered end P → P
+answered_kept line (steps.Reply r) old new P kept holds = holds
+answered_kept line (steps.DiskFault r) old new P kept holds = holds
+answered_kept line steps.NoMemory old new P kept holds = absurd kept
+
 -- what was said, with a line and its reply more
 said_more : (line name own : List ℕ) (reply : Reply) (old new : Replies) (before after : ℕ) → own ≡ name → Keeps line reply old new → with_exchange line reply after (said name old before) ≡ said own new after
 said_more line name own reply old new before after same kept = λ i. record {
@@ -37,55 +41,57 @@ said_more line name own reply old new before after same kept = λ i. record {
   reads = after;
 }
 
--- a line was executed whose reply was kept
-pub next_executed : (alone : Bool) (name own : List ℕ) (line : SessionLine) (old : State) (p : Places) (olds : Replies) (end : StepEnd) (new : State) (q : Places) (news : Replies) (before after : ℕ)
-    → own ≡ name → ReadsWithin p.block (position old.history) → Stepped alone old (step p line.text line.skip) name end new q before after → KeepsEnd line.text end olds news
-    → ExecutesNext alone name line old p (said name olds before) new q (said own news after)
-next_executed alone name own line old p olds (steps.Reply r) new q news before after same fits stepped kept =
-    λ lines s so_far. subst (λ replies. SessionExecutedTo alone (record { name = name; lines = lines ++ line ∷ [] }) s replies new q) (said_more line.text name own r olds news before after same kept)
-    (executed_more alone _ name lines s (said name olds before) old p line r new q after so_far fits stepped)
-next_executed alone name own line old p olds (steps.DiskFault r) new q news before after same fits stepped kept =
-    λ lines s so_far. subst (λ replies. SessionExecutedTo alone (record { name = name; lines = lines ++ line ∷ [] }) s replies new q) (said_more line.text name own r olds news before after same kept)
-    (executed_more alone _ name lines s (said name olds before) old p line r new q after so_far fits stepped)
-next_executed alone name own line old p olds steps.NoMemory new q news before after same fits stepped kept = absurd kept
-
 -- nothing was said where nothing was kept
 pub said_nothing : (name : List ℕ) (replies : Replies) (reads : ℕ) → replies.exchanges.items ≡ [] → replies.fault ≡ false → reads ≡ 0 → said name replies reads ≡ nothing_said name
 said_nothing name replies reads none no_fault zero = λ i. record { name = name; exchanges = none i; fault = no_fault i; reads = zero i }
 
+-- where nothing waits there is room for all that is to come
+pub idle_room : (waits more most : ℕ) → waits ≡ 0 → more ≤ most → waits + more ≤ most
+idle_room waits more most none le = omega (arith, none, le)
+
 -- ---- lines by their places in an input
-
--- a session before its first line
-pub begun_fresh : (alone : Bool) (name : List ℕ) (s : State) (replies : SessionReplies) (p : Places) → replies ≡ nothing_said name → p ≡ no_places → SessionExecutedTo alone (record { name = name; lines = [] }) s replies s p
-begun_fresh alone name s replies p silent fresh =
-    subst (λ q. SessionExecutedTo alone (record { name = name; lines = [] }) s replies s q) (sym fresh)
-    (subst (λ r. SessionExecutedTo alone (record { name = name; lines = [] }) s r s no_places) (sym silent) (begun alone name s))
-
--- nothing waits then
-pub fresh_room : (p : Places) (more most : ℕ) → p ≡ no_places → more ≤ most → queued p.block + more ≤ most
-fresh_room p more most fresh le = let none : queued p.block ≡ 0 = ap (λ q. queued q.block) fresh in omega arith
 
 -- the text of the line at a place has the bytes that the place says
 pub length_at : (input text : List ℕ) (line : LinePlace) → text ≡ (line_at input line).text → line.from + line.len ≤ length input → length text ≡ line.len
 length_at input text line same within = ap length same ∙ length-take-le line.len (drop line.from input) (omega (arith, length-drop line.from input))
 
--- the line at a place is executed next
-pub executed_next : (alone : Bool) (name own : List ℕ) (input text : List ℕ) (lines : List LinePlace) (i : ℕ) (d : LinePlace) (s old : State) (p : Places) (before : SessionReplies) (new : State) (q : Places) (after : SessionReplies)
-    → i < length lines → own ≡ name → text ≡ (line_at input (get_or lines i d)).text
-    → SessionExecutedTo alone (record { name = name; lines = map (line_at input) (take i lines) }) s before old p
-    → ExecutesNext alone own (record { text = text; skip = (get_or lines i d).skip }) old p before new q after
-    → SessionExecutedTo alone (record { name = name; lines = map (line_at input) (take (i + 1) lines) }) s after new q
-executed_next alone name own input text lines i d s old p before new q after lt same at so_far next =
-    let line = get_or lines i d in
-    let by_name = subst (λ n. ExecutesNext alone n (record { text = text; skip = line.skip }) old p before new q after) same next in
-    let by_text = subst (λ t. ExecutesNext alone name (record { text = t; skip = line.skip }) old p before new q after) at by_name in
-    subst (λ ls. SessionExecutedTo alone (record { name = name; lines = ls }) s after new q) (sym (map_more (line_at input) lines i d lt))
-    (by_text (map (line_at input) (take i lines)) s so_far)
+-- what lines do by the places of their session, the block that places are in, and the places of each session at its first line
+module _ {P : Type 0} (within : P → Block) (does : P → List ℕ → ℕ → Procedure (Turn P)) (first : P) where
+  -- a line was executed whose reply was kept
+  pub next_executed : (alone : Bool) (name own : List ℕ) (line : SessionLine) (old : State) (p : P) (olds : Replies) (end : StepEnd) (new : State) (q : P) (news : Replies) (before after : ℕ)
+      → own ≡ name → HadBegun within p old.history → Stepped alone old (does p line.text line.skip) name end new q before after → KeepsEnd line.text end olds news
+      → ExecutesNext within does first alone name line old p (said name olds before) new q (said own news after)
+  next_executed alone name own line old p olds (steps.Reply r) new q news before after same fits stepped kept =
+      λ lines s so_far. subst (λ replies. SessionExecutedTo within does first alone (record { name = name; lines = lines ++ line ∷ [] }) s replies new q) (said_more line.text name own r olds news before after same kept)
+      (executed_more within does first alone _ name lines s (said name olds before) old p line r new q after so_far fits stepped)
+  next_executed alone name own line old p olds (steps.DiskFault r) new q news before after same fits stepped kept =
+      λ lines s so_far. subst (λ replies. SessionExecutedTo within does first alone (record { name = name; lines = lines ++ line ∷ [] }) s replies new q) (said_more line.text name own r olds news before after same kept)
+      (executed_more within does first alone _ name lines s (said name olds before) old p line r new q after so_far fits stepped)
+  next_executed alone name own line old p olds steps.NoMemory new q news before after same fits stepped kept = absurd kept
 
--- and no line is left at the end
-pub executed_last : (alone : Bool) (name input : List ℕ) (lines : List LinePlace) (i : ℕ) (s : State) (replies : SessionReplies) (new : State) (q : Places)
-    → length lines ≤ i → SessionExecutedTo alone (record { name = name; lines = map (line_at input) (take i lines) }) s replies new q
-    → SessionExecuted alone (record { name = name; lines = map (line_at input) lines }) s replies new
-executed_last alone name input lines i s replies new q le so_far =
-    executed_all alone name (map (line_at input) lines) s replies new q
-    (subst (λ ls. SessionExecutedTo alone (record { name = name; lines = map (line_at input) ls }) s replies new q) (take_all i lines le) so_far)
+  -- a session before its first line
+  pub begun_fresh : (alone : Bool) (name : List ℕ) (s : State) (replies : SessionReplies) (p : P) → replies ≡ nothing_said name → p ≡ first → SessionExecutedTo within does first alone (record { name = name; lines = [] }) s replies s p
+  begun_fresh alone name s replies p silent fresh =
+      subst (λ q. SessionExecutedTo within does first alone (record { name = name; lines = [] }) s replies s q) (sym fresh)
+      (subst (λ r. SessionExecutedTo within does first alone (record { name = name; lines = [] }) s r s first) (sym silent) (begun within does first alone name s))
+
+  -- the line at a place is executed next
+  pub executed_next : (alone : Bool) (name own : List ℕ) (input text : List ℕ) (lines : List LinePlace) (i : ℕ) (d : LinePlace) (s old : State) (p : P) (before : SessionReplies) (new : State) (q : P) (after : SessionReplies)
+      → i < length lines → own ≡ name → text ≡ (line_at input (get_or lines i d)).text
+      → SessionExecutedTo within does first alone (record { name = name; lines = map (line_at input) (take i lines) }) s before old p
+      → ExecutesNext within does first alone own (record { text = text; skip = (get_or lines i d).skip }) old p before new q after
+      → SessionExecutedTo within does first alone (record { name = name; lines = map (line_at input) (take (i + 1) lines) }) s after new q
+  executed_next alone name own input text lines i d s old p before new q after lt same at so_far next =
+      let line = get_or lines i d in
+      let by_name = subst (λ n. ExecutesNext within does first alone n (record { text = text; skip = line.skip }) old p before new q after) same next in
+      let by_text = subst (λ t. ExecutesNext within does first alone name (record { text = t; skip = line.skip }) old p before new q after) at by_name in
+      subst (λ ls. SessionExecutedTo within does first alone (record { name = name; lines = ls }) s after new q) (sym (map_more (line_at input) lines i d lt))
+      (by_text (map (line_at input) (take i lines)) s so_far)
+
+  -- and no line is left at the end
+  pub executed_last : (alone : Bool) (name input : List ℕ) (lines : List LinePlace) (i : ℕ) (s : State) (replies : SessionReplies) (new : State) (q : P)
+      → length lines ≤ i → SessionExecutedTo within does first alone (record { name = name; lines = map (line_at input) (take i lines) }) s replies new q
+      → SessionExecuted within does first alone (record { name = name; lines = map (line_at input) lines }) s replies new
+  executed_last alone name input lines i s replies new q le so_far =
+      executed_all within does first alone name (map (line_at input) lines) s replies new q
+      (subst (λ ls. SessionExecutedTo within does first alone (record { name = name; lines = map (line_at input) ls }) s replies new q) (take_all i lines le) so_far)

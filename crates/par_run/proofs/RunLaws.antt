@@ -13,6 +13,8 @@ use Rattle.par_workers.specs.Slots.{Slot, workers_of}
 use Rattle.shared_store.specs.Stores.{Shared, Ticket}
 use Rattle.par_run.specs.declared.workers.SessionWorker.{SessionWorker}
 use Rattle.par_run.specs.Workers.{ran_out}
+use Rattle.ts_sessions.specs.Places.{Turn}
+use Rattle.ts_sessions.specs.Procedures.{Procedure}
 use Rattle.ts_sessions.specs.Script.{SessionScript}
 use Rattle.par_run.specs.declared.outputs.Output.{Output as OutputMade}
 use Rattle.par_run.specs.Crews.{RanTo}
@@ -48,7 +50,7 @@ slots_stay state store did start end olds news ran =
     sym (sym (length-map olds (λ s. s.0)) ∙ same_many state store did start end (workers_of olds) (workers_of news) ran.made ran.outcomes ∙ length-map news (λ s. s.0))
 
 -- there was memory for each line of a crew
-pub enough_is : {T G J B : Type 0} (slice items : List (Slot (SessionWorker T G J) B)) (b : Bool) → b ≡ not (list_any ran_out (workers_of slice)) → slice ≡ items → list_any ran_out (workers_of items) ≡ false → b ≡ true
+pub enough_is : {A G B : Type 0} (slice items : List (Slot (SessionWorker A G) B)) (b : Bool) → b ≡ not (list_any ran_out (workers_of slice)) → slice ≡ items → list_any ran_out (workers_of items) ≡ false → b ≡ true
 enough_is slice items b had same enough = had ∙ ap (λ s. not (list_any ran_out (workers_of s))) same ∙ ap not enough
 
 pub stop_is : (b : Bool) → is_disk_fault (stop_by b) ≡ b
@@ -60,13 +62,13 @@ goes_on_looked alone first old new is_alone looked goes = subst (GoesOn first) (
 
 -- ---- the names of the sessions
 
-pub names_of_three : (opening : History) (setup others final : List SessionScript) (new : State) (before between after : List SessionReplies) (names : List (List ℕ)) → RanInParallel opening setup others final new before between after → names ≡ map (λ r. r.name) (before ++ between ++ after) → names ≡ map (λ s. s.name) (setup ++ others ++ final)
-names_of_three opening setup others final new before between after names ran are =
+pub names_of_three : {P : Type 0} (reply : P → List ℕ → ℕ → Procedure (Turn P)) (p : P) (opening : History) (setup others final : List SessionScript) (new : State) (before between after : List SessionReplies) (names : List (List ℕ)) → RanInParallel reply p opening setup others final new before between after → names ≡ map (λ r. r.name) (before ++ between ++ after) → names ≡ map (λ s. s.name) (setup ++ others ++ final)
+names_of_three reply p opening setup others final new before between after names ran are =
     let name : SessionReplies → List ℕ = λ r. r.name in
     let own : SessionScript → List ℕ = λ s. s.name in
-    let one : map name before ≡ map own setup = explained_names _ _ _ _ _ setup before _ ran.setup_ran.phase.explained in
-    let two : map name between ≡ map own others = explained_names _ _ _ _ _ others between _ ran.others_ran.phase.explained in
-    let three : map name after ≡ map own final = explained_names _ _ _ _ _ final after _ ran.final_ran.phase.explained in
+    let one : map name before ≡ map own setup = explained_names reply _ _ _ _ _ setup before _ ran.setup_ran.phase.explained in
+    let two : map name between ≡ map own others = explained_names reply _ _ _ _ _ others between _ ran.others_ran.phase.explained in
+    let three : map name after ≡ map own final = explained_names reply _ _ _ _ _ final after _ ran.final_ran.phase.explained in
     are ∙ map-append name (before ++ between) after ∙ ap (λ l. l ++ map name after) (map-append name before between)
     ∙ (λ i. (one i ++ two i) ++ three i)
     ∙ sym (map-append own (setup ++ others) final ∙ ap (λ l. l ++ map own final) (map-append own setup others))
@@ -74,11 +76,11 @@ names_of_three opening setup others final new before between after names ran are
 -- ---- a run over the lines of an input
 
 -- what ran of some refusals and sessions ran of the same
-pub ran_of_same : (opening : History) (refusals refusals_too : List ℕ) (setup setup_too others others_too final final_too : List SessionScript) (new : State) (out : Output) (reads : ℕ)
+pub ran_of_same : {P : Type 0} (reply : P → List ℕ → ℕ → Procedure (Turn P)) (p : P) (opening : History) (refusals refusals_too : List ℕ) (setup setup_too others others_too final final_too : List SessionScript) (new : State) (out : Output) (reads : ℕ)
     → refusals ≡ refusals_too → setup ≡ setup_too → others ≡ others_too → final ≡ final_too
-    → RanTo opening refusals setup others final new out reads → RanTo opening refusals_too setup_too others_too final_too new out reads
-ran_of_same opening refusals refusals_too setup setup_too others others_too final final_too new out reads r s o f ran =
-    subst (λ x. RanTo opening refusals_too setup_too others_too x new out reads) f
-    (subst (λ x. RanTo opening refusals_too setup_too x final new out reads) o
-    (subst (λ x. RanTo opening refusals_too x others final new out reads) s
-    (subst (λ x. RanTo opening x setup others final new out reads) r ran)))
+    → RanTo reply p opening refusals setup others final new out reads → RanTo reply p opening refusals_too setup_too others_too final_too new out reads
+ran_of_same reply p opening refusals refusals_too setup setup_too others others_too final final_too new out reads r s o f ran =
+    subst (λ x. RanTo reply p opening refusals_too setup_too others_too x new out reads) f
+    (subst (λ x. RanTo reply p opening refusals_too setup_too x final new out reads) o
+    (subst (λ x. RanTo reply p opening refusals_too x others final new out reads) s
+    (subst (λ x. RanTo reply p opening x setup others final new out reads) r ran)))

@@ -3,6 +3,8 @@ use Rattle.std.specs.Prelude.{◌≡◌, ◌<◌, ◌≤◌, ℕ, List, ◌++◌
 use Rattle.ts_model.specs.History.{History}
 use Rattle.ts_model.specs.States.{State}
 use Rattle.par_workers.specs.Slots.{Slot, workers_of}
+use Rattle.ts_sessions.specs.Places.{Turn}
+use Rattle.ts_sessions.specs.Procedures.{Procedure}
 use Rattle.ts_sessions.specs.Script.{SessionScript, most_sessions}
 use Rattle.par_laws.specs.Parallel.{RanInParallel, SessionReplies}
 use Rattle.par_lines.specs.Sorted.{Sorted, at_once, final, only, setup}
@@ -10,64 +12,68 @@ use Rattle.par_run.specs.declared.crews.Crews.{Crews}
 use Rattle.par_run.specs.declared.workers.SessionWorker.{SessionWorker}
 use Rattle.par_run.specs.Outputs.{Output, Says}
 use Rattle.par_run.specs.Workers.{worker_script, IsReady}
-use Rattle.ts_model.specs.declared.snapshots.Shown.{Ghosts as Shown}
+use Rattle.ts_sessions.specs.declared.actors.Actor.{Ghosts as Actor}
 
 -- the sessions of workers
-abbrev pub scripts_in : {T G J B : Type 0} → List (Slot (SessionWorker T G J) B) → List SessionScript
-scripts_in crew = map worker_script (workers_of crew)
+abbrev pub scripts_in : {A G B : Type 0} → (A → List ℕ) → List (Slot (SessionWorker A G) B) → List SessionScript
+scripts_in named crew = map (worker_script named) (workers_of crew)
 
 -- a worker for each session, before its first line
-pub record IsCrew {T G J B : Type 0} (shown : Shown T J) (sessions : List SessionScript)
-    (crew : List (Slot (SessionWorker T G J) B)) : Type 0 where
-  pub scripts : scripts_in crew ≡ sessions
-  pub ready : All (IsReady shown) (workers_of crew)
+pub record IsCrew {A G T J B : Type 0} (actors : Actor A T J) (sessions : List SessionScript)
+    (crew : List (Slot (SessionWorker A G) B)) : Type 0 where
+  pub scripts : scripts_in actors.named crew ≡ sessions
+  pub ready : All (IsReady actors) (workers_of crew)
 
-module _ {B G T J : Type 0} where
+module _ {A B G T J : Type 0} where
   -- the workers have these sorted lines
-  pub record AreOf (lines : Sorted) (crews : Crews B G T J) : Type 0 where
+  pub record AreOf (named : A → List ℕ) (lines : Sorted) (crews : Crews A B G T J) : Type 0 where
     pub refusals : crews.refusals.items ≡ lines.refusals
-    pub setup_is : scripts_in crews.setup.items ≡ only setup lines.sessions
-    pub at_once_are : scripts_in crews.at_once.items ≡ at_once lines.sessions
-    pub last_is : scripts_in crews.last.items ≡ only final lines.sessions
+    pub setup_is : scripts_in named crews.setup.items ≡ only setup lines.sessions
+    pub at_once_are : scripts_in named crews.at_once.items ≡ at_once lines.sessions
+    pub last_is : scripts_in named crews.last.items ≡ only final lines.sessions
 
   -- each stands before its first line
-  pub record AreReady (shown : Shown T J) (crews : Crews B G T J) : Type 0 where
-    pub setup_is : All (IsReady shown) (workers_of crews.setup.items)
-    pub at_once_are : All (IsReady shown) (workers_of crews.at_once.items)
-    pub last_is : All (IsReady shown) (workers_of crews.last.items)
+  pub record AreReady {S K : Type 0} (actors : Actor A S K) (crews : Crews A B G T J) : Type 0 where
+    pub setup_is : All (IsReady actors) (workers_of crews.setup.items)
+    pub at_once_are : All (IsReady actors) (workers_of crews.at_once.items)
+    pub last_is : All (IsReady actors) (workers_of crews.last.items)
 
   -- there is at most one before all others and one after them, and no more than a script may have
-  pub record AreFew (crews : Crews B G T J) : Type 0 where
+  pub record AreFew (crews : Crews A B G T J) : Type 0 where
     pub setup_is : length crews.setup.items ≤ 1
     pub at_once_are : length crews.at_once.items ≤ most_sessions
     pub last_is : length crews.last.items ≤ 1
 
   -- so many shares of a store suffice for those that run at the same time, and for one pass more
-  pub record HaveShares (shares : ℕ) (crews : Crews B G T J) : Type 0 where
+  pub record HaveShares (shares : ℕ) (crews : Crews A B G T J) : Type 0 where
     pub setup_has : length crews.setup.items < shares
     pub at_once_have : length crews.at_once.items < shares
     pub last_has : length crews.last.items < shares
 
--- over an opening history first the sessions of `setup` ran, then `others` all at once, then those of `final`, beside
--- lines that were refused with a text. They left a state and this output, and so many stored rows were looked at
-pub record RanTo (opening : History) (refusals : List ℕ) (setup others final : List SessionScript) (new : State)
-    (out : Output) (reads : ℕ) : Type 0 where
-  -- what the sessions of each phase replied
-  pub before : List SessionReplies
-  pub between : List SessionReplies
-  pub after : List SessionReplies
-  pub ran : RanInParallel opening setup others final new before between after
-  pub says : Says refusals (before ++ between ++ after) out reads
-  pub names : out.names ≡ map (λ session. session.name) (setup ++ others ++ final)
+-- the replies to lines by the places of their session, and the places of each session at its first line
+module _ {P : Type 0} (reply : P → List ℕ → ℕ → Procedure (Turn P)) (p : P) where
+  -- over an opening history first the sessions of `setup` ran, then `others` all at once, then those of `final`, beside
+  -- lines that were refused with a text. They left a state and this output, and so many stored rows were looked at
+  pub record RanTo (opening : History) (refusals : List ℕ) (setup others final : List SessionScript) (new : State)
+      (out : Output) (reads : ℕ) : Type 0 where
+    -- what the sessions of each phase replied
+    pub before : List SessionReplies
+    pub between : List SessionReplies
+    pub after : List SessionReplies
+    pub ran : RanInParallel reply p opening setup others final new before between after
+    pub says : Says refusals (before ++ between ++ after) out reads
+    pub names : out.names ≡ map (λ session. session.name) (setup ++ others ++ final)
+
+  -- the sessions of the sorted lines of an input did
+  abbrev pub LinesRan : History → Sorted → State → Output → ℕ → Type 0
+  LinesRan opening lines new out reads =
+      RanTo opening lines.refusals (only setup lines.sessions) (at_once lines.sessions) (only final lines.sessions) new
+      out reads
 
 -- workers did so
-abbrev pub CrewsRan : {B G T J : Type 0} → History → Crews B G T J → State → Output → ℕ → Type 0
-CrewsRan opening crews new out reads =
-    RanTo opening crews.refusals.items (scripts_in crews.setup.items) (scripts_in crews.at_once.items)
-    (scripts_in crews.last.items) new out reads
-
--- the sessions of the sorted lines of an input did
-abbrev pub LinesRan : History → Sorted → State → Output → ℕ → Type 0
-LinesRan opening lines new out reads =
-    RanTo opening lines.refusals (only setup lines.sessions) (at_once lines.sessions) (only final lines.sessions) new
-    out reads
+abbrev pub CrewsRan :
+    {A S K B G T J : Type 0} → Actor A S K → History → Crews A B G T J → State → Output → ℕ → Type 0
+CrewsRan actors opening crews new out reads =
+    RanTo actors.replies (actors.semantics.opening 0) opening crews.refusals.items
+    (scripts_in actors.named crews.setup.items) (scripts_in actors.named crews.at_once.items)
+    (scripts_in actors.named crews.last.items) new out reads

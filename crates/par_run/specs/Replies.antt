@@ -4,7 +4,8 @@ use Rattle.ts_model.specs.States.{State}
 use Rattle.ts_sessions.specs.declared.replies.Reply.{Reply as ReplyMade}
 use Rattle.ts_sessions.specs.declared.replies.StepEnd.{StepEnd}
 use Rattle.ts_sessions.specs.declared.replies.StepEnd.TheVariants as steps
-use Rattle.ts_sessions.specs.Places.{Places}
+use Rattle.ts_sessions.specs.Places.{Block, Turn}
+use Rattle.ts_sessions.specs.Procedures.{Procedure}
 use Rattle.ts_sessions.specs.Script.{SessionLine}
 use Rattle.par_laws.specs.Parallel.{SessionReplies, SessionExecutedTo}
 use Rattle.par_run.specs.declared.replies.Replies.{Replies}
@@ -35,9 +36,12 @@ said name replies reads = record {
   reads = reads;
 }
 
--- whatever lines a session with a name had executed from a state on, it has executed one line more
-abbrev pub ExecutesNext :
-    Bool → List ℕ → SessionLine → State → Places → SessionReplies → State → Places → SessionReplies → Type 0
-ExecutesNext alone name line old p before new q after = (lines : List SessionLine) (s : State)
-    → SessionExecutedTo alone (record { name = name; lines = lines }) s before old p
-    → SessionExecutedTo alone (record { name = name; lines = lines ++ line ∷ [] }) s after new q
+-- what lines do by the places of their session, the block that places are in, and the places of each session at its
+-- first line
+module _ {P : Type 0} (within : P → Block) (does : P → List ℕ → ℕ → Procedure (Turn P)) (first : P) where
+  -- whatever lines a session with a name had executed from a state on, it has executed one line more
+  abbrev pub ExecutesNext :
+      Bool → List ℕ → SessionLine → State → P → SessionReplies → State → P → SessionReplies → Type 0
+  ExecutesNext alone name line old p before new q after = (lines : List SessionLine) (s : State)
+      → SessionExecutedTo within does first alone (record { name = name; lines = lines }) s before old p
+      → SessionExecutedTo within does first alone (record { name = name; lines = lines ++ line ∷ [] }) s after new q

@@ -10,41 +10,39 @@ use crate::workers::SessionWorker;
 use par_lines::{SessionLines, into_phases, sort_lines};
 use par_workers::Slot;
 use std::alloc::Global;
-use ts_model::{Backend, Gate, Shown};
+use ts_model::{Backend, Gate};
 use ts_schema::NoMemory;
+use ts_sessions::Actor;
 
 /// Workers, each with the place for its pass.
-pub(crate) type Crew<'a, B, G> = Vec<Slot<SessionWorker<'a, <B as Backend>::Shot, G>, B>>;
+pub(crate) type Crew<'a, A, B, G> = Vec<Slot<SessionWorker<'a, A, G>, B>>;
 
 /// The workers of a run by who runs when, and the refusals of the other lines of its input.
 #[derive(Drop)]
-pub(crate) struct Crews<'a, B: Backend, G>
-where
-    <B::Shot as Shown>::Job: Drop,
-{
+pub(crate) struct Crews<'a, A, B: Backend, G> {
     /// The refusals of lines that no session answers, in order.
     pub refusals: Vec<u8>,
     /// The worker of `setup`, which runs before all others.
-    pub setup: Crew<'a, B, G>,
+    pub setup: Crew<'a, A, B, G>,
     /// Those that run all at once, in order of appearance.
-    pub at_once: Crew<'a, B, G>,
+    pub at_once: Crew<'a, A, B, G>,
     /// The worker of `final`, which runs after all others.
-    pub last: Crew<'a, B, G>,
+    pub last: Crew<'a, A, B, G>,
 }
 
 /// The workers for the lines of an input.
-pub(crate) fn make_crews<'a, B, G>(
+pub(crate) fn make_crews<'a, A, B, G>(
     alloc: Global,
     input: &'a [u8],
     gate: &'a G,
-) -> Result<Crews<'a, B, G>, NoMemory>
+) -> Result<Crews<'a, A, B, G>, NoMemory>
 where
+    A: Actor + Drop,
     B: Backend,
-    <B::Shot as Shown>::Job: Drop,
     G: Gate,
     requires short { length input.now ≤ INPUT_LIMIT }
-    ensures lines { IfOk result (AreOf (sorted input.now)) }
-    ensures ready { IfOk result (AreReady B.Shot.Shown) }
+    ensures lines { IfOk result (AreOf A.named (sorted input.now)) }
+    ensures ready { IfOk result (AreReady A.Actor) }
     ensures few { IfOk result AreFew }
 {
     let lines = sort_lines(alloc, input)?;
@@ -73,19 +71,19 @@ fn listed(alloc: Global, session: Option<SessionLines>) -> Result<Vec<SessionLin
 }
 
 /// A worker for each session.
-fn make_crew<'a, B, G>(
+fn make_crew<'a, A, B, G>(
     alloc: Global,
     sessions: Vec<SessionLines>,
     input: &'a [u8],
     gate: &'a G,
-) -> Result<Crew<'a, B, G>, NoMemory>
+) -> Result<Crew<'a, A, B, G>, NoMemory>
 where
+    A: Actor + Drop,
     B: Backend,
-    <B::Shot as Shown>::Job: Drop,
     G: Gate,
     requires short { length input.now ≤ INPUT_LIMIT }
     requires within { All (IsWithin (length input.now)) sessions.items }
-    ensures crew { IfOk result (λ crew. IsCrew B.Shot.Shown
+    ensures crew { IfOk result (λ crew. IsCrew A.Actor
         (scripts_of input.now sessions.items) crew.items) }
     ensures each { IfOk result (λ crew. length crew.items ≡ length sessions.items) }
 {

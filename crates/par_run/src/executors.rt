@@ -1,8 +1,7 @@
-//! A session that executes lines one after the other.
+//! A session whose lines are executed one after the other.
 ghost use Rattle.std.specs.Prelude.{◌≡◌, ◌+◌, ◌≤◌, All, length, map, sum_by, OnOk};
 ghost use Rattle.std.specs.Thread.{IsSync};
-ghost use Rattle.ts_sessions.specs.Held.{HoldsOf, most_queued, places_in, queued, waiting_bytes};
-ghost use Rattle.ts_sessions.specs.Places.{no_places};
+ghost use Rattle.ts_sessions.specs.Held.{most_queued};
 ghost use Rattle.par_laws.specs.Parallel.{SessionExecuted};
 ghost use Rattle.par_lines.specs.Places.{line_at, IsLineWithin};
 ghost use Rattle.par_run.specs.Replies.{ExecutesNext};
@@ -12,22 +11,19 @@ use crate::replies::Replies;
 use par_lines::LinePlace;
 use std::alloc::Global;
 use std::thread::Threads;
-use ts_model::{Backend, Gate, Shown};
+use ts_model::{Backend, Gate};
 use ts_schema::{NoMemory, Steps};
-use ts_sessions::Session;
+use ts_sessions::Actor;
 
 /// The name of the count of stored rows that a session looks at.
 #[derive(Drop)]
 pub(crate) struct Reads;
 
-/// A session that executes lines, and keeps what it replies.
+/// A session whose lines are executed, and what it replies.
 #[derive(Drop)]
-pub(crate) struct Executor<'a, T: Shown + Drop, G>
-where
-    T::Job: Drop,
-{
-    /// The session.
-    pub session: Session<T>,
+pub(crate) struct Executor<'a, A, G> {
+    /// Who executes its lines.
+    pub actor: A,
     /// Called after each reply.
     pub gate: &'a G,
     /// The allocator.
@@ -38,12 +34,9 @@ where
     pub steps: Steps<Reads>,
 }
 
-impl<'a, T: Shown + Drop, G: Gate> Executor<'a, T, G>
-where
-    T::Job: Drop,
-{
+impl<'a, A: Actor, G: Gate> Executor<'a, A, G> {
     /// Executes lines of an input in order, until there is no memory for one.
-    pub fn execute_all<R: Threads + Sync, B: Backend<Shot = T>>(
+    pub fn execute_all<R: Threads + Sync, B: Backend<Shot = A::Shot>>(
         &mut self,
         rt: &R,
         backend: &mut B,
@@ -53,13 +46,14 @@ where
         requires sync { IsSync R.row }
         requires lines { All (IsLineWithin (length input.now)) lines.now }
         requires room { sum_by (λ line. line.len) lines.now ≤ most_queued }
-        requires fresh { places_in self.old.session ≡ no_places }
-        requires holds { HoldsOf T.Shown self.old.session (B.state backend.old) }
-        requires unanswered { said_by self.old ≡ nothing_said self.old.session.name }
-        ensures executed { OnOk result (SessionExecuted B.alone
-            (record { name = self.old.session.name; lines = map (line_at input.now) lines.now })
-            (B.state backend.old) (said_by self.new) (B.state backend.new)) }
-        ensures name { self.new.session.name ≡ self.old.session.name }
+        requires fresh { A.places self.old.actor ≡ A.semantics.opening 0 }
+        requires idle { A.waiting self.old.actor ≡ 0 }
+        requires holds { A.holds self.old.actor (B.state backend.old) }
+        requires unanswered { said_by A.named self.old ≡ nothing_said (A.named self.old.actor) }
+        ensures executed { OnOk result (SessionExecuted A.within A.semantics.does (A.semantics.opening 0) B.alone
+            (record { name = A.named self.old.actor; lines = map (line_at input.now) lines.now })
+            (B.state backend.old) (said_by A.named self.new) (B.state backend.new)) }
+        ensures name { A.named self.new.actor ≡ A.named self.old.actor }
         ensures kin { B.kin backend.new ≡ B.kin backend.old }
     {
         for line in lines {
@@ -70,7 +64,7 @@ where
 
     /// Executes a line, and keeps its reply. `text` is the line before its comment, and its statement
     /// stands after the first `skip` bytes.
-    fn execute<R: Threads + Sync, B: Backend<Shot = T>>(
+    fn execute<R: Threads + Sync, B: Backend<Shot = A::Shot>>(
         &mut self,
         rt: &R,
         backend: &mut B,
@@ -80,18 +74,18 @@ where
         requires sync { IsSync R.row }
         requires short { length text.now ≤ 65536 }
         requires within { skip ≤ length text.now }
-        requires room { waiting_bytes self.old.session + length text.now ≤ most_queued }
-        requires holds { HoldsOf T.Shown self.old.session (B.state backend.old) }
-        ensures executed { OnOk result (ExecutesNext B.alone self.old.session.name
-            (record { text = text.now; skip = skip })
-            (B.state backend.old) (places_in self.old.session) (said_by self.old)
-            (B.state backend.new) (places_in self.new.session) (said_by self.new)) }
-        ensures name { self.new.session.name ≡ self.old.session.name }
-        ensures holds { HoldsOf T.Shown self.new.session (B.state backend.new) }
-        ensures queued { waiting_bytes self.new.session ≤ waiting_bytes self.old.session + length text.now }
+        requires room { A.waiting self.old.actor + length text.now ≤ most_queued }
+        requires holds { A.holds self.old.actor (B.state backend.old) }
+        ensures executed { OnOk result (ExecutesNext A.within A.semantics.does (A.semantics.opening 0) B.alone
+            (A.named self.old.actor) (record { text = text.now; skip = skip })
+            (B.state backend.old) (A.places self.old.actor) (said_by A.named self.old)
+            (B.state backend.new) (A.places self.new.actor) (said_by A.named self.new)) }
+        ensures name { A.named self.new.actor ≡ A.named self.old.actor }
+        ensures holds { OnOk result (A.holds self.new.actor (B.state backend.new)) }
+        ensures waiting { A.waiting self.new.actor ≤ A.waiting self.old.actor + length text.now }
         ensures kin { B.kin backend.new ≡ B.kin backend.old }
     {
-        let end = self.session.step(
+        let end = self.actor.act(
             rt,
             self.alloc,
             backend,
@@ -101,7 +95,7 @@ where
             &mut self.steps,
         );
         self.replies.keep(self.alloc, text, end)?;
-        self.gate.answered(self.session.number);
+        self.gate.answered(self.actor.number());
         Ok(())
     }
 }

@@ -15,9 +15,9 @@ use crate::workers::SessionWorker;
 use par_laws::Exchange;
 use par_workers::Slot;
 use std::alloc::Global;
-use ts_model::{Backend, Shown};
+use ts_model::Backend;
 use ts_schema::{Name, NoMemory};
-use ts_sessions::Session;
+use ts_sessions::Actor;
 
 /// What a run writes.
 #[derive(Drop)]
@@ -34,18 +34,21 @@ pub(crate) struct Output {
 
 /// The refusals of a run, and what its workers have replied in the order in which they ran, unless there
 /// was no memory for a line of one of them.
-pub(crate) fn all_replies<B, G>(alloc: Global, crews: Crews<'_, B, G>) -> Result<Output, NoMemory>
+pub(crate) fn all_replies<A, B, G>(
+    alloc: Global,
+    crews: Crews<'_, A, B, G>,
+) -> Result<Output, NoMemory>
 where
+    A: Actor + Drop,
     B: Backend,
-    <B::Shot as Shown>::Job: Drop,
     requires few { AreFew crews }
     ensures setup { OnOk result (list_any ran_out (workers_of crews.entry.setup.items) ≡ false) }
     ensures at_once { OnOk result (list_any ran_out (workers_of crews.entry.at_once.items) ≡ false) }
     ensures last { OnOk result (list_any ran_out (workers_of crews.entry.last.items) ≡ false) }
     ensures output { IfOk result (λ output. output_in output ≡
-        with_sessions (map replies_of (workers_of crews.entry.last.items))
-        (with_sessions (map replies_of (workers_of crews.entry.at_once.items))
-        (with_sessions (map replies_of (workers_of crews.entry.setup.items))
+        with_sessions (map (replies_of A.named) (workers_of crews.entry.last.items))
+        (with_sessions (map (replies_of A.named) (workers_of crews.entry.at_once.items))
+        (with_sessions (map (replies_of A.named) (workers_of crews.entry.setup.items))
         (refusals_only crews.entry.refusals.items)))) }
 {
     let Crews {
@@ -75,14 +78,14 @@ fn has_bytes(text: &[u8]) -> bool
 
 /// Appends what the workers of a crew have replied, in order, unless there was no memory for a line of one
 /// of them.
-fn append_crew<B, G>(output: &mut Output, crew: Crew<'_, B, G>) -> Result<(), NoMemory>
+fn append_crew<A, B, G>(output: &mut Output, crew: Crew<'_, A, B, G>) -> Result<(), NoMemory>
 where
+    A: Actor + Drop,
     B: Backend,
-    <B::Shot as Shown>::Job: Drop,
     requires few { length output.old.names.items + length crew.items < 2 ^ 32 }
     ensures enough { OnOk result (list_any ran_out (workers_of crew.entry.items) ≡ false) }
     ensures output { OnOk result (output_in output.new
-        ≡ with_sessions (map replies_of (workers_of crew.entry.items)) (output_in output.old)) }
+        ≡ with_sessions (map (replies_of A.named) (workers_of crew.entry.items)) (output_in output.old)) }
     ensures names { OnOk result
         (length output.new.names.items ≡ length output.old.names.items + length crew.entry.items) }
 {
@@ -94,27 +97,20 @@ where
 
 #[tactic(auto, using(crate::proofs::OutputLaws::appended))]
 /// Appends what a worker has replied, unless there was no memory for a line of it.
-fn append_worker<T: Shown + Drop, G>(
-    output: &mut Output,
-    worker: SessionWorker<'_, T, G>,
-) -> Result<(), NoMemory>
+fn append_worker<A, G>(output: &mut Output, worker: SessionWorker<'_, A, G>) -> Result<(), NoMemory>
 where
-    T::Job: Drop,
+    A: Actor + Drop,
     requires few { length output.old.names.items < 2 ^ 32 }
     ensures enough { OnOk result (ran_out worker.entry ≡ false) }
     ensures output { OnOk result
-        (output_in output.new ≡ with_session (replies_of worker.entry) (output_in output.old)) }
+        (output_in output.new ≡ with_session (replies_of A.named worker.entry) (output_in output.old)) }
 {
     if worker.out_of_memory {
         return Err(NoMemory);
     }
     let SessionWorker { executor, .. } = worker;
-    let Executor {
-        session,
-        replies,
-        ..
-    } = executor;
-    let Session { name, .. } = session;
+    let Executor { actor, replies, .. } = executor;
+    let name = actor.name().copy()?;
     let Replies { exchanges, fault } = replies;
     let place = output.names.len() as u32;
     output.names.push(name)?;
@@ -147,21 +143,21 @@ fn append_exchanges(
 }
 
 /// Whether there was memory for each line of the workers of a crew.
-pub(crate) fn had_memory<B, G>(crew: &[Slot<SessionWorker<'_, B::Shot, G>, B>]) -> bool
+pub(crate) fn had_memory<A, B, G>(crew: &[Slot<SessionWorker<'_, A, G>, B>]) -> bool
 where
+    A: Actor + Drop,
     B: Backend,
-    <B::Shot as Shown>::Job: Drop,
     ensures { result ≡ not (list_any ran_out (workers_of crew.now)) }
 {
     !crew.iter().any(|slot| slot.0.out_of_memory)
 }
 
 /// How many stored rows all workers have looked at. The sum stands still at its type's end.
-pub(crate) fn all_reads<B, G>(crews: &Crews<'_, B, G>) -> u64
+pub(crate) fn all_reads<A, B, G>(crews: &Crews<'_, A, B, G>) -> u64
 where
+    A: Actor + Drop,
     B: Backend,
-    <B::Shot as Shown>::Job: Drop,
-    ensures { result ≡ raised_by (sum_by (λ w. (replies_of w).reads)
+    ensures { result ≡ raised_by (sum_by (λ w. (replies_of A.named w).reads)
         (workers_of crews.now.setup.items ++ workers_of crews.now.at_once.items
         ++ workers_of crews.now.last.items)) 0 }
 {
@@ -171,11 +167,11 @@ where
 }
 
 /// How many stored rows the workers of a crew have looked at.
-fn reads_of<B, G>(crew: &[Slot<SessionWorker<'_, B::Shot, G>, B>]) -> u64
+fn reads_of<A, B, G>(crew: &[Slot<SessionWorker<'_, A, G>, B>]) -> u64
 where
+    A: Actor + Drop,
     B: Backend,
-    <B::Shot as Shown>::Job: Drop,
-    ensures { result ≡ raised_by (sum_by (λ w. (replies_of w).reads) (workers_of crew.now)) 0 }
+    ensures { result ≡ raised_by (sum_by (λ w. (replies_of A.named w).reads) (workers_of crew.now)) 0 }
 {
     let mut reads: u64 = 0;
     for slot in crew {

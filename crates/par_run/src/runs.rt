@@ -26,28 +26,31 @@ use std::sync::Wait;
 use std::thread::Threads;
 use ts_model::{Backend, Gate, Shown};
 use ts_schema::{NoMemory, Seq};
+use ts_sessions::Actor;
 
-/// Runs the lines of an input over a store that is alone and goes on, by one worker for each session:
-/// `setup` alone, then all other sessions at once, each in a thread of its own, then `final` alone. It
-/// gives the store back on each ending, and may wait, as the workers take turns at the store.
+/// Runs the lines of an input over a store that is alone and goes on, by one worker for each session, which
+/// has an actor for its lines: `setup` alone, then all other sessions at once, each in a thread of its own,
+/// then `final` alone. It gives the store back on each ending, and may wait, as the workers take turns at the
+/// store.
 ///
-/// The replies and the store are as if each line had been answered over the one history that the store
-/// then holds, at positions that never fall from one line of a session to its next. After a disk fault the
+/// The replies and the store are as if each line had been answered, as the actors tell by their replies, over
+/// the one history that the store then holds, at positions that never fall from one line of a session to its next. After a disk fault the
 /// store stands still, and the sessions go on. Where there is no memory for a line, its session ends there,
 /// and no phase begins any more.
-pub fn par<B, R, G>(rt: &R, alloc: Global, backend: B, input: &[u8], gate: &G) -> ParEnd<B>
+pub fn par<A, B, R, G>(rt: &R, alloc: Global, backend: B, input: &[u8], gate: &G) -> ParEnd<B>
 where
+    A: Actor<Shot = B::Shot> + Drop + Send,
     B: Backend + Send,
     B::Shot: Send,
-    <B::Shot as Shown>::Job: Send + Drop,
+    <B::Shot as Shown>::Job: Send,
     G: Gate + Sync,
     R: Threads + Wait + Sync,
     requires sync { IsSync R.row }
     requires alone { IsTrue B.alone }
     requires going { stands_still (B.state backend) ≡ false }
     requires within { length input.now ≤ INPUT_LIMIT }
-    ensures ran { result.stop ≢ ParStop.NoMemory → LinesRan (B.state backend).history (sorted input.now)
-        (B.state result.backend) (output_of result) result.reads }
+    ensures ran { result.stop ≢ ParStop.NoMemory → LinesRan A.replies (A.semantics.opening 0)
+        (B.state backend).history (sorted input.now) (B.state result.backend) (output_of result) result.reads }
     ensures start { result.start ≡ position (B.state backend).history }
     ensures stop { result.stop ≢ ParStop.NoMemory
         → stands_still (B.state result.backend) ≡ is_disk_fault result.stop }
@@ -55,33 +58,34 @@ where
     ensures kin { B.kin result.backend ≡ B.kin backend }
 {
     let start = backend.position();
-    match make_crews(alloc, input, gate) {
+    match make_crews::<A, B, G>(alloc, input, gate) {
         Ok(crews) => run_over(rt, alloc, backend, start, crews),
         Err(NoMemory) => ended(alloc, backend, start, Err(NoMemory), 0),
     }
 }
 
 /// Shares a store among the workers, and runs them.
-fn run_over<B, R, G>(
+fn run_over<A, B, R, G>(
     rt: &R,
     alloc: Global,
     backend: B,
     start: u64,
-    crews: Crews<'_, B, G>,
+    crews: Crews<'_, A, B, G>,
 ) -> ParEnd<B>
 where
+    A: Actor<Shot = B::Shot> + Drop + Send,
     B: Backend + Send,
     B::Shot: Send,
-    <B::Shot as Shown>::Job: Send + Drop,
+    <B::Shot as Shown>::Job: Send,
     G: Gate + Sync,
     R: Threads + Wait + Sync,
     requires sync { IsSync R.row }
     requires alone { IsTrue B.alone }
     requires going { (B.state backend).failed ≡ None }
     requires few { AreFew crews }
-    requires ready { AreReady B.Shot.Shown crews }
-    ensures ran { result.stop ≢ ParStop.NoMemory → CrewsRan (B.state backend).history crews.entry
-        (B.state result.backend) (output_of result) result.reads }
+    requires ready { AreReady A.Actor crews }
+    ensures ran { result.stop ≢ ParStop.NoMemory → CrewsRan A.Actor
+        (B.state backend).history crews.entry (B.state result.backend) (output_of result) result.reads }
     ensures start { result.start ≡ start }
     ensures stop { result.stop ≢ ParStop.NoMemory
         → stands_still (B.state result.backend) ≡ is_disk_fault result.stop }
@@ -97,18 +101,19 @@ where
 }
 
 /// Runs the workers over a store, and closes it.
-fn run_crews<B, R, G>(
+fn run_crews<A, B, R, G>(
     rt: &R,
     alloc: Global,
     store: SharedStore<B>,
     pass: Pass<B>,
     start: u64,
-    crews: Crews<'_, B, G>,
+    crews: Crews<'_, A, B, G>,
 ) -> ParEnd<B>
 where
+    A: Actor<Shot = B::Shot> + Drop + Send,
     B: Backend + Send,
     B::Shot: Send,
-    <B::Shot as Shown>::Job: Send + Drop,
+    <B::Shot as Shown>::Job: Send,
     G: Gate + Sync,
     R: Threads + Wait + Sync,
     requires sync { IsSync R.row }
@@ -116,9 +121,9 @@ where
     requires first { IsFirstPass store.opened.value store.shares store pass }
     requires shares { HaveShares store.shares crews }
     requires few { AreFew crews }
-    requires ready { AreReady B.Shot.Shown crews }
-    ensures ran { result.stop ≢ ParStop.NoMemory → CrewsRan (B.state store.opened.value).history crews.entry
-        (B.state result.backend) (output_of result) result.reads }
+    requires ready { AreReady A.Actor crews }
+    ensures ran { result.stop ≢ ParStop.NoMemory → CrewsRan A.Actor
+        (B.state store.opened.value).history crews.entry (B.state result.backend) (output_of result) result.reads }
     ensures start { result.start ≡ start }
     ensures stop { result.stop ≢ ParStop.NoMemory
         → stands_still (B.state result.backend) ≡ is_disk_fault result.stop }
@@ -135,6 +140,7 @@ where
     // A look at the store tells that all its events were allowed. The snapshot itself isn't needed.
     let _ = backend.snap();
     let reads = all_reads(&crews);
+    A::tells_replies();
     ended(alloc, backend, start, all_replies(alloc, crews), reads)
 }
 

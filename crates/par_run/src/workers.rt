@@ -1,4 +1,4 @@
-//! A session that executes its lines of an input at a store.
+//! A session whose lines of an input are executed at a store.
 ghost use Rattle.std.specs.Prelude.{◌≡◌, ◌≤◌, length};
 ghost use Rattle.ts_io.specs.declared.limits.TheConstants.{INPUT_LIMIT};
 ghost use Rattle.par_lines.specs.Places.{script_of, IsWithin};
@@ -9,18 +9,15 @@ use par_lines::{LinePlace, SessionLines};
 use par_workers::Worker;
 use std::alloc::Global;
 use std::thread::Threads;
-use ts_model::{Backend, Gate, Shown};
+use ts_model::{Backend, Gate};
 use ts_schema::Steps;
-use ts_sessions::Session;
+use ts_sessions::Actor;
 
 /// A session with its lines of an input.
 #[derive(Drop)]
-pub(crate) struct SessionWorker<'a, T: Shown + Drop, G>
-where
-    T::Job: Drop,
-{
+pub(crate) struct SessionWorker<'a, A, G> {
     /// What executes the lines.
-    pub executor: Executor<'a, T, G>,
+    pub executor: Executor<'a, A, G>,
     /// The input.
     pub input: &'a [u8],
     /// The places of the lines in the input, in order.
@@ -29,10 +26,7 @@ where
     pub out_of_memory: bool,
 }
 
-impl<'a, T: Shown + Drop, G: Gate> SessionWorker<'a, T, G>
-where
-    T::Job: Drop,
-{
+impl<'a, A: Actor, G: Gate> SessionWorker<'a, A, G> {
     ghost use Rattle.par_run.specs.Workers.{worker_script, IsReady};
 
     #[tactic(auto, using(crate::proofs::ReplyLaws::said_nothing))]
@@ -42,11 +36,11 @@ where
         session: SessionLines,
         input: &'a [u8],
         gate: &'a G,
-    ) -> SessionWorker<'a, T, G>
+    ) -> SessionWorker<'a, A, G>
         requires short { length input.now ≤ INPUT_LIMIT }
         requires within { IsWithin (length input.now) session }
-        ensures script { worker_script result ≡ script_of input.now session }
-        ensures ready { IsReady T.Shown result }
+        ensures script { worker_script A.named result ≡ script_of input.now session }
+        ensures ready { IsReady A.Actor result }
     {
         let SessionLines {
             name,
@@ -55,7 +49,7 @@ where
         } = session;
         SessionWorker {
             executor: Executor {
-                session: Session::new(alloc, name, number),
+                actor: A::begin(alloc, name, number),
                 gate,
                 alloc,
                 replies: Replies::new(alloc),
@@ -68,20 +62,18 @@ where
     }
 }
 
-impl<'a, T: Shown + Drop, G: Gate> Worker for SessionWorker<'a, T, G>
-where
-    T::Job: Drop,
-{
+impl<'a, A: Actor, G: Gate> Worker for SessionWorker<'a, A, G> {
     ghost use Rattle.par_laws.specs.Calls.{Worked};
     ghost use Rattle.par_run.specs.Workers.{ran_out, replies_of, worker_script, IsReady};
 
-    type Shot = T;
+    type Shot = A::Shot;
 
-    ghost ready = { IsReady T.Shown };
+    ghost ready = { IsReady A.Actor };
 
-    ghost did = { Worked worker_script replies_of ran_out };
+    ghost did = { Worked A.within A.semantics.does (A.semantics.opening 0)
+        (worker_script A.named) (replies_of A.named) ran_out };
 
-    fn work<R: Threads + Sync, B: Backend<Shot = T>>(&mut self, rt: &R, backend: &mut B) {
+    fn work<R: Threads + Sync, B: Backend<Shot = A::Shot>>(&mut self, rt: &R, backend: &mut B) {
         let end = self
             .executor
             .execute_all(rt, backend, self.input, self.lines.as_slice());

@@ -11,7 +11,7 @@ pub loop-session-init : goal.loop-session-init
 loop-session-init g c = record {
   can = tt;
   finite = tt;
-  crew = crew_begun g.B.Shot.Shown c.args.input.now c.new-crew.result.items c.new-crew.ensures.items;
+  crew = crew_begun g.A.Actor c.args.input.now c.new-crew.result.items c.new-crew.ensures.items;
   each = ap length c.new-crew.ensures.items;
 }
 
@@ -25,7 +25,7 @@ pub loop-session-preserved : goal.loop-session-preserved
 loop-session-preserved g c = record {
   can = tt;
   finite = tt;
-  crew = crew_more g.B.Shot.Shown c.args.input.now c.loop-session.yielded c.loop-session.crew.items
+  crew = crew_more g.A.Actor c.args.input.now c.loop-session.yielded c.loop-session.crew.items
       c.in-Some.session (c.new.result, None) c.push.new.self.items c.loop-session.invariant.crew c.new.ensures.script c.new.ensures.ready c.in_ok-push.ensures.items;
   each = ap length c.in_ok-push.ensures.items ∙ length_push c.loop-session.crew.items (c.new.result, None) ∙ ap (λ n. n + 1) c.loop-session.invariant.each ∙ sym (length_push c.loop-session.yielded c.in-Some.session);
 }
@@ -34,7 +34,7 @@ pub returns-clause-crew : goal.returns-clause-crew
 returns-clause-crew g c =
     let end = YieldsList-end (YieldsList-from_vec {s = c.into_iter-session-iterator.result} c.args.sessions.items (search rules) (search rules))
     c.loop-session.yielded c.loop-session.session-iterator c.loop-session.yielded_by c.next.result c.next.new.self c.in-None.is c.next.ensures.steps in
-    subst (λ xs. IsCrew g.B.Shot.Shown (scripts_of c.args.input.now xs) c.loop-session.crew.items)
+    subst (λ xs. IsCrew g.A.Actor (scripts_of c.args.input.now xs) c.loop-session.crew.items)
     (sym (map-id c.loop-session.yielded) ∙ end.0) c.loop-session.invariant.crew
 
 pub returns-clause-each : goal.returns-clause-each

@@ -7,6 +7,6 @@ abbrev pub invariant-loop-session : goal.invariant-loop-session
 invariant-loop-session g l = record {
   can : (goal.iterator-loop-session g).can_next l.session-iterator;
   finite : (goal.iterator-loop-session g).is_finite l.session-iterator;
-  crew : IsCrew g.B.Shot.Shown (scripts_of l.input l.yielded) l.crew.items;
+  crew : IsCrew g.A.Actor (scripts_of l.input l.yielded) l.crew.items;
   each : length l.crew.items ≡ length l.yielded;
 }

@@ -25,9 +25,9 @@ returns-clause-lines g c =
     let sorted_so = c.in_ok-lines.ensures.sorted in
     record {
       refusals = ap (λ s. s.refusals) sorted_so;
-      setup_is = of_phase input lines (only setup) (option_to_list phases.result.setup) c.in_ok-setup_session.setup_session.items c.in_ok-setup.setup.items c.in_ok-setup.ensures.crew.scripts c.in_ok-setup_session.ensures (phases.ensures.setup input) sorted_so;
-      at_once_are = of_phase input lines at_once phases.result.at_once.items phases.result.at_once.items c.in_ok-at_once.at_once.items c.in_ok-at_once.ensures.crew.scripts refl (phases.ensures.at_once input) sorted_so;
-      last_is = of_phase input lines (only final) (option_to_list phases.result.last) c.in_ok-last_session.last_session.items c.in_ok-last.last.items c.in_ok-last.ensures.crew.scripts c.in_ok-last_session.ensures (phases.ensures.last input) sorted_so;
+      setup_is = of_phase g.A.Actor.named input lines (only setup) (option_to_list phases.result.setup) c.in_ok-setup_session.setup_session.items c.in_ok-setup.setup.items c.in_ok-setup.ensures.crew.scripts c.in_ok-setup_session.ensures (phases.ensures.setup input) sorted_so;
+      at_once_are = of_phase g.A.Actor.named input lines at_once phases.result.at_once.items phases.result.at_once.items c.in_ok-at_once.at_once.items c.in_ok-at_once.ensures.crew.scripts refl (phases.ensures.at_once input) sorted_so;
+      last_is = of_phase g.A.Actor.named input lines (only final) (option_to_list phases.result.last) c.in_ok-last_session.last_session.items c.in_ok-last.last.items c.in_ok-last.ensures.crew.scripts c.in_ok-last_session.ensures (phases.ensures.last input) sorted_so;
     }
 
 pub returns-clause-ready : goal.returns-clause-ready

@@ -22,12 +22,12 @@ pub loop-slot-preserved-in_ok-append_worker : goal.loop-slot-preserved-in_ok-app
 loop-slot-preserved-in_ok-append_worker g c =
     let more = c.in_ok-append_worker.ensures in
     let now = output_in c.loop-slot.output in
-    let one : length c.append_worker.new.output.names.items ≡ length c.loop-slot.output.names.items + 1 = ap (λ o. length o.names) more.output ∙ names_more (replies_of c.in-Some.slot.0) now in
+    let one : length c.append_worker.new.output.names.items ≡ length c.loop-slot.output.names.items + 1 = ap (λ o. length o.names) more.output ∙ names_more (replies_of g.A.Actor.named c.in-Some.slot.0) now in
     record {
       can = tt;
       finite = tt;
       enough = enough_more c.loop-slot.yielded c.in-Some.slot c.loop-slot.invariant.enough more.enough;
-      output = output_more c.loop-slot.yielded c.in-Some.slot (output_in c.args.output.now) now (output_in c.append_worker.new.output) c.loop-slot.invariant.output more.output;
+      output = output_more g.A.Actor.named c.loop-slot.yielded c.in-Some.slot (output_in c.args.output.now) now (output_in c.append_worker.new.output) c.loop-slot.invariant.output more.output;
       names = omega (arith, one, c.loop-slot.invariant.names, length_push c.loop-slot.yielded c.in-Some.slot);
     }
 
@@ -35,12 +35,12 @@ pub loop-slot-preserved : goal.loop-slot-preserved
 loop-slot-preserved g c =
     let more = c.in_ok-append_worker.ensures in
     let now = output_in c.loop-slot.output in
-    let one : length c.append_worker.new.output.names.items ≡ length c.loop-slot.output.names.items + 1 = ap (λ o. length o.names) more.output ∙ names_more (replies_of c.in-Some.slot.0) now in
+    let one : length c.append_worker.new.output.names.items ≡ length c.loop-slot.output.names.items + 1 = ap (λ o. length o.names) more.output ∙ names_more (replies_of g.A.Actor.named c.in-Some.slot.0) now in
     record {
       can = tt;
       finite = tt;
       enough = enough_more c.loop-slot.yielded c.in-Some.slot c.loop-slot.invariant.enough more.enough;
-      output = output_more c.loop-slot.yielded c.in-Some.slot (output_in c.args.output.now) now (output_in c.append_worker.new.output) c.loop-slot.invariant.output more.output;
+      output = output_more g.A.Actor.named c.loop-slot.yielded c.in-Some.slot (output_in c.args.output.now) now (output_in c.append_worker.new.output) c.loop-slot.invariant.output more.output;
       names = omega (arith, one, c.loop-slot.invariant.names, length_push c.loop-slot.yielded c.in-Some.slot);
     }
 
@@ -54,7 +54,7 @@ pub returns-clause-output : goal.returns-clause-output
 returns-clause-output g c =
     let end = YieldsList-end (YieldsList-from_vec {s = c.into_iter-slot-iterator.result} c.args.crew.items (search rules) (search rules))
     c.loop-slot.yielded c.loop-slot.slot-iterator c.loop-slot.yielded_by c.next.result c.next.new.self c.in-None.is c.next.ensures.steps in
-    c.loop-slot.invariant.output ∙ ap (λ xs. with_sessions (map replies_of (workers_of xs)) (output_in c.args.output.now)) (sym (map-id c.loop-slot.yielded) ∙ end.0)
+    c.loop-slot.invariant.output ∙ ap (λ xs. with_sessions (map (replies_of g.A.Actor.named) (workers_of xs)) (output_in c.args.output.now)) (sym (map-id c.loop-slot.yielded) ∙ end.0)
 
 pub returns-clause-names : goal.returns-clause-names
 returns-clause-names g c =

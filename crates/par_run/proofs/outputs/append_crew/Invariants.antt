@@ -10,6 +10,6 @@ invariant-loop-slot g l = record {
   can : (goal.iterator-loop-slot g).can_next l.slot-iterator;
   finite : (goal.iterator-loop-slot g).is_finite l.slot-iterator;
   enough : list_any ran_out (workers_of l.yielded) ≡ false;
-  output : output_in l.output ≡ with_sessions (map replies_of (workers_of l.yielded)) (output_in l.fn.output);
+  output : output_in l.output ≡ with_sessions (map (replies_of g.A.Actor.named) (workers_of l.yielded)) (output_in l.fn.output);
   names : length l.output.names.items ≡ length l.fn.output.names.items + length l.yielded;
 }

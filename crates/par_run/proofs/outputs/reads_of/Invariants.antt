@@ -5,4 +5,4 @@ use Rattle.par_run.specs.Workers.{replies_of}
 use Rattle.par_run.proofs.outputs.reads_of.Given as goal
 
 abbrev pub invariant-loop-slot : goal.invariant-loop-slot
-invariant-loop-slot g l = l.reads ≡ raised_by (sum_by (λ w. (replies_of w).reads) (workers_of (take l.slot-index l.crew))) 0
+invariant-loop-slot g l = l.reads ≡ raised_by (sum_by (λ w. (replies_of g.A.Actor.named w).reads) (workers_of (take l.slot-index l.crew))) 0

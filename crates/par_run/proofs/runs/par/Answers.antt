@@ -16,8 +16,8 @@ returns-in-Ok-clause-ran g c = λ other.
     let crews = c.in-Ok.crews in
     let sorted_input = sorted c.args.input.now in
     let end = c.run_over.result in
-    ran_of_same (g.B.Backend.state c.args.backend).history crews.refusals.items sorted_input.refusals
-    (scripts_in crews.setup.items) (only setup sorted_input.sessions) (scripts_in crews.at_once.items) (at_once sorted_input.sessions) (scripts_in crews.last.items) (only final sorted_input.sessions)
+    ran_of_same g.A.Actor.replies (g.A.Actor.semantics.opening 0) (g.B.Backend.state c.args.backend).history crews.refusals.items sorted_input.refusals
+    (scripts_in g.A.Actor.named crews.setup.items) (only setup sorted_input.sessions) (scripts_in g.A.Actor.named crews.at_once.items) (at_once sorted_input.sessions) (scripts_in g.A.Actor.named crews.last.items) (only final sorted_input.sessions)
     (g.B.Backend.state end.backend) (output_of end) end.reads
     c.in-Ok.ensures.lines.refusals c.in-Ok.ensures.lines.setup_is c.in-Ok.ensures.lines.at_once_are c.in-Ok.ensures.lines.last_is (c.run_over.ensures.ran other)
 

@@ -18,7 +18,7 @@ use Rattle.par_run.proofs.runs.run_crews.Goals.{then-enough, else-enough}
 replied : (g : _) (c : goal.After-ended g) → c.ended.result.stop ≢ NoMemory
     → HasReplied (list_any ran_out (workers_of c.run_crew-pass.new.crew.items) ≡ false) (list_any ran_out (workers_of c.run_crew-pass-2.new.crew.items) ≡ false) (list_any ran_out (workers_of c.run_crew-pass-3.new.crew.items) ≡ false)
     (c.ended.result.stop ≡ stop_by (stands_still (g.B.Backend.state c.snap.new.self)))
-    (λ o. output_in o ≡ with_sessions (map replies_of (workers_of c.run_crew-pass-3.new.crew.items)) (with_sessions (map replies_of (workers_of c.run_crew-pass-2.new.crew.items)) (with_sessions (map replies_of (workers_of c.run_crew-pass.new.crew.items)) (refusals_only c.args.crews.refusals.items))))
+    (λ o. output_in o ≡ with_sessions (map (replies_of g.A.Actor.named) (workers_of c.run_crew-pass-3.new.crew.items)) (with_sessions (map (replies_of g.A.Actor.named) (workers_of c.run_crew-pass-2.new.crew.items)) (with_sessions (map (replies_of g.A.Actor.named) (workers_of c.run_crew-pass.new.crew.items)) (refusals_only c.args.crews.refusals.items))))
     (λ o. output_in o ≡ output_of c.ended.result)
 replied g c other = has_replied _ _ _ _ _ _ (c.ended.result.stop ≡ NoMemory) c.all_replies.result c.all_replies.ensures.setup c.all_replies.ensures.at_once c.all_replies.ensures.last c.ended.ensures.stop c.all_replies.ensures.output c.ended.ensures.output other
 
@@ -26,6 +26,8 @@ pub returns-clause-ran : goal.returns-clause-ran
 returns-clause-ran g c = λ other.
     let r = replied g c other in
     let state = g.B.Backend.state in
+    let actors = g.A.Actor in
+    let first_places = actors.semantics.opening 0 in
     let crews = c.args.crews in
     let one = c.run_crew-pass in
     let two = c.run_crew-pass-2 in
@@ -36,12 +38,12 @@ returns-clause-ran g c = λ other.
       | then-enough w ↦ w.enough-is ∙ enough_is w.as_slice-then-enough.result.now two.new.crew.items w.had_memory-enough-then-enough.result w.had_memory-enough-then-enough.ensures w.as_slice-then-enough.ensures.value r.at_once
       | else-enough w ↦ absurd (true≢false (sym first ∙ w.if-enough.false))
     ] in
-    let before = map replies_of (workers_of one.new.crew.items) in
-    let between = map replies_of (workers_of two.new.crew.items) in
-    let after = map replies_of (workers_of three.new.crew.items) in
-    let counted = reads_replied (workers_of one.new.crew.items) (workers_of two.new.crew.items) (workers_of three.new.crew.items) c.ended.result.reads (c.ended.ensures.reads ∙ c.all_reads-reads.ensures) in
+    let before = map (replies_of g.A.Actor.named) (workers_of one.new.crew.items) in
+    let between = map (replies_of g.A.Actor.named) (workers_of two.new.crew.items) in
+    let after = map (replies_of g.A.Actor.named) (workers_of three.new.crew.items) in
+    let counted = reads_replied actors.named (workers_of one.new.crew.items) (workers_of two.new.crew.items) (workers_of three.new.crew.items) c.ended.result.reads (c.ended.ensures.reads ∙ c.all_reads-reads.ensures) in
     let ran =
-    par_laws worker_script replies_of ran_out state c.args.store g.B.Backend.alone (scripts_in crews.setup.items) (scripts_in crews.at_once.items) (scripts_in crews.last.items) (state c.snap.new.self) before between after
+    par_laws actors.within actors.semantics.does actors.replies first_places c.tells_replies.ensures (worker_script actors.named) (replies_of actors.named) ran_out state c.args.store g.B.Backend.alone (scripts_in actors.named crews.setup.items) (scripts_in actors.named crews.at_once.items) (scripts_in actors.named crews.last.items) (state c.snap.new.self) before between after
     (record {
       start = c.args.pass;
       middle = one.result;
@@ -69,14 +71,14 @@ returns-clause-ran g c = λ other.
       after_is = refl;
     }) in
     let told = says crews.refusals.items before between after (output_of c.ended.result) c.ended.result.reads (sym r.ends ∙ r.are) counted in
-    subst (λ b. CrewsRan (state c.args.store.opened.value).history crews (state b) (output_of c.ended.result) c.ended.result.reads) (sym c.ended.ensures.backend)
+    subst (λ b. CrewsRan actors (state c.args.store.opened.value).history crews (state b) (output_of c.ended.result) c.ended.result.reads) (sym c.ended.ensures.backend)
     (record {
       before = before;
       between = between;
       after = after;
       ran = ran;
       says = told;
-      names = names_of_three (state c.args.store.opened.value).history (scripts_in crews.setup.items) (scripts_in crews.at_once.items) (scripts_in crews.last.items) (state c.snap.new.self) before between after c.ended.result.names ran told.names;
+      names = names_of_three actors.replies first_places (state c.args.store.opened.value).history (scripts_in actors.named crews.setup.items) (scripts_in actors.named crews.at_once.items) (scripts_in actors.named crews.last.items) (state c.snap.new.self) before between after c.ended.result.names ran told.names;
     })
 
 pub returns-clause-stop : goal.returns-clause-stop

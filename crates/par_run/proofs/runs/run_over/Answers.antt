@@ -9,7 +9,7 @@ pub returns-in-Made-clause-ran : goal.returns-in-Made-clause-ran
 returns-in-Made-clause-ran g c = λ other.
     let state = g.B.Backend.state in
     let end = c.run_crews.result in
-    subst (λ b. CrewsRan (state b).history c.args.crews (state end.backend) (output_of end) end.reads) c.in-Made.ensures.store_backend (c.run_crews.ensures.ran other)
+    subst (λ b. CrewsRan g.A.Actor (state b).history c.args.crews (state end.backend) (output_of end) end.reads) c.in-Made.ensures.store_backend (c.run_crews.ensures.ran other)
 
 pub returns-in-NoMemory-clause-goes_on : goal.returns-in-NoMemory-clause-goes_on
 returns-in-NoMemory-clause-goes_on g c =

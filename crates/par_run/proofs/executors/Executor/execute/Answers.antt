@@ -1,12 +1,16 @@
-use Rattle.ts_sessions.specs.Held.{places_in}
-use Rattle.par_laws.proofs.SessionSteps.{reads_within}
-use Rattle.par_run.proofs.ReplyLaws.{next_executed}
+use Rattle.par_run.proofs.ReplyLaws.{answered_kept, next_executed}
 use Rattle.par_run.proofs.executors.Executor.execute.Goals as goal
 
 pub returns-clause-executed : goal.returns-clause-executed
 returns-clause-executed g c =
-    let session = c.args.self.now.session in
+    let actors = g.A.Actor in
+    let actor = c.args.self.now.actor in
+    let after = c.act-end.new.self in
     let old = g.B.Backend.state c.args.backend.now in
-    next_executed g.B.Backend.alone session.name c.step-end.new.self.name (record { text = c.args.text.now; skip = c.args.skip }) old (places_in session) c.args.self.now.replies
-    c.step-end.result (g.B.Backend.state c.step-end.new.backend) (places_in c.step-end.new.self) c.keep.new.self c.args.self.now.steps c.step-end.new.steps
-    c.step-end.ensures.name (reads_within g.T.Shown.stands session.block old.history c.requires.holds.block) c.step-end.ensures.stepped c.in_ok-keep.ensures
+    next_executed actors.within actors.semantics.does (actors.semantics.opening 0) g.B.Backend.alone (actors.named actor) (actors.named after)
+    (record { text = c.args.text.now; skip = c.args.skip }) old (actors.places actor) c.args.self.now.replies
+    c.act-end.result (g.B.Backend.state c.act-end.new.backend) (actors.places after) c.keep.new.self c.args.self.now.steps c.act-end.new.steps
+    c.act-end.ensures.name (g.met.A.Actor.begun actor old c.requires.holds) c.act-end.ensures.stepped c.in_ok-keep.ensures
+
+pub returns-clause-holds : goal.returns-clause-holds
+returns-clause-holds g c = answered_kept c.args.text.now c.act-end.result c.args.self.now.replies c.keep.new.self _ c.in_ok-keep.ensures c.act-end.ensures.holds
