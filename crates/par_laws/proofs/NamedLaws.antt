@@ -2,6 +2,7 @@
 use Rattle.std.proofs.Common.{◌≡◌, ℕ, ◌≤◌, List, [], ◌∷◌, map, Option, refl, arith}
 use Rattle.std.specs.List.{AllByRecursion}
 use Rattle.ts_model.specs.History.{History, base_position}
+use Rattle.ts_sessions.specs.Gives.{Gives}
 use Rattle.ts_sessions.specs.Named.{RepliesNameTheirEvents}
 use Rattle.ts_sessions.specs.Places.{Turn}
 use Rattle.ts_sessions.specs.Procedures.{Procedure}
@@ -14,45 +15,37 @@ use Rattle.par_laws.specs.Parallel.{AreReplies, SessionReplies, lines_in, places
 use Rattle.par_laws.specs.Phases.{AllExplained}
 use Rattle.par_laws.specs.Stopped.{RepliesStopAt}
 
--- ---- E24
+-- ---- each reply
 
-module _ {P : Type 0} (reply : P → List ℕ → ℕ → Procedure (Turn P)) (only_stops : OnlyStopsAreReported reply) where
-  answered_stops : (all : History) (stop : Option ℕ) (at : ℕ) (p : P) (lines : List SessionLine) (answers : List (LineAnswer (Turn P))) → base_position all ≤ at → Answered reply places_after all stop at p lines answers → AllByRecursion (λ a. ReplyStopsAt stop a.end) answers
-  answered_stops all stop at p [] [] low t = tt
-  answered_stops all stop at p [] (a ∷ answers) low t = absurd t
-  answered_stops all stop at p (line ∷ lines) [] low t = absurd t
-  answered_stops all stop at p (line ∷ lines) (a ∷ answers) low t =
+-- what holds of each reply by what its line came to
+module _ {P : Type 0} (reply : P → List ℕ → ℕ → Procedure (Turn P)) (N : Option ℕ → LineAnswer (Turn P) → Type 0)
+    (holds : (all : History) (stop : Option ℕ) (at : ℕ) (p : P) (text : List ℕ) (skip : ℕ) (a : LineAnswer (Turn P)) → base_position all ≤ at → Gives all stop at [] (reply p text skip) a.looks a.last a.given a.end → N stop a) where
+  answered_each : (all : History) (stop : Option ℕ) (at : ℕ) (p : P) (lines : List SessionLine) (answers : List (LineAnswer (Turn P))) → base_position all ≤ at → Answered reply places_after all stop at p lines answers → AllByRecursion (N stop) answers
+  answered_each all stop at p [] [] low t = tt
+  answered_each all stop at p [] (a ∷ answers) low t = absurd t
+  answered_each all stop at p (line ∷ lines) [] low t = absurd t
+  answered_each all stop at p (line ∷ lines) (a ∷ answers) low t =
       let on : at ≤ a.last = gives_on all stop at (reply p line.text line.skip) a.looks a.last a.given a.end t.0 in
-      (only_stops all stop at p line.text line.skip a.looks a.last a.given a.end low t.0, answered_stops all stop a.last (places_after a.end) lines answers (omega (arith, low, on)) t.1)
+      (holds all stop at p line.text line.skip a low t.0, answered_each all stop a.last (places_after a.end) lines answers (omega (arith, low, on)) t.1)
 
-  -- of sessions whose lines are answered, each reply is so
-  pub explained_stop : (all : History) (stop : Option ℕ) (from to : ℕ) (p : P) (sessions : List SessionScript) (replies : List SessionReplies) (answers : List (List (LineAnswer (Turn P)))) → base_position all ≤ from → AllExplained lines_in AreReplies reply places_after all stop from to p sessions replies answers → RepliesStopAt stop answers
-  explained_stop all stop from to p [] [] [] low x = tt
-  explained_stop all stop from to p [] [] (a ∷ answers) low x = absurd x
-  explained_stop all stop from to p [] (r ∷ replies) answers low x = absurd x
-  explained_stop all stop from to p (v ∷ sessions) [] answers low x = absurd x
-  explained_stop all stop from to p (v ∷ sessions) (r ∷ replies) [] low x = absurd x
-  explained_stop all stop from to p (v ∷ sessions) (r ∷ replies) (a ∷ answers) low x = (answered_stops all stop from p v.lines a low x.0.answered, explained_stop all stop from to p sessions replies answers low x.1)
+  -- and of all those of several sessions
+  explained_each : (all : History) (stop : Option ℕ) (from to : ℕ) (p : P) (sessions : List SessionScript) (replies : List SessionReplies) (answers : List (List (LineAnswer (Turn P)))) → base_position all ≤ from → AllExplained lines_in AreReplies reply places_after all stop from to p sessions replies answers → AllByRecursion (λ each. AllByRecursion (N stop) each) answers
+  explained_each all stop from to p [] [] [] low x = tt
+  explained_each all stop from to p [] [] (a ∷ answers) low x = absurd x
+  explained_each all stop from to p [] (r ∷ replies) answers low x = absurd x
+  explained_each all stop from to p (v ∷ sessions) [] answers low x = absurd x
+  explained_each all stop from to p (v ∷ sessions) (r ∷ replies) [] low x = absurd x
+  explained_each all stop from to p (v ∷ sessions) (r ∷ replies) (a ∷ answers) low x = (answered_each all stop from p v.lines a low x.0.answered, explained_each all stop from to p sessions replies answers low x.1)
 
--- ---- events
+-- it is E24 only where the store had stopped
+pub explained_stop : {P : Type 0} (reply : P → List ℕ → ℕ → Procedure (Turn P)) → OnlyStopsAreReported reply → (all : History) (stop : Option ℕ) (from to : ℕ) (p : P) (sessions : List SessionScript) (replies : List SessionReplies) (answers : List (List (LineAnswer (Turn P)))) → base_position all ≤ from → AllExplained lines_in AreReplies reply places_after all stop from to p sessions replies answers → RepliesStopAt stop answers
+explained_stop reply only_stops all stop from to p sessions replies answers low x =
+    explained_each reply (λ stop a. ReplyStopsAt stop a.end) (λ all stop at p text skip a low g. only_stops all stop at p text skip a.looks a.last a.given a.end low g) all stop from to p sessions replies answers low x
 
-module _ {P : Type 0} (reply : P → List ℕ → ℕ → Procedure (Turn P)) (names_events : RepliesNameTheirEvents reply) where
-  answered_named : (all : History) (stop : Option ℕ) (at : ℕ) (p : P) (lines : List SessionLine) (answers : List (LineAnswer (Turn P))) → base_position all ≤ at → Answered reply places_after all stop at p lines answers → AllByRecursion NamesEvents answers
-  answered_named all stop at p [] [] low t = tt
-  answered_named all stop at p [] (a ∷ answers) low t = absurd t
-  answered_named all stop at p (line ∷ lines) [] low t = absurd t
-  answered_named all stop at p (line ∷ lines) (a ∷ answers) low t =
-      let on : at ≤ a.last = gives_on all stop at (reply p line.text line.skip) a.looks a.last a.given a.end t.0 in
-      (names_events all stop at p line.text line.skip a.looks a.last a.given a.end low t.0, answered_named all stop a.last (places_after a.end) lines answers (omega (arith, low, on)) t.1)
-
-  -- of sessions whose lines are answered, each reply does
-  pub explained_named : (all : History) (stop : Option ℕ) (from to : ℕ) (p : P) (sessions : List SessionScript) (replies : List SessionReplies) (answers : List (List (LineAnswer (Turn P)))) → base_position all ≤ from → AllExplained lines_in AreReplies reply places_after all stop from to p sessions replies answers → RepliesNameEvents answers
-  explained_named all stop from to p [] [] [] low x = tt
-  explained_named all stop from to p [] [] (a ∷ answers) low x = absurd x
-  explained_named all stop from to p [] (r ∷ replies) answers low x = absurd x
-  explained_named all stop from to p (v ∷ sessions) [] answers low x = absurd x
-  explained_named all stop from to p (v ∷ sessions) (r ∷ replies) [] low x = absurd x
-  explained_named all stop from to p (v ∷ sessions) (r ∷ replies) (a ∷ answers) low x = (answered_named all stop from p v.lines a low x.0.answered, explained_named all stop from to p sessions replies answers low x.1)
+-- it names the events of its line
+pub explained_named : {P : Type 0} (reply : P → List ℕ → ℕ → Procedure (Turn P)) → RepliesNameTheirEvents reply → (all : History) (stop : Option ℕ) (from to : ℕ) (p : P) (sessions : List SessionScript) (replies : List SessionReplies) (answers : List (List (LineAnswer (Turn P)))) → base_position all ≤ from → AllExplained lines_in AreReplies reply places_after all stop from to p sessions replies answers → RepliesNameEvents answers
+explained_named reply names_events all stop from to p sessions replies answers low x =
+    explained_each reply (λ stop a. NamesEvents a) (λ all stop at p text skip a low g. names_events all stop at p text skip a.looks a.last a.given a.end low g) all stop from to p sessions replies answers low x
 
 -- ---- names
 

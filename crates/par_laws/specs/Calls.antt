@@ -22,7 +22,8 @@ module _ {P : Type 0} (within : P → Block) (does : P → List ℕ → ℕ → 
     (session_of : W → SessionScript) (replies_of : W → SessionReplies) (ran_out : W → Bool) where
   -- a worker executed all lines of its session, unless memory ran out
   abbrev pub Worked : Bool → W → State → W → State → Type 0
-  Worked alone old s new t = ran_out new ≡ false → SessionExecuted within does p alone (session_of old) s (replies_of new) t
+  Worked alone old s new t =
+      ran_out new ≡ false → SessionExecuted within does p alone (session_of old) s (replies_of new) t
 
   module _ {B : Type 0} (state : B → State) (store : Shared B) where
     -- a crew of workers was at the store between two passes: these were its sessions, and memory sufficed

@@ -42,7 +42,8 @@ exchanges_of name (line ∷ lines) [] = []
 exchanges_of name (line ∷ lines) (turn ∷ turns) = exchange_of name line turn ∷ exchanges_of name lines turns
 
 -- a session replied with what its lines came to
-pub record AreReplies {P : Type 0} (session : SessionScript) (replies : SessionReplies) (turns : List (Turn P)) : Type 0 where
+pub record AreReplies {P : Type 0} (session : SessionScript) (replies : SessionReplies)
+    (turns : List (Turn P)) : Type 0 where
   pub name : replies.name ≡ session.name
   pub exchanges : replies.exchanges ≡ exchanges_of session.name session.lines turns
   pub fault : replies.fault ≡ list_any (λ turn. has_fault turn.said) turns

@@ -34,9 +34,9 @@ use ts_sessions::Actor;
 /// store.
 ///
 /// The replies and the store are as if each line had been answered, as the actors tell by their replies, over
-/// the one history that the store then holds, at positions that never fall from one line of a session to its next. After a disk fault the
-/// store stands still, and the sessions go on. Where there is no memory for a line, its session ends there,
-/// and no phase begins any more.
+/// the one history that the store then holds, at positions that never fall from one line of a session to its
+/// next. After a disk fault the store stands still, and the sessions go on. Where there is no memory for a
+/// line, its session ends there, and no phase begins any more.
 pub fn par<A, B, R, G>(rt: &R, alloc: Global, backend: B, input: &[u8], gate: &G) -> ParEnd<B>
 where
     A: Actor<Shot = B::Shot> + Drop + Send,
