@@ -1,32 +1,32 @@
 -- What a statement does first.
-use Rattle.std.proofs.Common.{◌≡◌, ℕ, suc, ◌==◌, ◌<◌, ◌≤◌, ◌^◌, Bool, true, false, cond, List, [], ◌∷◌, length, Option, Some, None, sym, refl, ap, ◌∙◌, subst, inl, arith}
-use Rattle.std.specs.Prelude.{Result, Ok, Err, IfOk, IsTrue, ◌||◌, is_some}
+use Rattle.std.proofs.Common.{◌≡◌, ℕ, ◌==◌, ◌<◌, ◌≤◌, ◌^◌, Bool, true, false, cond, List, [], ◌∷◌, length, Option, Some, None, sym, refl, ap, ◌∙◌, subst, inl, arith}
+use Rattle.std.specs.Prelude.{ℤ, ◌||◌, Result, Ok, Err, IfOk}
 use Rattle.std.specs.Result.{IsErr}
-use Rattle.std.proofs.lemmas.Bool.{eqb-true, true≢false}
+use Rattle.std.proofs.lemmas.Bool.{true≢false}
+use Rattle.std.proofs.lemmas.Bool.Decides.{nat_tests}
 use Rattle.ts_schema.specs.Counts.{raised_by}
 use Rattle.ts_schema.specs.declared.memory.NoMemory.{NoMemory}
 use Rattle.ts_model.specs.declared.events.Op.{Op}
 use Rattle.ts_model.specs.declared.outcomes.Refusal.{Refusal}
+use Rattle.ts_model.specs.declared.snapshots.Shown.{Ghosts as Shown}
 use Rattle.ts_model.specs.History.{History, Begins, position}
 use Rattle.ts_model.specs.Roster.{roster}
 use Rattle.ts_model.specs.States.{State}
 use Rattle.ts_model.specs.declared.queries.Answer.{Answer}
-use Rattle.ts_model.specs.Allowed.{all_allowed}
 use Rattle.ts_model.specs.Answers.{answer}
 use Rattle.ts_sessions.specs.declared.kinds.Kind.TheVariants as kinds
 use Rattle.ts_model.specs.Reads.{reads as reads_of}
 use Rattle.result_text.specs.declared.replies.Said.{Said}
 use Rattle.result_text.specs.declared.replies.Said.TheVariants as said
-use Rattle.ts_sessions.specs.declared.changes.Change.{Change}
+use Rattle.ts_sessions.specs.declared.blocks.Open.{Open}
+use Rattle.ts_sessions.specs.declared.blocks.Open.TheVariants as opens
 use Rattle.ts_sessions.specs.declared.changes.Change.TheVariants as changes
 use Rattle.ts_sessions.specs.declared.queries.Plan.{Plan}
 use Rattle.stmt_reader.specs.declared.statements.Stmt.{Stmt}
 use Rattle.stmt_reader.specs.declared.statements.Stmt.TheVariants as stmts
-use Rattle.stmt_check.specs.declared.actions.Action.{Action}
-use Rattle.ts_model.specs.declared.rosters.Roster.{Roster}
-use Rattle.stmt_check.specs.declared.actions.Checked.TheVariants as checked
-use Rattle.stmt_check.specs.Check.{IsChecked, refusal_of}
-use Rattle.hier_agg.specs.Reads.{upper_read}
+use Rattle.stmt_check.specs.Check.{refusal_of}
+use Rattle.stmt_check.specs.Sound.{IsQueue}
+use Rattle.stmt_check.proofs.QueueLaws.{queues_are_sound}
 use Rattle.ts_sessions.specs.declared.changes.Completion.{Completion}
 use Rattle.ts_sessions.specs.declared.deeds.Deed.{Deed}
 use Rattle.ts_sessions.specs.declared.deeds.Deed.TheVariants as deeds
@@ -34,17 +34,19 @@ use Rattle.ts_sessions.specs.declared.deeds.Finishing.{Finishing}
 use Rattle.ts_sessions.specs.declared.deeds.Finishing.TheVariants as finishing
 use Rattle.ts_sessions.specs.declared.deeds.Next.{Next}
 use Rattle.ts_sessions.specs.declared.deeds.Next.TheVariants as nexts
-use Rattle.ts_sessions.specs.Deeds.{CarriesOut, CountsFrom, Leads, Opens, OpensTo, acted, checked_at, judged, looked_as, looked_at, rest, rest_next, spent, spent_by, spent_next}
-use Rattle.ts_sessions.specs.Places.{Block, none, writing, reading, Places, Turn, enters, queue_count, refuses}
+use Rattle.ts_sessions.specs.Deeds.{CarriesOut, CountsFrom, Leads, NextFits, Opens, OpensTo, StandsFor, closing, holding, opening, rest_next, said_once, spent, spent_by, spent_next, taken_next}
+use Rattle.ts_sessions.specs.Places.{Block, none, writing, reading, Places, Turn, enters, queue_count, refuses, turns}
 use Rattle.ts_sessions.specs.Procedures.{Procedure, sees, looks, ends}
+use Rattle.ts_sessions.specs.Held.{HoldsBlock, block_of, most_queued}
 use Rattle.ts_sessions.specs.Sessions.{Counts, Ends, EndsAt, turn_of}
-use Rattle.ts_sessions.specs.Step.{acts, answers, block_refusal, closes, commits, in_form, kind_of, makes_event, named, named_first, named_here, passed, passed_first, performs, performs_in, prints, read_at, shown_in}
+use Rattle.ts_sessions.specs.Step.{answers, block_refusal, closes, commits, given_up, in_form, kind_of, makes_event, named, named_first, named_here, performs, performs_in, prints, read_at, refresh_meant, shown_in, snaps}
 use Rattle.ts_sessions.specs.Walks.{Breaks, Sees}
+use Rattle.ts_sessions.proofs.BlockWalks.{begins_outside, snaps_outside}
 use Rattle.ts_sessions.proofs.DeedWalks.{looks_leads}
 use Rattle.ts_sessions.proofs.EndLaws.{raised_up}
 use Rattle.ts_sessions.proofs.HeldDeeds.{leads_same}
+use Rattle.ts_sessions.proofs.HoldLaws.{empty_holds}
 use Rattle.ts_sessions.proofs.NameCheckWalks.{unraised}
-use Rattle.ts_sessions.proofs.NamedLaws.{looks_alike, not_upper}
 use Rattle.ts_sessions.proofs.WalkLaws.{not_begun}
 
 -- ---- results
@@ -52,10 +54,6 @@ use Rattle.ts_sessions.proofs.WalkLaws.{not_begun}
 pub if_ok : {A : Type 0} (result : Result A NoMemory) (P Q : A → Type 0) → ((a : A) → P a → Q a) → IfOk result P → IfOk result Q
 if_ok (Ok a) P Q k p = k a p
 if_ok (Err e) P Q k p = tt
-
--- the end of a statement that says one line
-pub said_as : {T J : Type 0} (result : Result (Next T J) NoMemory) (line : Said) (change : Change T J) (P : Next T J → Type 0) → P (nexts.End (record { said = line ∷ []; change = change; failed = false })) → IfOk result (λ n. n ≡ nexts.End (record { said = line ∷ []; change = change; failed = false })) → IfOk result P
-said_as result line change P k e = if_ok result (λ n. n ≡ nexts.End (record { said = line ∷ []; change = change; failed = false })) P (λ n is. subst P (sym is) k) e
 
 -- ---- looks
 
@@ -91,54 +89,6 @@ performs_ends alone s p bytes stmt y e i =
     (subst (λ d. Leads alone false s (named_here p bytes stmt) s d) i
     (saw_leads alone s s (λ h. prints p.block (kind_of stmt) (refusal_of (position h) (roster h) stmt)) (λ h. named p bytes stmt (read_at p.block h)) (inl refl)))
 
--- ---- statements that look at names
-
-first_same : (p : Places) (bytes : ℕ) (stmt : Stmt) (h : History) (o : Option Refusal) → passed_first p bytes h stmt o ≡ judged p bytes stmt none true h o
-first_same p bytes stmt h None = refl
-first_same p bytes stmt h (Some r) = refl
-
-outside_same : (p : Places) (bytes : ℕ) (stmt : Stmt) (h : History) (o : Option Refusal) → passed p bytes h stmt o ≡ judged p bytes stmt none false h o
-outside_same p bytes stmt h None = refl
-outside_same p bytes stmt h (Some r) = refl
-
-writing_same : (p : Places) (bytes : ℕ) (stmt : Stmt) (ops : List Op) (n : ℕ) (m : Bool) (h : History) (o : Option Refusal) → passed p bytes h stmt o ≡ judged p bytes stmt (writing ops n) m h o
-writing_same p bytes stmt ops n m h None = refl
-writing_same p bytes stmt ops n m h (Some r) = refl
-
-reading_same : (p : Places) (bytes : ℕ) (stmt : Stmt) (at : ℕ) (m : Bool) (h : History) (o : Option Refusal) → passed p bytes h stmt o ≡ judged p bytes stmt (reading at) m h o
-reading_same p bytes stmt at m h None = refl
-reading_same p bytes stmt at m h (Some r) = refl
-
-here_leads : (alone : Bool) (old mid : State) (p : Places) (bytes : ℕ) (stmt : Stmt) (b : Block) (m : Bool) → p.block ≡ b → ((h : History) (o : Option Refusal) → passed p bytes h stmt o ≡ judged p bytes stmt b m h o) → Sees alone old mid → Leads alone false old (named_here p bytes stmt) mid (looked_as p bytes stmt b m (read_at b mid.history) (upper_read (position (read_at b mid.history)) (roster (read_at b mid.history)) stmt))
-here_leads alone old mid p bytes stmt b m i same s =
-    let at = read_at b mid.history in
-    subst (λ d. Leads alone false old (named_here p bytes stmt) mid d) (ap (λ x. named p bytes stmt (read_at x mid.history)) i ∙ looks_alike p bytes stmt b m at (same at (refusal_of (position at) (roster at) stmt)) (upper_read (position at) (roster at) stmt))
-    (saw_leads alone old mid (λ h. prints p.block (kind_of stmt) (refusal_of (position h) (roster h) stmt)) (λ h. named p bytes stmt (read_at p.block h)) s)
-
-looked_in : (alone : Bool) (old mid : State) (p : Places) (bytes : ℕ) (stmt : Stmt) (b : Block) (m : Bool) → makes_event (kind_of stmt) ≡ m → p.block ≡ b → Sees alone old mid → Leads alone false old (performs_in p bytes stmt b) mid (looked_as p bytes stmt b m (read_at b mid.history) (upper_read (position (read_at b mid.history)) (roster (read_at b mid.history)) stmt))
-looked_in alone old mid p bytes stmt none true e i s =
-    let o = refusal_of (position mid.history) (roster mid.history) stmt in
-    let u = upper_read (position mid.history) (roster mid.history) stmt in
-    subst (λ t. Leads alone false old (cond t (named_first p bytes stmt) (named_here p bytes stmt)) mid (looked_as p bytes stmt none true mid.history u)) (sym e)
-    (subst (λ d. Leads alone false old (named_first p bytes stmt) mid d) (first_same p bytes stmt mid.history o ∙ ap (looked_as p bytes stmt none true mid.history) (sym (not_upper (position mid.history) (roster mid.history) stmt e)))
-    (saw_leads alone old mid (λ h. is_some (refusal_of (position h) (roster h) stmt)) (λ h. passed_first p bytes h stmt (refusal_of (position h) (roster h) stmt)) s))
-looked_in alone old mid p bytes stmt none false e i s =
-    let u = upper_read (position mid.history) (roster mid.history) stmt in
-    subst (λ t. Leads alone false old (cond t (named_first p bytes stmt) (named_here p bytes stmt)) mid (looked_as p bytes stmt none false mid.history u)) (sym e)
-    (here_leads alone old mid p bytes stmt none false i (outside_same p bytes stmt) s)
-looked_in alone old mid p bytes stmt (writing ops n) m e i s = here_leads alone old mid p bytes stmt (writing ops n) m i (writing_same p bytes stmt ops n m) s
-looked_in alone old mid p bytes stmt (reading at) m e i s = here_leads alone old mid p bytes stmt (reading at) m i (reading_same p bytes stmt at m) s
-
--- a statement goes on from what its names were looked at in
-pub looked_leads : (alone : Bool) (old mid : State) (p : Places) (bytes : ℕ) (stmt : Stmt) → Sees alone old mid → Leads alone false old (performs p bytes stmt) mid (looked_at p bytes stmt (read_at p.block mid.history))
-looked_leads alone old mid p bytes stmt s = looked_in alone old mid p bytes stmt p.block (makes_event (kind_of stmt)) refl refl s
-
--- an action that makes no event, whatever the block
-pub acted_here : (p : Places) (bytes : ℕ) (a : Action) (b : Block) (h : History) → acted p bytes a b false h ≡ acts p bytes h a
-acted_here p bytes a none h = refl
-acted_here p bytes a (writing ops n) h = refl
-acted_here p bytes a (reading at) h = refl
-
 -- ---- what comes first
 
 unspent_by : (f : Finishing) → spent_by 0 f ≡ 0
@@ -153,33 +103,34 @@ pub unspent : {T J : Type 0} (next : Next T J) → spent_next 0 next ≡ 0
 unspent (nexts.Deed d) = unspent_deed d
 unspent (nexts.End t) = refl
 
-pub opens_here : {T J : Type 0} (alone : Bool) (s : State) (procedure : Procedure (Turn Places)) (p : Places) (next : Next T J) (n : ℕ) → n < 2 ^ 64 → Leads alone false s procedure s (rest_next p 0 s.history next) → Opens alone s procedure p next s n n
-opens_here alone s procedure p next n short w = record { read = 0; leads = w; spent = unspent next; counted = unraised n short }
+pub opens_here : {T J : Type 0} (shown : Shown T J) (bytes : ℕ) (alone : Bool) (s : State) (procedure : Procedure (Turn Places)) (p : Places) (next : Next T J) (n : ℕ) → n < 2 ^ 64 → Leads alone false s procedure s (rest_next p 0 s.history next) → NextFits shown bytes next s → Opens shown bytes alone s procedure p next s n n
+opens_here shown bytes alone s procedure p next n short w k = record { read = 0; leads = w; spent = unspent next; fits = k; counted = unraised n short }
 
 -- what took no call, or no memory for it
-pub opens_if : {T J : Type 0} (alone : Bool) (s : State) (procedure : Procedure (Turn Places)) (p : Places) (result : Result (Next T J) NoMemory) (n : ℕ) → n < 2 ^ 64 → IfOk result (λ m. Leads alone false s procedure s (rest_next p 0 s.history m)) → OpensTo alone s procedure p result s n n
-opens_if alone s procedure p (Ok m) n short w = opens_here alone s procedure p m n short w
-opens_if alone s procedure p (Err e) n short w = (not_begun alone s procedure, omega arith)
+pub opens_if : {T J : Type 0} (shown : Shown T J) (bytes : ℕ) (alone : Bool) (s : State) (procedure : Procedure (Turn Places)) (p : Places) (result : Result (Next T J) NoMemory) (next : Next T J) (n : ℕ) → n < 2 ^ 64 → IfOk result (λ m. m ≡ next) → Leads alone false s procedure s (rest_next p 0 s.history next) → NextFits shown bytes next s → OpensTo shown bytes alone s procedure p result s n n
+opens_if shown bytes alone s procedure p (Ok m) next n short e w k = subst (λ x. Opens shown bytes alone s procedure p x s n n) (sym e) (opens_here shown bytes alone s procedure p next n short w k)
+opens_if shown bytes alone s procedure p (Err x) next n short e w k = (not_begun alone s procedure, omega arith)
 
-pub opens_broken : {T J : Type 0} (alone : Bool) (old : State) (procedure : Procedure (Turn Places)) (p : Places) (result : Result (Next T J) NoMemory) (new : State) (before after : ℕ) → IsErr result → before ≤ after → Breaks alone old procedure new → OpensTo alone old procedure p result new before after
-opens_broken alone old procedure p (Ok n) new before after i le b = absurd (true≢false (sym i))
-opens_broken alone old procedure p (Err e) new before after i le b = (b, le)
+pub opens_broken : {T J : Type 0} (shown : Shown T J) (bytes : ℕ) (alone : Bool) (old : State) (procedure : Procedure (Turn Places)) (p : Places) (result : Result (Next T J) NoMemory) (new : State) (before after : ℕ) → IsErr result → before ≤ after → Breaks alone old procedure new → OpensTo shown bytes alone old procedure p result new before after
+opens_broken shown bytes alone old procedure p (Ok n) new before after i le b = absurd (true≢false (sym i))
+opens_broken shown bytes alone old procedure p (Err e) new before after i le b = (b, le)
 
-pub opens_then : {T J : Type 0} (alone : Bool) (old : State) (procedure : Procedure (Turn Places)) (mid : State) (left : Procedure (Turn Places)) (p : Places) (result : Result (Next T J) NoMemory) (new : State) (before after : ℕ) → Leads alone false old procedure mid left → OpensTo alone mid left p result new before after → OpensTo alone old procedure p result new before after
-opens_then alone old procedure mid left p (Ok n) new before after w o = record {
+pub opens_then : {T J : Type 0} (shown : Shown T J) (bytes : ℕ) (alone : Bool) (old : State) (procedure : Procedure (Turn Places)) (mid : State) (left : Procedure (Turn Places)) (p : Places) (result : Result (Next T J) NoMemory) (new : State) (before after : ℕ) → Leads alone false old procedure mid left → OpensTo shown bytes alone mid left p result new before after → OpensTo shown bytes alone old procedure p result new before after
+opens_then shown bytes alone old procedure mid left p (Ok n) new before after w o = record {
   read = o.read;
   leads = leads_then alone false old procedure mid left new (rest_next p o.read new.history n) w o.leads;
   spent = o.spent;
+  fits = o.fits;
   counted = o.counted;
 }
-opens_then alone old procedure mid left p (Err e) new before after w o = (w.breaks new o.0, o.1)
+opens_then shown bytes alone old procedure mid left p (Err e) new before after w o = (w.breaks new o.0, o.1)
 
--- an event outside a block
-pub event_opens : {T J : Type 0} (alone : Bool) (s : State) (p : Places) (bytes : ℕ) (a : Action) (b : Block) (m : Bool) (deed : Deed T J) (n : ℕ) → n < 2 ^ 64 → b ≡ none → m ≡ true → Leads alone false s (looks (λ h. acts p bytes h a)) s (rest p 0 s.history deed) → Opens alone s (acted p bytes a b m (read_at b s.history)) p (nexts.Deed deed) s n n
-event_opens alone s p bytes a b m deed n short e f w =
-    subst (λ x. Opens alone s (acted p bytes a x m (read_at x s.history)) p (nexts.Deed deed) s n n) (sym e)
-    (subst (λ x. Opens alone s (acted p bytes a none x s.history) p (nexts.Deed deed) s n n) (sym f)
-    (opens_here alone s (looks (λ h. acts p bytes h a)) p (nexts.Deed deed) n short w))
+-- a statement that was refused
+pub refused_opens : {T J : Type 0} (shown : Shown T J) (bytes : ℕ) (alone : Bool) (s : State) (p : Places) (q : Refusal) (result : Result (Next T J) NoMemory) (n : ℕ) → n < 2 ^ 64 → IfOk result (λ m. m ≡ said_once (said.Fault q) changes.Nothing) → OpensTo shown bytes alone s (ends (refuses p q)) p result s n n
+refused_opens shown bytes alone s p q result n short e = opens_if shown bytes alone s (ends (refuses p q)) p result (said_once (said.Fault q) changes.Nothing) n short e (leads_same alone s (ends (refuses p q))) (record { change = tt; stands = refl })
+
+pub opens_as : {T J : Type 0} (shown : Shown T J) (bytes : ℕ) (alone : Bool) (old : State) (procedure like : Procedure (Turn Places)) (p : Places) (result : Result (Next T J) NoMemory) (new : State) (before after : ℕ) → procedure ≡ like → OpensTo shown bytes alone old like p result new before after → OpensTo shown bytes alone old procedure p result new before after
+opens_as shown bytes alone old procedure like p result new before after e o = subst (λ d. OpensTo shown bytes alone old d p result new before after) (sym e) o
 
 -- ---- a statement that was carried out
 
@@ -194,8 +145,8 @@ carried_at : {T J : Type 0} (alone : Bool) (old : State) (p : Places) (procedure
 carried_at alone old p procedure mid left total (Ok t) new w e = w.walks t.failed new (turn_of p total t) e
 carried_at alone old p procedure mid left total (Err x) new w e = w.breaks new e
 
-pub carried : {T J : Type 0} (alone : Bool) (old : State) (p : Places) (procedure : Procedure (Turn Places)) (next : Next T J) (mid : State) (result : Result (Completion T J) NoMemory) (new : State) (before between after : ℕ) → before < 2 ^ 64 → Opens alone old procedure p next mid before between → ((had : ℕ) → CarriesOut alone mid p had next result new between after) → Ends alone old procedure p result new before after
-carried alone old p procedure next mid result new before between after short o c =
+pub carried : {T J : Type 0} (shown : Shown T J) (bytes : ℕ) (alone : Bool) (old : State) (p : Places) (procedure : Procedure (Turn Places)) (next : Next T J) (mid : State) (result : Result (Completion T J) NoMemory) (new : State) (before between after : ℕ) → before < 2 ^ 64 → Opens shown bytes alone old procedure p next mid before between → ((had : ℕ) → CarriesOut alone mid p had next result new between after) → Ends alone old procedure p result new before after
+carried shown bytes alone old p procedure next mid result new before between after short o c =
     let k = c o.read in
     record {
       read = k.total;
@@ -203,73 +154,108 @@ carried alone old p procedure next mid result new before between after short o c
       counted = counts_so result o.read (spent_next o.read next) k.total before between after short o.counted o.spent k.rose k.counted;
     }
 
--- ---- the end of a write block
+-- ---- statements that look at no names
 
-commits_of : (p : Places) (h : History) (ops : List Op) (n : ℕ) → (length ops == 0) ≡ false → closes p h (writing ops n) ≡ commits p (enters none p) h ops
-commits_of p h [] n some = absurd (true≢false some)
-commits_of p h (op ∷ ops) n some = refl
+-- what a statement is to do first, which goes with what was seen
+pub record IsFirst {T J : Type 0} (shown : Shown T J) (bytes : ℕ) (s : State) (p : Places) (stmt : Stmt) (next : Next T J) : Type 0 where
+  pub stands : StandsFor next p s (performs p bytes stmt)
+  pub fits : NextFits shown bytes next s
+  pub taken : taken_next next ≡ None
 
-pub performs_commit : (alone : Bool) (s : State) (p : Places) (bytes : ℕ) (ops : List Op) (n : ℕ) → (length ops == 0) ≡ false → p.block ≡ writing ops n → Leads alone false s (performs p bytes stmts.Commit) s (looks (λ h. commits p (enters none p) h ops))
-performs_commit alone s p bytes ops n some e =
-    performs_looks alone s p bytes stmts.Commit (λ h. commits p (enters none p) h ops) refl
-    (λ h on. ap (λ b. named p bytes stmts.Commit (read_at b h)) e ∙ ap (closes p h) e ∙ commits_of p h ops n some)
+pub first_opens : {T J : Type 0} (shown : Shown T J) (bytes : ℕ) (alone : Bool) (s : State) (p : Places) (stmt like : Stmt) (result : Result (Next T J) NoMemory) (next : Next T J) (n : ℕ) → n < 2 ^ 64 → stmt ≡ like → IfOk result (λ m. m ≡ next) → IsFirst shown bytes s p like next → OpensTo shown bytes alone s (performs p bytes stmt) p result s n n
+first_opens shown bytes alone s p stmt like result next n short e i k = subst (λ x. OpensTo shown bytes alone s (performs p bytes x) p result s n n) (sym e) (opens_if shown bytes alone s (performs p bytes like) p result next n short i (k.stands alone) k.fits)
 
-pub performs_nothing : (p : Places) (h : History) (bytes : ℕ) (ops : List Op) (n : ℕ) → (length ops == 0) ≡ true → p.block ≡ writing ops n → named p bytes stmts.Commit (read_at p.block h) ≡ closes p h (writing [] n)
-performs_nothing p h bytes [] n empty e = ap (λ b. named p bytes stmts.Commit (read_at b h)) e ∙ ap (closes p h) e
-performs_nothing p h bytes (op ∷ ops) n empty e =
-    let is : suc (length ops) ≡ 0 = eqb-true _ _ empty in
-    absurd (omega (arith, is))
+module _ {T J : Type 0} (shown : Shown T J) (bytes : ℕ) (s : State) (p : Places) where
+  pub begins_first : IsFirst shown bytes s p stmts.Begin opening
+  begins_first = record {
+    stands = λ alone. performs_ends alone s p bytes stmts.Begin (turns (enters (writing [] 0) p) said.Begin) refl refl;
+    fits = record { change = empty_holds shown.stands s.history; stands = refl };
+    taken = refl;
+  }
+
+  pub reads_first : block_refusal p.block kinds.BeginsRead ≡ None → IsFirst shown bytes s p stmts.BeginRead (nexts.Deed deeds.BeginRead)
+  reads_first pass = record {
+    stands = λ alone. performs_looks alone s p bytes stmts.BeginRead (λ h. ends (turns (enters (reading (position h)) p) (said.BeginRead (position h)))) refl (λ h on. ap (λ b. named p bytes stmts.BeginRead (read_at b h)) (begins_outside p.block pass));
+    fits = tt;
+    taken = refl;
+  }
+
+  pub gives_up_first : IsFirst shown bytes s p stmts.Rollback (said_once (given_up p.block) (changes.Enters opens.Nothing))
+  gives_up_first = record {
+    stands = λ alone. performs_ends alone s p bytes stmts.Rollback (turns (enters none p) (given_up p.block)) refl refl;
+    fits = record { change = (tt, refl); stands = refl };
+    taken = refl;
+  }
+
+  pub snaps_first : (number : Option ℤ) → block_refusal p.block kinds.Snaps ≡ None → IsFirst shown bytes s p (stmts.Snap number) (nexts.Deed (holding (refresh_meant p number)))
+  snaps_first number pass = of_meant (refresh_meant p number) refl
+    where
+      of_meant : (m : Option ℕ) → refresh_meant p number ≡ m → IsFirst shown bytes s p (stmts.Snap number) (nexts.Deed (holding m))
+      of_meant None e = record {
+        stands = λ alone. performs_looks alone s p bytes (stmts.Snap number) (λ h. ends (snaps p h None)) refl (λ h on. ap (λ b. named p bytes (stmts.Snap number) (read_at b h)) (snaps_outside p.block pass) ∙ ap (λ m. ends (snaps p h m)) e);
+        fits = tt;
+        taken = refl;
+      }
+      of_meant (Some c) e = record {
+        stands = λ alone. performs_looks alone s p bytes (stmts.Snap number) (λ h. ends (snaps p h (Some c))) refl (λ h on. ap (λ b. named p bytes (stmts.Snap number) (read_at b h)) (snaps_outside p.block pass) ∙ ap (λ m. ends (snaps p h m)) e);
+        fits = tt;
+        taken = refl;
+      }
+
+  -- the end of a block, of which a session holds what it has to
+  pub closes_first : (o : Open T) → p.block ≡ block_of o → HoldsBlock shown.stands o s.history → IsFirst shown bytes s p stmts.Commit (closing p.block)
+  closes_first o e held = subst (λ b. IsFirst shown bytes s p stmts.Commit (closing b)) (sym e) (of_block o e held)
+    where
+      named_so : (b : Block) → p.block ≡ b → named p bytes stmts.Commit (read_at p.block s.history) ≡ closes p (read_at b s.history) b
+      named_so b i = ap (λ x. closes p (read_at x s.history) x) i
+
+      of_queue : (ops : List Op) (n : ℕ) → p.block ≡ writing ops n → IsQueue s.history n ops → n ≤ most_queued → IsFirst shown bytes s p stmts.Commit (closing (writing ops n))
+      of_queue [] n i q room = record {
+        stands = λ alone. performs_ends alone s p bytes stmts.Commit (turns (enters none p) said.CommitEmpty) refl (named_so (writing [] n) i);
+        fits = record { change = (tt, refl); stands = refl };
+        taken = refl;
+      }
+      of_queue (op ∷ ops) n i q room =
+          let some : (length (op ∷ ops) == 0) ≡ false = grind (arith, nat_tests) in
+          subst (λ t. IsFirst shown bytes s p stmts.Commit (cond t (said_once said.CommitEmpty (changes.Enters opens.Nothing)) (nexts.Deed (deeds.Commit (op ∷ ops) true)))) (sym some)
+          (record {
+            stands = λ alone. performs_looks alone s p bytes stmts.Commit (λ h. commits p (enters none p) h (op ∷ ops)) refl (λ h on. ap (λ x. closes p (read_at x h) x) i);
+            fits = (queues_are_sound.commits s.history n (op ∷ ops) q (omega arith) room).is_sound;
+            taken = refl;
+          })
+
+      of_block : (o : Open T) → p.block ≡ block_of o → HoldsBlock shown.stands o s.history → IsFirst shown bytes s p stmts.Commit (closing (block_of o))
+      of_block opens.Nothing i k = record {
+        stands = λ alone. performs_ends alone s p bytes stmts.Commit (turns (enters none p) said.End) refl (named_so none i);
+        fits = record { change = (tt, refl); stands = refl };
+        taken = refl;
+      }
+      of_block (opens.Write queue) i k = of_queue queue.ops queue.bytes i k.0 k.1
+      of_block (opens.Read at shot) i k = record {
+        stands = λ alone. performs_ends alone s p bytes stmts.Commit (turns (enters none p) said.End) refl (named_so (reading at) i);
+        fits = record { change = (tt, refl); stands = refl };
+        taken = refl;
+      }
 
 -- ---- queries
 
 -- an answer at a history to a session in a block, which counts the rows that it read
-pub answer_opens : {T J : Type 0} (alone : Bool) (s : State) (h : History) (p : Places) (b : Block) (plan : Plan) (a : Answer) (pos : ℕ) (queue : Option ℕ) (line : Said) (result : Result (Next T J) NoMemory) (before after : ℕ) → before < 2 ^ 64 → p.block ≡ b → a ≡ in_form (roster h) plan.form (answer plan.query (shown_in b h)) → pos ≡ position h → queue ≡ queue_count b → line ≡ said.Answered a pos queue plan.min → IfOk result (λ n. n ≡ nexts.End (record { said = line ∷ []; change = changes.Nothing; failed = false })) → after ≡ raised_by (reads_of plan.query (shown_in b h)) before → OpensTo alone s (ends (answers p h plan)) p result s before after
-answer_opens {T} {J} alone s h p b plan a pos queue line result before after short in_block e f q i is counted =
+pub answer_opens : {T J : Type 0} (shown : Shown T J) (bytes : ℕ) (alone : Bool) (s : State) (h : History) (p : Places) (b : Block) (plan : Plan) (a : Answer) (pos : ℕ) (queue : Option ℕ) (line : Said) (result : Result (Next T J) NoMemory) (before after : ℕ) → before < 2 ^ 64 → p.block ≡ b → a ≡ in_form (roster h) plan.form (answer plan.query (shown_in b h)) → pos ≡ position h → queue ≡ queue_count b → line ≡ said.Answered a pos queue plan.min → IfOk result (λ n. n ≡ said_once line changes.Nothing) → after ≡ raised_by (reads_of plan.query (shown_in b h)) before → OpensTo shown bytes alone s (ends (answers p h plan)) p result s before after
+answer_opens {T} {J} shown bytes alone s h p b plan a pos queue line result before after short in_block e f q i is counted =
     block_opens result is (subst (λ x. a ≡ in_form (roster h) plan.form (answer plan.query (shown_in x h))) (sym in_block) e) (subst (λ x. queue ≡ queue_count x) (sym in_block) q) (subst (λ x. after ≡ raised_by (reads_of plan.query (shown_in x h)) before) (sym in_block) counted)
   where
-    block_opens : (result : Result (Next T J) NoMemory) → IfOk result (λ n. n ≡ nexts.End (record { said = line ∷ []; change = changes.Nothing; failed = false })) → a ≡ in_form (roster h) plan.form (answer plan.query (shown_in p.block h)) → queue ≡ queue_count p.block → after ≡ raised_by (reads_of plan.query (shown_in p.block h)) before → OpensTo alone s (ends (answers p h plan)) p result s before after
+    block_opens : (result : Result (Next T J) NoMemory) → IfOk result (λ n. n ≡ said_once line changes.Nothing) → a ≡ in_form (roster h) plan.form (answer plan.query (shown_in p.block h)) → queue ≡ queue_count p.block → after ≡ raised_by (reads_of plan.query (shown_in p.block h)) before → OpensTo shown bytes alone s (ends (answers p h plan)) p result s before after
     block_opens (Ok n) is e q counted =
         let read = reads_of plan.query (shown_in p.block h) in
-        let shown = in_form (roster h) plan.form (answer plan.query (shown_in p.block h)) in
-        let line_is : line ≡ said.Answered shown (position h) (queue_count p.block) plan.min = i ∙ ap (λ x. said.Answered x pos queue plan.min) e ∙ ap (λ x. said.Answered shown x queue plan.min) f ∙ ap (λ x. said.Answered shown (position h) x plan.min) q in
+        let in_line = in_form (roster h) plan.form (answer plan.query (shown_in p.block h)) in
+        let line_is : line ≡ said.Answered in_line (position h) (queue_count p.block) plan.min = i ∙ ap (λ x. said.Answered x pos queue plan.min) e ∙ ap (λ x. said.Answered in_line x queue plan.min) f ∙ ap (λ x. said.Answered in_line (position h) x plan.min) q in
         let turn : rest_next p read s.history n ≡ ends (answers p h plan) = ap (rest_next p read s.history) is ∙ ap (λ x. ends (record { places = p; said = x ∷ []; reads = read })) line_is in
         record {
           read = read;
           leads = subst (λ d. Leads alone false s (ends (answers p h plan)) s d) (sym turn) (leads_same alone s (ends (answers p h plan)));
           spent = subst (λ x. spent_next read x ≡ read) (sym is) refl;
+          fits = subst (λ x. NextFits shown bytes x s) (sym is) (record { change = tt; stands = refl });
           counted = counted;
         }
     block_opens (Err x) is e q counted =
         (not_begun alone s (ends (answers p h plan)), subst (λ m. before ≤ m) (sym counted) (raised_up (reads_of plan.query (shown_in p.block h)) before short))
-
--- ---- names
-
-pub opens_as : {T J : Type 0} (alone : Bool) (old : State) (procedure like : Procedure (Turn Places)) (p : Places) (result : Result (Next T J) NoMemory) (new : State) (before after : ℕ) → procedure ≡ like → OpensTo alone old like p result new before after → OpensTo alone old procedure p result new before after
-opens_as alone old procedure like p result new before after e o = subst (λ d. OpensTo alone old d p result new before after) (sym e) o
-
--- names that were refused where they were looked at, or not
-pub at_ready : (p : Places) (bytes : ℕ) (stmt : Stmt) (h : History) (pos : ℕ) (r : Roster) (action : Action) → pos ≡ position h → r ≡ roster h → IsChecked pos r stmt (checked.Ready action) → checked_at p bytes stmt p.block (makes_event (kind_of stmt)) h ≡ acted p bytes action p.block (makes_event (kind_of stmt)) h
-at_ready p bytes stmt h pos r action a b c =
-    let at : IsChecked (position h) (roster h) stmt (checked.Ready action) = subst (λ x. IsChecked x (roster h) stmt (checked.Ready action)) a (subst (λ x. IsChecked pos x stmt (checked.Ready action)) b c) in
-    ap (judged p bytes stmt p.block (makes_event (kind_of stmt)) h) at.0 ∙ ap (λ x. acted p bytes x p.block (makes_event (kind_of stmt)) h) (sym at.1)
-
-pub refused_opens : {T J : Type 0} (alone : Bool) (s : State) (p : Places) (q : Refusal) (result : Result (Next T J) NoMemory) (n : ℕ) → n < 2 ^ 64 → IfOk result (λ m. m ≡ nexts.End (record { said = said.Fault q ∷ []; change = changes.Nothing; failed = false })) → OpensTo alone s (ends (refuses p q)) p result s n n
-refused_opens alone s p q result n short e =
-    opens_if alone s (ends (refuses p q)) p result n short
-    (said_as result (said.Fault q) changes.Nothing (λ m. Leads alone false s (ends (refuses p q)) s (rest_next p 0 s.history m)) (leads_same alone s (ends (refuses p q))) e)
-
-pub at_refused : {T J : Type 0} (alone : Bool) (s : State) (p : Places) (bytes : ℕ) (stmt : Stmt) (h : History) (pos : ℕ) (r : Roster) (q : Refusal) (result : Result (Next T J) NoMemory) (n : ℕ) → n < 2 ^ 64 → pos ≡ position h → r ≡ roster h → IsChecked pos r stmt (checked.Refused q) → IfOk result (λ m. m ≡ nexts.End (record { said = said.Fault q ∷ []; change = changes.Nothing; failed = false })) → OpensTo alone s (checked_at p bytes stmt p.block (makes_event (kind_of stmt)) h) p result s n n
-at_refused alone s p bytes stmt h pos r q result n short a b c e =
-    let at : refusal_of (position h) (roster h) stmt ≡ Some q = subst (λ x. refusal_of x (roster h) stmt ≡ Some q) a (subst (λ x. refusal_of pos x stmt ≡ Some q) b c) in
-    opens_as alone s (checked_at p bytes stmt p.block (makes_event (kind_of stmt)) h) (ends (refuses p q)) p result s n n (ap (judged p bytes stmt p.block (makes_event (kind_of stmt)) h) at) (refused_opens alone s p q result n short e)
-
--- a snapshot of what is seen, where no read block is
-pub outside_stands : {T : Type 0} (stands : T → History → Type 0) (shot : T) (b : Block) (h : History) → b ≡ none → stands shot (read_at b h) → IsTrue (all_allowed (read_at b h)) → stands shot h × IsTrue (all_allowed h)
-outside_stands stands shot none h e s ok = (s, ok)
-outside_stands stands shot (writing ops n) h e s ok = absurd cc
-outside_stands stands shot (reading at) h e s ok = absurd cc
-
-pub changes_stand : {T : Type 0} (stands : T → History → Type 0) (shot : T) (b : Block) (h : History) → block_refusal b kinds.Changes ≡ None → stands shot (read_at b h) → IsTrue (all_allowed (read_at b h)) → stands shot h × IsTrue (all_allowed h)
-changes_stand stands shot none h e s ok = (s, ok)
-changes_stand stands shot (writing ops n) h e s ok = (s, ok)
-changes_stand stands shot (reading at) h e s ok = absurd cc

@@ -15,6 +15,7 @@ pub mod NamedLaws
 pub mod CalendarLaws
 pub mod FormLaws
 pub mod FirstLaws
+pub mod MeantLaws
 pub mod HeldDeeds
 pub mod GivesLaws
 pub mod GivenWalks

@@ -1,5 +1,5 @@
 -- What a statement asks of an aggregate: one that makes an event asks nothing of it.
-use Rattle.std.proofs.Common.{◌≡◌, ℕ, Bool, true, sym, refl, ap}
+use Rattle.std.proofs.Common.{◌≡◌, ℕ, true, sym, refl, ap}
 use Rattle.std.proofs.lemmas.Bool.{true≢false}
 use Rattle.ts_model.specs.declared.outcomes.Refusal.{Refusal}
 use Rattle.ts_model.specs.declared.rosters.Roster.{Roster}
@@ -12,8 +12,7 @@ use Rattle.hier_agg.specs.declared.reads.UpperRead.{UpperRead}
 use Rattle.hier_agg.specs.declared.reads.UpperRead.TheVariants as uppers
 use Rattle.hier_agg.specs.Reads.{upper_read}
 use Rattle.ts_sessions.specs.declared.queries.Plan.{Plan}
-use Rattle.ts_sessions.specs.Deeds.{judged, looked_as}
-use Rattle.ts_sessions.specs.Places.{Block, Places, Turn, refuses}
+use Rattle.ts_sessions.specs.Places.{Places, Turn, refuses}
 use Rattle.ts_sessions.specs.Procedures.{Procedure, ends}
 use Rattle.ts_sessions.specs.Step.{answers, kind_of, makes_event, named, named_as, passed, roll_up_plan}
 
@@ -52,10 +51,3 @@ module _ (C : Procedure (Turn Places) → Type 0) (p : Places) (bytes : ℕ) (h 
 
   pub named_holds : C (named p bytes stmt h)
   named_holds = read_holds (upper_read (position h) (roster h) stmt) refl
-
--- where a check leaves the same, so does all that a statement asks
-pub looks_alike : (p : Places) (bytes : ℕ) (stmt : Stmt) (b : Block) (m : Bool) (h : History) → passed p bytes h stmt (refusal_of (position h) (roster h) stmt) ≡ judged p bytes stmt b m h (refusal_of (position h) (roster h) stmt) → (u : UpperRead) → named_as p bytes h stmt u ≡ looked_as p bytes stmt b m h u
-looks_alike p bytes stmt b m h e (uppers.Plan plan) = refl
-looks_alike p bytes stmt b m h e (uppers.Refused r) = refl
-looks_alike p bytes stmt b m h e uppers.NotUpper = e
-looks_alike p bytes stmt b m h e uppers.NoMemory = e

@@ -1,5 +1,5 @@
 -- What a statement is to do with its store next, and what is left of its procedure there.
-use Rattle.std.specs.Prelude.{◌≡◌, ℕ, ◌≤◌, ℤ, Bool, true, false, ◌||◌, List, ◌∷◌, length, Option, Some, None, option_map, Result, Ok, Err, IsSome, IsTrue, ⊤}
+use Rattle.std.specs.Prelude.{◌≡◌, ℕ, ◌==◌, ◌≤◌, ℤ, Bool, true, false, cond, ◌||◌, List, [], ◌∷◌, length, Option, Some, None, option_map, Result, Ok, Err, IfSome, IsSome, IsTrue, ⊤}
 use Rattle.std.specs.Option.{ForSome}
 use Rattle.std.specs.Map.{remove_entry}
 use Rattle.std.specs.Ordering.{nat_cmp}
@@ -22,6 +22,9 @@ use Rattle.ts_model.specs.Calls.{Act, committing, making_hyper, making_table, ma
 use Rattle.ts_model.specs.Sound.{sound}
 use Rattle.ts_model.specs.Pending.{pending}
 use Rattle.ts_model.specs.Roster.{roster, hyper_of, view_of}
+use Rattle.ts_sessions.specs.declared.blocks.Open.TheVariants as opens
+use Rattle.ts_sessions.specs.declared.changes.Change.{Change}
+use Rattle.ts_sessions.specs.declared.changes.Change.TheVariants as changes
 use Rattle.ts_sessions.specs.declared.changes.Completion.{Completion}
 use Rattle.ts_sessions.specs.declared.deeds.Advanced.{Advanced}
 use Rattle.ts_sessions.specs.declared.deeds.Deed.{Deed}
@@ -39,13 +42,7 @@ use Rattle.ts_sessions.specs.declared.deeds.Next.TheVariants as nexts
 use Rattle.ts_sessions.specs.declared.queries.Form.{Form}
 use Rattle.ts_sessions.specs.declared.queries.Form.TheVariants as forms
 use Rattle.ts_sessions.specs.declared.queries.Plan.{Plan}
-use Rattle.stmt_check.specs.declared.actions.Action.{Action}
-use Rattle.stmt_check.specs.Check.{action_of, refusal_of}
-use Rattle.stmt_reader.specs.declared.statements.Stmt.{Stmt}
-use Rattle.hier_agg.specs.declared.reads.UpperRead.{UpperRead}
-use Rattle.hier_agg.specs.declared.reads.UpperRead.TheVariants as uppers
 use Rattle.hier_agg.specs.Plans.{lower_query}
-use Rattle.hier_agg.specs.Reads.{upper_read}
 use Rattle.hier_agg.specs.Stale.{AreWholeRanges}
 use Rattle.cal_bucket.specs.declared.plans.CalPlan.{CalPlan}
 use Rattle.cal_bucket.specs.Buckets.{IsNumber}
@@ -55,15 +52,13 @@ use Rattle.ts_model.specs.declared.queries.Query.TheVariants.{Rows}
 use Rattle.ts_model.specs.Answers.{columns_are_there}
 use Rattle.ts_model.specs.Limits.{most_columns}
 use Rattle.std.specs.List.{AllByRecursion}
-use Rattle.ts_sessions.specs.declared.kinds.Kind.{Kind}
-use Rattle.ts_sessions.specs.declared.kinds.Kind.TheVariants as kinds
 use Rattle.ts_sessions.specs.declared.refreshes.Asked.{Asked}
 use Rattle.ts_sessions.specs.declared.sessions.Session.{Session}
 use Rattle.ts_sessions.specs.Held.{GoesOn, HoldsOf, IsJobOf, is_lost, places_in}
 use Rattle.ts_sessions.specs.Places.{Block, Places, Turn, cuts, enters, none, reading, refuses, turns, writing}
 use Rattle.ts_sessions.specs.Procedures.{Procedure, ending_as, ends, followed_by, looks, tries, tries_at}
 use Rattle.ts_sessions.specs.Sessions.{ChangeHolds, EndsAt, Spares, turn_of}
-use Rattle.ts_sessions.specs.Step.{acts, after_cut, after_line, after_snapshot, after_view, answers, committed, cut_turn, cuts_refresh, finish_turn, finishes_refresh, kind_of, lost_code, makes_event, refreshed, reported, roll_up_plan, snap_turn, takes_snapshot, unfinished, view_made}
+use Rattle.ts_sessions.specs.Step.{after_cut, after_line, after_snapshot, after_view, committed, cut_turn, cuts_refresh, finish_turn, finishes_refresh, lost_code, refreshed, reported, snap_turn, takes_snapshot, unfinished, view_made}
 use Rattle.ts_sessions.specs.Sound.{IsNamed, IsThere, number_at}
 use Rattle.ts_sessions.specs.Walks.{Walks, Breaks}
 
@@ -119,6 +114,26 @@ view_leaves p n min filled (Err r) = ends (refuses p r)
 abbrev pub lack_code : Lacks → History → ℕ
 lack_code lacks.Snapshot h = NO_SNAPSHOT
 lack_code lacks.Job h = lost_code h
+
+-- the end of a statement that says one line
+abbrev pub said_once : {T J : Type 0} → Said → Change T J → Next T J
+said_once line change = nexts.End (record { said = line ∷ []; change = change; failed = false })
+
+-- what begins a write block
+abbrev pub opening : {T J : Type 0} → Next T J
+opening = said_once said.Begin (changes.Enters (opens.Write (record { ops = []; bytes = 0 })))
+
+-- what ends a block: the operations that wait take effect, if there are any
+abbrev pub closing : {T J : Type 0} → Block → Next T J
+closing none = said_once said.End (changes.Enters opens.Nothing)
+closing (writing ops bytes) =
+    cond (length ops == 0) (said_once said.CommitEmpty (changes.Enters opens.Nothing)) (nexts.Deed (deeds.Commit ops true))
+closing (reading at) = said_once said.End (changes.Enters opens.Nothing)
+
+-- what takes a snapshot for a refresh, if one is meant
+abbrev pub holding : {T J : Type 0} → Option ℕ → Deed T J
+holding None = deeds.Unknown
+holding (Some c) = deeds.Hold c
 
 -- what is left of a statement of a session with these places, which has read so many rows, where this is to be done
 -- next and this history was seen
@@ -300,13 +315,15 @@ pub record Forgets {T J : Type 0} (gone : Option ℕ) (old new : Session T J) : 
   pub cut : new.cut ≡ old.cut
   pub held : new.held.entries ≡ without_entry gone old.held.entries
 
--- a session from which what comes next took what it needs. Where that came to its end, the session goes with what is seen
--- then; and where it broke off, it does so once it gave up the snapshot
-pub record Takes {T J : Type 0} (shown : Shown T J) (next : Next T J) (old new : Session T J) : Type 0 where
+-- a session from which what comes next took what it needs, for the refresh that was meant. Where that came to its end,
+-- the session goes with what is seen then; and where it broke off, it does so once it gave up the snapshot
+pub record Takes {T J : Type 0} (shown : Shown T J) (meant : Option ℕ) (next : Next T J)
+    (old new : Session T J) : Type 0 where
   pub places : places_in new ≡ places_in old
+  pub only : IfSome (taken_next next) (λ cut. meant ≡ Some cut)
   pub holds : (s h : State) → HoldsOf shown old s → GoesOn s h → IsLostNext next h → HoldsOf shown new h
   pub broken : (u : Session T J) → Forgets (taken_next next) new u
-      → Spares (taken_next next) (places_in old) (places_in u)
+      → Spares meant (places_in old) (places_in u)
       × ((s h : State) → HoldsOf shown old s → GoesOn s h → HoldsOf shown u h)
 
 -- what comes next stands for a procedure of a session that holds what it has to
@@ -315,55 +332,23 @@ StandsFor next p s procedure = (alone : Bool) → Leads alone false s procedure 
 
 -- ---- what comes first
 
--- a procedure was walked to where this comes next, and the rows that were read were counted
-pub record Opens {T J : Type 0} (alone : Bool) (old : State) (procedure : Procedure (Turn Places)) (p : Places)
-    (next : Next T J) (new : State) (before after : ℕ) : Type 0 where
+-- a procedure was walked to where this comes next, of a text of so many bytes: it goes with what is seen then, and the
+-- rows that were read were counted
+pub record Opens {T J : Type 0} (shown : Shown T J) (bytes : ℕ) (alone : Bool) (old : State)
+    (procedure : Procedure (Turn Places)) (p : Places) (next : Next T J) (new : State) (before after : ℕ) : Type 0 where
   pub read : ℕ
   pub leads : Leads alone false old procedure new (rest_next p read new.history next)
   pub spent : spent_next read next ≡ read
+  pub fits : NextFits shown bytes next new
   pub counted : after ≡ raised_by read before
 
 -- so, or the statement broke off for want of memory
 abbrev pub OpensTo :
-    {T J : Type 0} → Bool → State → Procedure (Turn Places) → Places → Result (Next T J) NoMemory → State → ℕ → ℕ
-    → Type 0
-OpensTo alone old procedure p (Ok next) new before after = Opens alone old procedure p next new before after
-OpensTo alone old procedure p (Err e) new before after = Breaks alone old procedure new × (before ≤ after)
-
--- what a statement of this kind does stands in a history by names
-abbrev pub looks_at_names : Kind → Bool
-looks_at_names kinds.Defines = true
-looks_at_names kinds.Changes = true
-looks_at_names kinds.Asks = true
-looks_at_names other = false
-
--- an action whose names were looked at in a history, of a statement that makes events or not: outside a block an event
--- has a look of its own
-abbrev pub acted : Places → ℕ → Action → Block → Bool → History → Procedure (Turn Places)
-acted p bytes a none true h = looks (λ g. acts p bytes g a)
-acted p bytes a none false h = acts p bytes h a
-acted p bytes a (writing ops n) makes h = acts p bytes h a
-acted p bytes a (reading at) makes h = acts p bytes h a
-
--- a statement whose names were looked at in a history, and refused or not
-abbrev pub judged : Places → ℕ → Stmt → Block → Bool → History → Option Refusal → Procedure (Turn Places)
-judged p bytes stmt b makes h (Some r) = ends (refuses p r)
-judged p bytes stmt b makes h None = acted p bytes (action_of (roster h) stmt) b makes h
-
--- a statement that was checked in a history
-abbrev pub checked_at : Places → ℕ → Stmt → Block → Bool → History → Procedure (Turn Places)
-checked_at p bytes stmt b makes h = judged p bytes stmt b makes h (refusal_of (position h) (roster h) stmt)
-
--- a statement by what it asks of an aggregate
-abbrev pub looked_as : Places → ℕ → Stmt → Block → Bool → History → UpperRead → Procedure (Turn Places)
-looked_as p bytes stmt b makes h (uppers.Plan plan) = ends (answers p h (roll_up_plan plan))
-looked_as p bytes stmt b makes h (uppers.Refused r) = ends (refuses p r)
-looked_as p bytes stmt b makes h other = checked_at p bytes stmt b makes h
-
--- what is left of a statement once its names were looked at in a history
-abbrev pub looked_at : Places → ℕ → Stmt → History → Procedure (Turn Places)
-looked_at p bytes stmt h =
-    looked_as p bytes stmt p.block (makes_event (kind_of stmt)) h (upper_read (position h) (roster h) stmt)
+    {T J : Type 0} → Shown T J → ℕ → Bool → State → Procedure (Turn Places) → Places → Result (Next T J) NoMemory
+    → State → ℕ → ℕ → Type 0
+OpensTo shown bytes alone old procedure p (Ok next) new before after =
+    Opens shown bytes alone old procedure p next new before after
+OpensTo shown bytes alone old procedure p (Err e) new before after = Breaks alone old procedure new × (before ≤ after)
 
 -- ---- queries
 

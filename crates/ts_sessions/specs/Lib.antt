@@ -20,3 +20,4 @@ pub mod Sessions
 pub mod Sound
 pub mod Parts
 pub mod Deeds
+pub mod Meant

@@ -1,16 +1,15 @@
 //! Statements that begin or end blocks, and snapshots that a session holds: what each is to do first. None of them
 //! looks at names.
-ghost use Rattle.std.specs.Prelude.{◌≡◌, ℕ, ◌≤◌, [], None, Some, IfOk, IfSome};
+ghost use Rattle.std.specs.Prelude.{◌≡◌, IfOk};
 ghost use Rattle.ts_model.specs.States.{State};
-ghost use Rattle.stmt_check.specs.Sound.{IsQueue};
-ghost use Rattle.stmt_reader.specs.declared.statements.Stmt.TheVariants as stmts;
-ghost use Rattle.ts_sessions.specs.Deeds.{DeedFits, Forgets, NextFits, StandsFor, Takes, taken_next};
+ghost use Rattle.ts_sessions.specs.Deeds.{DeedFits, Forgets, StandsFor, Takes, closing, holding, opening, said_once};
+ghost use Rattle.ts_sessions.specs.declared.blocks.Open.TheVariants as opens;
+ghost use Rattle.ts_sessions.specs.declared.changes.Change.TheVariants as changes;
 ghost use Rattle.ts_sessions.specs.declared.deeds.Next.TheVariants as nexts;
-ghost use Rattle.ts_sessions.specs.Held.{HoldsBlock, HoldsOf, most_queued, places_in};
+ghost use Rattle.ts_sessions.specs.Held.{HoldsOf, places_in};
 ghost use Rattle.ts_sessions.specs.Jobs.{TakesJob, took_of};
-ghost use Rattle.ts_sessions.specs.Parts.{finishes_meant, snaps_meant};
-ghost use Rattle.ts_sessions.specs.Places.{Places, writing};
-ghost use Rattle.ts_sessions.specs.Step.{performs, refresh_meant};
+ghost use Rattle.ts_sessions.specs.Parts.{finishes_meant};
+ghost use Rattle.ts_sessions.specs.Step.{given_up, refresh_meant};
 
 use crate::blocks::{Open, Queue};
 use crate::changes::Change;
@@ -33,86 +32,50 @@ pub(crate) enum Held<J> {
     Job { at: u64, job: J },
 }
 
-/// A write block begins.
+/// A write block begins, in which no operation waits.
 pub(crate) fn begin<T: Shown + Drop>(alloc: Global) -> Result<Next<T>, NoMemory>
 where
     T::Job: Drop,
-    ensures stands { IfOk result (λ n. (s : State) (p : Places) (bytes : ℕ) →
-        StandsFor n p s (performs p bytes stmts.Begin)) }
-    ensures fits { IfOk result (λ n. (s : State) (bytes : ℕ) → NextFits T.Shown bytes n s) }
-    ensures taken { IfOk result (λ n. taken_next n ≡ None) }
+    ensures { IfOk result (λ n. n ≡ opening) }
 {
-    say(
-        alloc,
-        Said::Begin,
-        Change::Enters(Open::Write(no_queue(alloc))),
-    )
-}
-
-/// No operation waits.
-fn no_queue(alloc: Global) -> Queue
-    ensures { result ≡ record { ops = []; bytes = 0 } }
-{
-    Queue {
+    let queue = Queue {
         ops: Seq::new(alloc),
         bytes: 0,
-    }
-}
-
-/// A write block ends: its operations take effect as one commit, if there are any.
-fn commit_queue<T: Shown + Drop>(alloc: Global, queue: &Queue) -> Result<Next<T>, NoMemory>
-where
-    T::Job: Drop,
-    ensures stands { IfOk result (λ n. (s : State) (p : Places) (bytes : ℕ) →
-        p.block ≡ writing queue.now.ops queue.now.bytes → StandsFor n p s (performs p bytes stmts.Commit)) }
-    ensures fits { IfOk result (λ n. (s : State) (bytes : ℕ) → IsQueue s.history queue.now.bytes queue.now.ops
-        → queue.now.bytes ≤ most_queued → NextFits T.Shown bytes n s) }
-    ensures taken { IfOk result (λ n. taken_next n ≡ None) }
-{
-    match queue.ops.is_empty() {
-        true => say(alloc, Said::CommitEmpty, Change::Enters(Open::Nothing)),
-        false => {
-            let ops = queue.ops.copy()?;
-            Ok(Next::Deed(Deed::Commit { ops, leaves: true }))
-        }
-    }
+    };
+    say(alloc, Said::Begin, Change::Enters(Open::Write(queue)))
 }
 
 impl<T: Shown + Drop> Session<T>
 where
     T::Job: Drop,
 {
-    /// A block ends: what waits in a write block takes effect.
+    /// A block ends: what waits in a write block takes effect as one commit, if anything does.
     pub(crate) fn end_block(&self, alloc: Global) -> Result<Next<T>, NoMemory>
-        ensures stands { IfOk result (λ n. (s : State) (bytes : ℕ) →
-            StandsFor n (places_in self.now) s (performs (places_in self.now) bytes stmts.Commit)) }
-        ensures fits { IfOk result (λ n. (s : State) (bytes : ℕ) → HoldsBlock T.stands self.now.block s.history
-            → NextFits T.Shown bytes n s) }
-        ensures taken { IfOk result (λ n. taken_next n ≡ None) }
+        ensures { IfOk result (λ n. n ≡ closing (places_in self.now).block) }
     {
         match &self.block {
             Open::Nothing => say(alloc, Said::End, Change::Enters(Open::Nothing)),
-            Open::Write(queue) => commit_queue(alloc, queue),
+            Open::Write(queue) => match queue.ops.is_empty() {
+                true => say(alloc, Said::CommitEmpty, Change::Enters(Open::Nothing)),
+                false => {
+                    let ops = queue.ops.copy()?;
+                    Ok(Next::Deed(Deed::Commit { ops, leaves: true }))
+                }
+            },
             Open::Read { .. } => say(alloc, Said::End, Change::Enters(Open::Nothing)),
         }
     }
 
     /// A block is given up.
     pub(crate) fn roll_back(&self, alloc: Global) -> Result<Next<T>, NoMemory>
-        ensures stands { IfOk result (λ n. (s : State) (bytes : ℕ) →
-            StandsFor n (places_in self.now) s (performs (places_in self.now) bytes stmts.Rollback)) }
-        ensures fits { IfOk result (λ n. (s : State) (bytes : ℕ) → NextFits T.Shown bytes n s) }
-        ensures taken { IfOk result (λ n. taken_next n ≡ None) }
+        ensures { IfOk result (λ n. n ≡ said_once (given_up (places_in self.now).block) (changes.Enters opens.Nothing)) }
     {
         say(alloc, self.block.given_up(), Change::Enters(Open::Nothing))
     }
 
     /// A snapshot is taken for the refresh that is meant, and held.
     pub(crate) fn snap(&self, number: Option<i64>) -> Deed<T>
-        ensures stands { (s : State) →
-            StandsFor (nexts.Deed result) (places_in self.now) s (snaps_meant (places_in self.now) number) }
-        ensures fits { (s : State) → DeedFits T.Shown result s }
-        ensures taken { taken_next (nexts.Deed result) ≡ None }
+        ensures { result ≡ holding (refresh_meant (places_in self.now) number) }
     {
         match self.meant(number) {
             Some(cut) => Deed::Hold { cut },
@@ -125,9 +88,7 @@ where
         ensures stands { (s : State) → HoldsOf T.Shown self.old s →
             StandsFor (nexts.Deed result) (places_in self.old) s (finishes_meant (places_in self.old) number) }
         ensures fits { (s : State) → HoldsOf T.Shown self.old s → DeedFits T.Shown result s }
-        ensures takes { Takes T.Shown (nexts.Deed result) self.old self.new }
-        ensures meant { IfSome (taken_next (nexts.Deed result))
-            (λ cut. refresh_meant (places_in self.old) number ≡ Some cut) }
+        ensures takes { Takes T.Shown (refresh_meant (places_in self.old) number) (nexts.Deed result) self.old self.new }
         ensures name { self.new.name ≡ self.old.name }
         ensures number { self.new.number ≡ self.old.number }
     {

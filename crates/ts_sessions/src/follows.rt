@@ -6,7 +6,7 @@ ghost use Rattle.ts_model.specs.States.{State};
 ghost use Rattle.result_text.specs.declared.replies.Said.TheVariants.{Cut, Fault};
 ghost use Rattle.ts_sessions.specs.declared.changes.Change.TheVariants.{Cuts};
 ghost use Rattle.ts_sessions.specs.declared.deeds.Next.TheVariants.{End};
-ghost use Rattle.ts_sessions.specs.Deeds.{MadeFits, NextFits, finished, lack_code, left_by, left_next, rest_next, says, spent_by, spent_next, view_leaves};
+ghost use Rattle.ts_sessions.specs.Deeds.{MadeFits, NextFits, finished, lack_code, left_by, left_next, rest_next, said_once, says, spent_by, spent_next, view_leaves};
 ghost use Rattle.ts_sessions.specs.Places.{Places, cuts, refuses};
 ghost use Rattle.ts_sessions.specs.Procedures.{ends};
 ghost use Rattle.ts_sessions.specs.Sessions.{FitsSnapped, read_by, taken_as};
@@ -267,7 +267,7 @@ pub(crate) fn say<T: Shown + Drop>(
 ) -> Result<Next<T>, NoMemory>
 where
     T::Job: Drop,
-    ensures { IfOk result (λ n. n ≡ End (record { said = said ∷ []; change = change; failed = false })) }
+    ensures { IfOk result (λ n. n ≡ said_once said change) }
 {
     Ok(Next::End(Completion {
         said: one_line(alloc, said)?,

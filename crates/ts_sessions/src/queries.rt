@@ -9,7 +9,7 @@ ghost use Rattle.ts_model.specs.Answers.{answer as answer_of, can_ask};
 ghost use Rattle.ts_model.specs.Reads.{reads as reads_of};
 ghost use Rattle.result_text.specs.declared.replies.Said.TheVariants.{Answered};
 ghost use Rattle.ts_model.specs.States.{State};
-ghost use Rattle.ts_sessions.specs.Deeds.{FormFits, IsFormed, NextFits, OpensTo, taken_next};
+ghost use Rattle.ts_sessions.specs.Deeds.{FormFits, IsFormed, OpensTo, taken_next};
 ghost use Rattle.ts_sessions.specs.Held.{block_of};
 ghost use Rattle.ts_sessions.specs.Procedures.{ends};
 ghost use Rattle.ts_sessions.specs.Places.{Places, queue_in};
@@ -68,10 +68,9 @@ where
     requires formed { (h : History) → T.stands shot.now h → IsTrue (all_allowed h)
         → IsFormed (roster_of h) plan plan.form }
     requires asks { (h : History) → T.stands shot.now h → IsTrue (can_ask (roster_of h) plan.query) }
-    ensures opens { (h : History) → T.stands shot.now h → (p : Places) (alone : Bool) (s : State)
+    ensures opens { (h : History) → T.stands shot.now h → (p : Places) (bytes : ℕ) (alone : Bool) (s : State)
         → p.block ≡ block_of block.now
-        → OpensTo alone s (ends (answers p h plan)) p result s steps.old steps.new }
-    ensures fits { IfOk result (λ n. (s : State) (bytes : ℕ) → NextFits T.Shown bytes n s) }
+        → OpensTo T.Shown bytes alone s (ends (answers p h plan)) p result s steps.old steps.new }
     ensures taken { IfOk result (λ n. taken_next n ≡ None) }
 {
     let roster = shot.roster();

@@ -1,12 +1,12 @@
 //! The step of a session: one line.
-ghost use Rattle.std.specs.Prelude.{◌≡◌, ◌+◌, ◌<◌, ◌≤◌, ◌^◌, length, None, Some, IfOk, IfSome, OnOk, OnErr};
+ghost use Rattle.std.specs.Prelude.{◌≡◌, ◌+◌, ◌<◌, ◌≤◌, ◌^◌, length, None, IfOk, OnOk, OnErr};
 ghost use Rattle.std.specs.Thread.{IsSync};
-ghost use Rattle.ts_sessions.specs.Deeds.{NextFits, OpensTo, Takes, taken_next};
+ghost use Rattle.ts_sessions.specs.Deeds.{OpensTo, Takes};
 ghost use Rattle.ts_sessions.specs.Held.{Carries, HoldsOf, most_queued, places_in, waiting_bytes};
 ghost use Rattle.ts_sessions.specs.Places.{none};
 ghost use Rattle.ts_sessions.specs.Sessions.{AnswersSo, Brings, ChangeFits, DoesReading, HoldsAfter, IfAnswered, IfNoMemory, IsReplied, Spares, Stepped, changed, finish_in, finish_meant};
 ghost use Rattle.ts_sessions.specs.Sound.{AsksSoundly};
-ghost use Rattle.ts_sessions.specs.Step.{block_refusal, kind_of as kind_of_stmt, passes_block, performs, step as step_of};
+ghost use Rattle.ts_sessions.specs.Step.{block_refusal, kind_of as kind_of_stmt, performs, step as step_of};
 
 use crate::changes::{Change, Completion, refused};
 use crate::deeds::{Deed, Next, carry_out};
@@ -95,7 +95,7 @@ where
         }
     }
 
-    /// Does what a line asks for.
+    /// Does what a line asks for, where the block of its session lets it pass.
     fn take_line<R: Threads + Sync, B: Backend<Shot = T>, G: Gate, L>(
         &mut self,
         rt: &R,
@@ -123,9 +123,10 @@ where
         ensures kin { B.kin backend.new ≡ B.kin backend.old }
     {
         match read_stmt(alloc, text, skip) {
-            ReadStmt::Stmt(stmt) => {
-                self.take(rt, alloc, backend, gate, &stmt, text.len() as u64, steps)
-            }
+            ReadStmt::Stmt(stmt) => match self.block.barrier(kind_of(&stmt)) {
+                Some(refusal) => refused(alloc, refusal),
+                None => { self.perform(rt, alloc, backend, gate, &stmt, text.len() as u64, steps) }
+            },
             ReadStmt::NoToken(place) => refused(alloc, placed(codes::NO_TOKEN, place)),
             ReadStmt::Syntax(place) => refused(alloc, placed(codes::SYNTAX, place)),
             ReadStmt::BadNumber(place) => refused(alloc, placed(codes::BAD_NUMBER, place)),
@@ -133,40 +134,7 @@ where
         }
     }
 
-    /// Does what a statement asks for, from a text of so many bytes, where the block lets it pass.
-    fn take<R: Threads + Sync, B: Backend<Shot = T>, G: Gate, L>(
-        &mut self,
-        rt: &R,
-        alloc: Global,
-        backend: &mut B,
-        gate: &G,
-        stmt: &Stmt,
-        bytes: u64,
-        steps: &mut Steps<L>,
-    ) -> Result<Completion<T>, NoMemory>
-        requires sync { IsSync R.row }
-        requires counts { steps.old < 2 ^ 64 }
-        requires sound { AsksSoundly bytes stmt.now }
-        requires holds { HoldsOf T.Shown self.old (B.state backend.old) }
-        ensures ends { DoesReading B.Backend backend.old
-            (passes_block (places_in self.old) bytes stmt.now) (places_in self.old)
-            result backend.new steps.old steps.new }
-        ensures change { Brings T.Shown bytes result (B.state backend.new).history }
-        ensures places { OnOk result (places_in self.new ≡ places_in self.old) }
-        ensures spared { OnErr result (Spares (finish_meant (places_in self.old) stmt.now) (places_in self.old)
-            (places_in self.new)) }
-        ensures name { self.new.name ≡ self.old.name }
-        ensures number { self.new.number ≡ self.old.number }
-        ensures holds { HoldsOf T.Shown self.new (B.state backend.new) }
-        ensures kin { B.kin backend.new ≡ B.kin backend.old }
-    {
-        match self.block.barrier(kind_of(stmt)) {
-            Some(refusal) => refused(alloc, refusal),
-            None => self.perform(rt, alloc, backend, gate, stmt, bytes, steps),
-        }
-    }
-
-    /// Does what a statement asks for that the block lets pass.
+    /// Does what a statement asks for that the block lets pass, from a text of so many bytes.
     fn perform<R: Threads + Sync, B: Backend<Shot = T>, G: Gate, L>(
         &mut self,
         rt: &R,
@@ -220,12 +188,10 @@ where
         requires sound { AsksSoundly bytes stmt.now }
         requires passes { block_refusal (places_in self.old).block (kind_of_stmt stmt.now) ≡ None }
         requires holds { HoldsOf T.Shown self.old (B.state backend.old) }
-        ensures opens { OpensTo B.alone (B.state backend.old) (performs (places_in self.old) bytes stmt.now)
-            (places_in self.old) result (B.state backend.new) steps.old steps.new }
-        ensures fits { IfOk result (λ n. NextFits T.Shown bytes n (B.state backend.new)) }
-        ensures takes { IfOk result (λ n. Takes T.Shown n self.old self.new) }
-        ensures meant { IfOk result (λ n. IfSome (taken_next n)
-            (λ cut. finish_meant (places_in self.old) stmt.now ≡ Some cut)) }
+        ensures opens { OpensTo T.Shown bytes B.alone (B.state backend.old)
+            (performs (places_in self.old) bytes stmt.now) (places_in self.old) result (B.state backend.new)
+            steps.old steps.new }
+        ensures takes { IfOk result (λ n. Takes T.Shown (finish_meant (places_in self.old) stmt.now) n self.old self.new) }
         ensures kept { OnErr result (Carries self.old self.new) }
         ensures name { self.new.name ≡ self.old.name }
         ensures number { self.new.number ≡ self.old.number }

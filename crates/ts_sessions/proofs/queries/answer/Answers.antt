@@ -1,13 +1,11 @@
-use Rattle.std.proofs.Common.{ℕ, ◌∙◌, ap, refl, sym, subst}
+use Rattle.std.proofs.Common.{◌∙◌, ap, sym, subst}
 use Rattle.ts_model.specs.Answers.{with_queue}
 use Rattle.ts_model.specs.Roster.{roster}
-use Rattle.ts_model.specs.States.{State}
-use Rattle.ts_sessions.specs.declared.changes.Change.TheVariants as changes
-use Rattle.ts_sessions.specs.Deeds.{IsFormed, NextFits}
+use Rattle.ts_sessions.specs.Deeds.{IsFormed}
 use Rattle.ts_sessions.specs.Held.{block_of}
 use Rattle.ts_sessions.specs.Places.{queue_in}
 use Rattle.ts_sessions.specs.Step.{in_form}
-use Rattle.ts_sessions.proofs.FirstLaws.{answer_opens, said_as}
+use Rattle.ts_sessions.proofs.FirstLaws.{answer_opens}
 use Rattle.ts_sessions.proofs.FormLaws.{form_fits}
 use Rattle.ts_sessions.proofs.QueueLaws.{fits_each, queue_consistent, queue_roster}
 use Rattle.ts_sessions.proofs.queries.answer.Goals as goal
@@ -26,11 +24,7 @@ in_form-requires g c =
     form_fits c.roster-roster.result.now (with_queue queue s.history) form c.args.plan c.in_ok-answer.answer (c.roster-roster.ensures s.history s.holds ∙ same) (queue_consistent queue s.history s.allowed s.fits) (subst (λ r. IsFormed r c.args.plan form) same (c.requires.formed s.history s.holds s.allowed)) (c.in_ok-answer.ensures.shown s.history s.holds)
 
 pub returns-clause-opens : goal.returns-clause-opens
-returns-clause-opens g c = λ h stands p alone s in_block.
+returns-clause-opens g c = λ h stands p bytes alone s in_block.
     let form = c.args.plan.form in
     let shown = c.in_ok-shown.ensures ∙ ap (λ r. in_form r form c.in_ok-answer.answer) (c.roster-roster.ensures h stands) ∙ ap (in_form (roster h) form) (c.in_ok-answer.ensures.shown h stands) in
-    answer_opens alone s h p (block_of c.args.block.now) c.args.plan c.in_ok-shown.shown c.position.result c.queue_count.result c.answered-said.result c.say.result _ _ c.requires.counts in_block shown (c.position.ensures h stands) c.queue_count.ensures c.answered-said.ensures c.say.ensures (c.in_ok-answer.ensures.read h stands)
-
-pub returns-clause-fits : goal.returns-clause-fits
-returns-clause-fits g c =
-    said_as c.say.result c.answered-said.result changes.Nothing (λ n. (s : State) (bytes : ℕ) → NextFits g.T.Shown bytes n s) (λ s bytes. record { change = tt; stands = refl }) c.say.ensures
+    answer_opens g.T.Shown bytes alone s h p (block_of c.args.block.now) c.args.plan c.in_ok-shown.shown c.position.result c.queue_count.result c.answered-said.result c.say.result _ _ c.requires.counts in_block shown (c.position.ensures h stands) c.queue_count.ensures c.answered-said.ensures c.say.ensures (c.in_ok-answer.ensures.read h stands)

@@ -18,7 +18,7 @@ returns-in-Job-clause-fits g c = λ s k.
 pub returns-in-Job-clause-takes : goal.returns-in-Job-clause-takes
 returns-in-Job-clause-takes g c =
     let w = subst (λ r. TakesJob c.in-Some.cut c.args.self.now.held.entries r c.take_job.new.self.held.entries) c.in-Job.is c.take_job.ensures.took in
-    takes_job g.T.Shown g.met.T.Shown.fits_on c.in-Some.cut c.in-Job.at c.in-Job.job c.args.self.now c.take_job.new.self c.take_job.ensures.block c.take_job.ensures.cut w
+    takes_job g.T.Shown g.met.T.Shown.fits_on _ c.in-Some.cut c.in-Job.at c.in-Job.job c.args.self.now c.take_job.new.self (sym c.meant.ensures ∙ c.in-Some.is) c.take_job.ensures.block c.take_job.ensures.cut w
 
 pub returns-in-Lost-clause-stands : goal.returns-in-Lost-clause-stands
 returns-in-Lost-clause-stands g c = λ s k.
@@ -28,7 +28,7 @@ returns-in-Lost-clause-stands g c = λ s k.
 pub returns-in-Lost-clause-takes : goal.returns-in-Lost-clause-takes
 returns-in-Lost-clause-takes g c =
     let w = subst (λ r. TakesJob c.in-Some.cut c.args.self.now.held.entries r c.take_job.new.self.held.entries) c.in-Lost.is c.take_job.ensures.took in
-    takes_lost g.T.Shown g.met.T.Shown.fits_on c.in-Some.cut c.in-Lost.at _ c.args.self.now c.take_job.new.self refl c.take_job.ensures.block c.take_job.ensures.cut w
+    takes_lost g.T.Shown g.met.T.Shown.fits_on _ c.in-Some.cut c.in-Lost.at _ c.args.self.now c.take_job.new.self refl c.take_job.ensures.block c.take_job.ensures.cut w
 
 pub returns-in-Nothing-clause-stands : goal.returns-in-Nothing-clause-stands
 returns-in-Nothing-clause-stands g c = λ s k.
@@ -38,10 +38,7 @@ returns-in-Nothing-clause-stands g c = λ s k.
 pub returns-in-Nothing-clause-takes : goal.returns-in-Nothing-clause-takes
 returns-in-Nothing-clause-takes g c =
     let w = subst (λ r. TakesJob c.in-Some.cut c.args.self.now.held.entries r c.take_job.new.self.held.entries) c.in-Nothing.is c.take_job.ensures.took in
-    takes_nothing g.T.Shown g.met.T.Shown.fits_on _ c.args.self.now c.take_job.new.self refl c.take_job.ensures.block c.take_job.ensures.cut w.1
+    takes_nothing g.T.Shown g.met.T.Shown.fits_on _ _ c.args.self.now c.take_job.new.self refl c.take_job.ensures.block c.take_job.ensures.cut w.1
 
 pub returns-in-None-clause-takes : goal.returns-in-None-clause-takes
-returns-in-None-clause-takes g c = takes_nothing g.T.Shown g.met.T.Shown.fits_on _ c.args.self.now _ refl refl refl refl
-
-pub returns-in-Job-clause-meant : goal.returns-in-Job-clause-meant
-returns-in-Job-clause-meant g c = sym c.meant.ensures ∙ c.in-Some.is
+returns-in-None-clause-takes g c = takes_nothing g.T.Shown g.met.T.Shown.fits_on _ _ c.args.self.now _ refl refl refl refl

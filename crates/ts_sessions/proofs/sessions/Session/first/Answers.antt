@@ -1,44 +1,36 @@
-use Rattle.std.proofs.Common.{◌≡◌, ℕ, Some, None, refl, ap, sym, subst, false}
-use Rattle.ts_model.specs.History.{position}
-use Rattle.ts_model.specs.States.{State}
-use Rattle.stmt_reader.specs.declared.statements.Stmt.TheVariants as stmts
-use Rattle.result_text.specs.declared.replies.Said.TheVariants as said
+use Rattle.std.proofs.Common.{false, refl, ap, sym, subst}
+use Rattle.std.specs.Prelude.{Ok}
+use Rattle.ts_sessions.specs.declared.blocks.Open.TheVariants as opens
+use Rattle.ts_sessions.specs.declared.changes.Change.TheVariants as changes
 use Rattle.ts_sessions.specs.declared.deeds.Deed.TheVariants as deeds
 use Rattle.ts_sessions.specs.declared.deeds.Next.TheVariants as nexts
-use Rattle.ts_sessions.specs.Deeds.{Leads, NextFits, Opens, OpensTo, StandsFor, Takes, rest_next, taken_next}
-use Rattle.ts_sessions.specs.Held.{HoldsBlock, places_in}
-use Rattle.ts_sessions.specs.Places.{Places, enters, reading, turns}
-use Rattle.ts_sessions.specs.Procedures.{ends, looks}
-use Rattle.ts_sessions.specs.Step.{finishes, named, performs, read_at, refresh_meant, snaps}
-use Rattle.ts_sessions.proofs.BlockWalks.{begins_outside, finishes_outside, passes_as, snaps_outside}
-use Rattle.ts_sessions.proofs.FirstLaws.{if_ok, leads_then, opens_here, opens_if, performs_looks}
-use Rattle.std.specs.Prelude.{IfSome}
+use Rattle.stmt_reader.specs.declared.statements.Stmt.TheVariants as stmts
+use Rattle.ts_sessions.specs.Deeds.{Opens, Takes, closing, holding, opening, rest_next, said_once}
+use Rattle.ts_sessions.specs.Held.{places_in}
+use Rattle.ts_sessions.specs.Procedures.{looks}
 use Rattle.ts_sessions.specs.Sessions.{finish_meant}
-use Rattle.ts_sessions.proofs.HeldDeeds.{takes_nothing}
-use Rattle.ts_sessions.proofs.SessionLaws.{taken_none}
+use Rattle.ts_sessions.specs.Step.{finishes, given_up, named, performs, read_at, refresh_meant}
+use Rattle.ts_sessions.proofs.BlockWalks.{finishes_outside, passes_as}
+use Rattle.ts_sessions.proofs.FirstLaws.{begins_first, closes_first, first_opens, gives_up_first, leads_then, opens_here, performs_looks, reads_first, snaps_first}
+use Rattle.ts_sessions.proofs.HeldDeeds.{takes_as, takes_none, takes_nothing}
 use Rattle.ts_sessions.proofs.sessions.Session.first.Goals as goal
 
 -- ---- snapshots that a session holds
 
 pub returns-in-Snap-clause-opens : goal.returns-in-Snap-clause-opens
 returns-in-Snap-clause-opens g c =
-    let alone = g.B.Backend.alone in
-    let old = g.B.Backend.state c.args.backend.now in
     let p = places_in c.args.self.now in
-    let n = c.args.steps.now in
+    let old = g.B.Backend.state c.args.backend.now in
     let number = c.in-Snap.cut in
-    let deed = c.snap.result in
-    let stmt = stmts.Snap number in
-    let outside = snaps_outside p.block (passes_as p.block c.args.stmt.now stmt c.in-Snap.is c.requires.passes) in
-    let left = looks (λ h. ends (snaps p h (refresh_meant p number))) in
-    subst (λ x. Opens alone old (performs p c.args.bytes x) p (nexts.Deed deed) old n n) (sym c.in-Snap.is)
-    (opens_here alone old (performs p c.args.bytes stmt) p (nexts.Deed deed) n c.requires.counts
-    (leads_then alone false old (performs p c.args.bytes stmt) old left old (rest_next p 0 old.history (nexts.Deed deed))
-    (performs_looks alone old p c.args.bytes stmt (λ h. ends (snaps p h (refresh_meant p number))) refl (λ h on. ap (λ b. named p c.args.bytes stmt (read_at b h)) outside))
-    (c.snap.ensures.stands old alone)))
+    first_opens g.T.Shown c.args.bytes g.B.Backend.alone old p c.args.stmt.now (stmts.Snap number) (Ok (nexts.Deed c.snap.result)) (nexts.Deed (holding (refresh_meant p number))) c.args.steps.now c.requires.counts c.in-Snap.is (ap nexts.Deed c.snap.ensures)
+    (snaps_first g.T.Shown c.args.bytes old p number (passes_as p.block c.args.stmt.now (stmts.Snap number) c.in-Snap.is c.requires.passes))
 
 pub returns-in-Snap-clause-takes : goal.returns-in-Snap-clause-takes
-returns-in-Snap-clause-takes g c = takes_nothing g.T.Shown g.met.T.Shown.fits_on _ c.args.self.now _ c.snap.ensures.taken refl refl refl
+returns-in-Snap-clause-takes g c =
+    let p = places_in c.args.self.now in
+    let number = c.in-Snap.cut in
+    let k = snaps_first g.T.Shown c.args.bytes (g.B.Backend.state c.args.backend.now) p number (passes_as p.block c.args.stmt.now (stmts.Snap number) c.in-Snap.is c.requires.passes) in
+    takes_as g.T.Shown g.met.T.Shown.fits_on (finish_meant p c.args.stmt.now) (Ok (nexts.Deed c.snap.result)) (nexts.Deed (holding (refresh_meant p number))) c.args.self.now (ap nexts.Deed c.snap.ensures) k.taken
 
 pub returns-in-Finish-clause-opens : goal.returns-in-Finish-clause-opens
 returns-in-Finish-clause-opens g c =
@@ -47,123 +39,66 @@ returns-in-Finish-clause-opens g c =
     let p = places_in c.args.self.now in
     let n = c.args.steps.now in
     let number = c.in-Finish.cut in
-    let deed = c.finish.result in
+    let next = nexts.Deed c.finish.result in
     let stmt = stmts.Finish number in
     let outside = finishes_outside p.block (passes_as p.block c.args.stmt.now stmt c.in-Finish.is c.requires.passes) in
     let left = looks (λ h. finishes p h (refresh_meant p number)) in
-    subst (λ x. Opens alone old (performs p c.args.bytes x) p (nexts.Deed deed) old n n) (sym c.in-Finish.is)
-    (opens_here alone old (performs p c.args.bytes stmt) p (nexts.Deed deed) n c.requires.counts
-    (leads_then alone false old (performs p c.args.bytes stmt) old left old (rest_next p 0 old.history (nexts.Deed deed))
+    subst (λ x. Opens g.T.Shown c.args.bytes alone old (performs p c.args.bytes x) p next old n n) (sym c.in-Finish.is)
+    (opens_here g.T.Shown c.args.bytes alone old (performs p c.args.bytes stmt) p next n c.requires.counts
+    (leads_then alone false old (performs p c.args.bytes stmt) old left old (rest_next p 0 old.history next)
     (performs_looks alone old p c.args.bytes stmt (λ h. finishes p h (refresh_meant p number)) refl (λ h on. ap (λ b. named p c.args.bytes stmt (read_at b h)) outside))
-    (c.finish.ensures.stands old c.requires.holds alone)))
+    (c.finish.ensures.stands old c.requires.holds alone))
+    (c.finish.ensures.fits old c.requires.holds))
+
+pub returns-in-Finish-clause-takes : goal.returns-in-Finish-clause-takes
+returns-in-Finish-clause-takes g c =
+    let p = places_in c.args.self.now in
+    subst (λ x. Takes g.T.Shown (finish_meant p x) (nexts.Deed c.finish.result) c.args.self.now c.finish.new.self) (sym c.in-Finish.is) c.finish.ensures.takes
 
 -- ---- blocks
 
 pub returns-in-Begin-clause-opens : goal.returns-in-Begin-clause-opens
 returns-in-Begin-clause-opens g c =
-    let alone = g.B.Backend.alone in
-    let old = g.B.Backend.state c.args.backend.now in
     let p = places_in c.args.self.now in
-    let n = c.args.steps.now in
-    subst (λ x. OpensTo alone old (performs p c.args.bytes x) p c.begin.result old n n) (sym c.in-Begin.is)
-    (opens_if alone old (performs p c.args.bytes stmts.Begin) p c.begin.result n c.requires.counts
-    (if_ok c.begin.result (λ m. (s : State) (p : Places) (bytes : ℕ) → StandsFor m p s (performs p bytes stmts.Begin)) (λ m. Leads alone false old (performs p c.args.bytes stmts.Begin) old (rest_next p 0 old.history m)) (λ m k. k old p c.args.bytes alone) c.begin.ensures.stands))
-
-pub returns-in-Begin-clause-fits : goal.returns-in-Begin-clause-fits
-returns-in-Begin-clause-fits g c =
     let old = g.B.Backend.state c.args.backend.now in
-    if_ok c.begin.result (λ m. (s : State) (bytes : ℕ) → NextFits g.T.Shown bytes m s) (λ m. NextFits g.T.Shown c.args.bytes m old) (λ m k. k old c.args.bytes) c.begin.ensures.fits
+    first_opens g.T.Shown c.args.bytes g.B.Backend.alone old p c.args.stmt.now stmts.Begin c.begin.result opening c.args.steps.now c.requires.counts c.in-Begin.is c.begin.ensures (begins_first g.T.Shown c.args.bytes old p)
 
 pub returns-in-Begin-clause-takes : goal.returns-in-Begin-clause-takes
-returns-in-Begin-clause-takes g c =
-    let s = c.args.self.now in
-    if_ok c.begin.result (λ m. taken_next m ≡ None) (λ m. Takes g.T.Shown m s s) (λ m e. takes_nothing g.T.Shown g.met.T.Shown.fits_on m s s e refl refl refl) c.begin.ensures.taken
+returns-in-Begin-clause-takes g c = takes_as g.T.Shown g.met.T.Shown.fits_on (finish_meant (places_in c.args.self.now) c.args.stmt.now) c.begin.result opening c.args.self.now c.begin.ensures refl
 
 pub returns-in-BeginRead-clause-opens : goal.returns-in-BeginRead-clause-opens
 returns-in-BeginRead-clause-opens g c =
-    let alone = g.B.Backend.alone in
-    let old = g.B.Backend.state c.args.backend.now in
     let p = places_in c.args.self.now in
-    let n = c.args.steps.now in
-    let outside = begins_outside p.block (passes_as p.block c.args.stmt.now stmts.BeginRead c.in-BeginRead.is c.requires.passes) in
-    subst (λ x. Opens alone old (performs p c.args.bytes x) p (nexts.Deed deeds.BeginRead) old n n) (sym c.in-BeginRead.is)
-    (opens_here alone old (performs p c.args.bytes stmts.BeginRead) p (nexts.Deed deeds.BeginRead) n c.requires.counts
-    (performs_looks alone old p c.args.bytes stmts.BeginRead (λ h. ends (turns (enters (reading (position h)) p) (said.BeginRead (position h)))) refl (λ h on. ap (λ b. named p c.args.bytes stmts.BeginRead (read_at b h)) outside)))
+    let old = g.B.Backend.state c.args.backend.now in
+    first_opens g.T.Shown c.args.bytes g.B.Backend.alone old p c.args.stmt.now stmts.BeginRead (Ok (nexts.Deed deeds.BeginRead)) (nexts.Deed deeds.BeginRead) c.args.steps.now c.requires.counts c.in-BeginRead.is refl
+    (reads_first g.T.Shown c.args.bytes old p (passes_as p.block c.args.stmt.now stmts.BeginRead c.in-BeginRead.is c.requires.passes))
 
 pub returns-in-BeginRead-clause-takes : goal.returns-in-BeginRead-clause-takes
-returns-in-BeginRead-clause-takes g c = takes_nothing g.T.Shown g.met.T.Shown.fits_on _ c.args.self.now _ refl refl refl refl
+returns-in-BeginRead-clause-takes g c = takes_nothing g.T.Shown g.met.T.Shown.fits_on (finish_meant (places_in c.args.self.now) c.args.stmt.now) _ c.args.self.now _ refl refl refl refl
 
 pub returns-in-Commit-clause-opens : goal.returns-in-Commit-clause-opens
 returns-in-Commit-clause-opens g c =
-    let alone = g.B.Backend.alone in
-    let old = g.B.Backend.state c.args.backend.now in
     let p = places_in c.args.self.now in
-    let n = c.args.steps.now in
-    subst (λ x. OpensTo alone old (performs p c.args.bytes x) p c.end_block.result old n n) (sym c.in-Commit.is)
-    (opens_if alone old (performs p c.args.bytes stmts.Commit) p c.end_block.result n c.requires.counts
-    (if_ok c.end_block.result (λ m. (s : State) (bytes : ℕ) → StandsFor m p s (performs p bytes stmts.Commit)) (λ m. Leads alone false old (performs p c.args.bytes stmts.Commit) old (rest_next p 0 old.history m)) (λ m k. k old c.args.bytes alone) c.end_block.ensures.stands))
-
-pub returns-in-Commit-clause-fits : goal.returns-in-Commit-clause-fits
-returns-in-Commit-clause-fits g c =
     let old = g.B.Backend.state c.args.backend.now in
-    if_ok c.end_block.result (λ m. (s : State) (bytes : ℕ) → HoldsBlock g.T.Shown.stands c.args.self.now.block s.history → NextFits g.T.Shown bytes m s) (λ m. NextFits g.T.Shown c.args.bytes m old) (λ m k. k old c.args.bytes c.requires.holds.block) c.end_block.ensures.fits
+    first_opens g.T.Shown c.args.bytes g.B.Backend.alone old p c.args.stmt.now stmts.Commit c.end_block.result (closing p.block) c.args.steps.now c.requires.counts c.in-Commit.is c.end_block.ensures
+    (closes_first g.T.Shown c.args.bytes old p c.args.self.now.block refl c.requires.holds.block)
 
 pub returns-in-Commit-clause-takes : goal.returns-in-Commit-clause-takes
 returns-in-Commit-clause-takes g c =
-    let s = c.args.self.now in
-    if_ok c.end_block.result (λ m. taken_next m ≡ None) (λ m. Takes g.T.Shown m s s) (λ m e. takes_nothing g.T.Shown g.met.T.Shown.fits_on m s s e refl refl refl) c.end_block.ensures.taken
+    let p = places_in c.args.self.now in
+    let k = closes_first g.T.Shown c.args.bytes (g.B.Backend.state c.args.backend.now) p c.args.self.now.block refl c.requires.holds.block in
+    takes_as g.T.Shown g.met.T.Shown.fits_on (finish_meant p c.args.stmt.now) c.end_block.result (closing p.block) c.args.self.now c.end_block.ensures k.taken
 
 pub returns-in-Rollback-clause-opens : goal.returns-in-Rollback-clause-opens
 returns-in-Rollback-clause-opens g c =
-    let alone = g.B.Backend.alone in
-    let old = g.B.Backend.state c.args.backend.now in
     let p = places_in c.args.self.now in
-    let n = c.args.steps.now in
-    subst (λ x. OpensTo alone old (performs p c.args.bytes x) p c.roll_back.result old n n) (sym c.in-Rollback.is)
-    (opens_if alone old (performs p c.args.bytes stmts.Rollback) p c.roll_back.result n c.requires.counts
-    (if_ok c.roll_back.result (λ m. (s : State) (bytes : ℕ) → StandsFor m p s (performs p bytes stmts.Rollback)) (λ m. Leads alone false old (performs p c.args.bytes stmts.Rollback) old (rest_next p 0 old.history m)) (λ m k. k old c.args.bytes alone) c.roll_back.ensures.stands))
-
-pub returns-in-Rollback-clause-fits : goal.returns-in-Rollback-clause-fits
-returns-in-Rollback-clause-fits g c =
     let old = g.B.Backend.state c.args.backend.now in
-    if_ok c.roll_back.result (λ m. (s : State) (bytes : ℕ) → NextFits g.T.Shown bytes m s) (λ m. NextFits g.T.Shown c.args.bytes m old) (λ m k. k old c.args.bytes) c.roll_back.ensures.fits
+    first_opens g.T.Shown c.args.bytes g.B.Backend.alone old p c.args.stmt.now stmts.Rollback c.roll_back.result _ c.args.steps.now c.requires.counts c.in-Rollback.is c.roll_back.ensures (gives_up_first g.T.Shown c.args.bytes old p)
 
 pub returns-in-Rollback-clause-takes : goal.returns-in-Rollback-clause-takes
-returns-in-Rollback-clause-takes g c =
-    let s = c.args.self.now in
-    if_ok c.roll_back.result (λ m. taken_next m ≡ None) (λ m. Takes g.T.Shown m s s) (λ m e. takes_nothing g.T.Shown g.met.T.Shown.fits_on m s s e refl refl refl) c.roll_back.ensures.taken
+returns-in-Rollback-clause-takes g c = takes_as g.T.Shown g.met.T.Shown.fits_on (finish_meant (places_in c.args.self.now) c.args.stmt.now) c.roll_back.result (said_once (given_up (places_in c.args.self.now).block) (changes.Enters opens.Nothing)) c.args.self.now c.roll_back.ensures refl
 
 -- ---- names
 
 pub returns-in-Table-clause-takes : goal.returns-in-Table-clause-takes
-returns-in-Table-clause-takes g c =
-    let s = c.args.self.now in
-    if_ok c.named.result (λ m. taken_next m ≡ None) (λ m. Takes g.T.Shown m s s) (λ m e. takes_nothing g.T.Shown g.met.T.Shown.fits_on m s s e refl refl refl) c.named.ensures.taken
-
-pub returns-in-Begin-clause-meant : goal.returns-in-Begin-clause-meant
-returns-in-Begin-clause-meant g c =
-    let meant = finish_meant (places_in c.args.self.now) c.args.stmt.now in
-    if_ok c.begin.result (λ m. taken_next m ≡ None) (λ m. IfSome (taken_next m) (λ cut. meant ≡ Some cut)) (λ m e. taken_none (taken_next m) meant e) c.begin.ensures.taken
-
-pub returns-in-Commit-clause-meant : goal.returns-in-Commit-clause-meant
-returns-in-Commit-clause-meant g c =
-    let meant = finish_meant (places_in c.args.self.now) c.args.stmt.now in
-    if_ok c.end_block.result (λ m. taken_next m ≡ None) (λ m. IfSome (taken_next m) (λ cut. meant ≡ Some cut)) (λ m e. taken_none (taken_next m) meant e) c.end_block.ensures.taken
-
-pub returns-in-Rollback-clause-meant : goal.returns-in-Rollback-clause-meant
-returns-in-Rollback-clause-meant g c =
-    let meant = finish_meant (places_in c.args.self.now) c.args.stmt.now in
-    if_ok c.roll_back.result (λ m. taken_next m ≡ None) (λ m. IfSome (taken_next m) (λ cut. meant ≡ Some cut)) (λ m e. taken_none (taken_next m) meant e) c.roll_back.ensures.taken
-
-pub returns-in-Table-clause-meant : goal.returns-in-Table-clause-meant
-returns-in-Table-clause-meant g c =
-    let meant = finish_meant (places_in c.args.self.now) c.args.stmt.now in
-    if_ok c.named.result (λ m. taken_next m ≡ None) (λ m. IfSome (taken_next m) (λ cut. meant ≡ Some cut)) (λ m e. taken_none (taken_next m) meant e) c.named.ensures.taken
-
-pub returns-in-Snap-clause-meant : goal.returns-in-Snap-clause-meant
-returns-in-Snap-clause-meant g c = taken_none _ (finish_meant (places_in c.args.self.now) c.args.stmt.now) c.snap.ensures.taken
-
-pub returns-in-Finish-clause-meant : goal.returns-in-Finish-clause-meant
-returns-in-Finish-clause-meant g c =
-    let p = places_in c.args.self.now in
-    subst (λ x. IfSome (taken_next (nexts.Deed c.finish.result)) (λ cut. finish_meant p x ≡ Some cut)) (sym c.in-Finish.is) c.finish.ensures.meant
+returns-in-Table-clause-takes g c = takes_none g.T.Shown g.met.T.Shown.fits_on (finish_meant (places_in c.args.self.now) c.args.stmt.now) c.named.result c.args.self.now c.named.ensures.taken

@@ -1,12 +1,12 @@
 use Rattle.std.proofs.Common.{subst}
-use Rattle.ts_sessions.specs.Deeds.{Forgets, taken_next}
+use Rattle.ts_sessions.specs.Deeds.{Forgets}
 use Rattle.ts_sessions.specs.Held.{places_in}
 use Rattle.ts_sessions.specs.Sessions.{Spares, finish_meant}
 use Rattle.ts_sessions.specs.Step.{performs}
 use Rattle.ts_sessions.proofs.EndLaws.{broken_by}
 use Rattle.ts_sessions.proofs.FirstLaws.{carried}
 use Rattle.ts_sessions.proofs.HoldLaws.{goes_ended}
-use Rattle.ts_sessions.proofs.SessionLaws.{carried_places, kept_held, on_err, spared, spares_meant}
+use Rattle.ts_sessions.proofs.SessionLaws.{carried_places, kept_held, on_err, spared}
 use Rattle.ts_sessions.proofs.WalkLaws.{goes_breaks}
 use Rattle.ts_sessions.proofs.sessions.Session.perform.Goals as goal
 
@@ -34,37 +34,35 @@ returns-in_err-next-clause-holds g c =
 -- ---- what came first was carried out
 
 pub carry_out-requires-clause-fits : goal.carry_out-requires-clause-fits
-carry_out-requires-clause-fits g c = λ _ _. (c.args.bytes, c.in_ok-next.ensures.fits)
+carry_out-requires-clause-fits g c = λ _ _. (c.args.bytes, c.in_ok-next.ensures.opens.fits)
 
 pub returns-in-Ok-clause-ends : goal.returns-in-Ok-clause-ends
 returns-in-Ok-clause-ends g c =
     let p = places_in c.args.self.now in
-    carried g.B.Backend.alone (g.B.Backend.state c.args.backend.now) p (performs p c.args.bytes c.args.stmt.now) c.in_ok-next.next _ _ _ _ _ _ c.requires.counts c.in_ok-next.ensures.opens (λ had. c.in-Ok.ensures.ends p had)
+    carried g.T.Shown c.args.bytes g.B.Backend.alone (g.B.Backend.state c.args.backend.now) p (performs p c.args.bytes c.args.stmt.now) c.in_ok-next.next _ _ _ _ _ _ c.requires.counts c.in_ok-next.ensures.opens (λ had. c.in-Ok.ensures.ends p had)
 
 pub returns-in-Ok-clause-change : goal.returns-in-Ok-clause-change
-returns-in-Ok-clause-change g c = c.in-Ok.ensures.change c.args.bytes c.in_ok-next.ensures.fits
+returns-in-Ok-clause-change g c = c.in-Ok.ensures.change c.args.bytes c.in_ok-next.ensures.opens.fits
 
 pub returns-in-Ok-clause-holds : goal.returns-in-Ok-clause-holds
 returns-in-Ok-clause-holds g c =
     let old = g.B.Backend.state c.args.backend.now in
     let p = places_in c.args.self.now in
-    let w = carried g.B.Backend.alone old p (performs p c.args.bytes c.args.stmt.now) c.in_ok-next.next _ _ _ _ _ _ c.requires.counts c.in_ok-next.ensures.opens (λ had. c.in-Ok.ensures.ends p had) in
+    let w = carried g.T.Shown c.args.bytes g.B.Backend.alone old p (performs p c.args.bytes c.args.stmt.now) c.in_ok-next.next _ _ _ _ _ _ c.requires.counts c.in_ok-next.ensures.opens (λ had. c.in-Ok.ensures.ends p had) in
     c.in_ok-next.ensures.takes.holds old _ c.requires.holds (goes_ended g.B.Backend.alone old (performs p c.args.bytes c.args.stmt.now) p _ _ _ _ w) c.in-Ok.ensures.lost
 
 pub returns-in-Err-clause-ends : goal.returns-in-Err-clause-ends
 returns-in-Err-clause-ends g c =
     let p = places_in c.args.self.now in
-    carried g.B.Backend.alone (g.B.Backend.state c.args.backend.now) p (performs p c.args.bytes c.args.stmt.now) c.in_ok-next.next _ _ _ _ _ _ c.requires.counts c.in_ok-next.ensures.opens (λ had. c.in-Err.ensures.ends p had)
+    carried g.T.Shown c.args.bytes g.B.Backend.alone (g.B.Backend.state c.args.backend.now) p (performs p c.args.bytes c.args.stmt.now) c.in_ok-next.next _ _ _ _ _ _ c.requires.counts c.in_ok-next.ensures.opens (λ had. c.in-Err.ensures.ends p had)
 
 pub returns-in-Err-clause-spared : goal.returns-in-Err-clause-spared
 returns-in-Err-clause-spared g c =
-    let p = places_in c.args.self.now in
-    spares_meant (taken_next c.in_ok-next.next) (finish_meant p c.args.stmt.now) p (places_in c.give_up.new.self) c.in_ok-next.ensures.meant
     (c.in_ok-next.ensures.takes.broken c.give_up.new.self (subst (λ o. Forgets o c.first.new.self c.give_up.new.self) c.taken-taken.ensures c.give_up.ensures.forgets)).0
 
 pub returns-in-Err-clause-holds : goal.returns-in-Err-clause-holds
 returns-in-Err-clause-holds g c =
     let old = g.B.Backend.state c.args.backend.now in
     let p = places_in c.args.self.now in
-    let w = carried g.B.Backend.alone old p (performs p c.args.bytes c.args.stmt.now) c.in_ok-next.next _ _ _ _ _ _ c.requires.counts c.in_ok-next.ensures.opens (λ had. c.in-Err.ensures.ends p had) in
+    let w = carried g.T.Shown c.args.bytes g.B.Backend.alone old p (performs p c.args.bytes c.args.stmt.now) c.in_ok-next.next _ _ _ _ _ _ c.requires.counts c.in_ok-next.ensures.opens (λ had. c.in-Err.ensures.ends p had) in
     (c.in_ok-next.ensures.takes.broken c.give_up.new.self (subst (λ o. Forgets o c.first.new.self c.give_up.new.self) c.taken-taken.ensures c.give_up.ensures.forgets)).1 old _ c.requires.holds (goes_ended g.B.Backend.alone old (performs p c.args.bytes c.args.stmt.now) p _ _ _ _ w)

@@ -12,12 +12,12 @@ use Rattle.ts_sessions.proofs.WalkLaws.{not_begun}
 use Rattle.ts_sessions.proofs.sessions.Session.take_line.Goals as goal
 
 -- what was read asks for something sound
-pub take-requires-clause-sound : goal.take-requires-clause-sound
-take-requires-clause-sound g c = λ _ _. asks_soundly (length c.args.text.now) c.in-Stmt.stmt c.requires.short c.in-Stmt.ensures.written
+pub perform-requires-clause-sound : goal.perform-requires-clause-sound
+perform-requires-clause-sound g c = λ _ _. asks_soundly (length c.args.text.now) c.in-Stmt.stmt c.requires.short c.in-Stmt.ensures.written
 
 -- nothing was begun
-pub returns-in-NoMemory-clause-ends : goal.returns-in-NoMemory-clause-ends
-returns-in-NoMemory-clause-ends g c =
+pub returns-clause-ends : goal.returns-clause-ends
+returns-clause-ends g c =
     let alone = g.B.Backend.alone in
     let old = g.B.Backend.state c.args.backend.now in
     let p = places_in c.args.self.now in
@@ -28,4 +28,4 @@ returns-in-NoMemory-clause-ends g c =
 pub returns-in-Stmt-clause-spared : goal.returns-in-Stmt-clause-spared
 returns-in-Stmt-clause-spared g c =
     let p = places_in c.args.self.now in
-    subst (λ m. OnErr c.take.result (Spares m p (places_in c.take.new.self))) (sym (read_meant p c.in-Stmt.stmt (statement (stream c.args.text.now c.args.skip)) c.in-Stmt.ensures.exact)) c.take.ensures.spared
+    subst (λ m. OnErr c.perform.result (Spares m p (places_in c.perform.new.self))) (sym (read_meant p c.in-Stmt.stmt (statement (stream c.args.text.now c.args.skip)) c.in-Stmt.ensures.exact)) c.perform.ensures.spared

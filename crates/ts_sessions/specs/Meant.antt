@@ -1,0 +1,98 @@
+-- What a statement asks for by its names, and what is left of it then.
+use Rattle.std.specs.Prelude.{ℕ, ℤ, Bool, true, false, [], ◌∷◌, Option, Some, None}
+use Rattle.ts_model.specs.declared.events.Op.{Op}
+use Rattle.ts_model.specs.declared.outcomes.Refusal.{Refusal}
+use Rattle.ts_model.specs.declared.rosters.Roster.{Roster}
+use Rattle.ts_model.specs.declared.snapshots.Shown.{Ghosts as Shown}
+use Rattle.ts_model.specs.History.{History, position}
+use Rattle.ts_model.specs.Roster.{roster, view_of}
+use Rattle.stmt_reader.specs.declared.statements.Stmt.{Stmt}
+use Rattle.stmt_check.specs.declared.actions.Action.{Action}
+use Rattle.stmt_check.specs.declared.actions.Action.TheVariants as actions
+use Rattle.stmt_check.specs.Check.{action_of, refusal_of}
+use Rattle.hier_agg.specs.declared.reads.UpperRead.{UpperRead}
+use Rattle.hier_agg.specs.declared.reads.UpperRead.TheVariants as uppers
+use Rattle.hier_agg.specs.Reads.{upper_read}
+use Rattle.result_text.specs.declared.replies.Said.TheVariants as said
+use Rattle.ts_sessions.specs.declared.changes.Change.TheVariants as changed
+use Rattle.ts_sessions.specs.declared.deeds.Deed.TheVariants as deeds
+use Rattle.ts_sessions.specs.declared.deeds.Making.TheVariants as making
+use Rattle.ts_sessions.specs.declared.deeds.Next.{Next}
+use Rattle.ts_sessions.specs.declared.deeds.Next.TheVariants as nexts
+use Rattle.ts_sessions.specs.declared.kinds.Kind.{Kind}
+use Rattle.ts_sessions.specs.declared.kinds.Kind.TheVariants as kinds
+use Rattle.ts_sessions.specs.declared.name_checks.Meant.{Meant}
+use Rattle.ts_sessions.specs.declared.name_checks.Meant.TheVariants as meant
+use Rattle.ts_sessions.specs.declared.refreshes.Asked.{Asked}
+use Rattle.ts_sessions.specs.Deeds.{rest, said_once}
+use Rattle.ts_sessions.specs.Places.{Block, Places, Turn, none, reading, refuses, writing}
+use Rattle.ts_sessions.specs.Procedures.{Procedure, ends, looks}
+use Rattle.ts_sessions.specs.Step.{answers, calendar_plan, changes, least_start, plan_of, roll_up_plan, unit_of}
+
+-- what a statement of this kind does stands in a history by names
+abbrev pub looks_at_names : Kind → Bool
+looks_at_names kinds.Defines = true
+looks_at_names kinds.Changes = true
+looks_at_names kinds.Asks = true
+looks_at_names other = false
+
+-- ---- what is asked for
+
+-- a refresh of an aggregate over a window
+abbrev pub asked_for : Roster → ℕ → Option ℤ → Option ℤ → Asked
+asked_for r n lo hi = record { view = n; lo = lo; hi = hi; min = least_start (view_of r n) }
+
+-- by an action. One that looks at no names is none here
+abbrev pub asked_by : {T J : Type 0} → Roster → Action → Meant T J
+asked_by r (actions.Table def) = meant.Does (deeds.Make (making.Table def))
+asked_by r (actions.Hyper t hyper) = meant.Does (deeds.Make (making.Hyper t hyper))
+asked_by r (actions.View def filled) = meant.Does (deeds.View def filled)
+asked_by r (actions.Mode n only) = meant.Does (deeds.Make (making.Mode n only))
+asked_by r (actions.Change op) = meant.Changes op
+asked_by r (actions.Refresh n lo hi) = meant.Does (deeds.Refresh (asked_for r n lo hi))
+asked_by r (actions.Cut n lo hi) = meant.Does (deeds.Cut (asked_for r n lo hi))
+asked_by r (actions.Ask q) = meant.Shows (plan_of r q)
+asked_by r (actions.Calendar t number unit at fold) =
+    meant.Shows (calendar_plan t (record { number = number; unit = unit_of unit; at = at; fold = fold }))
+asked_by r other = meant.Does deeds.Unknown
+
+-- by a statement that is checked, with its refusal
+abbrev pub checked_as : {T J : Type 0} → Roster → Stmt → Option Refusal → Meant T J
+checked_as r stmt (Some q) = meant.Refused q
+checked_as r stmt None = asked_by r (action_of r stmt)
+
+-- by a statement that is a roll-up, or is checked
+abbrev pub read_as : {T J : Type 0} → ℕ → Roster → Stmt → UpperRead → Meant T J
+read_as pos r stmt (uppers.Plan plan) = meant.Shows (roll_up_plan plan)
+read_as pos r stmt (uppers.Refused q) = meant.Refused q
+read_as pos r stmt other = checked_as r stmt (refusal_of pos r stmt)
+
+-- by any statement that looks at names
+abbrev pub meant_by : {T J : Type 0} → ℕ → Roster → Stmt → Meant T J
+meant_by pos r stmt = read_as pos r stmt (upper_read pos r stmt)
+
+-- ---- what is left
+
+-- an operation from a text of so many bytes: outside a block its event has a look of its own
+abbrev pub change_left : Places → ℕ → Op → Block → History → Procedure (Turn Places)
+change_left p bytes op none h = looks (λ g. changes p bytes g op p.block)
+change_left p bytes op (writing ops n) h = changes p bytes h op p.block
+change_left p bytes op (reading at) h = changes p bytes h op p.block
+
+-- and what is done for it
+abbrev pub change_next : {T J : Type 0} → Block → ℕ → Op → Next T J
+change_next none bytes op = nexts.Deed (deeds.Commit (op ∷ []) false)
+change_next (writing ops n) bytes op = said_once said.Queued (changed.Queues op bytes)
+change_next (reading at) bytes op = nexts.Deed (deeds.Commit (op ∷ []) false)
+
+-- what was asked for in a history
+abbrev pub meant_left : {T J : Type 0} → Places → ℕ → Block → History → Meant T J → Procedure (Turn Places)
+meant_left p bytes b h (meant.Refused r) = ends (refuses p r)
+meant_left p bytes b h (meant.Shows plan) = ends (answers p h plan)
+meant_left p bytes b h (meant.Changes op) = change_left p bytes op b h
+meant_left p bytes b h (meant.Does deed) = rest p 0 h deed
+
+-- a statement of a session whose names were looked at in a history
+abbrev pub left_of : {T J : Type 0} → Shown T J → Places → ℕ → Stmt → History → Procedure (Turn Places)
+left_of {T} {J} shown p bytes stmt h =
+    meant_left {T = T} {J = J} p bytes p.block h (meant_by (position h) (roster h) stmt)
