@@ -4,6 +4,8 @@ mod MonthLaws
 pub mod BucketLaws
 mod PlaceLaws
 mod MoveLaws
+mod ShapeLaws
+mod NameLaws
 pub mod RowLaws
 mod JiffLaws
 mod WidthLaws

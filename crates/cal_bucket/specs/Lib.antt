@@ -6,5 +6,6 @@ pub mod Plans
 pub mod Rows
 pub mod Cells
 pub mod Answers
-pub mod Moves
+pub mod Shapes
+pub mod Named
 pub mod Laws

@@ -1,14 +1,23 @@
 //! The bucket of a time, by its place: how many buckets lie between it and bucket 0.
-ghost use Rattle.std.specs.Prelude.{◌≡◌, IsTrue, ◌≤◌};
+ghost use Rattle.std.specs.Prelude.{◌≡◌, IsTrue, ◌≤◌, ℤ, pos, ◌+ℤ◌, ◌≤ℤ◌, ◌<ℤ◌};
 ghost use Rattle.ts_bucket.specs.Bucket.{is_time};
-ghost use Rattle.cal_bucket.specs.Places.{place_at};
+ghost use Rattle.cal_bucket.specs.Named.{NamesItsTimes};
+ghost use Rattle.cal_bucket.specs.Places.{name_of, place_at};
 ghost use Rattle.cal_bucket.specs.Buckets.{Holds, HoldsATime, IsCalendarBucket, IsNumber, seconds_start, months_start, start_at};
 
 use crate::months::{month_of, month_start};
 use crate::plans::CalUnit;
+use ts_bucket::MAX_TIME;
 
 /// The start of Monday 2000-01-03, from which days and weeks count.
 const MONDAY: i64 = 946_857_600;
+
+/// A bucket by the times that it holds: those from its start on and below its end, or as far as times go.
+#[derive(Clone, Copy)]
+pub(crate) struct Bucket {
+    pub(crate) start: i64,
+    pub(crate) end: i64,
+}
 
 /// The start of the bucket of so many units, from 1 to 1,200, that holds the time `t`.
 pub fn calendar_bucket(unit: CalUnit, number: u32, t: i64) -> i64
@@ -17,6 +26,55 @@ pub fn calendar_bucket(unit: CalUnit, number: u32, t: i64) -> i64
     ensures bucket { IsCalendarBucket unit number t result }
 {
     place_start(unit, number, place_of(unit, number, t))
+}
+
+/// A bucket that holds no time.
+pub(crate) fn no_bucket() -> Bucket
+    ensures start { result.start ≡ pos 0 }
+    ensures end { result.end ≡ pos 0 }
+{
+    Bucket { start: 0, end: 0 }
+}
+
+/// The bucket that holds the time `t`: the one at hand, or another.
+pub(crate) fn bucket_with(unit: CalUnit, number: u32, at_hand: Bucket, t: i64) -> Bucket
+    requires number { IsNumber number }
+    requires time { IsTrue (is_time t) }
+    requires names { NamesItsTimes unit number at_hand }
+    ensures start { result.start ≡ name_of unit number t }
+    ensures names { NamesItsTimes unit number result }
+{
+    if at_hand.start <= t && t < at_hand.end {
+        return at_hand;
+    }
+    bucket_of(unit, number, t)
+}
+
+/// The bucket that holds the time `t`.
+fn bucket_of(unit: CalUnit, number: u32, t: i64) -> Bucket
+    requires number { IsNumber number }
+    requires time { IsTrue (is_time t) }
+    ensures start { result.start ≡ name_of unit number t }
+    ensures names { NamesItsTimes unit number result }
+{
+    let place = place_of(unit, number, t);
+    Bucket {
+        start: place_start(unit, number, place),
+        end: place_end(unit, number, place),
+    }
+}
+
+/// The end of a bucket that holds a time, or a number above all times that isn't above it.
+fn place_end(unit: CalUnit, number: u32, place: i64) -> i64
+    requires number { IsNumber number }
+    requires time { HoldsATime (start_at unit number) place }
+    ensures end { (t : ℤ) → IsTrue (is_time t) → t <ℤ result → t <ℤ start_at unit number (place +ℤ pos 1) }
+{
+    if place < place_of(unit, number, MAX_TIME) {
+        place_start(unit, number, place + 1)
+    } else {
+        MAX_TIME + 1
+    }
 }
 
 /// The place of the bucket that holds the time `t`.

@@ -5,11 +5,12 @@
 mod answers;
 mod buckets;
 mod cycles;
+mod gathers;
 pub mod laws;
 mod months;
-mod moves;
 mod plans;
 mod rows;
+mod shapes;
 
 pub use answers::cal_answer;
 pub use buckets::calendar_bucket;

@@ -1,0 +1,68 @@
+//! The groups of the rows that an answer shows.
+ghost use Rattle.std.specs.Prelude.{◌≡◌, [], IfOk, OnOk, IsTrue};
+ghost use Rattle.std.specs.List.{AllByRecursion};
+ghost use Rattle.cell_groups.specs.Cells.{cells_pass};
+ghost use Rattle.cell_groups.specs.Groups.{HaveTallies, as_groups};
+ghost use Rattle.cell_groups.specs.Taken.{taken_in, with_rows};
+ghost use Rattle.group_fold.specs.Gathering.{ordered};
+ghost use Rattle.cal_bucket.specs.Buckets.{IsNumber};
+ghost use Rattle.cal_bucket.specs.Named.{NamesItsTimes};
+ghost use Rattle.cal_bucket.specs.Rows.{ShowARow};
+ghost use Rattle.cal_bucket.specs.Shapes.{named_group};
+
+use crate::buckets::{Bucket, bucket_with, no_bucket};
+use crate::plans::CalPlan;
+use crate::rows::time_of;
+use cell_groups::{CellGroups, Shape, passes};
+use cell_rows::CellRows;
+use std::alloc::Global;
+use ts_num::Datum;
+use ts_schema::{NoMemory, Test};
+
+/// The groups of the rows that pass every test, by the names of their buckets.
+pub(crate) fn gather<'a>(
+    alloc: Global,
+    plan: &CalPlan,
+    shape: &Shape,
+    tests: &[Test],
+    lower: &'a CellRows<Datum>,
+) -> Result<CellGroups<'a>, NoMemory>
+    requires number { IsNumber plan.now.number }
+    requires shown { AllByRecursion (ShowARow plan.now.at) lower.now }
+    ensures groups { IfOk result (λ gathered. ordered (as_groups shape.now gathered.groups.items)
+        ≡ with_rows (cells_pass tests.now) (named_group plan.now shape.now) lower.now []) }
+    ensures tallies { IfOk result (λ gathered. HaveTallies shape.now.aggs gathered.groups.items) }
+{
+    let mut gathered = CellGroups::new(alloc);
+    let mut bucket = no_bucket();
+    for cells in lower.iter() {
+        take_row(alloc, plan, shape, tests, cells, &mut bucket, &mut gathered)?;
+    }
+    Ok(gathered)
+}
+
+/// Takes a row in, where it passes every test. `bucket` is that of a row before it, and then its own.
+fn take_row<'a>(
+    alloc: Global,
+    plan: &CalPlan,
+    shape: &Shape,
+    tests: &[Test],
+    cells: &'a [Datum],
+    bucket: &mut Bucket,
+    gathered: &mut CellGroups<'a>,
+) -> Result<(), NoMemory>
+    requires number { IsNumber plan.now.number }
+    requires shown { ShowARow plan.now.at cells.now }
+    requires names { NamesItsTimes plan.now.unit plan.now.number bucket.old }
+    requires tallies { HaveTallies shape.now.aggs gathered.old.groups.items }
+    ensures names { NamesItsTimes plan.now.unit plan.now.number bucket.new }
+    ensures groups { OnOk result (ordered (as_groups shape.now gathered.new.groups.items)
+        ≡ taken_in (cells_pass tests.now) (named_group plan.now shape.now) cells.now (ordered (as_groups shape.now gathered.old.groups.items))) }
+    ensures tallies { OnOk result (HaveTallies shape.now.aggs gathered.new.groups.items) }
+{
+    if !passes(cells, tests) {
+        return Ok(());
+    }
+    *bucket = bucket_with(plan.unit, plan.number, *bucket, time_of(plan.at, cells));
+    gathered.take(alloc, shape, i128::from(bucket.start), cells)
+}

@@ -1,0 +1,149 @@
+-- Groups sorted and then merged from the back.
+use Rattle.std.proofs.Common.{◌≡◌, ℕ, zero, suc, ◌+◌, ◌<◌, ◌≤◌, true, false, List, [], ◌∷◌, ◌++◌, length, get_or, set, refl, sym, ap, ◌∙◌, subst, arith}
+use Rattle.std.specs.Bool.{⊤}
+use Rattle.std.specs.List.{AllByRecursion}
+use Rattle.std.specs.List.Sorted.{IsPermutation, IsSorted}
+use Rattle.std.specs.Ordering.{is_gt, is_lt}
+use Rattle.std.specs.declared.cmp.Ordering.TheVariants.{Less}
+use Rattle.std.proofs.lemmas.List.{get_or-map, length-map}
+use Rattle.std.proofs.lemmas.List.Elements.{All-from_recursion, recursion_from_All}
+use Rattle.std.proofs.lemmas.List.Sorted.{All-permutation, ranks_by, sorted_far}
+use Rattle.partial_agg.specs.declared.groups.Group.{Group}
+use Rattle.partial_agg.specs.Groups.{AreInOrder, group_cmp}
+use Rattle.partial_agg.proofs.GroupLaws.{group_cmp_total}
+use Rattle.group_fold.specs.Gathering.{ordered}
+use Rattle.group_fold.specs.Merging.{merged, with_group, with_groups}
+use Rattle.group_fold.proofs.Gathers.{before_none as none_behind, in_front, none_in_order}
+use Rattle.group_fold.proofs.Insertions.{by_order, greater_back}
+use Rattle.cell_groups.specs.declared.groups.CellGroup.{CellGroup}
+use Rattle.cell_groups.specs.declared.shapes.Shape.{Shape}
+use Rattle.cell_groups.specs.Groups.{as_group, as_groups}
+use Rattle.cell_groups.specs.Taken.{IsNotAfter, place_cmp}
+
+-- ---- sorted groups
+
+-- none of these stands after a group
+abbrev pub NoneAfter : Group → List Group → Type 0
+NoneAfter g xs = AllByRecursion (λ x. is_gt (group_cmp x g) ≡ false) xs
+
+-- no group stands after a later one
+abbrev pub Ascend : List Group → Type 0
+Ascend [] = ⊤
+Ascend (x ∷ xs) = AllByRecursion (λ y. is_gt (group_cmp x y) ≡ false) xs × Ascend xs
+
+not_after : (x y : Group) → is_lt (group_cmp y x) ≡ false → is_gt (group_cmp x y) ≡ false
+not_after x y h =
+    by_order (group_cmp x y)
+    (λ e. rw e refl)
+    (λ e. rw e refl)
+    (λ e. let no : true ≡ false = ap is_lt (sym (greater_back x y e)) ∙ h in absurd (cc no))
+
+sorted_rest : (x : Group) (xs : List Group) → IsSorted group_cmp (x ∷ xs) → IsSorted group_cmp xs
+sorted_rest x xs up = λ k d low h.
+    let e : suc k + 1 ≡ suc (k + 1) = omega arith in
+    subst (λ i. is_lt (group_cmp (get_or (x ∷ xs) i d) (get_or xs k d)) ≡ false) e (up (suc k) d (omega arith) (omega (arith, h)))
+
+pub ascend_sorted : (xs : List Group) → IsSorted group_cmp xs → Ascend xs
+ascend_sorted [] up = tt
+ascend_sorted (x ∷ xs) up =
+    let rank = ranks_by group_cmp_total (λ (g : Group). g) in (
+      recursion_from_All (λ y. is_gt (group_cmp x y) ≡ false) xs
+          (λ k d h. not_after x (get_or xs k d) (sorted_far (λ (a b : Group). is_lt (group_cmp a b)) rank (x ∷ xs) up 0 (suc k) d (omega arith) (omega (arith, h)))),
+      ascend_sorted xs (sorted_rest x xs up),
+    )
+
+pub all_last : {X : Type 0} (P : X → Type 0) (xs : List X) (y : X) → AllByRecursion P (xs ++ y ∷ []) → AllByRecursion P xs × P y
+all_last P [] y h = (tt, h.0)
+all_last P (x ∷ xs) y h = let rest = all_last P xs y h.1 in ((h.0, rest.0), rest.1)
+
+pub ascend_last : (xs : List Group) (g : Group) → Ascend (xs ++ g ∷ []) → Ascend xs × NoneAfter g xs
+ascend_last [] g h = (tt, tt)
+ascend_last (x ∷ xs) g h =
+    let own = all_last (λ y. is_gt (group_cmp x y) ≡ false) xs g h.0 in
+    let rest = ascend_last xs g h.1 in
+    ((own.0, rest.0), (own.1, rest.1))
+
+-- ---- from the back
+
+pub groups_last : (gs : List Group) (g : Group) (hs : List Group) → with_groups (gs ++ g ∷ []) hs ≡ with_groups gs (with_group g hs)
+groups_last [] g hs = refl
+groups_last (x ∷ gs) g hs = ap (with_group x) (groups_last gs g hs)
+
+-- where a group stands at or before the first of others, so does what stands at or before the group, once it is in
+not_after_put : (x g : Group) (hs : List Group) → is_gt (group_cmp x g) ≡ false → IsNotAfter g hs → IsNotAfter x (with_group g hs)
+not_after_put x g [] p h = p
+not_after_put x g (y ∷ hs) p h =
+    by_order (group_cmp g y)
+    (λ e. rw e p)
+    (λ e. rw e p)
+    (λ e. let no : true ≡ false = ap is_gt (sym e) ∙ h in absurd (cc no))
+
+all_put : (xs : List Group) (g : Group) (hs : List Group) → NoneAfter g xs → IsNotAfter g hs → AllByRecursion (λ x. IsNotAfter x (with_group g hs)) xs
+all_put [] g hs p h = tt
+all_put (x ∷ xs) g hs p h = (not_after_put x g hs p.0 h, all_put xs g hs p.1 h)
+
+-- the next from the back: what is left ascends, and none of it stands after the first of what is merged
+pub record IsMerging (groups left merged : List Group) : Type 0 where
+  pub onto : with_groups left merged ≡ ordered groups
+  pub ascends : Ascend left
+  pub before : AllByRecursion (λ x. IsNotAfter x merged) left
+
+all_nothing : (xs : List Group) → AllByRecursion (λ x. IsNotAfter x []) xs
+all_nothing [] = tt
+all_nothing (x ∷ xs) = (tt, all_nothing xs)
+
+pub merging_starts : (groups : List Group) → IsSorted group_cmp groups → IsMerging groups groups []
+merging_starts groups up = record { onto = refl; ascends = ascend_sorted groups up; before = all_nothing groups }
+
+pub merging_first : (groups left merged rest : List Group) (g : Group) → IsMerging groups left merged → left ≡ rest ++ g ∷ [] → IsNotAfter g merged
+merging_first groups left merged rest g m is = (all_last (λ x. IsNotAfter x merged) rest g (subst (AllByRecursion (λ x. IsNotAfter x merged)) is m.before)).1
+
+pub merging_step : (groups left merged rest next : List Group) (g : Group) → IsMerging groups left merged → left ≡ rest ++ g ∷ [] → next ≡ with_group g merged → IsMerging groups rest next
+merging_step groups left merged rest next g m is made =
+    let split = ascend_last rest g (subst Ascend is m.ascends) in
+    let first = merging_first groups left merged rest g m is in
+    record {
+      onto = ap (with_groups rest) made ∙ sym (groups_last rest g merged) ∙ ap (λ xs. with_groups xs merged) (sym is) ∙ m.onto;
+      ascends = split.0;
+      before = subst (λ xs. AllByRecursion (λ x. IsNotAfter x xs) rest) (sym made) (all_put rest g merged split.1 first);
+    }
+
+-- ---- what is kept of groups
+
+-- what is kept of sorted groups is sorted
+pub sorted_kept : (shape : Shape) (gs : List CellGroup) → IsSorted (place_cmp shape) gs → IsSorted group_cmp (as_groups shape gs)
+sorted_kept shape [] up = λ k d low h. absurd (omega (arith, h))
+sorted_kept shape (g ∷ gs) up = λ k d low h.
+    let many = length-map (g ∷ gs) (as_group shape) in
+    let later = get_or-map (as_group shape) (g ∷ gs) (k + 1) g d (omega (arith, h, many)) in
+    let earlier = get_or-map (as_group shape) (g ∷ gs) k g d (omega (arith, h, many)) in
+    ap (λ x. is_lt (group_cmp x (get_or (as_groups shape (g ∷ gs)) k d))) later
+    ∙ ap (λ y. is_lt (group_cmp (as_group shape (get_or (g ∷ gs) (k + 1) g)) y)) earlier
+    ∙ up k g low (omega (arith, h, many))
+
+-- a group before the first of others
+pub before_first : (shape : Shape) (g x : CellGroup) (gs : List CellGroup) → 1 ≤ length gs → x ≡ get_or gs 0 x → place_cmp shape g x ≡ Less → AreInOrder (as_groups shape gs) → AreInOrder (as_groups shape (g ∷ gs))
+before_first shape g x [] h is less sorted = absurd (omega (arith, h))
+before_first shape g x (y ∷ gs) h is less sorted = in_front (as_group shape g) (as_group shape y) (as_groups shape gs) (ap (place_cmp shape g) (sym is) ∙ less) sorted
+
+pub before_none : (shape : Shape) (g : CellGroup) (gs : List CellGroup) → length gs < 1 → AreInOrder (as_groups shape (g ∷ gs))
+before_none shape g [] h = none_behind (as_group shape g) [] (omega arith)
+before_none shape g (x ∷ gs) h = absurd (omega (arith, h))
+
+pub none_rise : (shape : Shape) (gs : List CellGroup) → length gs < 1 → AreInOrder (as_groups shape gs)
+none_rise shape [] h = none_in_order [] (omega arith)
+none_rise shape (x ∷ gs) h = absurd (omega (arith, h))
+
+-- ---- lists of which a fact holds throughout
+
+pub all_push : {X : Type 0} (P : X → Type 0) (xs : List X) (y : X) → AllByRecursion P xs → P y → AllByRecursion P (xs ++ y ∷ [])
+all_push P [] y h p = (p, tt)
+all_push P (x ∷ xs) y h p = (h.0, all_push P xs y h.1 p)
+
+pub all_set : {X : Type 0} (P : X → Type 0) (xs : List X) (k : ℕ) (y : X) → AllByRecursion P xs → P y → AllByRecursion P (set xs k y)
+all_set P [] k y h p = h
+all_set P (x ∷ xs) zero y h p = (p, h.1)
+all_set P (x ∷ xs) (suc k) y h p = (h.0, all_set P xs k y h.1 p)
+
+pub all_permuted : {X : Type 0} (P : X → Type 0) (xs ys : List X) → IsPermutation xs ys → AllByRecursion P xs → AllByRecursion P ys
+all_permuted P xs ys p h = recursion_from_All P ys (All-permutation P xs ys p (All-from_recursion P xs h))

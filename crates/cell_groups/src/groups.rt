@@ -1,0 +1,105 @@
+//! One group of rows of an answer.
+ghost use Rattle.std.specs.Prelude.{◌≡◌, ◌++◌, IfOk, None, OnOk, length};
+ghost use Rattle.group_fold.specs.Merging.{joined_parts};
+ghost use Rattle.cell_groups.specs.Groups.{HasTallies, parts_of, tallies_of};
+ghost use Rattle.cell_groups.specs.Kept.{as_parts, row_tallies};
+
+use crate::cells::value_at;
+use crate::tallies::{Tally, add_row, add_tallies, tally_of};
+use std::alloc::Global;
+use ts_model::Agg;
+use ts_num::Datum;
+use ts_schema::{NoMemory, Seq};
+
+/// A group of rows of an answer. It reads its keys off its first row, and takes no memory of its own until a
+/// second row comes.
+#[derive(Drop)]
+pub struct CellGroup<'a> {
+    /// The start of its bucket.
+    pub start: i128,
+    /// The cells of its first row.
+    pub first: &'a [Datum],
+    /// What its columns add up to, from the second row on.
+    pub tallies: Option<Seq<Tally>>,
+}
+
+/// The group of one row, in the bucket that starts at `start`.
+pub(crate) fn group_of(start: i128, cells: &[Datum]) -> CellGroup<'_>
+    ensures start { result.start ≡ start }
+    ensures first { result.first.now ≡ cells.now }
+    ensures tallies { result.tallies ≡ None }
+{
+    CellGroup {
+        start,
+        first: cells,
+        tallies: None,
+    }
+}
+
+/// The tallies of a row.
+fn tallies_of_row(alloc: Global, aggs: &[Agg], cells: &[Datum]) -> Result<Seq<Tally>, NoMemory>
+    ensures { IfOk result (λ tallies. tallies ≡ row_tallies aggs.now cells.now) }
+{
+    let mut tallies = Vec::with_capacity(alloc, aggs.len())?;
+    for agg in aggs {
+        tallies.push(tally_of(agg.fun, value_at(cells, agg.col)))?;
+    }
+    Ok(Seq::of(tallies))
+}
+
+/// Takes the tallies out of a group, of which its first row stays.
+fn take_tallies(
+    alloc: Global,
+    aggs: &[Agg],
+    group: &mut CellGroup<'_>,
+) -> Result<Seq<Tally>, NoMemory>
+    ensures tallies { IfOk result (λ tallies. tallies ≡ tallies_of aggs.now group.old) }
+    ensures start { group.new.start ≡ group.old.start }
+    ensures first { group.new.first.now ≡ group.old.first.now }
+    ensures none { group.new.tallies ≡ None }
+{
+    match group.tallies.take() {
+        Some(tallies) => Ok(tallies),
+        None => tallies_of_row(alloc, aggs, group.first),
+    }
+}
+
+/// Takes a row into a group.
+pub(crate) fn take_row(
+    alloc: Global,
+    aggs: &[Agg],
+    group: &mut CellGroup<'_>,
+    cells: &[Datum],
+) -> Result<(), NoMemory>
+    requires { HasTallies aggs.now group.old }
+    ensures start { group.new.start ≡ group.old.start }
+    ensures first { group.new.first.now ≡ group.old.first.now }
+    ensures many { HasTallies aggs.now group.new }
+    ensures parts { OnOk result (parts_of aggs.now group.new ≡ joined_parts (parts_of aggs.now group.old) (as_parts aggs.now (row_tallies aggs.now cells.now))) }
+{
+    let mut tallies = take_tallies(alloc, aggs, group)?;
+    add_row(aggs, &mut tallies, cells)?;
+    group.tallies = Some(tallies);
+    Ok(())
+}
+
+/// Takes the rows of another group into a group.
+pub(crate) fn take_group(
+    alloc: Global,
+    aggs: &[Agg],
+    group: &mut CellGroup<'_>,
+    other: &mut CellGroup<'_>,
+) -> Result<(), NoMemory>
+    requires mine { HasTallies aggs.now group.old }
+    requires theirs { HasTallies aggs.now other.old }
+    ensures start { group.new.start ≡ group.old.start }
+    ensures first { group.new.first.now ≡ group.old.first.now }
+    ensures many { HasTallies aggs.now group.new }
+    ensures parts { OnOk result (parts_of aggs.now group.new ≡ joined_parts (parts_of aggs.now group.old) (parts_of aggs.now other.old)) }
+{
+    let mut tallies = take_tallies(alloc, aggs, group)?;
+    let theirs = take_tallies(alloc, aggs, other)?;
+    add_tallies(aggs, &mut tallies, theirs.items())?;
+    group.tallies = Some(tallies);
+    Ok(())
+}

@@ -1,0 +1,27 @@
+//! Groups of rows of an answer, taken straight from the rows' cells.
+//!
+//! - `shapes`: which cells of a row group it, and which are aggregated.
+//! - `cells`: the cells of a row, read as values.
+//! - `tallies`: what the cells of a column add up to.
+//! - `groups`: one group.
+//! - `gathers`: the groups of rows as they are taken in.
+//! - `orders`: groups put in order.
+//! - `prints`: numbers by which groups are found.
+//! - `results`: what groups show.
+#![tactic(auto)]
+
+mod cells;
+mod gathers;
+mod groups;
+mod orders;
+mod prints;
+mod results;
+mod shapes;
+mod tallies;
+
+pub use cells::passes;
+pub use gathers::CellGroups;
+pub use groups::CellGroup;
+pub use results::rows_of;
+pub use shapes::Shape;
+pub use tallies::Tally;

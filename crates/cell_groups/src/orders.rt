@@ -1,0 +1,175 @@
+//! Groups in order by bucket and keys.
+ghost use Rattle.std.specs.Prelude.{◌≡◌, ◌∷◌, true, IfOk, OnOk};
+ghost use Rattle.std.specs.declared.cmp.Ordering.TheVariants.{Less};
+ghost use Rattle.std.specs.List.Sorted.{IsSorted};
+ghost use Rattle.ts_schema.specs.Rows.{value_cmp, values_cmp};
+ghost use Rattle.partial_agg.specs.Groups.{AreInOrder};
+ghost use Rattle.group_fold.specs.Gathering.{ordered};
+ghost use Rattle.group_fold.specs.Merging.{with_group};
+ghost use Rattle.cell_groups.specs.Groups.{HasTallies, HaveTallies, as_group, as_groups, keys_at};
+ghost use Rattle.cell_groups.specs.Taken.{IsNotAfter, place_cmp, row_cmp};
+
+use crate::cells::value_at;
+use crate::groups::{CellGroup, take_group};
+use crate::shapes::Shape;
+use std::alloc::Global;
+use std::cmp::Ordering;
+use std::collections::VecDeque;
+use ts_num::Datum;
+use ts_schema::NoMemory;
+
+/// How a group compares with that of a row in the bucket that starts at `start`: by bucket, and then by keys,
+/// where NULL is greater than every number.
+pub(crate) fn order_beside(
+    shape: &Shape,
+    group: &CellGroup<'_>,
+    start: i128,
+    cells: &[Datum],
+) -> Ordering
+    ensures { result ≡ row_cmp shape.now group.now start cells.now }
+{
+    match group.start.cmp(&start) {
+        Ordering::Less => Ordering::Less,
+        Ordering::Equal => keys_order(shape.keys.items(), group.first, cells),
+        Ordering::Greater => Ordering::Greater,
+    }
+}
+
+/// The keys of two rows, from left to right.
+fn keys_order(keys: &[u32], a: &[Datum], b: &[Datum]) -> Ordering
+    ensures { result ≡ values_cmp (keys_at keys.now a.now) (keys_at keys.now b.now) }
+{
+    match keys {
+        [] => Ordering::Equal,
+        [key, more_keys @ ..] => match key_order(value_at(a, *key), value_at(b, *key)) {
+            Ordering::Less => Ordering::Less,
+            Ordering::Equal => keys_order(more_keys, a, b),
+            Ordering::Greater => Ordering::Greater,
+        },
+    }
+}
+
+/// Keys by size; NULL is greater than every number.
+fn key_order(a: Option<i128>, b: Option<i128>) -> Ordering
+    ensures { result ≡ value_cmp a b }
+{
+    match (a, b) {
+        (None, None) => Ordering::Equal,
+        (None, Some(_)) => Ordering::Greater,
+        (Some(_), None) => Ordering::Less,
+        (Some(x), Some(y)) => x.cmp(&y),
+    }
+}
+
+/// Groups by bucket and keys.
+fn order_of(shape: &Shape, a: &CellGroup<'_>, b: &CellGroup<'_>) -> Ordering
+    ensures { result ≡ place_cmp shape.now a.now b.now }
+{
+    order_beside(shape, a, b.start, b.first)
+}
+
+/// Groups in order by bucket and keys, where those of the same bucket and keys are merged.
+pub(crate) fn in_order<'a>(
+    alloc: Global,
+    shape: &Shape,
+    groups: Vec<CellGroup<'a>>,
+) -> Result<Vec<CellGroup<'a>>, NoMemory>
+    requires { HaveTallies shape.now.aggs groups.items }
+    ensures { IfOk result (λ sorted. as_groups shape.now sorted.items ≡ ordered (as_groups shape.now groups.entry.items)) }
+{
+    if rises(shape, groups.as_slice()) {
+        return Ok(groups);
+    }
+    sorted(alloc, shape, groups)
+}
+
+/// Whether each group stands before the next one, so that no two have the same bucket and keys.
+fn rises(shape: &Shape, groups: &[CellGroup<'_>]) -> bool
+    ensures { result ≡ true → AreInOrder (as_groups shape.now groups.now) }
+{
+    let mut left = groups;
+    while let [group, rest @ ..] = left {
+        if !is_before_all(shape, group, rest) {
+            return false;
+        }
+        left = rest;
+    }
+    true
+}
+
+/// Whether a group stands before the first of others, or there is none.
+fn is_before_all(shape: &Shape, group: &CellGroup<'_>, others: &[CellGroup<'_>]) -> bool
+    ensures { result ≡ true → AreInOrder (as_groups shape.now others.now) → AreInOrder (as_groups shape.now (group.now ∷ others.now)) }
+{
+    match others {
+        [] => true,
+        [next, ..] => is_before(shape, group, next),
+    }
+}
+
+/// Whether a group stands before another.
+fn is_before(shape: &Shape, group: &CellGroup<'_>, next: &CellGroup<'_>) -> bool
+    ensures { result ≡ true → place_cmp shape.now group.now next.now ≡ Less }
+{
+    order_of(shape, group, next) == Ordering::Less
+}
+
+/// The same groups in order, however they stand.
+fn sorted<'a>(
+    alloc: Global,
+    shape: &Shape,
+    groups: Vec<CellGroup<'a>>,
+) -> Result<Vec<CellGroup<'a>>, NoMemory>
+    requires { HaveTallies shape.now.aggs groups.items }
+    ensures { IfOk result (λ sorted. as_groups shape.now sorted.items ≡ ordered (as_groups shape.now groups.entry.items)) }
+{
+    let mut sorted = groups;
+    sorted.sort_by(|a: &CellGroup<'_>, b: &CellGroup<'_>| order_of(shape, a, b))?;
+    Ok(Vec::from(merge_neighbours(alloc, shape, sorted)?))
+}
+
+/// The same of groups none of which stands before the one ahead of it.
+fn merge_neighbours<'a>(
+    alloc: Global,
+    shape: &Shape,
+    groups: Vec<CellGroup<'a>>,
+) -> Result<VecDeque<CellGroup<'a>>, NoMemory>
+    requires sorted { IsSorted (place_cmp shape.now) groups.items }
+    requires alike { HaveTallies shape.now.aggs groups.items }
+    ensures { IfOk result (λ merged. as_groups shape.now merged.items ≡ ordered (as_groups shape.now groups.entry.items)) }
+{
+    let mut left = groups;
+    let mut merged = VecDeque::new(alloc);
+    while let Some(group) = left.pop() {
+        put_first(alloc, shape, &mut merged, group)?;
+    }
+    Ok(merged)
+}
+
+/// Puts a group before others in order, or into the first of them where that has its bucket and keys.
+fn put_first<'a>(
+    alloc: Global,
+    shape: &Shape,
+    merged: &mut VecDeque<CellGroup<'a>>,
+    group: CellGroup<'a>,
+) -> Result<(), NoMemory>
+    requires first { IsNotAfter (as_group shape.now group) (as_groups shape.now merged.old.items) }
+    requires mine { HasTallies shape.now.aggs group }
+    requires theirs { HaveTallies shape.now.aggs merged.old.items }
+    ensures groups { OnOk result (as_groups shape.now merged.new.items ≡ with_group (as_group shape.now group.entry) (as_groups shape.now merged.old.items)) }
+    ensures tallies { OnOk result (HaveTallies shape.now.aggs merged.new.items) }
+{
+    match merged.pop_front() {
+        None => merged.push_front(group)?,
+        Some(next) => if order_of(shape, &group, &next) == Ordering::Equal {
+            let mut both = group;
+            let mut other = next;
+            take_group(alloc, shape.aggs.items(), &mut both, &mut other)?;
+            merged.push_front(both)?;
+        } else {
+            merged.push_front(next)?;
+            merged.push_front(group)?;
+        },
+    }
+    Ok(())
+}

@@ -1,0 +1,22 @@
+//! Prints: numbers that rows of the same bucket and keys share, and others seldom do.
+
+use crate::cells::value_at;
+use ts_num::Datum;
+
+/// The print of a row, in the bucket that starts at `start`.
+pub(crate) fn print_of(keys: &[u32], start: i128, cells: &[Datum]) -> u64 {
+    let mut print = mixed(0, Some(start));
+    for key in keys {
+        print = mixed(print, value_at(cells, *key));
+    }
+    print
+}
+
+/// A print with one more number.
+fn mixed(print: u64, number: Option<i128>) -> u64 {
+    let bits = match number {
+        None => 0x5851_f42d_4c95_7f2d,
+        Some(number) => (number.cast_unsigned() & 0xffff_ffff_ffff_ffff) as u64,
+    };
+    (print.rotate_left(25) ^ bits).wrapping_mul(0x9e37_79b9_7f4a_7c15)
+}

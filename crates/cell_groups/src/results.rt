@@ -1,0 +1,130 @@
+//! What groups show.
+ghost use Rattle.std.specs.Prelude.{◌≡◌, ◌++◌, ◌∷◌, [], map, IfOk, OnOk};
+ghost use Rattle.ts_num.specs.Aggregates.{shown_or_null};
+ghost use Rattle.group_fold.specs.Gathering.{ordered};
+ghost use Rattle.cell_groups.specs.Groups.{HaveTallies, as_groups, group_shown, keys_at, rows_shown, tallies_of};
+ghost use Rattle.cell_groups.specs.Kept.{cell_shown, tallies_shown};
+
+use crate::cells::value_at;
+use crate::gathers::CellGroups;
+use crate::groups::CellGroup;
+use crate::orders::in_order;
+use crate::shapes::Shape;
+use crate::tallies::{Tally, shown_of, tally_of};
+use cell_rows::CellRows;
+use std::alloc::Global;
+use ts_model::Agg;
+use ts_num::Datum;
+use ts_schema::NoMemory;
+
+/// The result rows of groups, in order by bucket and keys: the start of the bucket, the keys, and what each
+/// aggregate shows.
+pub fn rows_of(
+    alloc: Global,
+    shape: &Shape,
+    gathered: CellGroups<'_>,
+) -> Result<CellRows<Datum>, NoMemory>
+    requires { HaveTallies shape.now.aggs gathered.groups.items }
+    ensures rows { IfOk result (λ rows. rows ≡ rows_shown shape.now (ordered (as_groups shape.now gathered.entry.groups.items))) }
+{
+    let groups = in_order(alloc, shape, gathered.groups)?;
+    shown_rows(alloc, shape, groups.as_slice())
+}
+
+/// What groups show, row by row.
+fn shown_rows(
+    alloc: Global,
+    shape: &Shape,
+    groups: &[CellGroup<'_>],
+) -> Result<CellRows<Datum>, NoMemory>
+    ensures { IfOk result (λ rows. rows ≡ map (group_shown shape.now) groups.now) }
+{
+    let mut rows = CellRows::new(alloc);
+    let mut cells = Vec::new(alloc);
+    rows.reserve(groups.len(), groups.len().saturating_mul(width_of(shape)))?;
+    for group in groups {
+        put_group(shape, group, &mut cells, &mut rows)?;
+    }
+    Ok(rows)
+}
+
+/// How many cells a result row has.
+fn width_of(shape: &Shape) -> usize {
+    1usize
+        .saturating_add(shape.keys.len())
+        .saturating_add(shape.aggs.len())
+}
+
+/// Appends the result row of a group. It is made where there is room for cells, of which none stays.
+fn put_group(
+    shape: &Shape,
+    group: &CellGroup<'_>,
+    cells: &mut Vec<Datum>,
+    rows: &mut CellRows<Datum>,
+) -> Result<(), NoMemory>
+    ensures { OnOk result (rows.new ≡ rows.old ++ group_shown shape.now group.now ∷ []) }
+{
+    cells.clear();
+    cells.push(Datum::Int(group.start))?;
+    put_keys(shape.keys.items(), group.first, cells)?;
+    put_parts(shape.aggs.items(), group, cells)?;
+    rows.push(cells.as_slice())
+}
+
+/// Appends the keys of a row as they are shown.
+fn put_keys(keys: &[u32], row: &[Datum], cells: &mut Vec<Datum>) -> Result<(), NoMemory>
+    ensures { IfOk result (λ _. cells.new.items ≡ cells.old.items ++ map shown_or_null (keys_at keys.now row.now)) }
+{
+    for key in keys {
+        cells.push(shown(value_at(row, *key)))?;
+    }
+    Ok(())
+}
+
+/// A number, or NULL where it is missing.
+fn shown(value: Option<i128>) -> Datum
+    ensures { result ≡ shown_or_null value }
+{
+    match value {
+        None => Datum::Null,
+        Some(v) => Datum::Int(v),
+    }
+}
+
+/// Appends what each aggregate shows of a group.
+fn put_parts(aggs: &[Agg], group: &CellGroup<'_>, cells: &mut Vec<Datum>) -> Result<(), NoMemory>
+    ensures { OnOk result (cells.new.items ≡ cells.old.items ++ tallies_shown aggs.now (tallies_of aggs.now group.now)) }
+{
+    match &group.tallies {
+        None => put_row(aggs, group.first, cells),
+        Some(tallies) => put_tallies(aggs, tallies.items(), cells),
+    }
+}
+
+/// Appends what each aggregate shows of one row.
+fn put_row(aggs: &[Agg], row: &[Datum], cells: &mut Vec<Datum>) -> Result<(), NoMemory>
+    ensures { OnOk result (cells.new.items ≡ cells.old.items ++ map (cell_shown row.now) aggs.now) }
+{
+    for agg in aggs {
+        let own = tally_of(agg.fun, value_at(row, agg.col));
+        cells.push(shown_of(agg.fun, &own))?;
+    }
+    Ok(())
+}
+
+/// Appends what each aggregate shows of its tally.
+fn put_tallies(aggs: &[Agg], tallies: &[Tally], cells: &mut Vec<Datum>) -> Result<(), NoMemory>
+    ensures { OnOk result (cells.new.items ≡ cells.old.items ++ tallies_shown aggs.now tallies.now) }
+{
+    let mut aggs_left = aggs;
+    let mut tallies_left = tallies;
+    while let [agg, more_aggs @ ..] = aggs_left {
+        let [tally, more_tallies @ ..] = tallies_left else {
+            return Ok(());
+        };
+        cells.push(shown_of(agg.fun, tally))?;
+        aggs_left = more_aggs;
+        tallies_left = more_tallies;
+    }
+    Ok(())
+}

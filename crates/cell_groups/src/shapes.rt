@@ -1,0 +1,13 @@
+//! Which cells of a row group it, and which are aggregated.
+use ts_model::Agg;
+use ts_schema::Seq;
+
+/// What rows of cells are grouped by, and what is aggregated of them. Columns are places among the cells of
+/// a row, from 0.
+#[derive(Drop, Debug)]
+pub struct Shape {
+    /// The cells that rows are grouped by, in the order in which they are shown.
+    pub keys: Seq<u32>,
+    /// What is aggregated of each group, in the order in which it is shown.
+    pub aggs: Seq<Agg>,
+}

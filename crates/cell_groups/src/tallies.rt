@@ -1,0 +1,218 @@
+//! What the cells of a column add up to.
+ghost use Rattle.std.specs.Prelude.{◌≡◌, ◌+◌, ◌<◌, pos, IfOk, OnOk, length, unwrap_or};
+ghost use Rattle.ts_num.specs.Aggregates.{greater, lesser};
+ghost use Rattle.ts_num.specs.declared.values.Fun.TheVariants.{CountAll, Max, Min, Sum};
+ghost use Rattle.partial_agg.specs.Summaries.{joined, mean_shown, sum_shown};
+ghost use Rattle.group_fold.specs.Merging.{joined_parts};
+ghost use Rattle.cell_groups.specs.Kept.{as_part, as_parts, bound, cell_tally, row_tallies, tally_shown};
+
+use crate::cells::value_at;
+use ts_model::Agg;
+use ts_num::{Datum, Fun, lowest};
+use ts_schema::{NoMemory, Seq};
+
+/// What the cells of a column add up to. How they add up rests on the function that is to be shown.
+#[derive(Clone, Copy, Debug)]
+pub struct Tally {
+    /// The number of cells that aren't NULL, or of all where rows are counted.
+    pub values: u64,
+    /// The sum of the values, or the least or the greatest of them, where there are any.
+    pub number: i128,
+}
+
+/// The tally of one cell.
+pub(crate) fn tally_of(fun: Fun, value: Option<i128>) -> Tally
+    ensures { result ≡ cell_tally fun value }
+{
+    match fun {
+        Fun::CountAll => Tally {
+            values: 1,
+            number: 0,
+        },
+        Fun::Count | Fun::Sum | Fun::Min | Fun::Max | Fun::Avg => tally_of_value(value),
+    }
+}
+
+/// The tally of one cell where its value counts.
+fn tally_of_value(value: Option<i128>) -> Tally
+    ensures { result ≡ cell_tally Sum value }
+{
+    match value {
+        None => Tally {
+            values: 0,
+            number: 0,
+        },
+        Some(v) => Tally {
+            values: 1,
+            number: v,
+        },
+    }
+}
+
+/// The tally of the cells of both. For one that takes more than 64 and 128 bits there is no room.
+fn both(fun: Fun, a: &Tally, b: &Tally) -> Result<Tally, NoMemory>
+    ensures { IfOk result (λ t. as_part fun t ≡ joined (as_part fun a.now) (as_part fun b.now)) }
+{
+    match fun {
+        Fun::CountAll => rows_of_both(a, b),
+        Fun::Count | Fun::Sum | Fun::Avg => sum_of_both(a, b),
+        Fun::Min => least_of_both(a, b),
+        Fun::Max => most_of_both(a, b),
+    }
+}
+
+/// The same where rows are counted.
+fn rows_of_both(a: &Tally, b: &Tally) -> Result<Tally, NoMemory>
+    ensures { IfOk result (λ t. as_part CountAll t ≡ joined (as_part CountAll a.now) (as_part CountAll b.now)) }
+{
+    let values = count_of_both(a.values, b.values)?;
+    Ok(Tally { values, number: 0 })
+}
+
+/// The same where their sum is what counts.
+fn sum_of_both(a: &Tally, b: &Tally) -> Result<Tally, NoMemory>
+    ensures { IfOk result (λ t. as_part Sum t ≡ joined (as_part Sum a.now) (as_part Sum b.now)) }
+{
+    let values = count_of_both(a.values, b.values)?;
+    match a.number.checked_add(b.number) {
+        Some(number) => Ok(Tally { values, number }),
+        None => Err(NoMemory),
+    }
+}
+
+/// The same where the least is what counts.
+fn least_of_both(a: &Tally, b: &Tally) -> Result<Tally, NoMemory>
+    ensures { IfOk result (λ t. as_part Min t ≡ joined (as_part Min a.now) (as_part Min b.now)) }
+{
+    let values = count_of_both(a.values, b.values)?;
+    Ok(tally_with(values, lesser_of(bound_of(a), bound_of(b))))
+}
+
+/// The same where the greatest is what counts.
+fn most_of_both(a: &Tally, b: &Tally) -> Result<Tally, NoMemory>
+    ensures { IfOk result (λ t. as_part Max t ≡ joined (as_part Max a.now) (as_part Max b.now)) }
+{
+    let values = count_of_both(a.values, b.values)?;
+    Ok(tally_with(values, greater_of(bound_of(a), bound_of(b))))
+}
+
+/// The sum of two counts, where there is room for it.
+fn count_of_both(a: u64, b: u64) -> Result<u64, NoMemory>
+    ensures { IfOk result (λ sum. sum ≡ a + b) }
+{
+    match a.checked_add(b) {
+        Some(sum) => Ok(sum),
+        None => Err(NoMemory),
+    }
+}
+
+/// The number of a tally, where it has one.
+fn bound_of(tally: &Tally) -> Option<i128>
+    ensures { result ≡ bound tally.now.values tally.now.number }
+{
+    match tally.values {
+        0 => None,
+        _ => Some(tally.number),
+    }
+}
+
+/// The tally of so many cells with this number.
+fn tally_with(values: u64, number: Option<i128>) -> Tally
+    ensures values { result.values ≡ values }
+    ensures number { result.number ≡ unwrap_or number (pos 0) }
+{
+    match number {
+        None => Tally { values, number: 0 },
+        Some(number) => Tally { values, number },
+    }
+}
+
+/// The lesser of two numbers. Where one is missing, it is the other.
+fn lesser_of(a: Option<i128>, b: Option<i128>) -> Option<i128>
+    ensures { result ≡ lesser a b }
+{
+    match (a, b) {
+        (Some(x), Some(y)) => Some(x.min(y)),
+        (Some(x), None) => Some(x),
+        (None, y) => y,
+    }
+}
+
+/// The greater of two numbers. Where one is missing, it is the other.
+fn greater_of(a: Option<i128>, b: Option<i128>) -> Option<i128>
+    ensures { result ≡ greater a b }
+{
+    match (a, b) {
+        (Some(x), Some(y)) => Some(x.max(y)),
+        (Some(x), None) => Some(x),
+        (None, y) => y,
+    }
+}
+
+/// Adds the cells of a row to tallies.
+pub(crate) fn add_row(
+    aggs: &[Agg],
+    tallies: &mut Seq<Tally>,
+    cells: &[Datum],
+) -> Result<(), NoMemory>
+    requires { length tallies.old ≡ length aggs.now }
+    ensures many { length tallies.new ≡ length aggs.now }
+    ensures parts { OnOk result (as_parts aggs.now tallies.new ≡ joined_parts (as_parts aggs.now tallies.old) (as_parts aggs.now (row_tallies aggs.now cells.now))) }
+{
+    for k in 0..aggs.len() {
+        let agg = &aggs[k];
+        let own = tally_of(agg.fun, value_at(cells, agg.col));
+        let tally = both(agg.fun, tallies.get(k), &own)?;
+        tallies.set(k, tally);
+    }
+    Ok(())
+}
+
+/// Adds other tallies of the same columns to tallies.
+pub(crate) fn add_tallies(
+    aggs: &[Agg],
+    tallies: &mut Seq<Tally>,
+    others: &[Tally],
+) -> Result<(), NoMemory>
+    requires mine { length tallies.old ≡ length aggs.now }
+    requires theirs { length others.now ≡ length aggs.now }
+    ensures many { length tallies.new ≡ length aggs.now }
+    ensures parts { OnOk result (as_parts aggs.now tallies.new ≡ joined_parts (as_parts aggs.now tallies.old) (as_parts aggs.now others.now)) }
+{
+    for k in 0..aggs.len() {
+        let tally = both(aggs[k].fun, tallies.get(k), &others[k])?;
+        tallies.set(k, tally);
+    }
+    Ok(())
+}
+
+/// What a function shows of a tally.
+pub(crate) fn shown_of(fun: Fun, tally: &Tally) -> Datum
+    ensures { result ≡ tally_shown fun tally.now }
+{
+    match fun {
+        Fun::CountAll | Fun::Count => Datum::Int(i128::from(tally.values)),
+        Fun::Sum | Fun::Min | Fun::Max => number_shown(tally),
+        Fun::Avg => mean_of(tally),
+    }
+}
+
+/// The number of a tally, NULL where it has none.
+fn number_shown(tally: &Tally) -> Datum
+    ensures { result ≡ sum_shown tally.now.values tally.now.number }
+{
+    match tally.values {
+        0 => Datum::Null,
+        _ => Datum::Int(tally.number),
+    }
+}
+
+/// The mean of a tally, NULL where it has no value.
+fn mean_of(tally: &Tally) -> Datum
+    ensures { result ≡ mean_shown tally.now.values tally.now.number }
+{
+    match tally.values {
+        0 => Datum::Null,
+        _ => Datum::Ratio(lowest(tally.number, tally.values)),
+    }
+}
