@@ -1,12 +1,9 @@
 pub mod Alike
 pub mod Fitting
 pub mod Fresh
-pub mod Gathered
-pub mod Gathering
 pub mod Held
-pub mod Kept
 pub mod Nesting
 pub mod Regrouping
 pub mod Showing
-pub mod Sorting
+pub mod Stands
 pub mod Widening

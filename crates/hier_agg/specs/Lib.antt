@@ -1,4 +1,3 @@
-pub mod Kept
 pub mod Laws
 pub mod Plans
 pub mod ReadLaws
@@ -8,3 +7,4 @@ pub mod Regroup
 pub mod Stale
 pub mod Taken
 pub mod Upper
+pub mod Wides

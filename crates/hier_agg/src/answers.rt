@@ -1,17 +1,14 @@
 //! The upper answer of a lower one.
-ghost use Rattle.std.specs.Prelude.{◌≡◌, [], ◌∷◌, ◌++◌, map, IfOk, OnOk};
-ghost use Rattle.ts_num.specs.Aggregates.{shown_or_null};
-ghost use Rattle.hier_agg.specs.Kept.{group_shown, tallies_shown};
+ghost use Rattle.std.specs.Prelude.{◌≡◌, IfOk};
 ghost use Rattle.hier_agg.specs.Plans.{agg_at};
 ghost use Rattle.hier_agg.specs.Stale.{AreUpperRanges, AreWholeRanges};
 ghost use Rattle.hier_agg.specs.Upper.{upper_answer, upper_rows};
 
 use crate::gathers::gather;
-use crate::groups::UpperGroup;
 use crate::plans::UpperPlan;
+use crate::shapes::shape_of;
 use crate::stale::widen;
-use crate::tallies::{Tally, shown_of, value_shown};
-use crate::ways::{Column, columns_of};
+use cell_groups::rows_of;
 use cell_rows::CellRows;
 use std::alloc::Global;
 use ts_model::{Answer, Fold, ViewDef};
@@ -46,72 +43,9 @@ fn answer_rows(
     ensures { IfOk result (λ upper. upper ≡ upper_rows lower.now plan.now rows.now) }
 {
     let _step = plan.width.step;
-    let columns = columns_of(alloc, lower, plan.cols.items())?;
-    let groups = gather(alloc, plan, columns.as_slice(), rows)?;
-    shown_rows(alloc, columns.as_slice(), groups.as_slice())
-}
-
-/// What groups show, row by row.
-fn shown_rows(
-    alloc: Global,
-    columns: &[Column],
-    groups: &[UpperGroup],
-) -> Result<CellRows<Datum>, NoMemory>
-    ensures { IfOk result (λ rows. rows ≡ map (group_shown columns.now) groups.now) }
-{
-    let mut rows = CellRows::new(alloc);
-    let mut cells = Vec::new(alloc);
-    for group in groups {
-        put_group(columns, group, &mut cells, &mut rows)?;
-    }
-    Ok(rows)
-}
-
-/// Appends the result row of a group. It is made where there is room for cells, of which none stays.
-fn put_group(
-    columns: &[Column],
-    group: &UpperGroup,
-    cells: &mut Vec<Datum>,
-    rows: &mut CellRows<Datum>,
-) -> Result<(), NoMemory>
-    ensures { OnOk result (rows.new ≡ rows.old ++ group_shown columns.now group.now ∷ []) }
-{
-    cells.clear();
-    cells.push(Datum::Int(group.start))?;
-    put_keys(group.keys.items(), cells)?;
-    put_tallies(columns, group.tallies.items(), cells)?;
-    rows.push(cells.as_slice())
-}
-
-/// Appends keys as they are shown.
-fn put_keys(keys: &[Option<i128>], cells: &mut Vec<Datum>) -> Result<(), NoMemory>
-    ensures { IfOk result (λ _. cells.new.items ≡ cells.old.items ++ map shown_or_null keys.now) }
-{
-    for key in keys {
-        cells.push(value_shown(*key))?;
-    }
-    Ok(())
-}
-
-/// Appends what each column adds up to.
-fn put_tallies(
-    columns: &[Column],
-    tallies: &[Tally],
-    cells: &mut Vec<Datum>,
-) -> Result<(), NoMemory>
-    ensures { OnOk result (cells.new.items ≡ cells.old.items ++ tallies_shown columns.now tallies.now) }
-{
-    let mut columns_left = columns;
-    let mut tallies_left = tallies;
-    while let [_, more_columns @ ..] = columns_left {
-        let [tally, more_tallies @ ..] = tallies_left else {
-            return Ok(());
-        };
-        cells.push(shown_of(tally))?;
-        columns_left = more_columns;
-        tallies_left = more_tallies;
-    }
-    Ok(())
+    let shape = shape_of(alloc, lower, plan)?;
+    let gathered = gather(alloc, plan, &shape, rows)?;
+    rows_of(alloc, &shape, gathered)
 }
 
 /// The function that the lower fold has for a column behind its keys.

@@ -7,30 +7,22 @@
 //! - `plans`: which columns of the lower answer a roll-up takes, and how.
 //! - `answers`: the upper answer and its rows.
 //! - `stale`: which wider buckets hold a stale one.
+//! - `shapes`: a roll-up, as a grouping of cells.
 //! - `gathers`: the groups of an answer's rows.
-//! - `orders`: groups put in order.
-//! - `groups`: one group.
-//! - `prints`: numbers by which groups are found.
-//! - `tallies`: what a column of cells adds up to.
-//! - `ways`: how columns add up.
-//! - `cells`: the cells of a row, as columns.
+//! - `wides`: the wider bucket of a row.
 //! - `laws`: what roll-ups show, at every history.
 #![tactic(auto)]
 
 mod answers;
-mod cells;
 mod columns;
 mod gathers;
-mod groups;
 pub mod laws;
-mod orders;
 mod plans;
-mod prints;
 mod reads;
+mod shapes;
 mod stale;
 mod stops;
-mod tallies;
-mod ways;
+mod wides;
 mod widths;
 
 pub use answers::answer_upper;

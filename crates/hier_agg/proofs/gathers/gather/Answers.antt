@@ -1,20 +1,24 @@
 use Rattle.std.proofs.Common.{◌≡◌, ◌∷◌, sym, ap, ◌∙◌}
 use Rattle.group_fold.specs.Gathering.{ordered}
-use Rattle.hier_agg.specs.Kept.{as_groups}
-use Rattle.hier_agg.specs.Taken.{with_cells}
-use Rattle.hier_agg.proofs.Gathering.{cells_step}
+use Rattle.cell_groups.specs.Groups.{as_groups}
+use Rattle.cell_groups.specs.Taken.{with_rows}
+use Rattle.cell_groups.proofs.Gathering.{rows_step}
+use Rattle.hier_agg.specs.Taken.{row_group_of, row_passes}
 use Rattle.hier_agg.proofs.gathers.gather.Goals as goal
 
 pub loop-cells-preserved : goal.loop-cells-preserved
 loop-cells-preserved c =
-    let ks = c.args.columns.now in
-    let before = ordered (as_groups ks c.loop-cells.gathered.groups.items) in
+    let shape = c.args.shape.now in
+    let keep = row_passes c.args.plan.now in
+    let own = row_group_of c.args.plan.now shape in
+    let before = ordered (as_groups shape c.loop-cells.gathered.groups.items) in
     let first : c.loop-cells.cells-iterator ≡ c.in-Some.cells.now ∷ c.next.new.self = c.in-Some.ensures.steps in
     record {
+      numbers = c.in_ok-take_row.ensures.numbers;
       taken =
-          ap (with_cells ks c.args.plan.now c.next.new.self) c.in_ok-take_row.ensures.groups
-          ∙ sym (cells_step ks c.args.plan.now c.in-Some.cells.now c.next.new.self before)
-          ∙ ap (λ rows. with_cells ks c.args.plan.now rows before) (sym first)
+          ap (with_rows keep own c.next.new.self) c.in_ok-take_row.ensures.groups
+          ∙ sym (rows_step keep own c.in-Some.cells.now c.next.new.self before)
+          ∙ ap (λ rows. with_rows keep own rows before) (sym first)
           ∙ c.loop-cells.invariant.taken;
       tallies = c.in_ok-take_row.ensures.tallies;
     }

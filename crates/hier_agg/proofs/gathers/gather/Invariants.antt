@@ -1,12 +1,15 @@
-use Rattle.std.proofs.Common.{◌≡◌, [], length}
+use Rattle.std.proofs.Common.{◌≡◌, []}
 use Rattle.group_fold.specs.Gathering.{ordered}
-use Rattle.hier_agg.specs.Kept.{HaveTallies, as_groups}
-use Rattle.hier_agg.specs.Taken.{with_cells}
+use Rattle.cell_groups.specs.Groups.{HaveTallies, as_groups}
+use Rattle.cell_groups.specs.Taken.{with_rows}
+use Rattle.hier_agg.specs.Taken.{row_group_of, row_passes}
+use Rattle.hier_agg.specs.Wides.{HoldsItsNumbers}
 use Rattle.hier_agg.proofs.gathers.gather.Given as goal
 
 -- what was taken in and what is left make the whole
 abbrev pub invariant-loop-cells : goal.invariant-loop-cells
 invariant-loop-cells l = record {
-  taken : with_cells l.columns l.plan l.cells-iterator (ordered (as_groups l.columns l.gathered.groups.items)) ≡ with_cells l.columns l.plan l.rows [];
-  tallies : HaveTallies (length l.columns) l.gathered.groups.items;
+  numbers : HoldsItsNumbers l.plan.width l.bucket;
+  taken : with_rows (row_passes l.plan) (row_group_of l.plan l.shape) l.cells-iterator (ordered (as_groups l.shape l.gathered.groups.items)) ≡ with_rows (row_passes l.plan) (row_group_of l.plan l.shape) l.rows [];
+  tallies : HaveTallies l.shape.aggs l.gathered.groups.items;
 }

@@ -1,6 +1,0 @@
-use Rattle.std.proofs.Common.{◌≡◌, ◌++◌, map, take}
-use Rattle.ts_num.specs.Aggregates.{shown_or_null}
-use Rattle.hier_agg.proofs.answers.put_keys.Given as goal
-
-abbrev pub invariant-loop-key : goal.invariant-loop-key
-invariant-loop-key l = l.cells.items ≡ l.initial.cells.items ++ map shown_or_null (take l.key-index l.keys)

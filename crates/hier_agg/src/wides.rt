@@ -1,0 +1,69 @@
+//! The wider bucket of a row.
+ghost use Rattle.std.specs.Prelude.{◌≡◌, ◌-ℤ◌, pos, IfOk};
+ghost use Rattle.ts_bucket.specs.Bucket.{bucket_of};
+ghost use Rattle.hier_agg.specs.Wides.{HoldsItsNumbers};
+
+use ts_bucket::Width;
+use ts_schema::NoMemory;
+
+/// A wider bucket: the numbers from its start on and below its end.
+#[derive(Clone, Copy)]
+pub(crate) struct WideBucket {
+    pub(crate) start: i128,
+    pub(crate) end: i128,
+}
+
+/// A bucket that holds no number.
+pub(crate) fn no_bucket() -> WideBucket
+    ensures start { result.start ≡ pos 0 }
+    ensures end { result.end ≡ pos 0 }
+{
+    WideBucket { start: 0, end: 0 }
+}
+
+/// The bucket that holds a number: the one at hand, or another. For one that takes more than 128 bits there
+/// is no room.
+pub(crate) fn bucket_with(
+    width: &Width,
+    at_hand: WideBucket,
+    t: i128,
+) -> Result<WideBucket, NoMemory>
+    requires { HoldsItsNumbers width.now at_hand }
+    ensures start { IfOk result (λ bucket. bucket.start ≡ bucket_of width.now t) }
+    ensures numbers { IfOk result (λ bucket. HoldsItsNumbers width.now bucket) }
+{
+    if at_hand.start <= t && t < at_hand.end {
+        return Ok(at_hand);
+    }
+    bucket_at(width, t)
+}
+
+/// The bucket that holds a number.
+fn bucket_at(width: &Width, t: i128) -> Result<WideBucket, NoMemory>
+    ensures start { IfOk result (λ bucket. bucket.start ≡ bucket_of width.now t) }
+    ensures numbers { IfOk result (λ bucket. HoldsItsNumbers width.now bucket) }
+{
+    let start = start_of(width, t)?;
+    match start.checked_add(i128::from(width.step)) {
+        Some(end) => Ok(WideBucket { start, end }),
+        None => Err(NoMemory),
+    }
+}
+
+/// The start of the bucket that holds a number.
+fn start_of(width: &Width, t: i128) -> Result<i128, NoMemory>
+    ensures { IfOk result (λ b. b ≡ bucket_of width.now t) }
+{
+    let from_shift = difference(t, i128::from(width.shift))?;
+    difference(t, from_shift.rem_euclid(i128::from(width.step)))
+}
+
+/// The difference of two numbers, where there is room for it.
+fn difference(a: i128, b: i128) -> Result<i128, NoMemory>
+    ensures { IfOk result (λ d. d ≡ a -ℤ b) }
+{
+    match a.checked_sub(b) {
+        Some(d) => Ok(d),
+        None => Err(NoMemory),
+    }
+}
