@@ -3,14 +3,14 @@ use Rattle.std.proofs.Common.{◌≡◌, ℕ, ◌+◌, ◌-◌, ◌<◌, ◌&&�
 use Rattle.std.specs.List.{list_all, count_by}
 use Rattle.std.specs.Ordering.{int_eq}
 use Rattle.std.proofs.lemmas.Bool.Decides.{Decides-int_eq}
-use Rattle.std.proofs.lemmas.List.{map-append, drop_more, drop_all}
+use Rattle.std.proofs.lemmas.List.{length-map, map-append, drop_more, drop_all}
 use Rattle.std.proofs.lemmas.List.Sums.{sum_by-cons}
 use Rattle.ts_schema.specs.declared.rows.Row.{Row}
 use Rattle.ts_bucket.specs.Bucket.{is_time}
-use Rattle.seg_rows.specs.Versions.{AsOften, newborn}
+use Rattle.seg_rows.specs.Versions.{AsOften, HasMore, newborn}
 use Rattle.chunk_catalog.specs.Chunks.{HaveTimes}
 use Rattle.ts_bucket.specs.Chunks.{chunk_start}
-use Rattle.chunk_catalog.specs.Places.{Placed, in_chunk, versions_of, is_placed, ArePlaced}
+use Rattle.chunk_catalog.specs.Places.{Placed, in_chunk, place, versions_of, is_placed, ArePlaced}
 use Rattle.chunk_catalog.specs.Parts.{AreIn, placed_row, placed_rows}
 use Rattle.ts_schema.proofs.Cases.{and_first, and_second, count-append}
 
@@ -107,3 +107,17 @@ versions_more interval p before after rows more = λ test.
     count_map (λ x. x.version) test after
     ∙ (more (λ x. test x.version)
     ∙ omega (arith, sym (count_map (λ (x : Placed). x.version) test before), sym (count_map (λ (x : Placed). x.version) test (placed_rows interval p rows)), ap (count_by test) (placed_rows-versions interval p rows), count-append test (versions_of before) (map (newborn p) rows)))
+
+-- versions that were put into a chunk are so many more
+pub length_put : (s : ℤ) (p : ℕ) (old new : List Placed) (rows : List Row) → HasMore (in_chunk s (map (newborn p) rows)) old new → length new ≡ length old + length rows
+length_put s p old new rows more =
+    length_more new old (in_chunk s (map (newborn p) rows)) more
+    ∙ ap (λ n. length old + n) (length-map (map (newborn p) rows) (place s) ∙ length-map rows (newborn p))
+
+-- two lists of rows that were put into a chunk, one after the other
+pub halves_put : (s : ℤ) (p : ℕ) (old mid new : List Placed) (rows first second : List Row) → rows ≡ first ++ second → HasMore (in_chunk s (map (newborn p) first)) old mid
+    → HasMore (in_chunk s (map (newborn p) second)) mid new → HasMore (in_chunk s (map (newborn p) rows)) old new
+halves_put s p old mid new rows first second is one two test =
+    let parts : in_chunk s (map (newborn p) rows) ≡ in_chunk s (map (newborn p) first) ++ in_chunk s (map (newborn p) second) =
+    ap (λ rs. in_chunk s (map (newborn p) rs)) is ∙ (ap (in_chunk s) (map-append (newborn p) first second) ∙ map-append (place s) (map (newborn p) first) (map (newborn p) second)) in
+    omega (arith, one test, two test, ap (count_by test) parts, count-append test (in_chunk s (map (newborn p) first)) (in_chunk s (map (newborn p) second)))

@@ -9,9 +9,12 @@ ghost use Rattle.chunk_catalog.specs.Places.{in_chunk};
 ghost use Rattle.chunk_catalog.specs.Parts.{AreIn, placed_rows};
 
 use crate::trees::Tree;
-use seg_rows::Segment;
+use seg_rows::{Segment, copied_rows};
 use std::alloc::Global;
 use ts_schema::{NoMemory, Row, Seq};
+
+/// No segment of new rows has more of them.
+const MANY: usize = 1024;
 
 /// Rows of one chunk, with its start.
 #[derive(Drop)]
@@ -51,15 +54,40 @@ fn sorted_rows(rows: Seq<Row>) -> Result<Vec<Row>, NoMemory>
     Ok(items)
 }
 
-/// A tree with the rows of one chunk, born at a position.
+/// A tree with the rows of one chunk, born at a position. Many rows come in several segments, in their
+/// order, so that a later delete copies the positions of few.
 fn put_part(alloc: Global, tree: &Tree, part: Part, pos: u64) -> Result<Tree, NoMemory>
     requires some { 0 < length part.rows.items }
     requires countable { length tree.now.0 + length part.rows.items < 2 ^ 64 }
     ensures versions { IfOk result (λ new.
         HasMore (in_chunk part.start (map (newborn pos) part.rows.items)) tree.now.0 new.0) }
 {
+    if part.rows.len() > MANY {
+        return put_pieces(alloc, tree, part.start, part.rows.as_slice(), pos);
+    }
     let segment = Segment::seal(alloc, Seq::of(part.rows), pos)?;
     tree.with(alloc, part.start, segment)
+}
+
+/// The same with copies of the rows, which are halved until no piece is large.
+fn put_pieces(
+    alloc: Global,
+    tree: &Tree,
+    start: i64,
+    rows: &[Row],
+    pos: u64,
+) -> Result<Tree, NoMemory>
+    requires some { 0 < length rows.now }
+    requires countable { length tree.now.0 + length rows.now < 2 ^ 64 }
+    ensures versions { IfOk result (λ new. HasMore (in_chunk start (map (newborn pos) rows.now)) tree.now.0 new.0) }
+{
+    if rows.len() <= MANY {
+        let segment = Segment::seal(alloc, copied_rows(alloc, rows)?, pos)?;
+        return tree.with(alloc, start, segment);
+    }
+    let (first, second) = rows.split_at(rows.len() / 2);
+    let tree = put_pieces(alloc, tree, start, first, pos)?;
+    put_pieces(alloc, &tree, start, second, pos)
 }
 
 /// Takes the last rows off, as many as are in one chunk.

@@ -1,4 +1,4 @@
-//! Segments joined into one.
+//! Rows of segments copied, and segments joined into one.
 ghost use Rattle.std.specs.Prelude.{◌≡◌, ◌++◌, map, IfOk, OnOk};
 ghost use Rattle.seg_rows.specs.Lives.{AreUnharmed, Covers, Keeps, lives_of, unharmed};
 
@@ -6,6 +6,15 @@ use crate::lives::{Life, Lives};
 use crate::scans::copy_of;
 use std::alloc::Global;
 use ts_schema::{NoMemory, Row, Seq};
+
+/// Copies of these rows, in no more room than they take.
+pub fn copied_rows(alloc: Global, rows: &[Row]) -> Result<Seq<Row>, NoMemory>
+    ensures rows { IfOk result (λ copies. copies ≡ rows.now) }
+{
+    let mut copies = Vec::with_capacity(alloc, rows.len())?;
+    append_rows(&mut copies, rows)?;
+    Ok(Seq::of(copies))
+}
 
 /// Copies of these rows, one list after the other.
 pub fn joined_rows(alloc: Global, first: &[Row], second: &[Row]) -> Result<Seq<Row>, NoMemory>

@@ -15,5 +15,6 @@ mod segments;
 
 pub use deaths::{both_died, has_died};
 pub use hulls::{greatest_time, join_hulls, row_hull};
-pub use scans::{is_no_later, later};
+pub use joins::copied_rows;
+pub use scans::is_no_later;
 pub use segments::{Killed, Segment};
