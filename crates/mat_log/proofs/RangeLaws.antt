@@ -41,7 +41,7 @@ AreApart (s ∷ ss) = (s.lo <ℤ s.hi) × IsBeforeRanges s.hi ss × AreApart ss
 pub out_below : (s : SpanValue) (t : ℤ) → t <ℤ s.lo → in_span s t ≡ false
 out_below s t l = grind (arith, ints)
 
-out_above : (s : SpanValue) (t : ℤ) → s.hi ≤ℤ t → in_span s t ≡ false
+pub out_above : (s : SpanValue) (t : ℤ) → s.hi ≤ℤ t → in_span s t ≡ false
 out_above s t l = grind (arith, ints)
 
 -- ---- pieces joined
@@ -64,7 +64,7 @@ or_assoc true b c = refl
 or_assoc false b c = refl
 
 -- two spans that touch are one
-one_span : (s p : SpanValue) (t : ℤ) → s.lo <ℤ s.hi → p.lo <ℤ p.hi → s.hi ≡ p.lo → in_span (record { lo = s.lo; hi = p.hi }) t ≡ (in_span s t || in_span p t)
+pub one_span : (s p : SpanValue) (t : ℤ) → s.lo <ℤ s.hi → p.lo <ℤ p.hi → s.hi ≡ p.lo → in_span (record { lo = s.lo; hi = p.hi }) t ≡ (in_span s t || in_span p t)
 one_span s p t l g e = by_lt_z t s.hi
     (λ below. grind (arith, ints))
     (λ above. grind (arith, ints))
@@ -122,7 +122,7 @@ before_none x t (s ∷ ss) b a l =
     ap (λ c. c || lies_in ss t) (out_below s t (omega (arith, ints))) ∙ before_none s.hi t ss a.1 a.2 (omega (arith, ints))
 
 -- where a test that has one answer for a whole bucket changes, a bucket starts
-changes_at_bucket : (w : WidthValue) (test : ℤ → Bool) (x : ℤ) → IsWidth w → ((t : ℤ) → test t ≡ test (bucket_of w t)) → (test (x -ℤ pos 1) ≡ test x → ⊥) → is_bucket w x ≡ true
+pub changes_at_bucket : (w : WidthValue) (test : ℤ → Bool) (x : ℤ) → IsWidth w → ((t : ℤ) → test t ≡ test (bucket_of w t)) → (test (x -ℤ pos 1) ≡ test x → ⊥) → is_bucket w x ≡ true
 changes_at_bucket w test x h one differs =
     let low : bucket_of w x ≤ℤ x = (bucket_of_meets w x h).at_or_below in
     let high : x <ℤ (bucket_of w x +ℤ w.step) = (bucket_of_meets w x h).end_above in
@@ -132,10 +132,10 @@ changes_at_bucket w test x h one differs =
     absurd (differs (one (x -ℤ pos 1) ∙ ap test (sym same) ∙ sym (one x))))
     (λ above. let at : bucket_of w x ≡ x = omega (arith, ints) in subst (λ y. is_bucket w y ≡ true) at (is_bucket-bucket_of w x h))
 
-differ : (a b : Bool) → a ≡ false → b ≡ true → a ≡ b → ⊥
+pub differ : (a b : Bool) → a ≡ false → b ≡ true → a ≡ b → ⊥
 differ a b p q e = false≢true (sym p ∙ e ∙ q)
 
-differ' : (a b : Bool) → a ≡ true → b ≡ false → a ≡ b → ⊥
+pub differ' : (a b : Bool) → a ≡ true → b ≡ false → a ≡ b → ⊥
 differ' a b p q e = true≢false (sym p ∙ e ∙ q)
 
 -- ranges of such a test start and end where buckets do

@@ -3,3 +3,4 @@ pub mod Held
 pub mod Joined
 pub mod Feeding
 pub mod Touching
+pub mod Lasts

@@ -2,6 +2,7 @@
 #![tactic(auto)]
 
 mod held;
+mod lasts;
 mod logs;
 mod ranges;
 mod spans;

@@ -1,6 +1,6 @@
 //! The log of an aggregate.
 
-ghost use Rattle.std.specs.Prelude.{◌≡◌, ℤ, cond, ◌&&◌, IfOk, OnOk, true, filter, ◌∷◌, []};
+ghost use Rattle.std.specs.Prelude.{◌≡◌, ℤ, cond, ◌&&◌, IfOk, OnOk, None, Some, true, filter, is_none, ◌∷◌, []};
 ghost use Rattle.std.specs.List.{AllByRecursion};
 ghost use Rattle.std.specs.Option.{ForSome};
 ghost use Rattle.ts_bucket.specs.Bucket.{is_bucket};
@@ -10,17 +10,21 @@ ghost use Rattle.span_map.specs.Maps.{at};
 ghost use Rattle.ts_bucket.specs.Ranges.{AreRanges, IsWholeRange, lies_in};
 ghost use Rattle.ts_bucket.specs.WholeSpans.{IsWholeSpan, IsWithin, IsMark, whole_span};
 ghost use Rattle.mat_log.specs.Feeding.{AreWithin, IsFed, are_rising, is_changed_with, is_dirty_with, is_redone_with, is_stale_with, pending_with};
+ghost use Rattle.mat_log.specs.Lasts.{AreLasts};
 ghost use Rattle.mat_log.specs.Touching.{pending_or_fresh};
 ghost use Rattle.mat_log.specs.Logs.{pending_at, last_at, is_dirty, is_renewed, is_stale, HasRoom, IsSame, KeepsRoom};
 ghost use Rattle.span_map.specs.Functions.{ChangesWithin, IsPart};
+ghost use Rattle.span_map.specs.Pieces.{ArePieces, piece_at};
+ghost use Rattle.span_map.specs.declared.pieces.Piece.{Piece as PieceValue};
 
 use crate::held::HeldMap;
+use crate::lasts::{merge_pieces, of_pieces};
 use crate::ranges::join_pieces;
 use crate::spans::{buckets_below, marked};
 use crate::touches::{all_entries, do_rise, entries_near, latest};
 use block_list::BlockList;
 use inval_log::Entry;
-use span_map::{Rule, SpanMap};
+use span_map::{Piece, Rule, SpanMap};
 use std::alloc::Global;
 use std::marker::Model;
 use ts_bucket::{Span, Width, all_buckets, touched};
@@ -64,6 +68,37 @@ impl MatLog {
             width: w,
             pending: HeldMap::own(pending),
             refreshed: HeldMap::own(SpanMap::new(alloc)),
+        })
+    }
+
+    /// The log of an aggregate whose last refreshes are these pieces of whole buckets, which rise. At a
+    /// position something is pending in each bucket of these ranges, and at 0 in each bucket that was
+    /// never refreshed. It is shared, so that a copy of it is a count.
+    pub fn resumed(
+        alloc: Global,
+        w: Width,
+        lasts: &[Piece],
+        dirty: &[Span],
+        pos: u64,
+    ) -> Result<MatLog, NoMemory>
+        requires rise { (lo : ℤ) × (hi : ℤ) × ArePieces lo hi lasts.now }
+        requires lasts { AllByRecursion (λ (p : PieceValue). IsWholeRange w p.span) lasts.now }
+        requires dirty { AllByRecursion (IsWholeRange w) dirty.now }
+        ensures width { IfOk result (λ log. log.width ≡ w) }
+        ensures pending { IfOk result (λ log. (b : ℤ) → pending_at log b
+            ≡ cond (lies_in dirty.now b) (Some pos)
+            (cond (in_span (whole_span w) b && is_none (piece_at lasts.now b)) (Some 0) None)) }
+        ensures refreshed { IfOk result (λ log. (b : ℤ) → last_at log b ≡ piece_at lasts.now b) }
+    {
+        let refreshed = of_pieces(alloc, lasts)?;
+        let all = marked(alloc, &[all_buckets(w)], 0)?;
+        let never = refreshed.combined(&all, Rule::Above)?;
+        let pending = never.combined(&marked(alloc, dirty, pos)?, Rule::Over)?;
+        Ok(MatLog {
+            alloc,
+            width: w,
+            pending: HeldMap::own(pending).shared()?,
+            refreshed: HeldMap::own(refreshed).shared()?,
         })
     }
 
@@ -138,6 +173,16 @@ impl MatLog {
         ensures last { result ≡ last_at self.now b }
     {
         self.refreshed.map().at(b)
+    }
+
+    /// The last refreshes, as ranges of buckets with the same position that are as long as can be.
+    pub fn lasts(&self) -> Result<Seq<Piece>, NoMemory>
+        ensures lasts { IfOk result (AreLasts self.now.width (last_at self.now)) }
+    {
+        // Reading the width tells that each bucket has one value.
+        let _width = self.width;
+        let pieces = self.refreshed.map().ranges(all_buckets(self.width))?;
+        merge_pieces(self.alloc, pieces.items())
     }
 
     /// The buckets of a span of whole buckets that have no last refresh or at which something is
