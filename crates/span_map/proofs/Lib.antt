@@ -4,3 +4,5 @@ mod ChangeLaws
 mod FloorLaws
 mod PieceLaws
 mod CombineLaws
+mod SearchLaws
+mod PatchLaws

@@ -15,7 +15,7 @@ rising_after x (e ∷ es) (suc j) d h r l =
     omega (arith, ints)
 
 -- edges at later places are higher
-rising_places : (es : List Edge) (i j : ℕ) (d : Edge) → IsRising es → i < j → j < length es → (get_or es i d).from <ℤ (get_or es j d).from
+pub rising_places : (es : List Edge) (i j : ℕ) (d : Edge) → IsRising es → i < j → j < length es → (get_or es i d).from <ℤ (get_or es j d).from
 rising_places [] i j d r h l = absurd (omega arith)
 rising_places (e ∷ es) i zero d r h l = absurd (omega arith)
 rising_places (e ∷ es) zero (suc j) d r h l = rising_after e.from es j d r.0 r.1 (omega arith)

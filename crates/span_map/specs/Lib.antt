@@ -5,3 +5,5 @@ pub mod Pieces
 pub mod Floors
 pub mod Functions
 pub mod Combined
+pub mod Places
+pub mod Patches

@@ -7,9 +7,13 @@ mod edges;
 mod floors;
 mod maps;
 mod parts;
+mod patches;
 mod pieces;
 mod rules;
+mod search;
+mod shared;
 
 pub use maps::SpanMap;
 pub use pieces::Piece;
 pub use rules::Rule;
+pub use shared::SharedMap;

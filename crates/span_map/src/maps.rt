@@ -3,6 +3,7 @@
 ghost use Rattle.std.specs.Prelude.{◌≡◌, ◌==◌, ℤ, ◌+◌, ◌*◌, ◌^◌, ◌<◌, ◌≤◌, IfOk, OnOk};
 ghost use Rattle.ts_bucket.specs.Positions.{later, above};
 ghost use Rattle.span_map.specs.Combined.{combined_by};
+ghost use Rattle.span_map.specs.Edges.{IsRising};
 ghost use Rattle.span_map.specs.Maps.{at, piece_count_of};
 ghost use Rattle.span_map.specs.Pieces.{piece_at, ArePieces};
 ghost use Rattle.span_map.specs.Functions.{AssignsAbove, ChangesWithin, IsPart};
@@ -46,6 +47,22 @@ impl SpanMap {
         SpanMap {
             edges: Vec::new(alloc),
         }
+    }
+
+    /// The map of edges that rise.
+    pub(crate) fn of_edges(edges: Vec<Edge>) -> SpanMap
+        requires { IsRising edges.items }
+        ensures edges { result.edges ≡ edges.items }
+    {
+        SpanMap { edges }
+    }
+
+    /// The edges of the map.
+    pub(crate) fn edges(&self) -> &[Edge]
+        ensures edges { result.now ≡ self.now.edges }
+        ensures rising { IsRising result.now }
+    {
+        &self.edges
     }
 
     /// The allocator that the map was made with.

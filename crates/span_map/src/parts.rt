@@ -22,7 +22,7 @@ pub(crate) fn part_within(edges: &[Edge], span: Span) -> (Option<u64>, &[Edge])
 }
 
 /// The edges of a part that begins at the start of a span with this value and ends with the span.
-fn framed(
+pub(crate) fn framed(
     alloc: Global,
     span: Span,
     value: Option<u64>,
