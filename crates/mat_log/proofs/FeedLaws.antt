@@ -1,6 +1,7 @@
 -- Laws of feeding: entries fed one after another leave what their latest positions say, and something is pending after them exactly where it was or one of them is above the last refresh.
-use Rattle.std.proofs.Common.{◌≡◌, ℕ, ◌≤◌, max, Bool, true, false, cond, ◌&&◌, ◌||◌, nat_le, nat_lt, List, [], ◌∷◌, ◌++◌, filter, ℤ, ◌+ℤ◌, ◌≤ℤ◌, ◌<ℤ◌, Option, Some, None, is_some, refl, sym, ap, ◌∙◌, arith}
+use Rattle.std.proofs.Common.{◌≡◌, ℕ, ◌≤◌, ◌<◌, ◌+◌, length, drop, get_or, max, Bool, true, false, cond, ◌&&◌, ◌||◌, nat_le, nat_lt, List, [], ◌∷◌, ◌++◌, filter, ℤ, ◌+ℤ◌, ◌≤ℤ◌, ◌<ℤ◌, Option, Some, None, is_some, refl, sym, ap, ◌∙◌, arith}
 use Rattle.std.proofs.lemmas.Int.{ints}
+use Rattle.std.proofs.lemmas.List.{drop_more}
 use Rattle.std.proofs.lemmas.Bool.{false≢true}
 use Rattle.std.proofs.lemmas.Bool.Decides.{nat_tests}
 use Rattle.std.proofs.Math.Bool.{or-false, or-true, or_assoc}
@@ -15,7 +16,7 @@ use Rattle.ts_bucket.proofs.WholeSpanLaws.{in_span-bucket, touched_starts, touch
 use Rattle.span_map.specs.Combined.{combined_by}
 use Rattle.span_map.specs.declared.rules.Rule.TheVariants.{Over, Above}
 use Rattle.inval_log.specs.declared.entries.Entry.{Entry}
-use Rattle.mat_log.specs.Logs.{IsInStep}
+use Rattle.mat_log.specs.Logs.{IsInStep, LogValue, last_at, pending_at}
 use Rattle.mat_log.specs.Feeding.{pending_after, pending_after_all, are_rising}
 use Rattle.mat_log.specs.Touching.{touch_at}
 
@@ -183,10 +184,21 @@ cond_twice true v = refl
 cond_twice false v = refl
 
 -- the chain of what the code makes at a number
-pub fed_chain : (shared own made p' p fresh r' r newest q : Option ℕ) → shared ≡ own → own ≡ made → made ≡ combined_by Over p' fresh → p' ≡ p → fresh ≡ combined_by Above r' newest → r' ≡ r → newest ≡ q → shared ≡ combined_by Over p (combined_by Above r q)
-fed_chain shared own made p' p fresh r' r newest q a b c d e f g =
-    a ∙ b ∙ c ∙ ap (λ v. combined_by Over v fresh) d ∙ ap (combined_by Over p) (e ∙ ap (λ v. combined_by Above v newest) f ∙ ap (combined_by Above r) g)
+pub fed_chain : (shared made p' p fresh r' r newest q : Option ℕ) → shared ≡ made → made ≡ combined_by Over p' fresh → p' ≡ p → fresh ≡ combined_by Above r' newest → r' ≡ r → newest ≡ q → shared ≡ combined_by Over p (combined_by Above r q)
+fed_chain shared made p' p fresh r' r newest q a c d e f g =
+    a ∙ c ∙ ap (λ v. combined_by Over v fresh) d ∙ ap (combined_by Over p) (e ∙ ap (λ v. combined_by Above v newest) f ∙ ap (combined_by Above r) g)
 
 pub near_chain : (i : Bool) (made p' p fresh r' r newest q q' : Option ℕ) → made ≡ combined_by Over p' fresh → p' ≡ cond i p None → fresh ≡ combined_by Above r' newest → r' ≡ cond i r None → newest ≡ cond i q None → q ≡ q' → made ≡ cond i (combined_by Over p (combined_by Above r q')) None
 near_chain i made p' p fresh r' r newest q q' c d e f g k =
     c ∙ ap (λ v. combined_by Over v fresh) d ∙ ap (combined_by Over (cond i p None)) (e ∙ ap (λ v. combined_by Above v newest) f ∙ ap (combined_by Above (cond i r None)) (g ∙ ap (λ v. cond i v None) k)) ∙ with_within i p r q'
+
+-- ---- one entry after another
+
+pub fed_one : (first old new : LogValue) (b : ℤ) (entries : List Entry) (i : ℕ) (e : Entry) → i < length entries → e ≡ get_or entries i e → old.width ≡ first.width → last_at old b ≡ last_at first b
+    → (is_bucket old.width b ≡ true → pending_at new b ≡ pending_after old.width b (last_at old b) e (pending_at old b)) → is_bucket first.width b ≡ true
+    → pending_after_all first.width b (last_at first b) (drop (i + 1) entries) (pending_at new b) ≡ pending_after_all first.width b (last_at first b) (drop i entries) (pending_at old b)
+fed_one first old new b entries i e within is width last fed bucket =
+    let made : pending_at new b ≡ pending_after first.width b (last_at first b) e (pending_at old b) =
+    fed (rw width bucket) ∙ (ap (λ w. pending_after w b (last_at old b) e (pending_at old b)) width ∙ ap (λ r. pending_after first.width b r e (pending_at old b)) last) in
+    ap (pending_after_all first.width b (last_at first b) (drop (i + 1) entries)) made
+    ∙ sym (ap (λ es. pending_after_all first.width b (last_at first b) es (pending_at old b)) (drop_more entries i e within ∙ ap (λ x. x ∷ drop (i + 1) entries) (sym is)))

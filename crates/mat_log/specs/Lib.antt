@@ -1,5 +1,4 @@
 pub mod Logs
-pub mod Held
 pub mod Joined
 pub mod Feeding
 pub mod Touching

@@ -1,9 +1,9 @@
 -- What is pending of an aggregate and what was refreshed, as two partial functions of its buckets.
-use Rattle.std.specs.Prelude.{◌≡◌, ℕ, ◌+◌, ◌*◌, ◌≤◌, Bool, true, not, ◌||◌, ◌&&◌, ℤ, Option, is_some, is_none}
+use Rattle.std.specs.Prelude.{◌≡◌, ℕ, Bool, true, not, ◌||◌, ◌&&◌, ℤ, Option, is_some, is_none}
 use Rattle.ts_bucket.specs.Bucket.{WidthValue, IsWidth, bucket_of}
 use Rattle.ts_bucket.specs.Positions.{is_above}
 use Rattle.ts_bucket.specs.Spans.{in_span}
-use Rattle.span_map.specs.Maps.{MapValue, at, piece_count_of}
+use Rattle.span_map.specs.Maps.{MapValue, at}
 use Rattle.ts_bucket.specs.WholeSpans.{whole_span, is_below}
 
 -- what contracts see of a `MatLog`: the width of its buckets, and its two maps
@@ -36,16 +36,6 @@ is_refreshed_after log snap b = is_above snap (last_at log b)
 -- snapshot
 abbrev pub is_renewed : LogValue → ℕ → ℤ → Bool
 is_renewed log snap b = not (is_above snap (last_at log b))
-
--- there is room for one entry to be fed, or one refresh to be settled
-pub record HasRoom (log : LogValue) : Type 0 where
-  pub for_entry : 3 * (piece_count_of log.refreshed + 1) ≤ log.pending.room
-  pub for_refresh : 3 + piece_count_of log.refreshed ≤ log.refreshed.room
-
--- room doesn't shrink
-pub record KeepsRoom (old new : LogValue) : Type 0 where
-  pub for_entry : old.pending.room ≤ new.pending.room
-  pub for_refresh : old.refreshed.room ≤ new.refreshed.room
 
 -- the same of every bucket: what is pending there, and its last refresh
 pub record IsSame (old new : LogValue) : Type 0 where

@@ -1,7 +1,6 @@
 //! What is out of date of one aggregate: which buckets were touched since their last refresh.
 #![tactic(auto)]
 
-mod held;
 mod lasts;
 mod logs;
 mod ranges;

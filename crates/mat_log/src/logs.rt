@@ -1,6 +1,6 @@
 //! The log of an aggregate.
 
-ghost use Rattle.std.specs.Prelude.{◌≡◌, ℤ, cond, ◌&&◌, IfOk, OnOk, None, Some, true, filter, is_none, ◌∷◌, []};
+ghost use Rattle.std.specs.Prelude.{◌≡◌, ℤ, cond, ◌&&◌, IfOk, None, Some, true, filter, is_none, ◌∷◌, []};
 ghost use Rattle.std.specs.List.{AllByRecursion};
 ghost use Rattle.std.specs.Option.{ForSome};
 ghost use Rattle.ts_bucket.specs.Bucket.{is_bucket};
@@ -12,23 +12,25 @@ ghost use Rattle.ts_bucket.specs.WholeSpans.{IsWholeSpan, IsWithin, IsMark, whol
 ghost use Rattle.mat_log.specs.Feeding.{AreWithin, IsFed, are_rising, is_changed_with, is_dirty_with, is_redone_with, is_stale_with, pending_with};
 ghost use Rattle.mat_log.specs.Lasts.{AreLasts};
 ghost use Rattle.mat_log.specs.Touching.{pending_or_fresh};
-ghost use Rattle.mat_log.specs.Logs.{pending_at, last_at, is_dirty, is_renewed, is_stale, HasRoom, IsSame, KeepsRoom};
+ghost use Rattle.mat_log.specs.Logs.{pending_at, last_at, is_dirty, is_renewed, is_stale, IsSame};
 ghost use Rattle.span_map.specs.Functions.{ChangesWithin, IsPart};
 ghost use Rattle.span_map.specs.Pieces.{ArePieces, piece_at};
 ghost use Rattle.span_map.specs.declared.pieces.Piece.{Piece as PieceValue};
 
-use crate::held::HeldMap;
 use crate::lasts::{merge_pieces, of_pieces};
 use crate::ranges::join_pieces;
 use crate::spans::{buckets_below, marked};
 use crate::touches::{all_entries, do_rise, entries_near, latest};
 use block_list::BlockList;
 use inval_log::Entry;
-use span_map::{Piece, Rule, SpanMap};
+use span_map::{Piece, Rule, SharedMap, SpanMap};
 use std::alloc::Global;
 use std::marker::Model;
 use ts_bucket::{Span, Width, all_buckets, touched};
 use ts_schema::{NoMemory, Seq};
+
+/// An entry that is fed by itself costs about as much as so many edges in a sweep over all.
+const EDGES_AN_ENTRY: usize = 128;
 
 /// For each bucket of an aggregate, the position that is pending there, if there is one, and the
 /// position of its last refresh, if there is one.
@@ -36,8 +38,8 @@ use ts_schema::{NoMemory, Seq};
 pub struct MatLog {
     alloc: Global,
     width: Width,
-    pending: HeldMap,
-    refreshed: HeldMap,
+    pending: SharedMap,
+    refreshed: SharedMap,
 }
 
 impl Model for MatLog {
@@ -66,14 +68,14 @@ impl MatLog {
         Ok(MatLog {
             alloc,
             width: w,
-            pending: HeldMap::own(pending),
-            refreshed: HeldMap::own(SpanMap::new(alloc)),
+            pending: SharedMap::of(&pending)?,
+            refreshed: SharedMap::of(&SpanMap::new(alloc))?,
         })
     }
 
     /// The log of an aggregate whose last refreshes are these pieces of whole buckets, which rise. At a
     /// position something is pending in each bucket of these ranges, and at 0 in each bucket that was
-    /// never refreshed. It is shared, so that a copy of it is a count.
+    /// never refreshed.
     pub fn resumed(
         alloc: Global,
         w: Width,
@@ -97,12 +99,12 @@ impl MatLog {
         Ok(MatLog {
             alloc,
             width: w,
-            pending: HeldMap::own(pending).shared()?,
-            refreshed: HeldMap::own(refreshed).shared()?,
+            pending: SharedMap::of(&pending)?,
+            refreshed: SharedMap::of(&refreshed)?,
         })
     }
 
-    /// The same log again. It is a count, where the log is shared. Its room may differ.
+    /// The same log again. It is a count.
     pub fn copy(&self) -> Result<MatLog, NoMemory>
         ensures same { IfOk result (λ copy. IsSame self.now copy) }
     {
@@ -114,65 +116,50 @@ impl MatLog {
         })
     }
 
-    /// The same log, shared from here on, so that a copy of it is a count.
-    pub fn shared(self) -> Result<MatLog, NoMemory>
-        ensures same { IfOk result (IsSame self) }
+    /// The log after an entry: the buckets that its hull meets are pending at its position, where they
+    /// weren't refreshed at or after it. It costs the pieces there.
+    fn fed(&self, entry: &Entry) -> Result<MatLog, NoMemory>
+        requires within { IsWithin self.now.width entry.now.hull }
+        ensures width { IfOk result (λ new. new.width ≡ self.now.width) }
+        ensures pending { IfOk result (λ new. (b : ℤ) → is_bucket self.now.width b ≡ true →
+            pending_at new b ≡ pending_with self.now (entry.now ∷ []) b) }
+        ensures refreshed { IfOk result (λ new. (b : ℤ) → last_at new b ≡ last_at self.now b) }
+    {
+        let span = touched(self.width, entry.hull);
+        Ok(MatLog {
+            alloc: self.alloc,
+            width: self.width,
+            pending: self
+                .pending
+                .assigned_above(span, entry.pos, &self.refreshed)?,
+            refreshed: self.refreshed.copy()?,
+        })
+    }
+
+    /// The log after a refresh of a span of whole buckets whose snapshot was taken at this position was
+    /// settled: what was pending up to it is gone, and the last refresh is raised to it. It costs the
+    /// pieces in the span, and shares those elsewhere.
+    pub fn settled(&self, span: Span, snap: u64) -> Result<MatLog, NoMemory>
+        requires whole { IsWholeSpan self.now.width span }
+        ensures width { IfOk result (λ new. new.width ≡ self.now.width) }
+        ensures pending { IfOk result (λ new.
+            ChangesWithin span (above snap) (pending_at self.now) (pending_at new)) }
+        ensures refreshed { IfOk result (λ new.
+            ChangesWithin span (λ v. later v (Some snap)) (last_at self.now) (last_at new)) }
     {
         Ok(MatLog {
             alloc: self.alloc,
             width: self.width,
-            pending: self.pending.shared()?,
-            refreshed: self.refreshed.shared()?,
+            pending: self.pending.cleared_upto(span, snap)?,
+            refreshed: self.refreshed.raised(span, snap)?,
         })
-    }
-
-    /// Makes the log its owner's alone, with room for one entry to be fed, or one refresh to be
-    /// settled.
-    pub fn reserve(&mut self) -> Result<(), NoMemory>
-        ensures room { OnOk result (HasRoom self.new) }
-        ensures kept { KeepsRoom self.old self.new }
-        ensures same { IsSame self.old self.new }
-    {
-        let pieces = self.refreshed.map().len();
-        self.pending
-            .reserve(pieces.saturating_add(1).saturating_mul(3))?;
-        self.refreshed.reserve(pieces + 3)?;
-        Ok(())
-    }
-
-    /// Makes the buckets that the hull of the entry meets pending at its position, where they
-    /// weren't refreshed at or after it.
-    pub fn feed(&mut self, entry: &Entry)
-        requires room { HasRoom self.old }
-        requires within { IsWithin self.old.width entry.now.hull }
-        ensures pending { (b : ℤ) → is_bucket self.old.width b ≡ true →
-            pending_at self.new b ≡ pending_with self.old (entry.now ∷ []) b }
-        ensures refreshed { (b : ℤ) → last_at self.new b ≡ last_at self.old b }
-        ensures width { self.new.width ≡ self.old.width }
-    {
-        let span = touched(self.width, entry.hull);
-        self.pending
-            .assign_above(span, entry.pos, self.refreshed.map());
-    }
-
-    /// Settles a refresh of a span of whole buckets whose snapshot was taken at this position: what
-    /// is pending up to it goes, and the last refresh is raised to it.
-    pub fn settle(&mut self, span: Span, snap: u64)
-        requires room { HasRoom self.old }
-        requires whole { IsWholeSpan self.old.width span }
-        ensures pending { ChangesWithin span (above snap) (pending_at self.old) (pending_at self.new) }
-        ensures refreshed { ChangesWithin span (λ v. later v (Some snap)) (last_at self.old) (last_at self.new) }
-        ensures width { self.new.width ≡ self.old.width }
-    {
-        self.pending.clear_upto(span, snap);
-        self.refreshed.raise(span, snap);
     }
 
     /// The position of the last refresh of the bucket that starts at `b`, if there is one.
     pub fn last(&self, b: i64) -> Option<u64>
         ensures last { result ≡ last_at self.now b }
     {
-        self.refreshed.map().at(b)
+        self.refreshed.at(b)
     }
 
     /// The last refreshes, as ranges of buckets with the same position that are as long as can be.
@@ -181,7 +168,7 @@ impl MatLog {
     {
         // Reading the width tells that each bucket has one value.
         let _width = self.width;
-        let pieces = self.refreshed.map().ranges(all_buckets(self.width))?;
+        let pieces = self.refreshed.ranges(all_buckets(self.width))?;
         merge_pieces(self.alloc, pieces.items())
     }
 
@@ -193,7 +180,7 @@ impl MatLog {
     {
         // Reading the end tells that it is a number of 64 bits.
         let _end = span.hi;
-        join_pieces(self.pending.map().ranges(span)?)
+        join_pieces(self.pending.ranges(span)?)
     }
 
     /// The dirty buckets below the mark, the end of a bucket that holds a time, that start in a
@@ -205,18 +192,24 @@ impl MatLog {
         self.dirty(buckets_below(self.width, starts, mark))
     }
 
-    /// The log after every entry was fed to it, in order. It costs the entries and the pieces of
-    /// the log, where the positions of the entries rise.
+    /// The log after every entry was fed to it, in order. It costs the entries and the pieces where
+    /// they touch, or in place of that, where the entries are many, all pieces of the log.
     pub fn feed_all(&self, entries: &BlockList<Entry>) -> Result<MatLog, NoMemory>
         requires within { AreWithin entries.now.items self.now }
         ensures fed { IfOk result (IsFed entries.now.items self.now) }
     {
         let all = all_entries(entries)?;
-        if do_rise(&all) {
+        if self.is_swept(all.len()) && do_rise(&all) {
             self.fed_at_once(&all)
         } else {
             self.fed_in_turn(&all)
         }
+    }
+
+    /// Whether one sweep over all pieces costs less than so many entries one after another.
+    fn is_swept(&self, entries: usize) -> bool {
+        let edges = self.pending.size().saturating_add(self.refreshed.size());
+        entries > edges / EDGES_AN_ENTRY
     }
 
     /// The same of entries whose positions rise, in one sweep over the pieces.
@@ -226,13 +219,13 @@ impl MatLog {
         ensures fed { IfOk result (IsFed entries.now self.now) }
     {
         let newest = latest(self.alloc, self.width, entries)?;
-        let fresh = self.refreshed.map().combined(&newest, Rule::Above)?;
-        let pending = self.pending.map().combined(&fresh, Rule::Over)?;
+        let fresh = self.refreshed.own()?.combined(&newest, Rule::Above)?;
+        let pending = self.pending.own()?.combined(&fresh, Rule::Over)?;
         Ok(MatLog {
             alloc: self.alloc,
             width: self.width,
-            pending: HeldMap::own(pending).shared()?,
-            refreshed: self.refreshed.copy()?.shared()?,
+            pending: SharedMap::of(&pending)?,
+            refreshed: self.refreshed.copy()?,
         })
     }
 
@@ -243,10 +236,9 @@ impl MatLog {
     {
         let mut fed = self.copy()?;
         for entry in entries {
-            fed.reserve()?;
-            fed.feed(entry);
+            fed = fed.fed(entry)?;
         }
-        fed.shared()
+        Ok(fed)
     }
 
     /// What is pending in a span of whole buckets, as if the entries had been fed: a map with just
@@ -258,15 +250,8 @@ impl MatLog {
     {
         let near = entries_near(entries, span)?;
         let newest = latest(self.alloc, self.width, &near)?.within(span)?;
-        let fresh = self
-            .refreshed
-            .map()
-            .within(span)?
-            .combined(&newest, Rule::Above)?;
-        self.pending
-            .map()
-            .within(span)?
-            .combined(&fresh, Rule::Over)
+        let fresh = self.refreshed.within(span)?.combined(&newest, Rule::Above)?;
+        self.pending.within(span)?.combined(&fresh, Rule::Over)
     }
 
     /// `dirty`, as if the entries had been fed to the log. It costs the entries, the pieces in the
@@ -312,7 +297,7 @@ impl MatLog {
         // Reading the width tells that the two maps are in step.
         let _width = self.width;
         let pending = self.pending_near(entries, span)?;
-        let refreshed = self.refreshed.map().within(span)?;
+        let refreshed = self.refreshed.within(span)?;
         let changed = refreshed.combined(&pending, Rule::Where)?;
         join_pieces(changed.ranges(span)?)
     }
@@ -329,7 +314,7 @@ impl MatLog {
         // Reading the width tells that the two maps are in step.
         let _width = self.width;
         let all = marked(self.alloc, ranges, snap)?;
-        let refreshed = self.refreshed.map().within(span)?;
+        let refreshed = self.refreshed.within(span)?;
         let renewed = refreshed.combined(&all, Rule::NotBelow)?;
         join_pieces(renewed.ranges(span)?)
     }
@@ -352,7 +337,7 @@ impl MatLog {
         let _end = span.hi;
         let _width = self.width;
         let pending = self.pending_near(entries, span)?;
-        let mut refreshed = self.refreshed.map().within(span)?;
+        let mut refreshed = self.refreshed.within(span)?;
         refreshed.reserve(2)?;
         refreshed.clear_upto(span, snap);
         let redone = pending.combined(&refreshed, Rule::Over)?;

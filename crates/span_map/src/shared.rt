@@ -1,8 +1,9 @@
 //! A map whose copies share it, and of which a change copies what it touches.
 
-ghost use Rattle.std.specs.Prelude.{◌≡◌, ◌-◌, ◌≤◌, ◌<ℤ◌, ℤ, IfOk, None, length, take, drop};
+ghost use Rattle.std.specs.Prelude.{◌≡◌, ◌-◌, ◌≤◌, ◌<ℤ◌, ℤ, IfOk, None, Some, length, take, drop};
+ghost use Rattle.ts_bucket.specs.Positions.{above, later};
 ghost use Rattle.span_map.specs.Edges.{IsRising, value_from};
-ghost use Rattle.span_map.specs.Functions.{IsPart};
+ghost use Rattle.span_map.specs.Functions.{AssignsAbove, ChangesWithin, IsPart};
 ghost use Rattle.span_map.specs.Maps.{at};
 ghost use Rattle.span_map.specs.Patches.{IsPatched};
 ghost use Rattle.span_map.specs.Pieces.{piece_at, ArePieces};
@@ -77,9 +78,7 @@ impl SharedMap {
         ensures values { IfOk result (λ own. (t : ℤ) → at own t ≡ at self.now t) }
     {
         let alloc = self.edges.allocator();
-        Ok(SpanMap::of_edges(
-            self.edges.iter().copied().collect(alloc)?,
-        ))
+        Ok(SpanMap::of_edges(self.edges.iter().copied().collect(alloc)?))
     }
 
     /// The map that has the values of this one within the span, and none elsewhere. It costs the
@@ -102,9 +101,47 @@ impl SharedMap {
         self.within(span)?.ranges(span)
     }
 
-    /// The map with the values of another one within the span. It costs the pieces that the other
-    /// one has there, and the blocks in which the span ends; the other blocks are shared.
-    pub fn patched(&self, span: Span, part: &SpanMap) -> Result<SharedMap, NoMemory>
+    /// The map without the values of the span that are at most `pos`. As with the two below, it costs
+    /// the pieces within the span and the blocks in which the span ends; the other blocks are shared.
+    pub fn cleared_upto(&self, span: Span, pos: u64) -> Result<SharedMap, NoMemory>
+        ensures values { IfOk result (λ new. ChangesWithin span (above pos) (at self.now) (at new)) }
+    {
+        let mut part = self.within(span)?;
+        part.reserve(2)?;
+        part.clear_upto(span, pos);
+        self.patched(span, &part)
+    }
+
+    /// The map in which each number of the span has the later of its position and `pos`.
+    pub fn raised(&self, span: Span, pos: u64) -> Result<SharedMap, NoMemory>
+        ensures values { IfOk result (λ new. ChangesWithin span (λ v. later v (Some pos)) (at self.now) (at new)) }
+    {
+        let mut part = self.within(span)?;
+        let room = part.len() + 3;
+        part.reserve(room)?;
+        part.raise(span, pos);
+        self.patched(span, &part)
+    }
+
+    /// The map in which each number of the span at which `floor` has nothing, or less than `pos`, has
+    /// this position.
+    pub fn assigned_above(
+        &self,
+        span: Span,
+        pos: u64,
+        floor: &SharedMap,
+    ) -> Result<SharedMap, NoMemory>
+        ensures values { IfOk result (λ new. AssignsAbove span pos (at floor.now) (at self.now) (at new)) }
+    {
+        let floor = floor.within(span)?;
+        let mut part = self.within(span)?;
+        part.reserve(floor.len().saturating_add(1).saturating_mul(3))?;
+        part.assign_above(span, pos, &floor);
+        self.patched(span, &part)
+    }
+
+    /// The map with the values of another one within the span.
+    fn patched(&self, span: Span, part: &SpanMap) -> Result<SharedMap, NoMemory>
         ensures values { IfOk result (λ new. IsPatched span (at part.now) (at self.now) (at new)) }
     {
         if span.lo >= span.hi {
@@ -141,11 +178,7 @@ fn part_within(alloc: Global, edges: &BlockList<Edge>, span: Span) -> Result<Spa
 }
 
 /// The map of edges with the values of others within a span that isn't empty.
-fn patched_edges(
-    edges: &BlockList<Edge>,
-    span: Span,
-    part: &[Edge],
-) -> Result<SharedMap, NoMemory>
+fn patched_edges(edges: &BlockList<Edge>, span: Span, part: &[Edge]) -> Result<SharedMap, NoMemory>
     requires rising { IsRising edges.now.items }
     requires part { IsRising part.now }
     requires some { span.lo <ℤ span.hi }

@@ -11,7 +11,7 @@ returns c =
     let log = c.args.self.now in
     let Step : LogValue → Type 0 = λ l. IsInStep l.width (pending_at l) (last_at l) in
     let Lasts : LogValue → Type 0 = λ l. (t : ℤ) → at c.in_ok-refreshed.refreshed t ≡ cond (in_span c.args.span t) (last_at l t) None in
-    let lasts : Lasts log = subst Lasts c.self.view_is (λ t. c.in_ok-refreshed.ensures.values t ∙ ap (λ v. cond (in_span c.args.span t) v None) (c.map.ensures.values t)) in
+    let lasts : Lasts log = subst Lasts c.self.view_is (λ t. c.in_ok-refreshed.ensures.values t) in
     record {
       ranges = changed_with_as log c.args.entries.now.items c.args.span (at c.in_ok-changed.changed) (at c.in_ok-pending.pending) (at c.in_ok-refreshed.refreshed) c.in_ok-ranges.field-0 c.join_pieces.result (subst Step c.self.view_is c.self.invariant) c.requires.whole c.in_ok-pending.ensures.values lasts c.in_ok-changed.ensures.values c.in_ok-ranges.ensures.values c.in_ok-ranges.ensures.rising c.join_pieces.ensures;
     }

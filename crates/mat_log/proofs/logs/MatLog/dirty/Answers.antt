@@ -16,5 +16,5 @@ returns c =
     let whole : IsWholeSpan c.self.inside.width c.args.span = subst (λ (log : LogValue). IsWholeSpan log.width c.args.span) (sym c.self.view_is) c.requires in
     record {
       ranges = subst (λ (log : LogValue). IfOk c.join_pieces.result (AreRanges log.width c.args.span (is_dirty log))) c.self.view_is
-          (dirty_as c.self.inside.width (at c.self.inside.pending) (at c.self.inside.refreshed) c.args.span c.in_ok-ranges.field-0 c.join_pieces.result c.self.invariant whole end (λ t. c.in_ok-ranges.ensures.values t ∙ ap (λ v. cond (in_span c.args.span t) v None) (c.map.ensures.values t)) c.in_ok-ranges.ensures.rising c.join_pieces.ensures);
+          (dirty_as c.self.inside.width (at c.self.inside.pending) (at c.self.inside.refreshed) c.args.span c.in_ok-ranges.field-0 c.join_pieces.result c.self.invariant whole end c.in_ok-ranges.ensures.values c.in_ok-ranges.ensures.rising c.join_pieces.ensures);
     }

@@ -29,9 +29,9 @@ returns c =
       values = subst Near c.self.view_is (IfOk-weaker c.combined-4.result _ _ (λ (made : MapValue) e t.
           near_chain (in_span c.args.span t) (at made t) _ (at c.self.inside.pending t) _ _ (at c.self.inside.refreshed t) _ (touch_at w c.deref.result.now t) (touch_at w near t)
           (e t)
-          (c.in_ok-within-2.ensures.values t ∙ ap (λ v. cond (in_span c.args.span t) v None) (c.map-2.ensures.values t))
+          (c.in_ok-within-2.ensures.values t)
           (c.in_ok-fresh.ensures.values t)
-          (c.in_ok-within.ensures.values t ∙ ap (λ v. cond (in_span c.args.span t) v None) (c.map.ensures.values t))
+          (c.in_ok-within.ensures.values t)
           (c.in_ok-newest.ensures.values t ∙ ap (λ v. cond (in_span c.args.span t) v None) (c.in_ok-latest.ensures t))
           (ap (λ es. touch_at w es t) (c.deref.ensures.value ∙ c.in_ok-near.ensures)))
           c.combined-4.ensures.values);

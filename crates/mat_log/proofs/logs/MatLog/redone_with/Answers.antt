@@ -17,7 +17,7 @@ returns c =
     let in_it : ℤ → Option ℕ → Option ℕ = λ t v. cond (in_span c.args.span t) v None in
     let Step : LogValue → Type 0 = λ l. IsInStep l.width (pending_at l) (last_at l) in
     let Lasts : LogValue → Type 0 = λ l. (t : ℤ) → at c.reserve.new.self t ≡ cond (in_span c.args.span t) (last_at l t) None in
-    let lasts : Lasts log = subst Lasts c.self.view_is (λ t. c.reserve.ensures.values t ∙ c.in_ok-refreshed.ensures.values t ∙ ap (in_it t) (c.map.ensures.values t)) in
+    let lasts : Lasts log = subst Lasts c.self.view_is (λ t. c.reserve.ensures.values t ∙ c.in_ok-refreshed.ensures.values t) in
     let left : (t : ℤ) → at c.clear_upto.new.self t ≡ cond (in_span c.args.span t) (above c.args.snap (last_at log t)) None =
     λ t. c.clear_upto.ensures.values t ∙ (ap (λ v. cond (in_span c.args.span t) (above c.args.snap v) v) (lasts t) ∙ cut_above (in_span c.args.span t) c.args.snap (last_at log t)) in
     record {
