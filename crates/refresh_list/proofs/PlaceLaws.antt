@@ -85,13 +85,13 @@ other_there k p low d rs rise below from l other = past_below k p rs below ∙ b
 pub pending_none : (k : ℕ) (rs : List Refresh) → refresh_in rs k ≡ None → pending_in rs k ≡ Unknown
 pending_none k [] e = refl
 pending_none k (r ∷ rs) e =
-    elim (k == r.cut) as (λ t. cond t (Some r) (refresh_in rs k) ≡ None → cond t (state_by r.view r.finish) (pending_in rs k) ≡ Unknown) [ true ↦ λ f. absurd (cc) | false ↦ λ f. pending_none k rs f ] e
+    elim (k == r.cut) as (λ t. cond t (Some r) (refresh_in rs k) ≡ None → cond t (state_by r.stage) (pending_in rs k) ≡ Unknown) [ true ↦ λ f. absurd (cc) | false ↦ λ f. pending_none k rs f ] e
 
-pub pending_some : (k : ℕ) (rs : List Refresh) (r : Refresh) → refresh_in rs k ≡ Some r → pending_in rs k ≡ state_by r.view r.finish
+pub pending_some : (k : ℕ) (rs : List Refresh) (r : Refresh) → refresh_in rs k ≡ Some r → pending_in rs k ≡ state_by r.stage
 pending_some k [] r e = absurd (cc)
 pending_some k (x ∷ xs) r e =
-    elim (k == x.cut) as (λ t. cond t (Some x) (refresh_in xs k) ≡ Some r → cond t (state_by x.view x.finish) (pending_in xs k) ≡ state_by r.view r.finish) [
-      | true ↦ λ f. let is : x ≡ r = cc in ap (λ y. state_by y.view y.finish) is
+    elim (k == x.cut) as (λ t. cond t (Some x) (refresh_in xs k) ≡ Some r → cond t (state_by x.stage) (pending_in xs k) ≡ state_by r.stage) [
+      | true ↦ λ f. let is : x ≡ r = cc in ap (λ y. state_by y.stage) is
       | false ↦ λ f. pending_some k xs r f
     ] e
 

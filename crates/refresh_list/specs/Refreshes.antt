@@ -1,38 +1,51 @@
 -- Refreshes in order of their cuts, beside a history.
-use Rattle.std.specs.Prelude.{◌≡◌, ℕ, suc, ◌<◌, ◌≤◌, cond, ◌==◌, List, [], ◌∷◌, length, slice_index_or, Option, Some, None, unwrap_or}
+use Rattle.std.specs.Prelude.{◌≡◌, ℕ, suc, ◌<◌, ◌≤◌, cond, ◌==◌, List, [], ◌∷◌, length, slice_index_or, Option, Some, None}
 use Rattle.std.specs.List.{AllByRecursion}
 use Rattle.ts_bucket.specs.declared.spans.Span.{Span}
 use Rattle.ts_model.specs.declared.refreshes.Pending.{Pending}
 use Rattle.ts_model.specs.declared.refreshes.Pending.TheVariants.{Waiting, Finished, Unknown}
 use Rattle.ts_model.specs.declared.refreshes.Waiting.{Waiting as WaitingRefresh}
+use Rattle.ts_model.specs.declared.images.Finished.{Finished as FinishedRefresh}
 use Rattle.ts_model.specs.History.{History, position}
 use Rattle.ts_model.specs.Pending.{pending, waiting}
 use Rattle.ts_model.specs.Refreshes.{span_of_cut}
 use Rattle.refresh_list.specs.declared.refreshes.Refresh.{Refresh}
+use Rattle.refresh_list.specs.declared.refreshes.Stage.{Stage}
+use Rattle.refresh_list.specs.declared.refreshes.Stage.TheVariants.{Waits, Done}
 
 -- a refresh that was cut and isn't finished
 abbrev pub newly_cut : ℕ → ℕ → Span → Refresh
-newly_cut cut view span = record { cut = cut; view = view; span = span; finish = None }
+newly_cut cut view span = record { cut = cut; stage = Waits view span }
 
--- what became of a refresh, by the number of its finish, if it has one
-abbrev pub state_by : ℕ → Option ℕ → Pending
-state_by view None = Waiting view
-state_by view (Some k) = Finished k
+-- what became of a refresh, by its stage
+abbrev pub state_by : Stage → Pending
+state_by (Waits view span) = Waiting view
+state_by (Done k) = Finished k
 
 -- what became of the refresh with a number
 abbrev pub pending_in : List Refresh → ℕ → Pending
 pending_in [] k = Unknown
-pending_in (r ∷ rs) k = cond (k == r.cut) (state_by r.view r.finish) (pending_in rs k)
+pending_in (r ∷ rs) k = cond (k == r.cut) (state_by r.stage) (pending_in rs k)
 
--- a refresh, where it has no finish, before others that wait
-abbrev pub with_waiting : Refresh → Option ℕ → List WaitingRefresh → List WaitingRefresh
-with_waiting r None rs = record { cut = r.cut; view = r.view; span = r.span } ∷ rs
-with_waiting r (Some k) rs = rs
+-- a refresh, where it isn't finished, before others that wait
+abbrev pub with_waiting : ℕ → Stage → List WaitingRefresh → List WaitingRefresh
+with_waiting cut (Waits view span) rs = record { cut = cut; view = view; span = span } ∷ rs
+with_waiting cut (Done k) rs = rs
 
 -- those that aren't finished
 abbrev pub waiting_in : List Refresh → List WaitingRefresh
 waiting_in [] = []
-waiting_in (r ∷ rs) = with_waiting r r.finish (waiting_in rs)
+waiting_in (r ∷ rs) = with_waiting r.cut r.stage (waiting_in rs)
+
+-- a refresh, where it is finished, before others that are
+abbrev pub with_done : ℕ → Stage → List FinishedRefresh → List FinishedRefresh
+with_done cut (Waits view span) fs = fs
+with_done cut (Done k) fs = record { cut = cut; built = k } ∷ fs
+
+-- those that are finished
+abbrev pub done_in : List Refresh → List FinishedRefresh
+done_in [] = []
+done_in (r ∷ rs) = with_done r.cut r.stage (done_in rs)
 
 -- the refresh that is there with a number, if one is
 abbrev pub refresh_in : List Refresh → ℕ → Option Refresh
@@ -52,20 +65,29 @@ CutsBelow n rs = AllByRecursion (λ r. r.cut < n) rs
 abbrev pub CutsFrom : ℕ → List Refresh → Type 0
 CutsFrom n rs = AllByRecursion (λ r. n ≤ r.cut) rs
 
--- a refresh that event number k finished, unless it was finished before
+-- a stage after event number k finished the refresh, unless it was finished before
+abbrev pub stage_after : ℕ → Stage → Stage
+stage_after k (Waits view span) = Done k
+stage_after k (Done f) = Done f
+
 abbrev pub finished_one : ℕ → Refresh → Refresh
-finished_one k r = record r { finish = Some (unwrap_or r.finish k) }
+finished_one k r = record { cut = r.cut; stage = stage_after k r.stage }
 
 -- the same, where it has this number
 abbrev pub finished_at : ℕ → ℕ → Refresh → Refresh
 finished_at cut k r = cond (cut == r.cut) (finished_one k r) r
 
--- the refreshes are those of a history: what became of each, which wait, the span of each, and none is from after the
--- history
+-- a refresh that isn't finished has the span of its cut
+abbrev pub IsCut : History → ℕ → Stage → Type 0
+IsCut h cut (Waits view span) = span_of_cut view h cut ≡ Some span
+IsCut h cut (Done k) = Unit {0}
+
+-- the refreshes are those of a history: what became of each, which wait, the span of each of these, and none is from
+-- after the history
 pub record RefreshesStand (h : History) (refreshes : List Refresh) : Type 0 where
   pub pending : (k : ℕ) → pending_in refreshes k ≡ pending h k
   pub waiting : waiting_in refreshes ≡ waiting h
-  pub spans : AllByRecursion (λ r. span_of_cut r.view h r.cut ≡ Some r.span) refreshes
+  pub spans : AllByRecursion (λ r. IsCut h r.cut r.stage) refreshes
   pub past : CutsBelow (suc (position h)) refreshes
 
 -- the refresh with number k stands at place p

@@ -6,4 +6,4 @@ mod lists;
 mod refreshes;
 
 pub use lists::Refreshes;
-pub use refreshes::Refresh;
+pub use refreshes::{Refresh, Stage};

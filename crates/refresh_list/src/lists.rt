@@ -2,7 +2,7 @@
 ghost use Rattle.std.specs.Prelude.{◌≡◌, ◌<◌, ◌≤◌, ◌++◌, ◌∷◌, [], drop, length, map, take, IfOk, None, Some};
 ghost use Rattle.refresh_list.specs.Refreshes.{CutsBelow, CutsFrom, CutsRise, IsPlace, StandsAt, finished_at, finished_one, newly_cut, pending_in, refresh_in, state_by, waiting_in};
 
-use crate::refreshes::Refresh;
+use crate::refreshes::{Refresh, Stage};
 use block_list::BlockList;
 use std::alloc::Global;
 use std::marker::Model;
@@ -68,11 +68,11 @@ fn place_of(list: &BlockList<Refresh>, cut: u64) -> Option<usize>
 
 /// What became of a refresh.
 fn state_of(refresh: Refresh) -> Pending
-    ensures { result ≡ state_by refresh.view refresh.finish }
+    ensures { result ≡ state_by refresh.stage }
 {
-    match refresh.finish {
-        None => Pending::Waiting(refresh.view),
-        Some(by) => Pending::Finished(by),
+    match refresh.stage {
+        Stage::Waits { view, .. } => Pending::Waiting(view),
+        Stage::Done(by) => Pending::Finished(by),
     }
 }
 
@@ -80,11 +80,13 @@ fn state_of(refresh: Refresh) -> Pending
 fn marked(refresh: Refresh, by: u64) -> Refresh
     ensures { result ≡ finished_one by refresh }
 {
+    let by = match refresh.stage {
+        Stage::Waits { .. } => by,
+        Stage::Done(before) => before,
+    };
     Refresh {
         cut: refresh.cut,
-        view: refresh.view,
-        span: refresh.span,
-        finish: Some(refresh.finish.unwrap_or(by)),
+        stage: Stage::Done(by),
     }
 }
 
@@ -152,9 +154,7 @@ impl Refreshes {
         let mut list = self.list.copy()?;
         list.push(Refresh {
             cut,
-            view,
-            span,
-            finish: None,
+            stage: Stage::Waits { view, span },
         })?;
         Ok(Refreshes {
             list: list.shared()?,
@@ -190,12 +190,12 @@ impl Refreshes {
 fn push_waiting(found: &mut Seq<Waiting>, refresh: &Refresh) -> Result<(), NoMemory>
     ensures { IfOk result (λ _. found.new ≡ found.old ++ waiting_in (refresh.now ∷ [])) }
 {
-    match refresh.finish {
-        None => found.push(Waiting {
+    match refresh.stage {
+        Stage::Waits { view, span } => found.push(Waiting {
             cut: refresh.cut,
-            view: refresh.view,
-            span: refresh.span,
+            view,
+            span,
         }),
-        Some(_) => Ok(()),
+        Stage::Done(_) => Ok(()),
     }
 }

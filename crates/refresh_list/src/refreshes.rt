@@ -7,10 +7,15 @@ use ts_bucket::Span;
 pub struct Refresh {
     /// Its number, which is that of its cut.
     pub cut: u64,
-    /// The number of its aggregate.
-    pub view: u32,
-    /// Its span of whole buckets.
-    pub span: Span,
-    /// The number of the event that finished it, where there is one.
-    pub finish: Option<u64>,
+    /// What became of it.
+    pub stage: Stage,
+}
+
+/// What became of a refresh.
+#[derive(Clone, Copy, Debug, PartialEq, Eq)]
+pub enum Stage {
+    /// It waits: the number of its aggregate, and its span of whole buckets.
+    Waits { view: u32, span: Span },
+    /// The event with this number finished it.
+    Done(u64),
 }
