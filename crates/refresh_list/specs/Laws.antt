@@ -3,9 +3,12 @@ use Rattle.std.specs.Prelude.{◌≡◌, ℕ, suc, Bool, true, false, List, [], 
 use Rattle.ts_bucket.specs.declared.spans.Span.{Span}
 use Rattle.ts_model.specs.declared.events.Event.{Event}
 use Rattle.ts_model.specs.declared.events.Event.TheVariants.{Cut, Built}
-use Rattle.ts_model.specs.History.{History, start, ◌▸◌, position}
+use Rattle.ts_model.specs.declared.images.Image.{Image}
+use Rattle.ts_model.specs.History.{History, start, resumed, ◌▸◌, position}
+use Rattle.ts_model.specs.Valid.{valid}
+use Rattle.image_laws.specs.Images.{finished_upto}
 use Rattle.refresh_list.specs.declared.refreshes.Refresh.{Refresh}
-use Rattle.refresh_list.specs.Refreshes.{RefreshesStand, newly_cut, finished_at}
+use Rattle.refresh_list.specs.Refreshes.{CutsRise, RefreshesStand, done_in, newly_cut, finished_at, together}
 
 -- a cut or a finish of a refresh
 abbrev pub is_of_refresh : Event → Bool
@@ -34,3 +37,13 @@ abbrev pub OthersStand : Type 0
 OthersStand =
     (h : History) (e : Event) (rs : List Refresh) → is_of_refresh e ≡ false → RefreshesStand h rs
     → RefreshesStand (h ▸ e) rs
+
+-- the refreshes of a valid image are in order of their cuts, and are those of the history that begins with it
+pub record ImagesStand : Type 0 where
+  pub rise : (i : Image) → valid i ≡ true → CutsRise 0 (together i.waiting i.done)
+  pub stand : (i : Image) → valid i ≡ true → RefreshesStand (resumed i) (together i.waiting i.done)
+
+-- refreshes of a history that are finished are its finished refreshes, in order of their cuts
+abbrev pub DoneAre : Type 0
+DoneAre =
+    (h : History) (rs : List Refresh) → CutsRise 0 rs → RefreshesStand h rs → done_in rs ≡ finished_upto h (position h)

@@ -1,5 +1,5 @@
 -- Refreshes in order of their cuts, beside a history.
-use Rattle.std.specs.Prelude.{◌≡◌, ℕ, suc, ◌<◌, ◌≤◌, cond, ◌==◌, List, [], ◌∷◌, length, slice_index_or, Option, Some, None}
+use Rattle.std.specs.Prelude.{◌≡◌, ℕ, suc, ◌<◌, ◌≤◌, cond, nat_lt, ◌==◌, List, [], ◌∷◌, ◌++◌, length, map, take, drop, slice_index_or, Option, Some, None}
 use Rattle.std.specs.List.{AllByRecursion}
 use Rattle.ts_bucket.specs.declared.spans.Span.{Span}
 use Rattle.ts_model.specs.declared.refreshes.Pending.{Pending}
@@ -46,6 +46,24 @@ with_done cut (Done k) fs = record { cut = cut; built = k } ∷ fs
 abbrev pub done_in : List Refresh → List FinishedRefresh
 done_in [] = []
 done_in (r ∷ rs) = with_done r.cut r.stage (done_in rs)
+
+-- a refresh that waits, and one that was finished
+abbrev pub of_waiting : WaitingRefresh → Refresh
+of_waiting w = newly_cut w.cut w.view w.span
+
+abbrev pub of_done : FinishedRefresh → Refresh
+of_done f = record { cut = f.cut; stage = Done f.built }
+
+-- how many of these stand before the first whose cut isn't before n
+abbrev pub count_below : ℕ → List FinishedRefresh → ℕ
+count_below n [] = 0
+count_below n (f ∷ fs) = cond (nat_lt f.cut n) (suc (count_below n fs)) 0
+
+-- refreshes that wait, and finished ones: before each that waits stand the finished ones with cuts before it
+abbrev pub together : List WaitingRefresh → List FinishedRefresh → List Refresh
+together [] fs = map of_done fs
+together (w ∷ ws) fs =
+    map of_done (take (count_below w.cut fs) fs) ++ (of_waiting w ∷ together ws (drop (count_below w.cut fs) fs))
 
 -- the refresh that is there with a number, if one is
 abbrev pub refresh_in : List Refresh → ℕ → Option Refresh

@@ -1,5 +1,5 @@
 //! Laws that join refreshes to histories. Each is the clause of a function that does nothing.
-ghost use Rattle.refresh_list.specs.Laws.{CutsStand, FinishesStand, OthersStand, RefreshesBegin};
+ghost use Rattle.refresh_list.specs.Laws.{CutsStand, DoneAre, FinishesStand, ImagesStand, OthersStand, RefreshesBegin};
 
 /// Before any event there is no refresh.
 pub fn refreshes_begin()
@@ -19,4 +19,14 @@ pub fn finishes_stand()
 /// Every other event leaves them as they are.
 pub fn others_stand()
     ensures { OthersStand }
+{}
+
+/// The refreshes of a valid image are those of the history that begins with it.
+pub fn images_stand()
+    ensures { ImagesStand }
+{}
+
+/// The finished ones of the refreshes of a history are its finished refreshes, in order of their cuts.
+pub fn done_are()
+    ensures { DoneAre }
 {}

@@ -1,13 +1,14 @@
 //! Refreshes in order of their cuts.
 ghost use Rattle.std.specs.Prelude.{◌≡◌, ◌<◌, ◌≤◌, ◌++◌, ◌∷◌, [], drop, length, map, take, IfOk, None, Some};
-ghost use Rattle.refresh_list.specs.Refreshes.{CutsBelow, CutsFrom, CutsRise, IsPlace, StandsAt, finished_at, finished_one, newly_cut, pending_in, refresh_in, state_by, waiting_in};
+ghost use Rattle.refresh_list.specs.Refreshes.{CutsBelow, CutsFrom, CutsRise, IsPlace, StandsAt};
+ghost use Rattle.refresh_list.specs.Refreshes.{count_below, done_in, finished_at, finished_one, newly_cut, of_done, of_waiting, pending_in, refresh_in, state_by, together, waiting_in};
 
 use crate::refreshes::{Refresh, Stage};
 use block_list::BlockList;
 use std::alloc::Global;
 use std::marker::Model;
 use ts_bucket::Span;
-use ts_model::{Pending, Waiting};
+use ts_model::{Finished, Pending, Waiting};
 use ts_schema::{NoMemory, Seq};
 
 /// The refreshes that were cut, in order of their cuts. Contracts see the list of them.
@@ -116,6 +117,18 @@ impl Refreshes {
         }
     }
 
+    /// Refreshes that wait, and others that were finished, each in order of their cuts.
+    pub fn of(alloc: Global, waiting: &[Waiting], done: &[Finished]) -> Result<Refreshes, NoMemory>
+        requires rise { CutsRise 0 (together waiting.now done.now) }
+        ensures together { IfOk result (λ new. new ≡ together waiting.now done.now) }
+    {
+        let mut list = BlockList::new(alloc);
+        push_together(&mut list, waiting, done)?;
+        Ok(Refreshes {
+            list: list.shared()?,
+        })
+    }
+
     /// The same refreshes again. It is a count.
     pub fn copy(&self) -> Result<Refreshes, NoMemory>
         ensures same { IfOk result (λ copy. copy ≡ self.now) }
@@ -183,6 +196,94 @@ impl Refreshes {
             push_waiting(&mut found, refresh)?;
         }
         Ok(found)
+    }
+
+    /// The refreshes that are finished, in order of their cuts.
+    pub fn done(&self) -> Result<Seq<Finished>, NoMemory>
+        ensures done { IfOk result (λ found. found ≡ done_in self.now) }
+        ensures rise { CutsRise 0 self.now }
+    {
+        let mut found = Seq::new(self.list.allocator());
+        for refresh in self.list.iter() {
+            push_finished(&mut found, refresh)?;
+        }
+        Ok(found)
+    }
+}
+
+/// How many of these stand before the first whose cut isn't before a number.
+fn count_below(cut: u64, done: &[Finished]) -> usize
+    ensures count { result ≡ count_below cut done.now }
+    ensures within { result ≤ length done.now }
+{
+    let mut count = 0;
+    let mut left = done;
+    while let [first, rest @ ..] = left {
+        if first.cut >= cut {
+            return count;
+        }
+        count += 1;
+        left = rest;
+    }
+    count
+}
+
+/// Appends a refresh that waits.
+fn push_next(list: &mut BlockList<Refresh>, next: &Waiting) -> Result<(), NoMemory>
+    ensures { IfOk result (λ _. list.new.items ≡ list.old.items ++ of_waiting next.now ∷ []) }
+{
+    list.push(Refresh {
+        cut: next.cut,
+        stage: Stage::Waits {
+            view: next.view,
+            span: next.span,
+        },
+    })
+}
+
+/// Appends refreshes that were finished.
+fn push_done(list: &mut BlockList<Refresh>, done: &[Finished]) -> Result<(), NoMemory>
+    ensures { IfOk result (λ _. list.new.items ≡ list.old.items ++ map of_done done.now) }
+{
+    for finished in done {
+        list.push(Refresh {
+            cut: finished.cut,
+            stage: Stage::Done(finished.built),
+        })?;
+    }
+    Ok(())
+}
+
+/// Appends refreshes that wait, and before each the finished ones with cuts before it.
+fn push_together(
+    list: &mut BlockList<Refresh>,
+    waiting: &[Waiting],
+    done: &[Finished],
+) -> Result<(), NoMemory>
+    ensures { IfOk result (λ _. list.new.items ≡ list.old.items ++ together waiting.now done.now) }
+{
+    let mut left = waiting;
+    let mut finished = done;
+    while let [next, rest @ ..] = left {
+        let (before, after) = finished.split_at(count_below(next.cut, finished));
+        push_done(list, before)?;
+        push_next(list, next)?;
+        left = rest;
+        finished = after;
+    }
+    push_done(list, finished)
+}
+
+/// Appends a refresh where it is finished.
+fn push_finished(found: &mut Seq<Finished>, refresh: &Refresh) -> Result<(), NoMemory>
+    ensures { IfOk result (λ _. found.new ≡ found.old ++ done_in (refresh.now ∷ [])) }
+{
+    match refresh.stage {
+        Stage::Waits { .. } => Ok(()),
+        Stage::Done(built) => found.push(Finished {
+            cut: refresh.cut,
+            built,
+        }),
     }
 }
 
