@@ -4,15 +4,21 @@ use Rattle.std.specs.Prelude.{IfSome, get_or, is_some, nat_lt, option_map}
 use Rattle.std.proofs.lemmas.Bool.{eqb-true, ltb-false, ltb-true}
 use Rattle.std.proofs.lemmas.Option.{slice_get_past, slice_get_read}
 use Rattle.ts_model.specs.declared.events.Event.{Event}
+use Rattle.ts_model.specs.declared.images.Image.{Image}
 use Rattle.ts_model.specs.History.{History, start, resumed, ◌▸◌, ◌▸▸◌, position, base_position, event_at}
 use Rattle.ts_model.proofs.HistoryLaws.{position_followed, base_begins, begins_followed}
-use Rattle.engine_core.specs.Histories.{history_of}
+use Rattle.engine_core.specs.Histories.{begun_by, history_of}
+use Rattle.engine_core.specs.Values.{Past}
 
-pub position_of : (events : List Event) → position (history_of events) ≡ length events
-position_of events = omega (arith, position_followed start events)
+pub position_of : (past : Past) → position (history_of past) ≡ position (begun_by past.base) + length past.events
+position_of past = omega (arith, position_followed (begun_by past.base) past.events)
 
-pub base_of : (events : List Event) → 0 ≡ base_position (history_of events)
-base_of events = sym (base_begins (begins_followed start events))
+begun_there : (base : Option Image) → base_position (begun_by base) ≡ position (begun_by base)
+begun_there None = refl
+begun_there (Some image) = refl
+
+pub base_of : (past : Past) → position (begun_by past.base) ≡ base_position (history_of past)
+base_of past = sym (begun_there past.base) ∙ sym (base_begins (begins_followed (begun_by past.base) past.events))
 
 -- no event has a number above the position
 event_above : (h : History) (k : ℕ) → position h < k → event_at h k ≡ None
@@ -51,22 +57,17 @@ event_after h (e ∷ es) (suc i) =
     let moved : suc (position h) + suc i ≡ suc (suc (position h)) + i = omega arith in
     ap (λ k. event_at ((h ▸ e) ▸▸ es) k) moved ∙ event_after (h ▸ e) es i
 
--- events are numbered from 1
-pub event_numbered : (events : List Event) (k i : ℕ) → k ≡ i + 1 → event_at (history_of events) k ≡ slice_get events i
-event_numbered events k i is = ap (λ n. event_at (history_of events) n) (let e : k ≡ 1 + i = omega arith in e) ∙ event_after start events i
+-- events are numbered from the position at which the history begins
+pub event_numbered : (past : Past) (k i : ℕ) → k ≡ suc (position (begun_by past.base)) + i → event_at (history_of past) k ≡ slice_get past.events i
+event_numbered past k i is = ap (λ n. event_at (history_of past) n) is ∙ event_after (begun_by past.base) past.events i
 
--- no event has the number 0
-event_none : (h : History) → event_at h 0 ≡ None
-event_none start = refl
-event_none (resumed i) = refl
-event_none (h ▸ e) =
-    elim (0 == suc (position h)) as (λ t. (0 == suc (position h)) ≡ t → cond t (Some e) (event_at h 0) ≡ None) [
-      | true ↦ λ same. let is : 0 ≡ suc (position h) = eqb-true 0 (suc (position h)) same in absurd (omega arith)
-      | false ↦ λ _. event_none h
-    ] refl
-
-pub event_unnumbered : (events : List Event) (k : ℕ) → k < 1 → event_at (history_of events) k ≡ None
-event_unnumbered events k l = ap (λ n. event_at (history_of events) n) (let e : k ≡ 0 = omega arith in e) ∙ event_none (history_of events)
+-- no event has that number or one below it
+pub event_unnumbered : (past : Past) (k : ℕ) → k ≤ position (begun_by past.base) → event_at (history_of past) k ≡ None
+event_unnumbered past k l = event_before (begun_by past.base) past.events k l ∙ none past.base
+  where
+    none : (base : Option Image) → event_at (begun_by base) k ≡ None
+    none None = refl
+    none (Some image) = refl
 
 -- what stands at a place of a list, read through a reference
 pub read_at : {A B : Type 0} (now : B → A) (o : Option B) (xs : List A) (i : ℕ) → is_some o ≡ nat_lt i (length xs) → IfSome o (λ x. now x ≡ get_or xs i (now x)) → option_map now o ≡ slice_get xs i

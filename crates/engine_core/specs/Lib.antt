@@ -1,5 +1,5 @@
-pub mod Histories
 pub mod Values
+pub mod Histories
 pub mod States
 pub mod Effects
 pub mod Acts

@@ -1,11 +1,11 @@
 -- The state of a store in memory that is alone.
 use Rattle.std.specs.Prelude.{ℕ, suc, true, List, [], ◌∷◌, ◌++◌, None}
 use Rattle.ts_model.specs.declared.outcomes.Outcome.{Outcome}
-use Rattle.ts_model.specs.declared.events.Event.{Event}
 use Rattle.ts_model.specs.History.{History, start, resumed, ◌▸◌, position}
 use Rattle.ts_model.specs.States.{Origin, State}
 use Rattle.ts_model.specs.Calls.{Act, Called}
 use Rattle.engine_core.specs.Histories.{history_of}
+use Rattle.engine_core.specs.Values.{Past}
 
 -- it begins with no event and no fault
 abbrev pub nothing_before : Origin
@@ -21,6 +21,6 @@ numbers_of (h ▸ e) = numbers_of h ++ (suc (position h) ∷ [])
 abbrev pub state_of : History → State
 state_of h = record { history = h; failed = None; faults = 0; made = numbers_of h; origin = nothing_before }
 
--- a call that does this, on a list of events that nobody else changes and no disk holds
-abbrev pub Does : {A : Type 0} → (History → Act A) → List Event → Outcome A → List Event → Type 0
+-- a call that does this, on an engine that nobody else changes and no disk holds
+abbrev pub Does : {A : Type 0} → (History → Act A) → Past → Outcome A → Past → Type 0
 Does act old outcome new = Called true (state_of (history_of old)) act outcome (state_of (history_of new))

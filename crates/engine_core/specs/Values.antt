@@ -1,11 +1,17 @@
 -- What contracts see of an engine, and of what it prepares.
-use Rattle.std.specs.Prelude.{ℕ, List}
+use Rattle.std.specs.Prelude.{ℕ, List, Option}
 use Rattle.ts_model.specs.declared.events.Event.{Event}
+use Rattle.ts_model.specs.declared.images.Image.{Image}
 use Rattle.engine_state.specs.Stands.{StateValue}
 
--- of an engine: its events, the oldest first, and for how many more there is room
-pub record EngineValue : Type 0 where
+-- what an engine was told: the image that it was made from, where it was, and the events after it, the oldest first
+pub record Past : Type 0 where
+  pub base : Option Image
   pub events : List Event
+
+-- of an engine: what it was told, and for how many more events there is room
+pub record EngineValue : Type 0 where
+  pub past : Past
   pub room : ℕ
 
 -- of what was prepared: an event, the state after it, and how many rows the event appends and takes away

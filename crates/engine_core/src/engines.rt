@@ -1,5 +1,5 @@
 //! The engine.
-ghost use Rattle.std.specs.Prelude.{◌≡◌, ◌≤◌, ◌<◌, ◌∷◌, ◌++◌, [], length, option_copied, IfErr, IfOk, IfSome, IsSome, IsTrue, OnErr, OnOk, Some};
+ghost use Rattle.std.specs.Prelude.{◌≡◌, ◌≤◌, ◌<◌, ◌+◌, suc, option_copied, IfErr, IfOk, IfSome, IsSome, IsTrue, MatchOption, None, OnErr, OnOk, Some};
 ghost use Rattle.std.specs.Option.{ForSome};
 ghost use Rattle.std.specs.Thread.{IsSync};
 ghost use Rattle.ts_bucket.specs.Bucket.{is_time};
@@ -14,7 +14,7 @@ ghost use Rattle.engine_state.specs.Stands.{StandsFor};
 ghost use Rattle.engine_state.specs.Afters.{IsNext};
 ghost use Rattle.refresh_build.specs.Fitting.{IsJobOf, JobIsFor};
 ghost use Rattle.engine_core.specs.Effects.{IsPreparedFor};
-ghost use Rattle.engine_core.specs.Histories.{history_of};
+ghost use Rattle.engine_core.specs.Histories.{begun_by, history_of, past_from, with_event};
 
 use crate::prepared::Prepared;
 use crate::shots::Shot;
@@ -25,16 +25,15 @@ use std::alloc::Global;
 use std::marker::Model;
 use std::sync::Arc;
 use std::thread::Threads;
-use ts_model::{Event, Pending, Refusal, Waiting, Window};
+use ts_model::{Event, Image, Pending, Refusal, Waiting, Window};
 use ts_schema::{NoMemory, Seq};
 
-/// The position at which an engine's history begins.
-const BASE: u64 = 0;
-
-/// The engine: the list of its events, and the state that they make, of which each snapshot is one
-/// more owner. Contracts see the events, the oldest first, and for how many more there is room.
+/// The engine: the image that it was made from, where it was, the list of events after it, and the state
+/// that they make, of which each snapshot is one more owner. Contracts see the image and the events, the
+/// oldest first, and for how many more there is room.
 #[derive(Drop)]
 pub struct Engine {
+    base: Option<Image>,
     events: Vec<Event>,
     state: Arc<State>,
 }
@@ -48,9 +47,13 @@ impl Model for Engine {
 
     ghost Value = { EngineValue };
 
-    ghost view = { λ e. record { events = e.events.items; room = vec_capacity e.events - vec_len e.events } };
+    ghost view = { λ e. record {
+      past = record { base = e.base; events = e.events.items };
+      room = vec_capacity e.events - vec_len e.events;
+    } };
 
-    ghost invariant = { λ e. IsStateOf (history_of e.events.items) (arc_value e.state) };
+    ghost invariant = { λ e.
+        IsStateOf (history_of (record { base = e.base; events = e.events.items })) (arc_value e.state) };
 }
 
 /// What became of the refresh that an event finishes.
@@ -68,12 +71,32 @@ fn finished(state: &State, event: &Event) -> Pending
     }
 }
 
-/// Why an event isn't allowed next after a history that begins with nothing.
-fn next_refusal(state: &State, event: &Event) -> Option<Refusal>
-    ensures { (h : History) → StandsFor h state.now → 0 ≡ base_position h → result ≡ event_refusal h event.now }
+/// The position at which a history begins.
+fn begun_at(base: &Option<Image>) -> u64
+    ensures { result ≡ position (begun_by base.now) }
+{
+    match base {
+        None => 0,
+        Some(image) => image.pos,
+    }
+}
+
+/// Why an event isn't allowed next after a history that begins at a position.
+fn next_refusal(state: &State, base: u64, event: &Event) -> Option<Refusal>
+    ensures { (h : History) → StandsFor h state.now → base ≡ base_position h → result ≡ event_refusal h event.now }
 {
     let pending = finished(state, event);
-    refusal_of(state.roster(), pending, state.position(), BASE, event)
+    refusal_of(state.roster(), pending, state.position(), base, event)
+}
+
+/// The place of an event among those after a position, of which the first has the next number.
+fn place_after(base: u64, number: u64) -> Option<u64>
+    ensures { MatchOption result (number ≤ base) (λ place. number ≡ suc base + place) }
+{
+    match number.checked_sub(base) {
+        Some(above) => above.checked_sub(1),
+        None => None,
+    }
 }
 
 /// Takes the memory for the state after an event that is allowed next.
@@ -97,27 +120,42 @@ fn prepared_for(
 impl Engine {
     /// The engine of the empty history.
     pub fn new(alloc: Global) -> Result<Engine, NoMemory>
-        ensures empty { IfOk result (λ engine. engine.events ≡ []) }
+        ensures empty { IfOk result (λ engine. engine.past ≡ past_from None) }
     {
         Ok(Engine {
+            base: None,
             events: Vec::new(alloc),
             state: Arc::new(alloc, State::new(alloc)?)?,
         })
     }
 
-    /// How many events there are.
-    pub fn length(&self) -> u64
-        ensures length { result ≡ length self.now.events }
-        ensures position { result ≡ position (history_of self.now.events) }
+    /// The image that it was made from, where it was.
+    pub fn base(&self) -> &Option<Image>
+        ensures base { result.now ≡ self.now.past.base }
     {
-        self.events.len() as u64
+        &self.base
     }
 
-    /// The event with this number. The first one has number 1.
-    pub fn event(&self, number: u64) -> Option<&Event>
-        ensures event { option_copied result ≡ event_at (history_of self.now.events) number }
+    /// The events after it, the oldest first.
+    pub fn events(&self) -> &[Event]
+        ensures events { result.now ≡ self.now.past.events }
     {
-        match number.checked_sub(1) {
+        self.events.as_slice()
+    }
+
+    /// The position of the history.
+    pub fn length(&self) -> u64
+        ensures position { result ≡ position (history_of self.now.past) }
+    {
+        self.state.position()
+    }
+
+    /// The event with this number. The first one has the number after the position at which the history
+    /// begins.
+    pub fn event(&self, number: u64) -> Option<&Event>
+        ensures event { option_copied result ≡ event_at (history_of self.now.past) number }
+    {
+        match place_after(begun_at(&self.base), number) {
             Some(place) => self.events.get(place as usize),
             None => None,
         }
@@ -126,11 +164,11 @@ impl Engine {
     /// Whether an event is allowed next, and else why not. It is refused as the call of a store that
     /// makes such an event is, as `E07`, `E21`, `E19` or `E30`, and else with the number 0.
     pub fn check(&self, event: &Event) -> Result<(), Refusal>
-        ensures allowed { IfOk result (λ _. IsTrue (allowed (history_of self.now.events) event.now)) }
+        ensures allowed { IfOk result (λ _. IsTrue (allowed (history_of self.now.past) event.now)) }
         ensures refused { IfErr result (λ refusal.
-            event_refusal (history_of self.now.events) event.now ≡ Some refusal) }
+            event_refusal (history_of self.now.past) event.now ≡ Some refusal) }
     {
-        match next_refusal(&self.state, event) {
+        match next_refusal(&self.state, begun_at(&self.base), event) {
             None => Ok(()),
             Some(refusal) => Err(refusal),
         }
@@ -140,13 +178,13 @@ impl Engine {
     /// job of it. The history stays as it is.
     #[tactic(auto, using(ts_model::proofs::AllowedLaws::consistent_next))]
     pub fn prepare(&mut self, event: Event, job: Option<Job>) -> Result<Prepared, NoMemory>
-        requires allowed { IsTrue (allowed (history_of self.old.events) event) }
-        requires job { JobIsFor (history_of self.old.events) event job }
-        ensures events { self.new.events ≡ self.old.events }
+        requires allowed { IsTrue (allowed (history_of self.old.past) event) }
+        requires job { JobIsFor (history_of self.old.past) event job }
+        ensures past { self.new.past ≡ self.old.past }
         ensures room { OnOk result (0 < self.new.room) }
         ensures kept { self.old.room ≤ self.new.room }
         ensures event { IfOk result (λ prepared. prepared.event ≡ event) }
-        ensures prepared { IfOk result (λ prepared. IsPreparedFor (history_of self.old.events) prepared) }
+        ensures prepared { IfOk result (λ prepared. IsPreparedFor (history_of self.old.past) prepared) }
     {
         let alloc = *self.events.allocator();
         let prepared = prepared_for(alloc, &self.state, event, job)?;
@@ -158,8 +196,8 @@ impl Engine {
     /// no memory.
     pub fn install(&mut self, prepared: Prepared)
         requires room { 0 < self.old.room }
-        requires prepared { IsPreparedFor (history_of self.old.events) prepared }
-        ensures events { self.new.events ≡ self.old.events ++ prepared.event ∷ [] }
+        requires prepared { IsPreparedFor (history_of self.old.past) prepared }
+        ensures past { self.new.past ≡ with_event self.old.past prepared.event }
     {
         let (event, state) = prepared.into_parts();
         self.events.push_reserved(event);
@@ -168,27 +206,27 @@ impl Engine {
 
     /// A snapshot of the whole history, which is an allowed one.
     pub fn shot(&self) -> Result<Shot, NoMemory>
-        ensures allowed { IsTrue (all_allowed (history_of self.now.events)) }
-        ensures stands { IfOk result (λ shot. StandsFor (history_of self.now.events) shot) }
+        ensures allowed { IsTrue (all_allowed (history_of self.now.past)) }
+        ensures stands { IfOk result (λ shot. StandsFor (history_of self.now.past) shot) }
     {
         Ok(Shot::of(Arc::try_clone(&self.state)?))
     }
 
     /// The refreshes that were cut and not finished, in order of their cuts.
     pub fn waiting(&self) -> Result<Seq<Waiting>, NoMemory>
-        ensures waiting { IfOk result (λ found. found ≡ waiting (history_of self.now.events)) }
+        ensures waiting { IfOk result (λ found. found ≡ waiting (history_of self.now.past)) }
     {
         self.state.waiting()
     }
 
     /// The buckets that a refresh of an aggregate with this window covers. The history is an allowed one.
     pub fn window(&self, view: u32, lo: Option<i64>, hi: Option<i64>) -> Window
-        requires view { IsSome (view_of (roster (history_of self.now.events)) view) }
+        requires view { IsSome (view_of (roster (history_of self.now.past)) view) }
         requires low { ForSome lo (λ t. IsTrue (is_time t)) }
         requires high { ForSome hi (λ t. IsTrue (is_time t)) }
-        ensures allowed { IsTrue (all_allowed (history_of self.now.events)) }
-        ensures window { IfSome (view_of (roster (history_of self.now.events)) view) (λ def.
-            result ≡ window view def (history_of self.now.events) lo hi) }
+        ensures allowed { IsTrue (all_allowed (history_of self.now.past)) }
+        ensures window { IfSome (view_of (roster (history_of self.now.past)) view) (λ def.
+            result ≡ window view def (history_of self.now.past) lo hi) }
     {
         self.state.window(view, lo, hi)
     }
@@ -197,8 +235,8 @@ impl Engine {
     #[tactic(auto, using(ts_model::proofs::AllowedLaws::consistent_next))]
     pub fn rebuild<R: Threads + Sync>(&self, rt: &R, cut: u64, snap: u64) -> Result<Job, NoMemory>
         requires sync { IsSync R.row }
-        requires allowed { IsTrue (allowed (history_of self.now.events) (Built cut snap)) }
-        ensures job { IfOk result (λ job. IsJobOf (history_of self.now.events) cut snap job) }
+        requires allowed { IsTrue (allowed (history_of self.now.past) (Built cut snap)) }
+        ensures job { IfOk result (λ job. IsJobOf (history_of self.now.past) cut snap job) }
     {
         self.state.rebuild(rt, cut, snap)
     }

@@ -24,9 +24,9 @@ const NO_BUCKET: u8 = 15;
 
 /// Makes an event that is allowed next, and answers what it does.
 fn made(engine: &mut Engine, event: Event, job: Option<Job>) -> Outcome<Committed>
-    requires allowed { IsTrue (allowed (history_of engine.old.events) event) }
-    requires job { JobIsFor (history_of engine.old.events) event job }
-    ensures { Does (making_event event) engine.old.events result engine.new.events }
+    requires allowed { IsTrue (allowed (history_of engine.old.past) event) }
+    requires job { JobIsFor (history_of engine.old.past) event job }
+    ensures { Does (making_event event) engine.old.past result engine.new.past }
 {
     match engine.prepare(event, job) {
         Err(_) => Outcome::NoMemory,
@@ -40,9 +40,9 @@ fn made(engine: &mut Engine, event: Event, job: Option<Job>) -> Outcome<Committe
 
 /// Makes an event, unless its call is refused. The job of a finish is given up on every answer.
 fn make(engine: &mut Engine, event: Event, job: Option<Job>) -> Outcome<Committed>
-    requires sound { IsTrue (sound (history_of engine.old.events) event) }
-    requires job { JobIsFor (history_of engine.old.events) event job }
-    ensures { Does (making_event event) engine.old.events result engine.new.events }
+    requires sound { IsTrue (sound (history_of engine.old.past) event) }
+    requires job { JobIsFor (history_of engine.old.past) event job }
+    ensures { Does (making_event event) engine.old.past result engine.new.past }
 {
     match engine.check(&event) {
         Err(refusal) => Outcome::Refused(refusal),
@@ -79,7 +79,7 @@ pub fn cut_over(outcome: Outcome<Committed>, span: Span) -> Outcome<CutDone>
 
 /// A refusal of a window without a whole bucket.
 pub fn no_bucket(engine: &Engine) -> Refusal
-    ensures { result ≡ refusal 15 (history_of engine.now.events) 0 }
+    ensures { result ≡ refusal 15 (history_of engine.now.past) 0 }
 {
     Refusal {
         code: NO_BUCKET,
@@ -95,10 +95,10 @@ pub(crate) fn cut(
     lo: Option<i64>,
     hi: Option<i64>,
 ) -> Outcome<CutDone>
-    requires view { IsSome (view_of (roster (history_of engine.old.events)) view) }
+    requires view { IsSome (view_of (roster (history_of engine.old.past)) view) }
     requires low { ForSome lo (λ t. IsTrue (is_time t)) }
     requires high { ForSome hi (λ t. IsTrue (is_time t)) }
-    ensures { Does (cutting view lo hi) engine.old.events result engine.new.events }
+    ensures { Does (cutting view lo hi) engine.old.past result engine.new.past }
 {
     match engine.window(view, lo, hi) {
         Window::Nothing => Outcome::Done(CutDone::Nothing {
@@ -114,48 +114,48 @@ pub(crate) fn cut(
 
 /// Makes a table.
 pub(crate) fn make_table(engine: &mut Engine, def: TableDef) -> Outcome<u64>
-    requires { IsTrue (sound (history_of engine.old.events) (Table def)) }
-    ensures { Does (making_table def) engine.old.events result engine.new.events }
+    requires { IsTrue (sound (history_of engine.old.past) (Table def)) }
+    ensures { Does (making_table def) engine.old.past result engine.new.past }
 {
     numbered(make(engine, Event::Table(def), None))
 }
 
 /// Makes a table a hypertable.
 pub(crate) fn make_hyper(engine: &mut Engine, table: u32, hyper: Hyper) -> Outcome<u64>
-    requires { IsTrue (sound (history_of engine.old.events) (HyperMade table hyper)) }
-    ensures { Does (making_hyper table hyper) engine.old.events result engine.new.events }
+    requires { IsTrue (sound (history_of engine.old.past) (HyperMade table hyper)) }
+    ensures { Does (making_hyper table hyper) engine.old.past result engine.new.past }
 {
     numbered(make(engine, Event::Hyper { table, hyper }, None))
 }
 
 /// Makes an aggregate.
 pub(crate) fn make_view(engine: &mut Engine, def: ViewDef) -> Outcome<u64>
-    requires { IsTrue (sound (history_of engine.old.events) (View def)) }
-    ensures { Does (making_view def) engine.old.events result engine.new.events }
+    requires { IsTrue (sound (history_of engine.old.past) (View def)) }
+    ensures { Does (making_view def) engine.old.past result engine.new.past }
 {
     numbered(make(engine, Event::View(def), None))
 }
 
 /// Sets an aggregate to a mode.
 pub(crate) fn set_mode(engine: &mut Engine, view: u32, only: bool) -> Outcome<u64>
-    requires { IsTrue (sound (history_of engine.old.events) (Mode view only)) }
-    ensures { Does (setting_mode view only) engine.old.events result engine.new.events }
+    requires { IsTrue (sound (history_of engine.old.past) (Mode view only)) }
+    ensures { Does (setting_mode view only) engine.old.past result engine.new.past }
 {
     numbered(make(engine, Event::Mode { view, only }, None))
 }
 
 /// Lets operations take effect, in order.
 pub(crate) fn commit(engine: &mut Engine, ops: Seq<Op>) -> Outcome<Committed>
-    requires { IsTrue (sound (history_of engine.old.events) (Commit ops)) }
-    ensures { Does (committing ops) engine.old.events result engine.new.events }
+    requires { IsTrue (sound (history_of engine.old.past) (Commit ops)) }
+    ensures { Does (committing ops) engine.old.past result engine.new.past }
 {
     make(engine, Event::Commit(ops), None)
 }
 
 /// Finishes the refresh that a job was made for.
 pub(crate) fn finish(engine: &mut Engine, job: Job) -> Outcome<u64>
-    requires { JobFits (history_of engine.old.events) job }
-    ensures { Does (finishing job.cut job.snap) engine.old.events result engine.new.events }
+    requires { JobFits (history_of engine.old.past) job }
+    ensures { Does (finishing job.cut job.snap) engine.old.past result engine.new.past }
 {
     let event = Event::Built {
         cut: job.cut,

@@ -1,5 +1,6 @@
 //! A store in memory.
-ghost use Rattle.std.specs.Prelude.{◌≡◌, IfOk, []};
+ghost use Rattle.std.specs.Prelude.{◌≡◌, IfOk, None};
+ghost use Rattle.engine_core.specs.Histories.{past_from};
 
 use crate::engines::Engine;
 use crate::makings;
@@ -19,7 +20,7 @@ pub struct MemStore {
 impl MemStore {
     /// The store of the empty history.
     pub fn new(alloc: Global) -> Result<MemStore, NoMemory>
-        ensures empty { IfOk result (λ store. store.engine.events ≡ []) }
+        ensures empty { IfOk result (λ store. store.engine.past ≡ past_from None) }
     {
         Ok(MemStore {
             engine: Engine::new(alloc)?,
@@ -34,7 +35,7 @@ impl Backend for MemStore {
 
     type Shot = Shot;
 
-    ghost state = { λ s. state_of (history_of s.engine.events) };
+    ghost state = { λ s. state_of (history_of s.engine.past) };
 
     ghost alone = { true };
 

@@ -13,28 +13,28 @@ use Rattle.engine_core.proofs.makings.cut.Goals as goal
 
 pub make-outcome-requires-clause-sound : goal.make-outcome-requires-clause-sound
 make-outcome-requires-clause-sound c =
-    let h = history_of c.args.engine.now.events in
+    let h = history_of c.args.engine.now.past in
     cut_sound c.args.view c.args.lo c.args.hi h c.window.result c.in-Whole.span c.window.ensures.allowed c.requires.view c.window.ensures.window c.in-Whole.is c.requires.high
 
 pub returns-in-Nothing : goal.returns-in-Nothing
 returns-in-Nothing c =
-    let h = history_of c.args.engine.now.events in
-    does_return (cutting c.args.view c.args.lo c.args.hi) c.args.engine.now.events (NothingDone (position h)) (NothingDone c.length.result)
+    let h = history_of c.args.engine.now.past in
+    does_return (cutting c.args.view c.args.lo c.args.hi) c.args.engine.now.past (NothingDone (position h)) (NothingDone c.length.result)
     (cut_by_window c.args.view c.args.lo c.args.hi h c.window.result Nothing c.requires.view c.window.ensures.window c.in-Nothing.is)
     (ap NothingDone c.length.ensures.position)
 
 pub returns-in-NoBucket : goal.returns-in-NoBucket
 returns-in-NoBucket c =
-    let h = history_of c.args.engine.now.events in
-    does_refuse (cutting c.args.view c.args.lo c.args.hi) c.args.engine.now.events (refusal 15 h 0) c.no_bucket.result
+    let h = history_of c.args.engine.now.past in
+    does_refuse (cutting c.args.view c.args.lo c.args.hi) c.args.engine.now.past (refusal 15 h 0) c.no_bucket.result
     (cut_by_window c.args.view c.args.lo c.args.hi h c.window.result NoBucket c.requires.view c.window.ensures.window c.in-NoBucket.is)
     c.no_bucket.ensures
 
 pub returns-in-Whole : goal.returns-in-Whole
 returns-in-Whole c =
-    let old = c.args.engine.now.events in
-    let h = history_of c.args.engine.now.events in
+    let old = c.args.engine.now.past in
+    let h = history_of c.args.engine.now.past in
     let act_is = cut_by_window c.args.view c.args.lo c.args.hi h c.window.result (Whole c.in-Whole.span) c.requires.view c.window.ensures.window c.in-Whole.is in
-    subst (λ o. Does (cutting c.args.view c.args.lo c.args.hi) c.args.engine.now.events o c.make-outcome.new.engine.events) (sym c.cut_over.ensures)
-    (does_as (λ r. CutMade r.pos c.in-Whole.span) (making_event (Cut c.args.view c.in-Whole.span)) (cutting c.args.view c.args.lo c.args.hi) old c.make-outcome.result c.make-outcome.new.engine.events
+    subst (λ o. Does (cutting c.args.view c.args.lo c.args.hi) c.args.engine.now.past o c.make-outcome.new.engine.past) (sym c.cut_over.ensures)
+    (does_as (λ r. CutMade r.pos c.in-Whole.span) (making_event (Cut c.args.view c.in-Whole.span)) (cutting c.args.view c.args.lo c.args.hi) old c.make-outcome.result c.make-outcome.new.engine.past
     (act_is ∙ answered_cut c.args.view c.in-Whole.span h) c.make-outcome.ensures)

@@ -11,12 +11,12 @@ use Rattle.engine_core.proofs.makings.finish.Goals as goal
 
 pub returns : goal.returns
 returns c =
-    let old = c.args.engine.now.events in
-    subst (λ o. Does (finishing c.args.job.cut c.args.job.snap) c.args.engine.now.events o c.make.new.engine.events) (sym c.numbered.ensures)
-    (does_as (λ r. r.pos) (making_event (Built c.args.job.cut c.args.job.snap)) (finishing c.args.job.cut c.args.job.snap) old c.make.result c.make.new.engine.events (answered_finish c.args.job.cut c.args.job.snap (history_of old)) c.make.ensures)
+    let old = c.args.engine.now.past in
+    subst (λ o. Does (finishing c.args.job.cut c.args.job.snap) c.args.engine.now.past o c.make.new.engine.past) (sym c.numbered.ensures)
+    (does_as (λ r. r.pos) (making_event (Built c.args.job.cut c.args.job.snap)) (finishing c.args.job.cut c.args.job.snap) old c.make.result c.make.new.engine.past (answered_finish c.args.job.cut c.args.job.snap (history_of old)) c.make.ensures)
 
 pub make-requires-clause-sound : goal.make-requires-clause-sound
-make-requires-clause-sound c = job_sound c.args.job (history_of c.args.engine.now.events) c.requires
+make-requires-clause-sound c = job_sound c.args.job (history_of c.args.engine.now.past) c.requires
 
 pub make-requires-clause-job : goal.make-requires-clause-job
 make-requires-clause-job c = (refl, refl, c.requires)

@@ -6,6 +6,6 @@ use Rattle.engine_core.proofs.makings.make.Goals as goal
 
 pub returns-in-Err : goal.returns-in-Err
 returns-in-Err c =
-    let h = history_of c.args.engine.now.events in
-    does_refused c.args.engine.now.events c.args.engine.now.events c.args.event c.in-Err.refusal
+    let h = history_of c.args.engine.now.past in
+    does_refused c.args.engine.now.past c.args.engine.now.past c.args.event c.in-Err.refusal
     (sym (as_call h c.args.event c.requires.sound) ∙ (c.in-Err.ensures {u = tt}).refused) refl

@@ -10,6 +10,6 @@ use Rattle.engine_core.proofs.makings.make_table.Goals as goal
 
 pub returns : goal.returns
 returns c =
-    let old = c.args.engine.now.events in
-    subst (λ o. Does (making_table c.args.def) c.args.engine.now.events o c.make.new.engine.events) (sym c.numbered.ensures)
-    (does_as (λ r. r.pos) (making_event (Table c.args.def)) (making_table c.args.def) old c.make.result c.make.new.engine.events (answered_table c.args.def (history_of old)) c.make.ensures)
+    let old = c.args.engine.now.past in
+    subst (λ o. Does (making_table c.args.def) c.args.engine.now.past o c.make.new.engine.past) (sym c.numbered.ensures)
+    (does_as (λ r. r.pos) (making_event (Table c.args.def)) (making_table c.args.def) old c.make.result c.make.new.engine.past (answered_table c.args.def (history_of old)) c.make.ensures)

@@ -10,6 +10,6 @@ use Rattle.engine_core.proofs.makings.make_view.Goals as goal
 
 pub returns : goal.returns
 returns c =
-    let old = c.args.engine.now.events in
-    subst (λ o. Does (making_view c.args.def) c.args.engine.now.events o c.make.new.engine.events) (sym c.numbered.ensures)
-    (does_as (λ r. r.pos) (making_event (View c.args.def)) (making_view c.args.def) old c.make.result c.make.new.engine.events (answered_view c.args.def (history_of old)) c.make.ensures)
+    let old = c.args.engine.now.past in
+    subst (λ o. Does (making_view c.args.def) c.args.engine.now.past o c.make.new.engine.past) (sym c.numbered.ensures)
+    (does_as (λ r. r.pos) (making_event (View c.args.def)) (making_view c.args.def) old c.make.result c.make.new.engine.past (answered_view c.args.def (history_of old)) c.make.ensures)

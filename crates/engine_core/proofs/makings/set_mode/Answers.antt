@@ -10,6 +10,6 @@ use Rattle.engine_core.proofs.makings.set_mode.Goals as goal
 
 pub returns : goal.returns
 returns c =
-    let old = c.args.engine.now.events in
-    subst (λ o. Does (setting_mode c.args.view c.args.only) c.args.engine.now.events o c.make.new.engine.events) (sym c.numbered.ensures)
-    (does_as (λ r. r.pos) (making_event (Mode c.args.view c.args.only)) (setting_mode c.args.view c.args.only) old c.make.result c.make.new.engine.events (answered_mode c.args.view c.args.only (history_of old)) c.make.ensures)
+    let old = c.args.engine.now.past in
+    subst (λ o. Does (setting_mode c.args.view c.args.only) c.args.engine.now.past o c.make.new.engine.past) (sym c.numbered.ensures)
+    (does_as (λ r. r.pos) (making_event (Mode c.args.view c.args.only)) (setting_mode c.args.view c.args.only) old c.make.result c.make.new.engine.past (answered_mode c.args.view c.args.only (history_of old)) c.make.ensures)

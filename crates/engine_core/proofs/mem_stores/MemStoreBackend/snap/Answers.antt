@@ -7,5 +7,5 @@ use Rattle.engine_core.proofs.mem_stores.MemStoreBackend.snap.Goals as goal
 
 pub returns-clause-looked : goal.returns-clause-looked
 returns-clause-looked c =
-    looked_where_seen (λ h. IsTrue (all_allowed h) × IfOk c.shot.result (λ shot. StandsFor h shot)) (history_of c.args.self.now.engine.events)
+    looked_where_seen (λ h. IsTrue (all_allowed h) × IfOk c.shot.result (λ shot. StandsFor h shot)) (history_of c.args.self.now.engine.past)
     (c.shot.ensures.allowed, c.shot.ensures.stands)
