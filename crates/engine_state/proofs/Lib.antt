@@ -19,3 +19,4 @@ pub mod AnswerFacts
 pub mod ShownFacts
 pub mod UnnamedFacts
 pub mod StartFacts
+pub mod ImageFacts

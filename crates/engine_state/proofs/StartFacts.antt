@@ -39,8 +39,10 @@ use Rattle.ts_model.specs.Timely.{timely_at}
 use Rattle.ts_model.specs.Pending.{is_known, is_waiting, pending}
 use Rattle.ts_model.specs.declared.refreshes.Pending.TheVariants.{Waiting}
 use Rattle.refresh_list.specs.declared.refreshes.Refresh.{Refresh as Listed}
-use Rattle.refresh_list.specs.Refreshes.{pending_in, refresh_in, state_by}
-use Rattle.refresh_list.proofs.PlaceLaws.{pending_some}
+use Rattle.refresh_list.specs.declared.refreshes.Stage.TheVariants.{Waits, Done}
+use Rattle.refresh_list.specs.declared.refreshes.Stage.{Stage}
+use Rattle.ts_model.specs.declared.refreshes.Waiting.{Waiting as WaitingRefresh}
+use Rattle.refresh_list.specs.Refreshes.{IsCut, as_waiting, pending_in, state_by, waits_in}
 use Rattle.ts_model.proofs.AllowedLaws.{cut_bounded}
 use Rattle.ts_model.proofs.CutLaws.{cut_sound, lasts_are_last}
 use Rattle.ts_model.proofs.FitLaws.{rows_are_times}
@@ -241,65 +243,64 @@ near_is h t position table (s ∷ ss) is =
 
 -- ---- a refresh that waits
 
--- the refresh with a number, where it is one that waits
-pub record IsWaitingRefresh (refreshes : List Listed) (cut : ℕ) (r : Listed) : Type 0 where
-  pub found : refresh_in refreshes cut ≡ Some r
-  pub waits : r.finish ≡ None
-  pub cut_is : r.cut ≡ cut
+-- a refresh of a list that waits has a number and an aggregate there
+pub record IsWaitingRefresh (refreshes : List Listed) (cut : ℕ) (w : WaitingRefresh) : Type 0 where
+  pub waits : pending_in refreshes cut ≡ Waiting w.view
+  pub cut_is : w.cut ≡ cut
 
-pub waiting_there : (refreshes : List Listed) (cut : ℕ) → is_waiting (pending_in refreshes cut) ≡ true → (r : Listed) × IsWaitingRefresh refreshes cut r
-waiting_there [] cut e = absurd (true≢false (sym e))
-waiting_there (r ∷ rs) cut e =
+waits_as : (cut : ℕ) (s : Stage) (w : WaitingRefresh) → as_waiting cut s ≡ Some w → (state_by s ≡ Waiting w.view) × (w.cut ≡ cut)
+waits_as cut (Waits view span) w e = (let same : view ≡ w.view = cc in ap Waiting same, cc)
+waits_as cut (Done k) w e = absurd (cc)
+
+pub waiting_there : (refreshes : List Listed) (cut : ℕ) (w : WaitingRefresh) → waits_in refreshes cut ≡ Some w → IsWaitingRefresh refreshes cut w
+waiting_there [] cut w e = absurd (cc)
+waiting_there (r ∷ rs) cut w e =
     by_test (cut == r.cut)
     (λ here.
-    let state : is_waiting (state_by r.view r.finish) ≡ true = sym (ap (λ t. is_waiting (cond t (state_by r.view r.finish) (pending_in rs cut))) here) ∙ e in
-    (r, record { found = ap (λ t. cond t (Some r) (refresh_in rs cut)) here; waits = unfinished r.view r.finish state; cut_is = sym (eqb-true cut r.cut here) }))
+    let own = waits_as r.cut r.stage w (sym (ap (λ t. cond t (as_waiting r.cut r.stage) (waits_in rs cut)) here) ∙ e) in
+    record { waits = ap (λ t. cond t (state_by r.stage) (pending_in rs cut)) here ∙ own.0; cut_is = own.1 ∙ sym (eqb-true cut r.cut here) })
     (λ later.
-    let rest = waiting_there rs cut (sym (ap (λ t. is_waiting (cond t (state_by r.view r.finish) (pending_in rs cut))) later) ∙ e) in
-    (rest.0, record { found = ap (λ t. cond t (Some r) (refresh_in rs cut)) later ∙ rest.1.found; waits = rest.1.waits; cut_is = rest.1.cut_is }))
-  where
-    unfinished : (v : ℕ) (o : Option ℕ) → is_waiting (state_by v o) ≡ true → o ≡ None
-    unfinished v None e = refl
-    unfinished v (Some k) e = absurd (true≢false (sym e))
+    let rest = waiting_there rs cut w (sym (ap (λ t. cond t (as_waiting r.cut r.stage) (waits_in rs cut)) later) ∙ e) in
+    record { waits = ap (λ t. cond t (state_by r.stage) (pending_in rs cut)) later ∙ rest.waits; cut_is = rest.cut_is })
 
 -- one that waits is there
-pub waits_there : (refreshes : List Listed) (cut : ℕ) → is_waiting (pending_in refreshes cut) ≡ true → refresh_in refreshes cut ≡ None → ⊥
-waits_there refreshes cut waits none = let there = waiting_there refreshes cut waits in clash (refresh_in refreshes cut) there.0 none there.1.found
+pub waits_there : (refreshes : List Listed) (cut : ℕ) → is_waiting (pending_in refreshes cut) ≡ true → waits_in refreshes cut ≡ None → ⊥
+waits_there [] cut waits none = true≢false (sym waits)
+waits_there (r ∷ rs) cut waits none =
+    by_test (cut == r.cut)
+    (λ here. own r.stage (sym (ap (λ t. is_waiting (cond t (state_by r.stage) (pending_in rs cut))) here) ∙ waits) (sym (ap (λ t. cond t (as_waiting r.cut r.stage) (waits_in rs cut)) here) ∙ none))
+    (λ later. waits_there rs cut (sym (ap (λ t. is_waiting (cond t (state_by r.stage) (pending_in rs cut))) later) ∙ waits) (sym (ap (λ t. cond t (as_waiting r.cut r.stage) (waits_in rs cut)) later) ∙ none))
   where
-    clash : (o : Option Listed) (r : Listed) → o ≡ None → o ≡ Some r → ⊥
-    clash o r a b = cc
+    own : (s : Stage) → is_waiting (state_by s) ≡ true → as_waiting r.cut s ≡ None → ⊥
+    own (Waits view span) w n = cc
+    own (Done k) w n = true≢false (sym w)
 
-span_of_found : (h : History) (rs : List Listed) (cut : ℕ) (r : Listed) → AllByRecursion (λ x. span_of_cut x.view h x.cut ≡ Some x.span) rs → refresh_in rs cut ≡ Some r → span_of_cut r.view h r.cut ≡ Some r.span
-span_of_found h [] cut r spans e = absurd (cc)
-span_of_found h (x ∷ xs) cut r spans e =
+cut_of_waiting : (h : History) (cut : ℕ) (s : Stage) (w : WaitingRefresh) → IsCut h cut s → as_waiting cut s ≡ Some w → span_of_cut w.view h w.cut ≡ Some w.span
+cut_of_waiting h cut (Waits view span) w is e = let same : record { cut = cut; view = view; span = span } ≡ w = cc in subst (λ (v : WaitingRefresh). span_of_cut v.view h v.cut ≡ Some v.span) same is
+cut_of_waiting h cut (Done k) w is e = absurd (cc)
+
+span_of_waiting : (h : History) (rs : List Listed) (cut : ℕ) (w : WaitingRefresh) → AllByRecursion (λ x. IsCut h x.cut x.stage) rs → waits_in rs cut ≡ Some w → span_of_cut w.view h w.cut ≡ Some w.span
+span_of_waiting h [] cut w spans e = absurd (cc)
+span_of_waiting h (x ∷ xs) cut w spans e =
     by_test (cut == x.cut)
-    (λ here. (let same : x ≡ r = one (sym (ap (λ t. cond t (Some x) (refresh_in xs cut)) here) ∙ e) in subst (λ y. span_of_cut y.view h y.cut ≡ Some y.span) same spans.0))
-    (λ later. span_of_found h xs cut r spans.1 (sym (ap (λ t. cond t (Some x) (refresh_in xs cut)) later) ∙ e))
-  where
-    one : {x y : Listed} → Some x ≡ Some y → x ≡ y
-    one e = cc
+    (λ here. cut_of_waiting h x.cut x.stage w spans.0 (sym (ap (λ t. cond t (as_waiting x.cut x.stage) (waits_in xs cut)) here) ∙ e))
+    (λ later. span_of_waiting h xs cut w spans.1 (sym (ap (λ t. cond t (as_waiting x.cut x.stage) (waits_in xs cut)) later) ∙ e))
 
 fitting_view : (span : Span) (o : Option ViewDef) → span_fits span o ≡ true → IsSome o
 fitting_view span None e = absurd (true≢false (sym e))
 fitting_view span (Some def) e = refl
 
 -- a refresh that waits in a state is one of the history
-pub refresh_is : (h : History) (s : StateValue) (cut : ℕ) (r : Listed) (refresh : Refresh) → StandsFor h s → refresh_in s.refreshes cut ≡ Some r → is_waiting (pending_in s.refreshes cut) ≡ true → refresh.view ≡ r.view → refresh.cut ≡ r.cut → refresh.span ≡ r.span → IsRefreshOf h cut refresh
-refresh_is h s cut r refresh st found waits view_is cut_is span_is =
-    let there = waiting_there s.refreshes cut waits in
-    let same : there.0 ≡ r = one (sym there.1.found ∙ found) in
-    let own_cut : r.cut ≡ cut = sym (ap (λ (x : Listed). x.cut) same) ∙ there.1.cut_is in
-    let state : pending_in s.refreshes cut ≡ Waiting r.view = pending_some cut s.refreshes r found ∙ ap (state_by r.view) (sym (ap (λ (x : Listed). x.finish) same) ∙ there.1.waits) in
-    let span : span_of_cut r.view h cut ≡ Some r.span = subst (λ k. span_of_cut r.view h k ≡ Some r.span) own_cut (span_of_found h s.refreshes cut r st.refreshes.spans found) in
+pub refresh_is : (h : History) (s : StateValue) (cut : ℕ) (w : WaitingRefresh) (refresh : Refresh) → StandsFor h s → waits_in s.refreshes cut ≡ Some w → refresh.view ≡ w.view → refresh.cut ≡ w.cut → refresh.span ≡ w.span → IsRefreshOf h cut refresh
+refresh_is h s cut w refresh st found view_is cut_is span_is =
+    let there = waiting_there s.refreshes cut w found in
+    let own_span : span_of_cut w.view h cut ≡ Some w.span = subst (λ k. span_of_cut w.view h k ≡ Some w.span) there.cut_is (span_of_waiting h s.refreshes cut w st.refreshes.spans found) in
     record {
-      waits = sym (st.refreshes.pending cut) ∙ (state ∙ ap Waiting (sym view_is));
-      cut_is = cut_is ∙ own_cut;
-      span_is = subst (λ v. span_of_cut v h cut ≡ Some refresh.span) (sym view_is) (span ∙ ap Some (sym span_is));
-      view_is = subst (λ v. IsSome (view_of (roster h) v)) (sym view_is) (fitting_view r.span (view_of (roster h) r.view) (cut_sound r.view h cut r.span st.consistent span));
+      waits = sym (st.refreshes.pending cut) ∙ (there.waits ∙ ap Waiting (sym view_is));
+      cut_is = cut_is ∙ there.cut_is;
+      span_is = subst (λ n. span_of_cut n h cut ≡ Some refresh.span) (sym view_is) (own_span ∙ ap Some (sym span_is));
+      view_is = subst (λ n. IsSome (view_of (roster h) n)) (sym view_is) (fitting_view w.span (view_of (roster h) w.view) (cut_sound w.view h cut w.span st.consistent own_span));
     }
-  where
-    one : {x y : Listed} → Some x ≡ Some y → x ≡ y
-    one e = cc
 
 -- ---- a job for a refresh
 

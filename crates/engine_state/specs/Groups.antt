@@ -11,14 +11,8 @@ use Rattle.mat_rows.specs.Replacing.{of_bucket}
 use Rattle.partial_agg.specs.Groups.{AreInOrder}
 use Rattle.ts_model.specs.declared.views.ViewDef.{ViewDef}
 use Rattle.ts_model.specs.History.{History}
-use Rattle.ts_model.specs.Groups.{groups_at}
 use Rattle.ts_model.specs.Refreshes.{last}
-
--- the groups that the last refresh of a bucket has left: those that stood there at its snapshot, and none where there
--- is none
-abbrev pub groups_left : ℕ → ViewDef → History → ℤ → Option ℕ → List Group
-groups_left n def h b None = []
-groups_left n def h b (Some s) = groups_at n def h s b
+pub use Rattle.image_laws.specs.Images.{groups_left}
 
 -- a group is of a bucket below the mark
 abbrev pub is_materialised : ViewDef → Option ℤ → Group → Bool

@@ -1,4 +1,5 @@
 pub mod Lists
+pub mod Images
 pub mod Notes
 pub mod Groups
 pub mod Views

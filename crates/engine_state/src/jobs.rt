@@ -28,7 +28,7 @@ impl Parts {
         ensures snap { result.snap ≡ snap }
         ensures refresh { (h : History) → StandsFor h self.now → IsRefreshOf h cut result }
     {
-        match self.refreshes.find(cut) {
+        match self.refreshes.find_waiting(cut) {
             Some(found) => Refresh {
                 view: found.view,
                 cut: found.cut,

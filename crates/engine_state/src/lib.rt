@@ -5,6 +5,7 @@ mod answers;
 mod commits;
 mod cuts;
 mod finishes;
+mod images;
 mod jobs;
 mod parts;
 mod queues;

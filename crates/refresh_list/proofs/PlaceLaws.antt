@@ -3,7 +3,7 @@ use Rattle.std.proofs.Common.{◌≡◌, ℕ, suc, zero, ◌+◌, ◌<◌, ◌�
 use Rattle.std.proofs.lemmas.Bool.{eqb-true, eq-eqb}
 use Rattle.ts_model.specs.declared.refreshes.Pending.TheVariants.{Unknown}
 use Rattle.refresh_list.specs.declared.refreshes.Refresh.{Refresh}
-use Rattle.refresh_list.specs.Refreshes.{CutsRise, CutsBelow, CutsFrom, pending_in, state_by, refresh_in, finished_at, finished_one}
+use Rattle.refresh_list.specs.Refreshes.{CutsRise, CutsBelow, CutsFrom, pending_in, state_by, as_waiting, waits_in, refresh_in, finished_at, finished_one}
 
 -- cuts in order are all after a number that the first is after
 pub rise_from : (n m : ℕ) (rs : List Refresh) → m ≤ n → CutsRise n rs → CutsFrom (suc m) rs
@@ -93,6 +93,19 @@ pending_some k (x ∷ xs) r e =
     elim (k == x.cut) as (λ t. cond t (Some x) (refresh_in xs k) ≡ Some r → cond t (state_by x.stage) (pending_in xs k) ≡ state_by r.stage) [
       | true ↦ λ f. let is : x ≡ r = cc in ap (λ y. state_by y.stage) is
       | false ↦ λ f. pending_some k xs r f
+    ] e
+
+pub waits_none : (k : ℕ) (rs : List Refresh) → refresh_in rs k ≡ None → waits_in rs k ≡ None
+waits_none k [] e = refl
+waits_none k (r ∷ rs) e =
+    elim (k == r.cut) as (λ t. cond t (Some r) (refresh_in rs k) ≡ None → cond t (as_waiting r.cut r.stage) (waits_in rs k) ≡ None) [ true ↦ λ f. absurd (cc) | false ↦ λ f. waits_none k rs f ] e
+
+pub waits_some : (k : ℕ) (rs : List Refresh) (r : Refresh) → refresh_in rs k ≡ Some r → waits_in rs k ≡ as_waiting r.cut r.stage
+waits_some k [] r e = absurd (cc)
+waits_some k (x ∷ xs) r e =
+    elim (k == x.cut) as (λ t. cond t (Some x) (refresh_in xs k) ≡ Some r → cond t (as_waiting x.cut x.stage) (waits_in xs k) ≡ as_waiting r.cut r.stage) [
+      | true ↦ λ f. let is : x ≡ r = cc in ap (λ y. as_waiting y.cut y.stage) is
+      | false ↦ λ f. waits_some k xs r f
     ] e
 
 -- ---- one more

@@ -70,6 +70,16 @@ abbrev pub refresh_in : List Refresh → ℕ → Option Refresh
 refresh_in [] k = None
 refresh_in (r ∷ rs) k = cond (k == r.cut) (Some r) (refresh_in rs k)
 
+-- a refresh, where it isn't finished
+abbrev pub as_waiting : ℕ → Stage → Option WaitingRefresh
+as_waiting cut (Waits view span) = Some (record { cut = cut; view = view; span = span })
+as_waiting cut (Done k) = None
+
+-- the refresh with a number, where it isn't finished
+abbrev pub waits_in : List Refresh → ℕ → Option WaitingRefresh
+waits_in [] k = None
+waits_in (r ∷ rs) k = cond (k == r.cut) (as_waiting r.cut r.stage) (waits_in rs k)
+
 -- each cut is after the one before it, and the first after n
 abbrev pub CutsRise : ℕ → List Refresh → Type 0
 CutsRise n [] = Unit {0}

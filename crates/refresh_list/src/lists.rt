@@ -1,7 +1,7 @@
 //! Refreshes in order of their cuts.
 ghost use Rattle.std.specs.Prelude.{◌≡◌, ◌<◌, ◌≤◌, ◌++◌, ◌∷◌, [], drop, length, map, take, IfOk, None, Some};
 ghost use Rattle.refresh_list.specs.Refreshes.{CutsBelow, CutsFrom, CutsRise, IsPlace, StandsAt};
-ghost use Rattle.refresh_list.specs.Refreshes.{count_below, done_in, finished_at, finished_one, newly_cut, of_done, of_waiting, pending_in, refresh_in, state_by, together, waiting_in};
+ghost use Rattle.refresh_list.specs.Refreshes.{as_waiting, count_below, waits_in, done_in, finished_at, finished_one, newly_cut, of_done, of_waiting, pending_in, refresh_in, state_by, together, waiting_in};
 
 use crate::refreshes::{Refresh, Stage};
 use block_list::BlockList;
@@ -138,8 +138,18 @@ impl Refreshes {
         })
     }
 
+    /// The refresh with this number, where it isn't finished.
+    pub fn find_waiting(&self, cut: u64) -> Option<Waiting>
+        ensures found { result ≡ waits_in self.now cut }
+    {
+        match self.find(cut) {
+            None => None,
+            Some(refresh) => as_waiting(&refresh),
+        }
+    }
+
     /// The refresh with this number, if it is there.
-    pub fn find(&self, cut: u64) -> Option<Refresh>
+    fn find(&self, cut: u64) -> Option<Refresh>
         ensures found { result ≡ refresh_in self.now cut }
     {
         match place_of(&self.list, cut) {
@@ -284,6 +294,20 @@ fn push_finished(found: &mut Seq<Finished>, refresh: &Refresh) -> Result<(), NoM
             cut: refresh.cut,
             built,
         }),
+    }
+}
+
+/// A refresh, where it isn't finished.
+fn as_waiting(refresh: &Refresh) -> Option<Waiting>
+    ensures { result ≡ as_waiting refresh.now.cut refresh.now.stage }
+{
+    match refresh.stage {
+        Stage::Waits { view, span } => Some(Waiting {
+            cut: refresh.cut,
+            view,
+            span,
+        }),
+        Stage::Done(_) => None,
     }
 }
 
