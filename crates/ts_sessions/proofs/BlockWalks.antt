@@ -1,6 +1,5 @@
 -- The block that a session is in.
-use Rattle.std.proofs.lemmas.Bool.{true≢false}
-use Rattle.std.proofs.Common.{◌≡◌, ◌==◌, ◌<◌, false, List, [], ◌∷◌, length, None, refl, ap, subst, arith}
+use Rattle.std.proofs.Common.{◌≡◌, [], None, refl, ap, subst}
 use Rattle.stmt_reader.specs.declared.statements.Stmt.{Stmt}
 use Rattle.ts_sessions.specs.declared.kinds.Kind.{Kind}
 use Rattle.ts_sessions.specs.declared.kinds.Kind.TheVariants as kinds
@@ -18,9 +17,6 @@ only_outside none k f g e = refl
 only_outside (writing ops n) k f g e = absurd (f e)
 only_outside (reading at) k f g e = absurd (g e)
 
-pub defines_outside : (b : Block) → block_refusal b kinds.Defines ≡ None → b ≡ none
-defines_outside b e = only_outside b kinds.Defines (λ x. absurd cc) (λ x. absurd cc) e
-
 pub snaps_outside : (b : Block) → block_refusal b kinds.Snaps ≡ None → b ≡ none
 snaps_outside b e = only_outside b kinds.Snaps (λ x. absurd cc) (λ x. absurd cc) e
 
@@ -36,7 +32,3 @@ pub passes_as : (b : Block) (stmt like : Stmt) → stmt ≡ like → block_refus
 passes_as b stmt like e pass = subst (λ x. block_refusal b (kind_of x) ≡ None) e pass
 
 -- ---- queues
-
-pub some_length : {X : Type 0} (xs : List X) → (length xs == 0) ≡ false → 0 < length xs
-some_length [] e = absurd (true≢false e)
-some_length (x ∷ xs) e = omega arith

@@ -1,5 +1,5 @@
 -- A call of a store is the walk of its procedure, whatever it answers.
-use Rattle.std.proofs.Common.{◌≡◌, ℕ, Bool, true, false, List, sym, refl, ap, subst, inl, inr}
+use Rattle.std.proofs.Common.{Bool, true, false, sym, refl, ap, subst, inl, inr}
 use Rattle.std.specs.Prelude.{Result, Ok, Err}
 use Rattle.ts_schema.specs.declared.memory.NoMemory.{NoMemory}
 use Rattle.ts_model.specs.declared.outcomes.Outcome.{Outcome}
@@ -8,17 +8,12 @@ use Rattle.ts_model.specs.declared.outcomes.Refusal.{Refusal}
 use Rattle.ts_model.specs.History.{History, position}
 use Rattle.ts_model.specs.States.{State}
 use Rattle.ts_model.specs.Calls.{Act, refuses, returns, makes, Answered, Called}
-use Rattle.result_text.specs.declared.replies.Said.{Said}
-use Rattle.ts_sessions.specs.declared.changes.Change.{Change}
-use Rattle.ts_sessions.specs.declared.changes.Completion.{Completion}
 use Rattle.ts_sessions.specs.declared.tries.Tried.{Tried}
-use Rattle.ts_sessions.specs.Procedures.{Procedure, ending_as, tries, tries_at}
-use Rattle.ts_sessions.specs.Places.{Places, Turn}
-use Rattle.ts_sessions.specs.Sessions.{EndsAt, Completes, Tries, came, changed, has_failed, turn_of}
+use Rattle.ts_sessions.specs.Procedures.{tries, tries_at}
+use Rattle.ts_sessions.specs.Sessions.{Tries, came, has_failed}
 use Rattle.ts_sessions.specs.Tried.{IsTried, stopped_at}
 use Rattle.ts_sessions.specs.Walks.{Walks, Breaks}
 use Rattle.ts_sessions.proofs.StateLaws.{kept}
-use Rattle.ts_sessions.proofs.WalkLaws.{walks_as, walks_break}
 
 -- ---- at the history that was found
 
@@ -59,17 +54,3 @@ called_tries alone old act outcome new (Ok t) c i = record { mid = c.found; firs
 called_tries alone old act outcome new (Err e) c i = record { mid = c.found; first = inr c.finds; rest = answered_tries alone (act c.found.history) c.found outcome new (Err e) c.answered i }
 
 -- ---- what is said of it
-
--- a walk whose end is said so
-pub completes_walk : {T J : Type 0} (alone failed : Bool) (old : State) (procedure : Procedure (Turn Places)) (new : State) (p : Places) (read : ℕ) (said : List Said) (change : Change T J) (result : Result (Completion T J) NoMemory) → Walks alone failed old procedure new (record { places = changed change p; said = said; reads = read }) → Completes said change failed result → EndsAt alone old procedure p read result new
-completes_walk alone failed old procedure new p read said change (Ok t) w s =
-    subst (λ x. Walks alone x old procedure new (turn_of p read t)) (sym s.2)
-    (subst (λ x. Walks alone failed old procedure new (record { places = changed x p; said = t.said; reads = read })) (sym s.1)
-    (subst (λ x. Walks alone failed old procedure new (record { places = changed change p; said = x; reads = read })) (sym s.0) w))
-completes_walk alone failed old procedure new p read said change (Err e) w s = walks_break alone failed old procedure new (record { places = changed change p; said = said; reads = read }) w
-
--- what came of a call is said in this way
-pub completes_ends : {A T J : Type 0} (g : Result A Refusal → Turn Places) (alone : Bool) (old : State) (procedure : Procedure (Result A Refusal)) (t : Tried A) (new : State) (p : Places) (read : ℕ) (said : List Said) (change : Change T J) (result : Result (Completion T J) NoMemory) → Tries alone old procedure (Ok t) new → g (came t) ≡ record { places = changed change p; said = said; reads = read } → Completes said change (has_failed t) result → EndsAt alone old (ending_as g procedure) p read result new
-completes_ends g alone old procedure t new p read said change result w e s =
-    completes_walk alone (has_failed t) old (ending_as g procedure) new p read said change result
-    (subst (λ y. Walks alone (has_failed t) old (ending_as g procedure) new y) e (walks_as g alone (has_failed t) old procedure new (came t) w)) s

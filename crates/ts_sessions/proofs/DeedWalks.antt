@@ -13,23 +13,24 @@ use Rattle.ts_model.specs.Calls.{Answered, Called, Looked, making_view}
 use Rattle.ts_model.specs.Roster.{roster}
 use Rattle.result_text.specs.declared.replies.Said.{Said}
 use Rattle.ts_model.specs.declared.snapshots.Shown.{Ghosts as Shown}
-use Rattle.stmt_check.specs.declared.actions.Action.{Action}
 use Rattle.ts_model.specs.History.{History, Begins, position}
 use Rattle.ts_model.specs.States.{State, Found}
 use Rattle.ts_sessions.specs.declared.changes.Completion.{Completion}
 use Rattle.ts_sessions.specs.declared.deeds.Advanced.{Advanced}
 use Rattle.ts_sessions.specs.declared.deeds.Deed.{Deed}
 use Rattle.ts_sessions.specs.declared.deeds.Deed.TheVariants as deeds
+use Rattle.ts_sessions.specs.declared.deeds.Finishing.{Finishing}
+use Rattle.ts_sessions.specs.declared.deeds.Finishing.TheVariants as finishing
 use Rattle.ts_sessions.specs.declared.deeds.Next.{Next}
 use Rattle.ts_sessions.specs.declared.deeds.Next.TheVariants as nexts
 use Rattle.ts_sessions.specs.declared.tries.Tried.{Tried}
 use Rattle.ts_sessions.specs.declared.tries.Tried.TheVariants as tried
-use Rattle.ts_sessions.specs.Deeds.{Advances, CarriesOut, CountsFrom, Goes, Leads, IsLostBy, IsLostNext, Joins, MadeFits, cut_in, led, led_lines, rest, rest_next, spent, spent_next, view_leaves}
+use Rattle.ts_sessions.specs.Deeds.{Advances, CarriesOut, CountsFrom, DeedFits, Goes, Leads, IsLostBy, IsLostNext, Joins, MadeFits, at_in, cut_in, led, led_lines, rest, rest_next, spent, spent_by, spent_next, view_leaves}
 use Rattle.ts_sessions.specs.Places.{Places, Turn}
 use Rattle.ts_sessions.specs.Procedures.{Procedure, ends, followed_by, looks, sees, tries_at}
 use Rattle.ts_sessions.specs.Sessions.{Brings, ChangeHolds, EndsAt, Tries, came, changed, has_failed, turn_of}
 use Rattle.ts_sessions.specs.Sound.{number_at, view_number}
-use Rattle.ts_sessions.specs.Step.{acts, after_line, after_view, view_made}
+use Rattle.ts_sessions.specs.Step.{after_line, after_view, finishes_refresh, view_made}
 use Rattle.ts_sessions.specs.Held.{GoesOn}
 use Rattle.ts_sessions.specs.Holding.{lost_stays}
 use Rattle.ts_sessions.specs.Tried.{IsTried}
@@ -38,7 +39,7 @@ use Rattle.ts_sessions.proofs.CallWalks.{answered_tries}
 use Rattle.ts_sessions.proofs.HoldLaws.{goes_ends}
 use Rattle.ts_sessions.proofs.JobLaws.{always_ok}
 use Rattle.ts_sessions.proofs.StateLaws.{goes_seen}
-use Rattle.ts_sessions.proofs.NameCheckWalks.{looked_breaks, looked_walks}
+use Rattle.ts_sessions.proofs.NameCheckWalks.{looked_breaks, looked_only, looked_walks}
 use Rattle.ts_sessions.proofs.ViewWalks.{done_outcome, made_is_named, number_named, was_made}
 use Rattle.ts_sessions.proofs.WalkLaws.{break_together, breaks_first, breaks_seen, not_begun, put_together, walks_as, walks_break, walks_seen}
 
@@ -65,6 +66,12 @@ next_broken alone old p read deed first k t result new n i e w =
     broken_off alone old p read deed result new n i
     (subst (λ d. Breaks alone old d new) (sym e) ((walk_leads alone (has_failed t) old first new (came t) k w).breaks new (not_begun alone new (k (came t)))))
 
+-- the finish of a job that fits
+pub job_tries : {T J : Type 0} (shown : Shown T J) (alone : Bool) (old : State) (deed : Deed T J) (job : J) (f : Finishing) (result : Result (Tried ℕ) NoMemory) (new : State) → DeedFits shown deed old → deed ≡ deeds.Finish job f → Tries alone old (finishes_refresh (shown.cut_of job) (shown.snap_of job)) result new → Tries alone old (finishes_refresh (cut_in f) (at_in f)) result new
+job_tries shown alone old deed job f result new fits e w =
+    let k = subst (λ d. DeedFits shown d old) e fits in
+    subst (λ c. Tries alone old (finishes_refresh c (at_in f)) result new) k.1 (subst (λ n. Tries alone old (finishes_refresh (shown.cut_of job) n) result new) k.2 w)
+
 -- a call that may make an event, and what follows it
 pub call_goes : {A T J : Type 0} (alone : Bool) (old : State) (p : Places) (read read_then : ℕ) (deed : Deed T J) (first : Procedure (Result A Refusal)) (k : Result A Refusal → Procedure (Turn Places)) (t : Tried A) (r : Result A Refusal) (failed : Bool) (next : Next T J) (new : State) (n : ℕ) → rest p read old.history deed ≡ followed_by first k → spent read deed ≡ read_then → Tries alone old first (Ok t) new → failed ≡ has_failed t → r ≡ came t → rest_next p read_then new.history next ≡ k r → spent_next read_then next ≡ read_then → Goes alone old p read deed (record { said = None; next = next; failed = failed }) new n n
 call_goes alone old p read read_then deed first k t r failed next new n e s w f j d spent_so = record {
@@ -77,6 +84,20 @@ call_goes alone old p read read_then deed first k t r failed next new n e s w f 
   counted = λ from had. subst (λ m. n ≡ raised_by m from) s had;
   rose = omega arith;
 }
+
+-- ---- rows that were read
+
+unspent_by : (f : Finishing) → spent_by 0 f ≡ 0
+unspent_by (finishing.Begun begun at) = refl
+unspent_by (finishing.Held cut at) = refl
+
+unspent_deed : {T J : Type 0} (d : Deed T J) → spent 0 d ≡ 0
+unspent_deed (deeds.Finish job f) = unspent_by f
+unspent_deed other = refl
+
+pub unspent : {T J : Type 0} (next : Next T J) → spent_next 0 next ≡ 0
+unspent (nexts.Deed d) = unspent_deed d
+unspent (nexts.End t) = refl
 
 -- ---- a statement
 
@@ -206,6 +227,15 @@ goes_by alone old p read read_then deed procedure a new n left e s w d spent_so 
   rose = omega arith;
 }
 
+-- a deed that only looks, or had no memory for it
+pub look_goes : {T J : Type 0} (alone : Bool) (old : State) (p : Places) (read : ℕ) (deed : Deed T J) (Reports : History → Type 0) (f : History → Procedure (Turn Places)) (next : Next T J) (mid : State) (n : ℕ) → rest p read old.history deed ≡ looks f → spent read deed ≡ 0 → Looked alone old Reports mid → rest_next p 0 mid.history next ≡ f mid.history → Goes alone old p read deed (record { said = None; next = next; failed = false }) mid n n
+look_goes alone old p read deed Reports f next mid n e s l d =
+    goes_by alone old p read 0 deed (looks f) (record { said = None; next = next; failed = false }) mid n (f mid.history) e s (look_leads alone old Reports mid (λ h. true) f l) d (unspent next)
+
+pub look_broken : {T J : Type 0} (alone : Bool) (old : State) (p : Places) (read : ℕ) (deed : Deed T J) (Reports : History → Type 0) (f : History → Procedure (Turn Places)) (result : Result (Advanced T J) NoMemory) (mid : State) (n : ℕ) → IsErr result → rest p read old.history deed ≡ looks f → Looked alone old Reports mid → Advances alone old p read deed result mid n n
+look_broken alone old p read deed Reports f result mid n i e l =
+    broken_off alone old p read deed result mid n i (subst (λ d. Breaks alone old d mid) (sym e) (looked_only alone old Reports mid (λ h. true) f l))
+
 -- ---- a refresh that can't be finished any more stays so
 
 lost_on : {T J : Type 0} (deed : Deed T J) (g h : State) → GoesOn g h → IsLostBy deed g → IsLostBy deed h
@@ -228,6 +258,3 @@ looks_leads alone s shown f g same = record {
   walks = λ failed new y w. record { mid = w.mid; first = w.first; rest = subst (λ d. Walks alone failed w.mid d new y) (sym (same w.mid.history (goes_seen alone s w.mid w.first).begins)) w.rest };
   breaks = λ new b. record { mid = b.mid; first = b.first; rest = subst (λ d. Breaks alone b.mid d new) (sym (same b.mid.history (goes_seen alone s b.mid b.first).begins)) b.rest };
 }
-
-pub act_leads : (alone : Bool) (s : State) (p : Places) (bytes : ℕ) (a b : Action) (g : History → Procedure (Turn Places)) → a ≡ b → ((h : History) → Begins s.history h → acts p bytes h b ≡ g h) → Leads alone false s (looks (λ h. acts p bytes h a)) s (looks g)
-act_leads alone s p bytes a b g e same = looks_leads alone s (λ h. true) (λ h. acts p bytes h a) g (λ h on. ap (acts p bytes h) e ∙ same h on)

@@ -28,13 +28,10 @@ use Rattle.stmt_check.specs.Check.{refusal_of}
 use Rattle.stmt_check.specs.Sound.{IsQueue}
 use Rattle.stmt_check.proofs.QueueLaws.{queues_are_sound}
 use Rattle.ts_sessions.specs.declared.changes.Completion.{Completion}
-use Rattle.ts_sessions.specs.declared.deeds.Deed.{Deed}
 use Rattle.ts_sessions.specs.declared.deeds.Deed.TheVariants as deeds
-use Rattle.ts_sessions.specs.declared.deeds.Finishing.{Finishing}
-use Rattle.ts_sessions.specs.declared.deeds.Finishing.TheVariants as finishing
 use Rattle.ts_sessions.specs.declared.deeds.Next.{Next}
 use Rattle.ts_sessions.specs.declared.deeds.Next.TheVariants as nexts
-use Rattle.ts_sessions.specs.Deeds.{CarriesOut, CountsFrom, Leads, NextFits, Opens, OpensTo, StandsFor, closing, holding, opening, rest_next, said_once, spent, spent_by, spent_next, taken_next}
+use Rattle.ts_sessions.specs.Deeds.{CarriesOut, CountsFrom, Leads, NextFits, Opens, OpensTo, StandsFor, closing, holding, opening, rest_next, said_once, spent_next, taken_next}
 use Rattle.ts_sessions.specs.Places.{Block, none, writing, reading, Places, Turn, enters, queue_count, refuses, turns}
 use Rattle.ts_sessions.specs.Procedures.{Procedure, sees, looks, ends}
 use Rattle.ts_sessions.specs.Held.{HoldsBlock, block_of, most_queued}
@@ -42,7 +39,7 @@ use Rattle.ts_sessions.specs.Sessions.{Counts, Ends, EndsAt, turn_of}
 use Rattle.ts_sessions.specs.Step.{answers, block_refusal, closes, commits, given_up, in_form, kind_of, makes_event, named, named_first, named_here, performs, performs_in, prints, read_at, refresh_meant, shown_in, snaps}
 use Rattle.ts_sessions.specs.Walks.{Breaks, Sees}
 use Rattle.ts_sessions.proofs.BlockWalks.{begins_outside, snaps_outside}
-use Rattle.ts_sessions.proofs.DeedWalks.{looks_leads}
+use Rattle.ts_sessions.proofs.DeedWalks.{looks_leads, unspent}
 use Rattle.ts_sessions.proofs.EndLaws.{raised_up}
 use Rattle.ts_sessions.proofs.HeldDeeds.{leads_same}
 use Rattle.ts_sessions.proofs.HoldLaws.{empty_holds}
@@ -50,10 +47,6 @@ use Rattle.ts_sessions.proofs.NameCheckWalks.{unraised}
 use Rattle.ts_sessions.proofs.WalkLaws.{not_begun}
 
 -- ---- results
-
-pub if_ok : {A : Type 0} (result : Result A NoMemory) (P Q : A → Type 0) → ((a : A) → P a → Q a) → IfOk result P → IfOk result Q
-if_ok (Ok a) P Q k p = k a p
-if_ok (Err e) P Q k p = tt
 
 -- ---- looks
 
@@ -90,18 +83,6 @@ performs_ends alone s p bytes stmt y e i =
     (saw_leads alone s s (λ h. prints p.block (kind_of stmt) (refusal_of (position h) (roster h) stmt)) (λ h. named p bytes stmt (read_at p.block h)) (inl refl)))
 
 -- ---- what comes first
-
-unspent_by : (f : Finishing) → spent_by 0 f ≡ 0
-unspent_by (finishing.Begun begun at) = refl
-unspent_by (finishing.Held cut at) = refl
-
-unspent_deed : {T J : Type 0} (d : Deed T J) → spent 0 d ≡ 0
-unspent_deed (deeds.Finish job f) = unspent_by f
-unspent_deed other = refl
-
-pub unspent : {T J : Type 0} (next : Next T J) → spent_next 0 next ≡ 0
-unspent (nexts.Deed d) = unspent_deed d
-unspent (nexts.End t) = refl
 
 pub opens_here : {T J : Type 0} (shown : Shown T J) (bytes : ℕ) (alone : Bool) (s : State) (procedure : Procedure (Turn Places)) (p : Places) (next : Next T J) (n : ℕ) → n < 2 ^ 64 → Leads alone false s procedure s (rest_next p 0 s.history next) → NextFits shown bytes next s → Opens shown bytes alone s procedure p next s n n
 opens_here shown bytes alone s procedure p next n short w k = record { read = 0; leads = w; spent = unspent next; fits = k; counted = unraised n short }

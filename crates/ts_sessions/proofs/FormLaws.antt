@@ -1,16 +1,13 @@
 -- What is made of an answer.
-use Rattle.std.proofs.Common.{◌≡◌, ℕ, true, Some, sym, ap, ◌∙◌, subst}
+use Rattle.std.proofs.Common.{◌≡◌, true, Some, sym, ap, ◌∙◌, subst}
 use Rattle.ts_model.specs.declared.queries.Answer.{Answer}
 use Rattle.ts_model.specs.declared.rosters.Roster.{Roster}
 use Rattle.ts_model.specs.Allowed.{all_consistent}
 use Rattle.ts_model.specs.Answers.{answer, answer_of_view}
-use Rattle.ts_model.specs.History.{History, position}
+use Rattle.ts_model.specs.History.{History}
 use Rattle.ts_model.specs.Roster.{roster, view_of}
 use Rattle.ts_model.proofs.SoundLaws.{view_width}
-use Rattle.stmt_reader.specs.declared.statements.Stmt.{Stmt}
-use Rattle.hier_agg.specs.declared.reads.UpperRead.{UpperRead}
 use Rattle.hier_agg.specs.Plans.{all_starts}
-use Rattle.hier_agg.specs.Reads.{upper_read}
 use Rattle.hier_agg.specs.Stale.{AreWholeRanges}
 use Rattle.hier_agg.proofs.Held.{answers_have_whole_ranges}
 use Rattle.ts_sessions.specs.declared.queries.Form.{Form}
@@ -28,7 +25,3 @@ form_fits R h (forms.RolledUp upper) plan a r ok formed e = λ def i.
     let shown : a ≡ answer_of_view n h all_starts (Some def) = e ∙ ap (λ q. answer q h) formed ∙ ap (answer_of_view n h all_starts) at in
     subst (λ x. AreWholeRanges def.fold.width x.stale) (sym shown) (answers_have_whole_ranges n h all_starts def (view_width h n def ok at))
 form_fits R h (forms.Calendar cal) plan a r ok formed e = record { number = formed.number; columns = formed.columns; rows = calendar_fits h cal plan.query a ok formed e }
-
--- what a statement asks of an aggregate by a snapshot it asks by each history that the snapshot stands for
-pub upper_at : (h : History) (pos : ℕ) (r : Roster) (stmt : Stmt) (u : UpperRead) → pos ≡ position h → r ≡ roster h → upper_read pos r stmt ≡ u → upper_read (position h) (roster h) stmt ≡ u
-upper_at h pos r stmt u a b e = subst (λ x. upper_read x (roster h) stmt ≡ u) a (subst (λ x. upper_read pos x stmt ≡ u) b e)

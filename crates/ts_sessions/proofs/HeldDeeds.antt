@@ -5,7 +5,6 @@ use Rattle.ts_schema.specs.declared.memory.NoMemory.{NoMemory}
 use Rattle.ts_model.specs.declared.snapshots.Shown.{Ghosts as Shown}
 use Rattle.ts_model.specs.History.{History, Begins}
 use Rattle.ts_model.specs.States.{State}
-use Rattle.ts_model.specs.Calls.{no_refresh, refusal}
 use Rattle.ts_model.specs.Pending.{pending}
 use Rattle.ts_sessions.specs.declared.deeds.Next.{Next}
 use Rattle.ts_sessions.specs.declared.deeds.Next.TheVariants as nexts
@@ -38,9 +37,6 @@ meant p number m alone s left e k = subst (λ x. Leads alone false s (looks (λ 
 
 at_held : (p : Places) (c : ℕ) (o : Option ℕ) (alone : Bool) (s : State) (left : Procedure (Turn Places)) → held_for c p.held ≡ o → Leads alone false s (looks (λ h. finishes_held p h c o)) s left → Leads alone false s (looks (λ h. finishes p h (Some c))) s left
 at_held p c o alone s left e k = subst (λ x. Leads alone false s (looks (λ h. finishes_held p h c x)) s left) (sym e) k
-
-pub stands_unknown : (p : Places) (number : Option ℤ) (s : State) → refresh_meant p number ≡ None → (alone : Bool) → Leads alone false s (finishes_meant p number) s (looks (λ h. ends (refuses p (refusal no_refresh h 0))))
-stands_unknown p number s e alone = meant p number None alone s _ e (leads_same alone s (looks (λ h. ends (refuses p (refusal no_refresh h 0)))))
 
 pub stands_unheld : (p : Places) (number : Option ℤ) (c : ℕ) (s : State) → refresh_meant p number ≡ Some c → held_for c p.held ≡ None → (alone : Bool) → Leads alone false s (finishes_meant p number) s (looks (λ h. ends (refuses p (unfinished NO_SNAPSHOT h (pending h c)))))
 stands_unheld p number c s e f alone =

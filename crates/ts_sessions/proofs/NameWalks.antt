@@ -1,11 +1,9 @@
 -- What is looked at by names and stays.
-use Rattle.std.proofs.Common.{◌≡◌, ℕ, Option, Some, None, sym, refl, ap, ◌∙◌, subst}
-use Rattle.std.specs.Prelude.{IsTrue, IsSome}
+use Rattle.std.proofs.Common.{◌≡◌, ℕ, Option, Some, None, sym, refl, ap, ◌∙◌}
+use Rattle.std.specs.Prelude.{IsSome}
 use Rattle.std.proofs.lemmas.Bool.{true≢false}
-use Rattle.ts_model.specs.declared.queries.Query.{Query}
 use Rattle.ts_model.specs.declared.rosters.Roster.{Roster}
 use Rattle.ts_model.specs.declared.views.ViewDef.{ViewDef}
-use Rattle.ts_model.specs.Answers.{can_ask}
 use Rattle.ts_model.specs.History.{History, Begins}
 use Rattle.ts_model.specs.Laws.{KeepsView}
 use Rattle.ts_model.specs.Roster.{roster, view_of}
@@ -22,7 +20,3 @@ start_kept r s n (Some def) e i k = start_stays def (view_of s n) (k def e) ∙ 
 
 pub least_stays : (g h : History) (n : ℕ) → Begins g h → IsSome (view_of (roster g) n) → least_start (view_of (roster h) n) ≡ least_start (view_of (roster g) n)
 least_stays g h n b i = start_kept (roster g) (roster h) n (view_of (roster g) n) refl i ((relations_stay g h b).views n)
-
--- what a snapshot's roster lets ask, each history that it stands for does
-pub can_ask_at : (R : Roster) (h g : History) (q : Query) → R ≡ roster h → R ≡ roster g → IsTrue (can_ask (roster h) q) → IsTrue (can_ask (roster g) q)
-can_ask_at R h g q a b c = subst (λ x. IsTrue (can_ask x q)) (sym a ∙ b) c

@@ -2,15 +2,14 @@ use Rattle.std.proofs.Common.{◌≡◌, ◌<◌, ◌^◌, ◌∙◌, Some, None
 use Rattle.std.specs.Prelude.{Ok, Err, IsTrue}
 use Rattle.ts_sessions.specs.Held.{is_lost}
 use Rattle.ts_model.specs.Pending.{pending}
-use Rattle.ts_sessions.specs.Places.{enters, reading, refuses, turns}
-use Rattle.ts_model.specs.History.{position}
-use Rattle.ts_sessions.proofs.FirstLaws.{unspent}
+use Rattle.ts_sessions.specs.Places.{Places, Turn, enters, reading, refuses, turns}
+use Rattle.ts_model.specs.History.{History, position}
 use Rattle.ts_sessions.proofs.HoldLaws.{whole_holds}
 use Rattle.ts_sessions.specs.Deeds.{DeedFits, NextFits, IsAsked, IsLostBy, Leads, MadeFits, led, view_leaves, at_in, cut_in, finished, lack_code, left_by, line_of, making_of, rest, rest_next, says, spent, spent_by}
 use Rattle.ts_model.specs.Calls.{committing, making_view, no_refresh, refusal}
 use Rattle.ts_model.specs.Roster.{roster}
-use Rattle.ts_sessions.specs.Procedures.{ends, followed_by, looks, tries, tries_at}
-use Rattle.ts_sessions.specs.Sessions.{Tries, has_failed}
+use Rattle.ts_sessions.specs.Procedures.{Procedure, ends, followed_by, looks, tries, tries_at}
+use Rattle.ts_sessions.specs.Sessions.{has_failed}
 use Rattle.ts_sessions.specs.Step.{after_cut, after_view, view_made, committed, cut_turn, cuts_refresh, finishes_refresh, reported, unfinished}
 use Rattle.ts_sessions.specs.declared.deeds.Deed.TheVariants as deeds
 use Rattle.ts_bucket.specs.Bucket.{first_of}
@@ -24,7 +23,7 @@ use Rattle.ts_sessions.proofs.NameCheckWalks.{looked_only}
 use Rattle.ts_sessions.proofs.StateLaws.{looked_reports, sees_looked}
 use Rattle.ts_sessions.proofs.ViewWalks.{number_in, view_broken, view_stays}
 use Rattle.ts_sessions.proofs.WalkLaws.{not_begun}
-use Rattle.ts_sessions.proofs.DeedWalks.{broken_off, call_broken, call_goes, goes_by, look_leads, next_broken, seen_leads, view_fits, view_leads}
+use Rattle.ts_sessions.proofs.DeedWalks.{broken_off, call_broken, call_goes, goes_by, job_tries, look_broken, look_goes, next_broken, seen_leads, unspent, view_fits, view_leads}
 use Rattle.ts_sessions.proofs.JobLaws.{finish_lost, known_job}
 use Rattle.ts_sessions.proofs.deeds.advance.Goals as goal
 
@@ -77,8 +76,7 @@ returns-in_err-tried-in-Finish-clause-advances g c = λ p read.
     let old = g.B.Backend.state c.args.backend.now in
     let new = g.B.Backend.state c.finish.new.backend in
     let f = c.in-Finish.finishing in
-    let k = subst (λ d. DeedFits g.B.Shot.Shown d old) c.in-Finish.is c.requires.fits in
-    let w = subst (λ n. Tries g.B.Backend.alone old (finishes_refresh n (at_in f)) (Err _) new) k.1 (subst (λ n. Tries g.B.Backend.alone old (finishes_refresh (g.B.Shot.Shown.cut_of c.in-Finish.job) n) (Err _) new) k.2 c.in_err-tried-in-Finish.ensures.tries) in
+    let w = job_tries g.B.Shot.Shown g.B.Backend.alone old c.args.deed c.in-Finish.job f (Err _) new c.requires.fits c.in-Finish.is c.in_err-tried-in-Finish.ensures.tries in
     call_broken g.B.Backend.alone old p read c.args.deed (finishes_refresh (cut_in f) (at_in f)) (λ r. ends (finished p read f r)) c.from_residual-in_err-tried-in-Finish.result new _ c.from_residual-in_err-tried-in-Finish.ensures.0 (ap (rest p read old.history) c.in-Finish.is) w
 
 pub returns-in_err-next-in-Finish-clause-advances : goal.returns-in_err-next-in-Finish-clause-advances
@@ -86,9 +84,8 @@ returns-in_err-next-in-Finish-clause-advances g c = λ p read.
     let old = g.B.Backend.state c.args.backend.now in
     let new = g.B.Backend.state c.finish.new.backend in
     let f = c.in-Finish.finishing in
-    let k = subst (λ d. DeedFits g.B.Shot.Shown d old) c.in-Finish.is c.requires.fits in
     let t = c.in_ok-tried-in-Finish.tried in
-    let w = subst (λ n. Tries g.B.Backend.alone old (finishes_refresh n (at_in f)) (Ok t) new) k.1 (subst (λ n. Tries g.B.Backend.alone old (finishes_refresh (g.B.Shot.Shown.cut_of c.in-Finish.job) n) (Ok t) new) k.2 c.in_ok-tried-in-Finish.ensures.tries) in
+    let w = job_tries g.B.Shot.Shown g.B.Backend.alone old c.args.deed c.in-Finish.job f (Ok t) new c.requires.fits c.in-Finish.is c.in_ok-tried-in-Finish.ensures.tries in
     next_broken g.B.Backend.alone old p read c.args.deed (finishes_refresh (cut_in f) (at_in f)) (λ r. ends (finished p read f r)) t c.from_residual-in_err-next-in-Finish.result new _ c.from_residual-in_err-next-in-Finish.ensures.0 (ap (rest p read old.history) c.in-Finish.is) w
 
 pub returns-in_ok-next-in-Finish-clause-advances : goal.returns-in_ok-next-in-Finish-clause-advances
@@ -96,9 +93,8 @@ returns-in_ok-next-in-Finish-clause-advances g c = λ p read.
     let old = g.B.Backend.state c.args.backend.now in
     let new = g.B.Backend.state c.finish.new.backend in
     let f = c.in-Finish.finishing in
-    let k = subst (λ d. DeedFits g.B.Shot.Shown d old) c.in-Finish.is c.requires.fits in
     let t = c.in_ok-tried-in-Finish.tried in
-    let w = subst (λ n. Tries g.B.Backend.alone old (finishes_refresh n (at_in f)) (Ok t) new) k.1 (subst (λ n. Tries g.B.Backend.alone old (finishes_refresh (g.B.Shot.Shown.cut_of c.in-Finish.job) n) (Ok t) new) k.2 c.in_ok-tried-in-Finish.ensures.tries) in
+    let w = job_tries g.B.Shot.Shown g.B.Backend.alone old c.args.deed c.in-Finish.job f (Ok t) new c.requires.fits c.in-Finish.is c.in_ok-tried-in-Finish.ensures.tries in
     call_goes g.B.Backend.alone old p read (spent_by read f) c.args.deed (finishes_refresh (cut_in f) (at_in f)) (λ r. ends (finished p read f r)) t c.came-in-Finish.result c.failed-failed-in-Finish.result c.in_ok-next-in-Finish.next new _ (ap (rest p read old.history) c.in-Finish.is) (ap (spent read) c.in-Finish.is) w c.failed-failed-in-Finish.ensures c.came-in-Finish.ensures (c.in_ok-next-in-Finish.ensures.rest p read new.history) (c.in_ok-next-in-Finish.ensures.spent (spent_by read f))
 
 -- the refresh can't be finished any more
@@ -226,31 +222,26 @@ returns-in_ok-shot-in-Fill-clause-fits g c = λ bytes.
 
 -- ---- a read block that begins
 
+abbrev begun : Places → History → Procedure (Turn Places)
+begun p h = ends (turns (enters (reading (position h)) p) (said.BeginRead (position h)))
+
 pub returns-in_err-shot-in-BeginRead-clause-advances : goal.returns-in_err-shot-in-BeginRead-clause-advances
 returns-in_err-shot-in-BeginRead-clause-advances g c = λ p read.
     let old = g.B.Backend.state c.args.backend.now in
-    let new = g.B.Backend.state c.snap-in-BeginRead.new.self in
-    broken_off g.B.Backend.alone old p read c.args.deed c.from_residual-in_err-shot-in-BeginRead.result new _ c.from_residual-in_err-shot-in-BeginRead.ensures.0
-    (subst (λ d. Breaks g.B.Backend.alone old (rest p read old.history d) new) (sym c.in-BeginRead.is) (looked_only g.B.Backend.alone old _ new (λ h. true) (λ h. ends (turns (enters (reading (position h)) p) (said.BeginRead (position h)))) c.in_err-shot-in-BeginRead.ensures.looked))
+    look_broken g.B.Backend.alone old p read c.args.deed _ (begun p) c.from_residual-in_err-shot-in-BeginRead.result _ _ c.from_residual-in_err-shot-in-BeginRead.ensures.0 (ap (rest p read old.history) c.in-BeginRead.is) c.in_err-shot-in-BeginRead.ensures.looked
 
 pub returns-in_err-next-in-BeginRead-clause-advances : goal.returns-in_err-next-in-BeginRead-clause-advances
 returns-in_err-next-in-BeginRead-clause-advances g c = λ p read.
     let old = g.B.Backend.state c.args.backend.now in
-    let new = g.B.Backend.state c.snap-in-BeginRead.new.self in
-    broken_off g.B.Backend.alone old p read c.args.deed c.from_residual-in_err-next-in-BeginRead.result new _ c.from_residual-in_err-next-in-BeginRead.ensures.0
-    (subst (λ d. Breaks g.B.Backend.alone old (rest p read old.history d) new) (sym c.in-BeginRead.is) (looked_only g.B.Backend.alone old _ new (λ h. true) (λ h. ends (turns (enters (reading (position h)) p) (said.BeginRead (position h)))) c.in_ok-shot-in-BeginRead.ensures.looked))
+    look_broken g.B.Backend.alone old p read c.args.deed _ (begun p) c.from_residual-in_err-next-in-BeginRead.result _ _ c.from_residual-in_err-next-in-BeginRead.ensures.0 (ap (rest p read old.history) c.in-BeginRead.is) c.in_ok-shot-in-BeginRead.ensures.looked
 
 pub returns-in_ok-next-in-BeginRead-clause-advances : goal.returns-in_ok-next-in-BeginRead-clause-advances
 returns-in_ok-next-in-BeginRead-clause-advances g c = λ p read.
     let old = g.B.Backend.state c.args.backend.now in
     let mid = g.B.Backend.state c.snap-in-BeginRead.new.self in
     let looked = c.in_ok-shot-in-BeginRead.ensures.looked in
-    let tells = looked_reports g.B.Backend.alone old _ mid looked in
-    let procedure = looks (λ h. ends (turns (enters (reading (position h)) p) (said.BeginRead (position h)))) in
-    goes_by g.B.Backend.alone old p read 0 c.args.deed procedure (record { said = None; next = c.in_ok-next-in-BeginRead.next; failed = false }) mid _ (ends (turns (enters (reading (position mid.history)) p) (said.BeginRead (position mid.history)))) (ap (rest p read old.history) c.in-BeginRead.is) (ap (spent read) c.in-BeginRead.is)
-    (look_leads g.B.Backend.alone old _ mid (λ h. true) (λ h. ends (turns (enters (reading (position h)) p) (said.BeginRead (position h)))) looked)
-    (ap (rest_next p 0 mid.history) c.in_ok-next-in-BeginRead.ensures ∙ ap (λ n. ends (turns (enters (reading n) p) (said.BeginRead n))) (c.position-at.ensures mid.history tells.1))
-    (unspent c.in_ok-next-in-BeginRead.next)
+    look_goes g.B.Backend.alone old p read c.args.deed _ (begun p) c.in_ok-next-in-BeginRead.next mid _ (ap (rest p read old.history) c.in-BeginRead.is) (ap (spent read) c.in-BeginRead.is) looked
+    (ap (rest_next p 0 mid.history) c.in_ok-next-in-BeginRead.ensures ∙ ap (λ n. ends (turns (enters (reading n) p) (said.BeginRead n))) (c.position-at.ensures mid.history (looked_reports g.B.Backend.alone old _ mid looked).1))
 
 pub returns-in_ok-next-in-BeginRead-clause-fits : goal.returns-in_ok-next-in-BeginRead-clause-fits
 returns-in_ok-next-in-BeginRead-clause-fits g c = λ bytes.
@@ -267,21 +258,15 @@ returns-in_ok-next-in-Refuse-clause-advances g c = λ p read.
     let old = g.B.Backend.state c.args.backend.now in
     let mid = g.B.Backend.state c.snap-in-Refuse.new.self in
     let lacks = c.in-Refuse.lacks in
-    let cut = c.in-Refuse.cut in
     let looked = c.in_ok-shot-in-Refuse.ensures.looked in
     let tells = looked_reports g.B.Backend.alone old _ mid looked in
-    goes_by g.B.Backend.alone old p read 0 c.args.deed (looks (λ h. ends (refuses p (unfinished (lack_code lacks h) h (pending h cut))))) (record { said = None; next = c.in_ok-next-in-Refuse.next; failed = false }) mid _ (ends (refuses p (unfinished (lack_code lacks mid.history) mid.history (pending mid.history cut)))) (ap (rest p read old.history) c.in-Refuse.is) (ap (spent read) c.in-Refuse.is)
-    (look_leads g.B.Backend.alone old _ mid (λ h. true) (λ h. ends (refuses p (unfinished (lack_code lacks h) h (pending h cut)))) looked)
+    look_goes g.B.Backend.alone old p read c.args.deed _ (λ h. ends (refuses p (unfinished (lack_code lacks h) h (pending h c.in-Refuse.cut)))) c.in_ok-next-in-Refuse.next mid _ (ap (rest p read old.history) c.in-Refuse.is) (ap (spent read) c.in-Refuse.is) looked
     (c.in_ok-next-in-Refuse.ensures.rest p mid.history mid.history (c.position-in-Refuse.ensures mid.history tells.1) ∙ ap (λ q. ends (refuses p (unfinished (lack_code lacks mid.history) mid.history q))) (c.pending.ensures mid.history tells.1))
-    (unspent c.in_ok-next-in-Refuse.next)
 
 pub returns-in_ok-next-in-Unknown-clause-advances : goal.returns-in_ok-next-in-Unknown-clause-advances
 returns-in_ok-next-in-Unknown-clause-advances g c = λ p read.
     let old = g.B.Backend.state c.args.backend.now in
     let mid = g.B.Backend.state c.snap-in-Unknown.new.self in
     let looked = c.in_ok-shot-in-Unknown.ensures.looked in
-    let tells = looked_reports g.B.Backend.alone old _ mid looked in
-    goes_by g.B.Backend.alone old p read 0 c.args.deed (looks (λ h. ends (refuses p (refusal no_refresh h 0)))) (record { said = None; next = c.in_ok-next-in-Unknown.next; failed = false }) mid _ (ends (refuses p (refusal no_refresh mid.history 0))) (ap (rest p read old.history) c.in-Unknown.is) (ap (spent read) c.in-Unknown.is)
-    (look_leads g.B.Backend.alone old _ mid (λ h. true) (λ h. ends (refuses p (refusal no_refresh h 0))) looked)
-    (c.in_ok-next-in-Unknown.ensures.rest p mid.history mid.history (c.position-in-Unknown.ensures mid.history tells.1))
-    (unspent c.in_ok-next-in-Unknown.next)
+    look_goes g.B.Backend.alone old p read c.args.deed _ (λ h. ends (refuses p (refusal no_refresh h 0))) c.in_ok-next-in-Unknown.next mid _ (ap (rest p read old.history) c.in-Unknown.is) (ap (spent read) c.in-Unknown.is) looked
+    (c.in_ok-next-in-Unknown.ensures.rest p mid.history mid.history (c.position-in-Unknown.ensures mid.history (looked_reports g.B.Backend.alone old _ mid looked).1))
