@@ -1,32 +1,17 @@
 //! What a finish makes of its aggregate.
-ghost use Rattle.std.specs.Prelude.{◌≡◌, ℤ, IfOk};
+ghost use Rattle.std.specs.Prelude.{IfOk};
 ghost use Rattle.ts_bucket.specs.WholeSpans.{IsWholeSpan};
-ghost use Rattle.mat_log.specs.Logs.{last_at, pending_at};
 ghost use Rattle.mat_rows.specs.Replacing.{AreSpans, SpansRise};
 ghost use Rattle.engine_state.specs.Groups.{AreReplaced};
-ghost use Rattle.engine_state.specs.Steps.{JobFinished, last_settled, pending_settled};
+ghost use Rattle.engine_state.specs.Steps.{JobFinished};
 
 use crate::views::ViewState;
-use mat_log::MatLog;
 use mat_rows::MatRows;
 use refresh_build::Job;
 use std::alloc::Global;
 use ts_bucket::Span;
 use ts_num::greater;
 use ts_schema::{NoMemory, Seq};
-
-/// The log of an aggregate after a refresh of a span of whole buckets with a snapshot was settled.
-fn settled(log: &MatLog, span: Span, snap: u64) -> Result<MatLog, NoMemory>
-    requires { IsWholeSpan log.now.width span }
-    ensures width { IfOk result (λ new. new.width ≡ log.now.width) }
-    ensures pending { IfOk result (λ new. (b : ℤ) → pending_at new b ≡ pending_settled span snap log.now b) }
-    ensures refreshed { IfOk result (λ new. (b : ℤ) → last_at new b ≡ last_settled span snap log.now b) }
-{
-    let mut new = log.copy()?;
-    new.reserve()?;
-    new.settle(span, snap);
-    new.shared()
-}
 
 /// Materialised groups with new ones in place of those of some ranges of buckets.
 fn replaced(old: &MatRows, ranges: &Seq<Span>, groups: &MatRows) -> Result<MatRows, NoMemory>
@@ -51,7 +36,7 @@ pub(crate) fn finished(
     requires rising { SpansRise renewed.now }
     ensures finished { IfOk result (JobFinished job.now renewed.now view.now) }
 {
-    let log = settled(view.log(), job.span, job.snap)?;
+    let log = view.log().settled(job.span, job.snap)?;
     let groups = replaced(view.groups(), renewed, &job.groups)?;
     let mark = greater(view.mark(), job.top);
     ViewState::of(alloc, view.table(), log, groups, mark)
