@@ -3,7 +3,7 @@ import re
 import struct
 from typing import NamedTuple
 
-MAGIC = b"TSCTLJ01"
+MAGIC, VERSION_2, BASE = b"TSCTLJ0", b"2", b"\x08"
 LEAST_TIME, MOST_TIME = -(2**62), 2**62 - 1
 NAME = re.compile(rb"[a-z_][a-z0-9_]{0,62}")
 COMPARISONS = ["=", "<>", "<", "<=", ">", ">=", "IS NULL", "IS NOT NULL"]
@@ -96,12 +96,16 @@ class Built(NamedTuple):
 
 
 def payloads(file):
-    """Each payload of a file's bytes with the place of its open gate. A damaged file ends as Damaged."""
+    """Each payload that counts, of a file's bytes, with the place of its open gate. A damaged file ends as Damaged."""
     if len(file) <= 9:
         return
-    if file[:8] != MAGIC:
+    if file[:7] != MAGIC:
         raise Damaged(0)
-    gate = 8
+    yield from frames(file, last_base(file) if file[7:8] == VERSION_2 else 8)
+
+
+def frames(file, gate):
+    """Each payload from this gate on, with the place of its own."""
     while file[gate] == 1:
         if len(file) < gate + 5:
             raise Damaged(gate)
@@ -110,6 +114,18 @@ def payloads(file):
             raise Damaged(gate)
         yield gate, file[gate + 5 : end]
         gate = end
+
+
+def last_base(file):
+    """The gate of the last base, or the first gate where there is none."""
+    found = 8
+    try:
+        for gate, payload in frames(file, 8):
+            if payload[:1] == BASE:
+                found = gate
+    except Damaged:
+        pass
+    return found
 
 
 class Fields:

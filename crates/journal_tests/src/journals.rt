@@ -108,7 +108,7 @@ fn a_changed_byte_is_found_where_frames_tell_it(rt: HostRuntime) -> Result<(), F
     for (at, byte, want) in [
         (100, 0, sound(2)),
         (0, 0, broken(0, 0)),
-        (7, 0x32, broken(0, 0)),
+        (6, 0x31, broken(0, 0)),
         (8, 0, sound(0)),
         (9, 36, broken(0, 8)),
         (12, 1, broken(0, 8)),
@@ -268,5 +268,134 @@ fn a_journal_that_stopped_takes_nothing(rt: HostRuntime) -> Result<(), Fail> {
             Append::Stopped
         ]
     );
+    Ok(())
+}
+
+/// The bytes of two payloads, the second of which begins with the byte 8, in a journal with this byte of a
+/// version.
+fn with_base(alloc: Global, mark: u8) -> Result<Vec<u8>, NoMemory> {
+    let mut bytes = changed(alloc, 31, 8)?;
+    if let Some(place) = bytes.get_mut(7) {
+        *place = mark;
+    }
+    Ok(bytes)
+}
+
+#[test]
+fn reading_begins_at_a_base_in_version_2_alone(rt: HostRuntime) -> Result<(), Fail> {
+    let alloc = rt.alloc();
+    for (mark, want) in [
+        (0x31, sound(2)),
+        (0x32, sound(1)),
+        (0x33, sound(2)),
+        (0, sound(2)),
+    ] {
+        let found = read(alloc, &with_base(alloc, mark)?)?;
+        assert_eq!(rt; found, want, "the version's byte is {mark}");
+    }
+    Ok(())
+}
+
+#[test]
+fn what_stands_behind_a_base_is_read(rt: HostRuntime) -> Result<(), Fail> {
+    let alloc = rt.alloc();
+    let mut bytes = with_base(alloc, 0x32)?;
+    for (at, byte, want) in [
+        (48, 1, broken(1, 48)),
+        (13, 9, broken(1, 48)),
+        (48, 2, sound(1)),
+        (26, 0, sound(1)),
+        (8, 2, sound(0)),
+    ] {
+        if let Some(place) = bytes.get_mut(at) {
+            *place = byte;
+        }
+        let found = read(alloc, &bytes)?;
+        assert_eq!(rt; found, want, "byte {at} is {byte}");
+    }
+    Ok(())
+}
+
+#[test]
+fn a_base_is_told_from_other_payloads(rt: HostRuntime) -> Result<(), Fail> {
+    let alloc = rt.alloc();
+    let disk = MemDisk::new(alloc, with_base(alloc, 0x32)?);
+    let Opened::Reading(mut reader) = Reader::open(alloc, disk) else {
+        return Err(Fail::new("it begins as a journal"));
+    };
+    let first = reader.next();
+    assert_eq!(rt; first, Next::Base(26));
+    assert_eq!(rt; reader.payload().len(), 17);
+    let end = reader.next();
+    assert_eq!(rt; end, Next::End);
+    Ok(())
+}
+
+/// Appends a payload, raises the version, and appends a base and one payload more; with what the last call
+/// answered.
+fn append_base<D: Disk + Drop>(alloc: Global, disk: D) -> Result<(D, Append), NoMemory> {
+    let mut journal = match recover(alloc, disk) {
+        Recovered::Ready { journal, .. } => journal,
+        Recovered::Damaged { disk, .. } => return Ok((disk, Append::Stopped)),
+        Recovered::DiskFault(disk) => return Ok((disk, Append::DiskFault)),
+        Recovered::NoMemory(_) => return Err(NoMemory),
+    };
+    let [three, eight, five] = [
+        frame_of(alloc, 3)?,
+        frame_of(alloc, 8)?,
+        frame_of(alloc, 5)?,
+    ];
+    let _armed = journal.arm();
+    let _appended = journal.append(&three);
+    let _raised = journal.raise_version();
+    let _based = journal.append(&eight);
+    let last = journal.append(&five);
+    Ok((journal.close(), last))
+}
+
+#[test]
+fn a_base_takes_the_place_of_what_stands_before_it(rt: HostRuntime) -> Result<(), Fail> {
+    let alloc = rt.alloc();
+    let (disk, last) = append_base(alloc, MemDisk::new(alloc, Vec::new(alloc)))?;
+    assert_eq!(rt; last, Append::Done);
+    let Recovered::Ready {
+        mut journal,
+        payloads,
+    } = recover(alloc, disk)
+    else {
+        return Err(Fail::new("it is sound"));
+    };
+    assert_eq!(rt; journal.version(), 2);
+    let mut places = Vec::new(alloc);
+    for payload in payloads.items() {
+        places.push(payload.at)?;
+    }
+    assert_eq!(rt; places.as_slice(), [16, 29].as_slice());
+    let raised = journal.raise_version();
+    assert_eq!(rt; raised, Append::Done);
+    Ok(())
+}
+
+#[test]
+fn a_journal_is_sound_whichever_call_fails_as_its_version_is_raised(
+    rt: HostRuntime,
+) -> Result<(), Fail> {
+    let alloc = rt.alloc();
+    for kind in [Kind::Len, Kind::Read, Kind::Write, Kind::Sync] {
+        for nth in 1..12 {
+            let disk = FailDisk::new(alloc, Vec::new(alloc), kind, nth);
+            let (disk, last) = append_base(alloc, disk)?;
+            let done = last == Append::Done;
+            assert_eq!(rt; done, disk.faults() == 0, "call {nth}");
+            let sound = images_are_read(alloc, disk.inner())?;
+            assert_eq!(rt; sound, true);
+        }
+    }
+    for calls in 0..24 {
+        let disk = FailDisk::stop_after(alloc, Vec::new(alloc), calls);
+        let (disk, _last) = append_base(alloc, disk)?;
+        let sound = images_are_read(alloc, disk.inner())?;
+        assert_eq!(rt; sound, true, "after {calls} calls");
+    }
     Ok(())
 }

@@ -1,28 +1,22 @@
 -- Histories and the bytes of their events.
-use Rattle.std.proofs.Common.{◌≡◌, true, List, [], ◌∷◌, ◌++◌, length, refl, sym, ◌∙◌, ap, subst, arith, length-append}
+use Rattle.std.proofs.Common.{◌≡◌, true, false, ℕ, List, [], ◌∷◌, length, refl, sym, ◌∙◌, ap, subst, arith, length-append}
 use Rattle.std.specs.Prelude.{IsTrue}
-use Rattle.std.proofs.lemmas.Bool.{and_from}
+use Rattle.std.proofs.lemmas.Bool.{and_from, true≢false}
 use Rattle.std.proofs.lemmas.List.{append-nil}
 use Rattle.ts_model.specs.declared.events.Event.{Event}
+use Rattle.ts_model.specs.declared.events.Event.TheVariants.{Table, Hyper, View, Mode, Commit, Cut, Built}
 use Rattle.ts_model.specs.Allowed.{allowed, all_allowed}
 use Rattle.ts_model.specs.History.{History, start, resumed, ◌▸◌, Begins, same, further}
 use Rattle.ts_model.proofs.AllowedLaws.{allowed_begins}
 use Rattle.event_codec.specs.Formed.{IsFormed}
 use Rattle.event_codec.specs.Spelling as spelling
 use Rattle.event_codec.proofs.Decodings.{no_prefix}
-use Rattle.ts_store.specs.Stands.{payloads_of, AllFormed, IsSound, IsNoEvent}
-
--- ---- lists that end with one more
-
-pub last_apart : {A : Type 0} (xs ys : List A) (x y : A) → xs ++ (x ∷ []) ≡ ys ++ (y ∷ []) → (xs ≡ ys) × (x ≡ y)
-last_apart [] [] x y is = (refl, cc is)
-last_apart [] (b ∷ ys) x y is = absurd (omega (arith, ap length is, length-append ys (y ∷ [])))
-last_apart (a ∷ xs) [] x y is = absurd (omega (arith, ap length is, length-append xs (x ∷ [])))
-last_apart (a ∷ xs) (b ∷ ys) x y is =
-    let rest : xs ++ (x ∷ []) ≡ ys ++ (y ∷ []) = cc is in
-    let first : a ≡ b = cc is in
-    let parts = last_apart xs ys x y rest in
-    ((λ k. first k ∷ parts.0 k), parts.1)
+use Rattle.txn_journal.specs.Contents.{is_base, with_payload}
+use Rattle.txn_journal.specs.declared.versions.Version.{Version}
+use Rattle.txn_journal.specs.declared.versions.Version.TheVariants.{One, Two}
+use Rattle.txn_journal.proofs.ContentLaws.{next_counts}
+use Rattle.txn_journal.proofs.FollowsLaws.{last_apart}
+use Rattle.ts_store.specs.Stands.{content_of, payloads_of, AllFormed, IsSound, IsNoEvent}
 
 -- ---- the beginning of a history
 
@@ -63,3 +57,24 @@ payloads_once (g ▸ d) (h ▸ e) fg fh is =
 -- a payload is the bytes of one event, so where that one may not come next, no other may
 pub no_other : (h : History) (e : Event) → IsFormed e → (allowed h e ≡ true → ⊥) → IsNoEvent h (spelling.event e)
 no_other h e formed refused d next = refused (subst (λ (x : Event). allowed h x ≡ true) (sym (spelled_once e d formed next.formed next.spelled)) next.fits)
+
+-- ---- what counts of the bytes of events
+
+-- no event is a base
+pub no_event_is_base : (version : Version) (e : Event) → is_base version (spelling.event e) ≡ false
+no_event_is_base One e = refl
+no_event_is_base Two (Table def) = refl
+no_event_is_base Two (Hyper table hyper) = refl
+no_event_is_base Two (View def) = refl
+no_event_is_base Two (Mode view only) = refl
+no_event_is_base Two (Commit ops) = refl
+no_event_is_base Two (Cut view span) = refl
+no_event_is_base Two (Built cut snap) = refl
+
+-- a payload that isn't one counts beside the others
+pub event_counts : (version : Version) (h : History) (e : Event) → with_payload version (content_of h) (spelling.event e) ≡ content_of (h ▸ e)
+event_counts version h e = next_counts version (content_of h) (spelling.event e) (no_event_is_base version e)
+
+-- a base is no event
+pub base_is_no_event : (version : Version) (h : History) (payload : List ℕ) → is_base version payload ≡ true → IsNoEvent h payload
+base_is_no_event version h payload base e next = true≢false (sym base ∙ ap (is_base version) next.spelled ∙ no_event_is_base version e)

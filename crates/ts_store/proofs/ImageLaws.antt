@@ -1,15 +1,18 @@
 -- Images of a store's disk.
-use Rattle.std.proofs.Common.{◌≡◌, inl, inr, ⊎_elim, ℕ, ◌≤◌, List, [], ◌∷◌, ◌++◌, Option, Some, None, IsSomeAnd, refl, sym, subst}
+use Rattle.std.proofs.Common.{◌≡◌, inl, inr, ⊎_elim, ℕ, ◌≤◌, List, [], ◌∷◌, ◌++◌, Option, Some, None, IsSomeAnd, refl, sym, ◌∙◌, ap, subst}
 use Rattle.ts_model.specs.declared.events.Event.{Event}
 use Rattle.ts_model.specs.History.{History, ◌▸◌, Begins, same, further}
 use Rattle.ts_model.proofs.HistoryLaws.{begins_trans}
 use Rattle.event_codec.specs.Spelling as spelling
 use Rattle.ts_disk.specs.CrashImage.{LeavesOnly}
 use Rattle.txn_journal.specs.Calls.{Logged, IsAtRest}
+use Rattle.txn_journal.specs.Contents.{Content, with_payload}
 use Rattle.txn_journal.specs.Frames.{Holds, StandsFor, WithOrWithout, body, frames, front}
+use Rattle.txn_journal.specs.declared.versions.Version.{Version}
 use Rattle.txn_journal.proofs.JournalLaws.{lies_stands}
 use Rattle.ts_store.specs.Images.{BeginSince, HasHeader, IsBetween, StandsForEither, StandsForMore, latest}
-use Rattle.ts_store.specs.Stands.{Stands, IsSound, payloads_of}
+use Rattle.ts_store.specs.Stands.{Stands, IsSound, content_of}
+use Rattle.ts_store.proofs.HistoryLaws.{event_counts}
 
 pub some_also : {A : Type 0} (o : Option A) (P Q : A → Type 0) → ((a : A) → P a → Q a) → IsSomeAnd o P → IsSomeAnd o Q
 some_also None P Q from p = p
@@ -19,17 +22,18 @@ pub some_is : {A : Type 0} (o : Option A) (a : A) (P : A → Type 0) → o ≡ S
 some_is {A = A} o a P is p = subst (λ (x : Option A). IsSomeAnd x P) (sym is) p
 
 -- a file that holds payloads has a header
-header_before : (file : List ℕ) (payloads : List (List ℕ)) (gate : ℕ) (rest : List ℕ) → file ≡ front payloads ++ gate ∷ rest → HasHeader file
-header_before file [] gate rest is = record { gate = gate; rest = rest; begins = is }
-header_before file (p ∷ payloads) gate rest is = record { gate = 1; rest = (body p ++ frames payloads) ++ gate ∷ rest; begins = is }
+header_before : (file : List ℕ) (mark : ℕ) (payloads : List (List ℕ)) (gate : ℕ) (rest : List ℕ) → file ≡ front mark payloads ++ gate ∷ rest → HasHeader file
+header_before file mark [] gate rest is = record { mark = mark; gate = gate; rest = rest; begins = is }
+header_before file mark (p ∷ payloads) gate rest is = record { mark = mark; gate = 1; rest = (body p ++ frames payloads) ++ gate ∷ rest; begins = is }
 
-pub holds_header : (file : List ℕ) (payloads : List (List ℕ)) → Holds file payloads → HasHeader file
-holds_header file payloads holds = header_before file payloads holds.gate holds.ignored holds.split
+pub holds_header : (file : List ℕ) (content : Content) → Holds file content → HasHeader file
+holds_header file content holds = header_before file holds.mark holds.all holds.gate holds.ignored holds.split
 
 -- a file that holds the payloads of a history, with the bytes of one more event or without it
-pub either_stands : (h : History) (e : Event) (payload c : List ℕ) → IsSound h → IsSound (h ▸ e) → payload ≡ spelling.event e → WithOrWithout (payloads_of h) payload c → StandsForEither h (h ▸ e) c
-either_stands h e payload c before after is (inl without) = inl (record { holds = without; sound = before })
-either_stands h e payload c before after is (inr with) = inr (record { holds = subst (λ (p : List ℕ). StandsFor c (payloads_of h ++ p ∷ [])) is with; sound = after })
+pub either_stands : (version : Version) (h : History) (e : Event) (payload c : List ℕ) → IsSound h → IsSound (h ▸ e) → payload ≡ spelling.event e → WithOrWithout version (content_of h) payload c
+    → StandsForEither h (h ▸ e) c
+either_stands version h e payload c before after is (inl without) = inl (record { holds = without; sound = before })
+either_stands version h e payload c before after is (inr with) = inr (record { holds = subst (StandsFor c) (ap (with_payload version (content_of h)) is ∙ event_counts version h e) with; sound = after })
 
 pub either_more : (h g k : History) (c : List ℕ) → Begins h g → Begins h k → StandsForEither g k c → StandsForMore h c
 either_more h g k c before after (inl stands) = record { all = g; stands = stands; begins = before }
@@ -65,5 +69,5 @@ module _ {D : Type 0} (bytes : D → Option (List ℕ)) (may_leave : D → List 
   begin_on old new P t h run more le begin c left = ⊎_elim (begin c) (more c) (run.before t c le left)
 
   -- what reads give of a journal at rest
-  pub shown_at_rest : (journal : Logged D) (h : History) → IsSound h → IsAtRest bytes may_leave journal (payloads_of h) → IsSomeAnd (bytes journal.disk) (λ file. Stands file h)
-  shown_at_rest journal h sound rest = some_is (bytes journal.disk) rest.file (λ file. Stands file h) rest.told (record { holds = lies_stands journal.standing rest.file journal.end (payloads_of h) rest.lies; sound = sound })
+  pub shown_at_rest : (journal : Logged D) (h : History) → IsSound h → IsAtRest bytes may_leave journal (content_of h) → IsSomeAnd (bytes journal.disk) (λ file. Stands file h)
+  shown_at_rest journal h sound rest = some_is (bytes journal.disk) rest.file (λ file. Stands file h) rest.told (record { holds = lies_stands journal.standing journal.version rest.file journal.end (content_of h) rest.lies; sound = sound })

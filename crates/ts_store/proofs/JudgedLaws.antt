@@ -1,9 +1,9 @@
 -- Each file of bytes stands for a history, or is damaged at a place.
-use Rattle.std.proofs.Common.{◌≡◌, ◌≢◌, ◌⊎◌, inl, inr, ⊎_elim, ℕ, zero, suc, ◌+◌, ◌^◌, ◌≤◌, ◌<◌, Bool, true, false, nat_lt, List, [], ◌∷◌, ◌++◌, length, take, drop, get_or, Result, Ok, Err, refl, sym, ◌∙◌, ap, subst, arith}
+use Rattle.std.proofs.Common.{◌≡◌, ◌≢◌, ◌⊎◌, inl, inr, ⊎_elim, ℕ, zero, suc, ◌+◌, ◌^◌, ◌≤◌, ◌<◌, Bool, true, false, nat_lt, List, [], ◌∷◌, ◌++◌, length, take, drop, get_or, Result, Ok, Err, refl, sym, ◌∙◌, ap, subst, arith, append_assoc}
 use Rattle.std.specs.Int.{w32, from_le_bytes}
-use Rattle.std.proofs.lemmas.Bool.{true≢false, ltb-true, ltb-false}
+use Rattle.std.proofs.lemmas.Bool.{true≢false, cond-false, cond-true, ltb-true, ltb-false}
 use Rattle.std.proofs.lemmas.Nat.{le_bytes_4}
-use Rattle.std.proofs.lemmas.List.{get_or-drop, get_or-take, length-drop, length-take-le, take_all}
+use Rattle.std.proofs.lemmas.List.{append-nil, get_or-drop, get_or-take, length-drop, length-take-le, take_all}
 use Rattle.std.proofs.Math.ListN.{get_or-eq_default}
 use Rattle.ts_model.specs.declared.events.Event.{Event}
 use Rattle.ts_model.specs.Allowed.{allowed}
@@ -12,16 +12,20 @@ use Rattle.event_codec.specs.Formed.{IsFormed}
 use Rattle.event_codec.specs.Reading.{whole_event}
 use Rattle.event_codec.specs.Spelling as spelling
 use Rattle.event_codec.proofs.Decodings.{is_formed, is_no_event, is_spelled}
-use Rattle.txn_journal.specs.Frames.{magic}
-use Rattle.txn_journal.specs.Reading.{IsHead, IsReadTo}
+use Rattle.txn_journal.specs.Contents.{counted, has_base, nothing, version_of, with_payload}
+use Rattle.txn_journal.specs.Frames.{AllFit, Follows, IsShort, counted_before, front, magic}
+use Rattle.txn_journal.specs.Reading.{HasFrames, IsHead}
 use Rattle.txn_journal.specs.declared.heads.Head.{Head}
 use Rattle.txn_journal.specs.declared.heads.Head.TheVariants.{Closed, Frame, Short}
-use Rattle.txn_journal.specs.declared.journals.Standing.TheVariants.{Ready}
-use Rattle.txn_journal.proofs.ReadingLaws.{closed_lies, frame_read, short_breaks}
+use Rattle.txn_journal.specs.declared.versions.Version.{Version}
+use Rattle.txn_journal.proofs.ContentLaws.{base_or_none, head_and_rest, payloads_push}
+use Rattle.txn_journal.proofs.FollowsLaws.{front-append, gate_behind, none_there}
+use Rattle.txn_journal.proofs.FrameLaws.{fit-append}
+use Rattle.txn_journal.proofs.ReadingLaws.{begins_frames, frame_read, split}
 use Rattle.ts_store.specs.Laws.{AreBytes, IsJudged, EachIsJudged}
-use Rattle.ts_store.specs.Stands.{IsNextEvent, IsNoEvent, IsSound, payloads_of}
-use Rattle.ts_store.proofs.HistoryLaws.{no_other, sound_push, sound_start}
-use Rattle.ts_store.proofs.ReplayLaws.{damaged_short, damaged_there, wrong_read}
+use Rattle.ts_store.specs.Stands.{IsNextEvent, IsNoEvent, IsSound, content_of}
+use Rattle.ts_store.proofs.HistoryLaws.{base_is_no_event, event_counts, no_other, sound_push, sound_start}
+use Rattle.ts_store.proofs.ReplayLaws.{damaged_short, damaged_there}
 
 -- ---- numbers and lists are the same or not
 
@@ -89,7 +93,7 @@ module _ (file : List ℕ) (bytes : AreBytes file) where
       (λ few. (Short, (is, inl few)))
       (λ enough. ⊎_elim
       (λ less. (Short, (is, inr less)))
-      (λ whole. (Frame count, (is, whole, few_bytes (take 4 rest) (four_bytes (at + 1)), le_bytes_4 (take 4 rest) count (length-take-le 4 rest enough) (four_bytes (at + 1)) refl)))
+      (λ whole. (Frame count (get_or file (at + 5) 0), (is, whole, few_bytes (take 4 rest) (four_bytes (at + 1)), le_bytes_4 (take 4 rest) count (length-take-le 4 rest enough) (four_bytes (at + 1)) refl, refl)))
       (below_or_not (length rest) (5 + count)))
       (below_or_not (length rest) 4)
 
@@ -98,52 +102,134 @@ module _ (file : List ℕ) (bytes : AreBytes file) where
 
   -- ---- frame by frame
 
-  module _ (h : History) (at : ℕ) (sound : IsSound h) (read : IsReadTo Ready file at (payloads_of h)) (within : at < length file) where
-    -- the payload of a whole frame
-    abbrev payload_at : ℕ → List ℕ
-    payload_at n = take n (drop (at + 5) file)
+  -- the frames of a journal, and where they end
+  record FramesEnd (mark : ℕ) : Type 0 where
+    all : List (List ℕ)
+    gate : ℕ
+    rest : List ℕ
+    split : file ≡ front mark all ++ gate ∷ rest
+    stops : (gate ≢ 1) ⊎ IsShort rest
+    fit : AllFit all
 
-    long_payload : (n : ℕ) → IsHead (Frame n) file at → length (payload_at n) ≡ n
-    long_payload n head = length-take-le n (drop (at + 5) file) (omega (arith, head.1, length-drop (at + 1) file, length-drop (at + 5) file))
+  module _ (mark : ℕ) where
+    ends_at : (at : ℕ) (payloads : List (List ℕ)) → HasFrames file mark at payloads → at < length file → (get_or file at 0 ≢ 1) ⊎ IsShort (drop (at + 1) file) → FramesEnd mark
+    ends_at at payloads frames within stops = record { all = payloads; gate = get_or file at 0; rest = drop (at + 1) file; split = split file mark at payloads frames within; stops = stops; fit = frames.fit }
 
-    read_on : (n : ℕ) (e : Event) → IsHead (Frame n) file at → IsNextEvent h (payload_at n) e → IsReadTo Ready file (at + 5 + n) (payloads_of (h ▸ e))
-    read_on n e head next = subst (λ (p : List ℕ). IsReadTo Ready file (at + 5 + n) (payloads_of h ++ p ∷ [])) next.spelled (frame_read file at (payloads_of h) read within n (payload_at n) head (long_payload n head) refl)
+    step : (at : ℕ) (payloads : List (List ℕ)) → HasFrames file mark at payloads → at < length file → (head : Head) → IsHead head file at
+        → ((later : ℕ) (more : List (List ℕ)) → HasFrames file mark later more → later < length file → at < later → FramesEnd mark) → FramesEnd mark
+    step at payloads frames within Closed is more = ends_at at payloads frames within (inl is)
+    step at payloads frames within Short is more = ends_at at payloads frames within (inr is.1)
+    step at payloads frames within (Frame n first) is more =
+        let payload = take n (drop (at + 5) file) in
+        let long : length (take n (drop (at + 5) file)) ≡ n = length-take-le n (drop (at + 5) file) (omega (arith, is.1, length-drop (at + 1) file, length-drop (at + 5) file)) in
+        more (at + 5 + n) (payloads ++ payload ∷ []) (frame_read file mark at payloads frames within n first payload is long refl) (omega (arith, is.1, length-drop (at + 1) file)) (omega arith)
 
-    goes_within : (n : ℕ) → IsHead (Frame n) file at → at + 5 + n < length file
-    goes_within n head = omega (arith, head.1, length-drop (at + 1) file)
+    walk : (fuel at : ℕ) (payloads : List (List ℕ)) → HasFrames file mark at payloads → at < length file → length file ≤ fuel + at → FramesEnd mark
+    walk zero at payloads frames within enough = absurd (omega (arith, within, enough))
+    walk (suc fuel) at payloads frames within enough = step at payloads frames within (head_of at).0 (head_of at).1 (λ p more f w later. walk fuel p more f w (omega (arith, enough, later)))
 
-    ends_here : IsHead Closed file at → IsJudged file
-    ends_here head = inl (h, record { holds = inr (closed_lies file at (payloads_of h) read within head).0; sound = sound })
+  -- ---- payload by payload
 
-    breaks_here : IsHead Short file at → IsJudged file
-    breaks_here head = inr (at, damaged_short file h at sound (short_breaks file at (payloads_of h) read within head))
+  module _ (mark : ℕ) (frames : FramesEnd mark) (long : 9 < length file) where
+    abbrev version : Version
+    version = version_of mark
 
-    wrong_here : (n : ℕ) → IsHead (Frame n) file at → IsNoEvent h (payload_at n) → IsJudged file
-    wrong_here n head none = inr (
-      at,
-      damaged_there file h at sound
-          (wrong_read Ready file (at + 5 + n) at h (payload_at n) (frame_read file at (payloads_of h) read within n (payload_at n) head (long_payload n head) refl) (goes_within n head) read.1 none),
+    -- a payload behind others, behind which there is no base
+    follows_at : (h : History) (seen behind : List (List ℕ)) (payload : List ℕ) → frames.all ≡ (seen ++ payload ∷ []) ++ behind → content_of h ≡ counted_before version seen payload → has_base version behind ≡ false
+        → Follows file version (content_of h) payload (length (front mark seen))
+    follows_at h seen behind payload is counts none =
+        let fit : AllFit ((seen ++ payload ∷ []) ++ behind) = subst AllFit is frames.fit in
+        let whole : file ≡ front mark ((seen ++ payload ∷ []) ++ behind) ++ frames.gate ∷ frames.rest = frames.split ∙ ap (λ (l : List (List ℕ)). front mark l ++ frames.gate ∷ frames.rest) is in
+        let next = gate_behind behind frames.gate frames.rest in
+        record {
+          mark = mark;
+          before = seen;
+          gate = next.0;
+          rest = next.1.0;
+          split = whole ∙ front-append mark (seen ++ payload ∷ []) behind (frames.gate ∷ frames.rest) ∙ ap (λ (l : List ℕ). front mark (seen ++ payload ∷ []) ++ l) next.1.1;
+          fit = (fit-append (seen ++ payload ∷ []) behind fit).0;
+          place = refl;
+          of_version = refl;
+          counts = counts;
+          last = none_there file mark (seen ++ payload ∷ []) behind frames.gate frames.rest fit frames.stops whole none;
+        }
+
+    wrong_at : (h : History) (seen behind : List (List ℕ)) (payload : List ℕ) → IsSound h → frames.all ≡ (seen ++ payload ∷ []) ++ behind → content_of h ≡ counted_before version seen payload → has_base version behind ≡ false
+        → IsNoEvent h payload → IsJudged file
+    wrong_at h seen behind payload sound is counts none no_event = inr (
+      length (front mark seen),
+      damaged_there file h (length (front mark seen)) sound (record { version = version; payload = payload; follows = follows_at h seen behind payload is counts none; no_event = no_event }),
     )
 
-    step : (head : Head) → IsHead head file at → ((g : History) (p : ℕ) → IsSound g → IsReadTo Ready file p (payloads_of g) → p < length file → at < p → IsJudged file) → IsJudged file
-    step Closed is more = ends_here is
-    step Short is more = breaks_here is
-    step (Frame n) is more = ⊎_elim
-        (λ next. more (h ▸ next.0) (at + 5 + n) (sound_push h next.0 sound next.1.fits next.1.formed) (read_on n next.0 is next.1) (goes_within n is) (omega arith))
-        (wrong_here n is)
-        (next_or_none h (payload_at n))
+    -- all payloads counted, so the end tells
+    end_judged : (h : History) → IsSound h → content_of h ≡ counted version frames.all → IsJudged file
+    end_judged h sound counts = ⊎_elim
+        (λ shut. inl (
+          h,
+          record {
+            holds = inr (record { mark = mark; all = frames.all; gate = frames.gate; ignored = frames.rest; split = frames.split; closed = shut; fit = frames.fit; counts = counts });
+            sound = sound;
+          },
+        ))
+        (λ short. ⊎_elim
+        (λ is_open. inr (
+          length (front mark frames.all),
+          damaged_short file h (length (front mark frames.all)) sound
+              (record {
+                long = long;
+                broken = inr (record {
+                  mark = mark;
+                  all = frames.all;
+                  rest = frames.rest;
+                  split = frames.split ∙ ap (λ (g : ℕ). front mark frames.all ++ g ∷ frames.rest) is_open;
+                  short = short;
+                  place = refl;
+                  fit = frames.fit;
+                  counts = counts;
+                });
+              }),
+        ))
+        (λ shut. inl (
+          h,
+          record {
+            holds = inr (record { mark = mark; all = frames.all; gate = frames.gate; ignored = frames.rest; split = frames.split; closed = shut; fit = frames.fit; counts = counts });
+            sound = sound;
+          },
+        ))
+        (same_number frames.gate 1))
+        frames.stops
 
-  walk : (fuel : ℕ) (h : History) (at : ℕ) → IsSound h → IsReadTo Ready file at (payloads_of h) → at < length file → length file ≤ fuel + at → IsJudged file
-  walk zero h at sound read within enough = absurd (omega (arith, within, enough))
-  walk (suc fuel) h at sound read within enough = step h at sound read within (head_of at).0 (head_of at).1 (λ g p s r w later. walk fuel g p s r w (omega (arith, enough, later)))
+    -- behind those that counted there is no base
+    events_judged : (h : History) (seen todo : List (List ℕ)) → IsSound h → frames.all ≡ seen ++ todo → content_of h ≡ counted version seen → has_base version todo ≡ false → IsJudged file
+    events_judged h seen [] sound is counts none = end_judged h sound (counts ∙ ap (counted version) (sym (is ∙ append-nil seen)))
+    events_judged h seen (payload ∷ todo) sound is counts none =
+        let kinds = head_and_rest version payload todo none in
+        let joined : frames.all ≡ (seen ++ payload ∷ []) ++ todo = is ∙ sym (append_assoc seen (payload ∷ []) todo) in
+        ⊎_elim
+        (λ next. events_judged (h ▸ next.0) (seen ++ payload ∷ []) todo (sound_push h next.0 sound next.1.fits next.1.formed) joined
+        (sym (event_counts version h next.0)
+        ∙ (λ k. with_payload version (counts k) (sym next.1.spelled k))
+        ∙ sym (payloads_push version nothing seen payload))
+        kinds.1)
+        (wrong_at h seen todo payload sound joined (counts ∙ sym (cond-false _ nothing (counted version seen) kinds.0)) kinds.1)
+        (next_or_none h payload)
+
+    frames_judged : IsJudged file
+    frames_judged = ⊎_elim
+        (λ none. events_judged start [] frames.all sound_start refl refl none)
+        (λ some. wrong_at start some.before some.behind some.payload sound_start some.split (sym (cond-true _ nothing (counted version some.before) some.base)) some.none (base_is_no_event version start some.payload some.base))
+        (base_or_none version frames.all)
 
   judged : IsJudged file
   judged = ⊎_elim
       (λ few. inl (start, record { holds = inl (omega (arith, few), refl); sound = sound_start }))
-      (λ long. let more : 9 < length file = omega (arith, long) in ⊎_elim
-      (λ begins. walk (length file) start 8 sound_start (begins, refl, inl more, tt) (omega (arith, more)) (omega arith))
+      (λ enough. let more : 9 < length file = omega (arith, enough) in ⊎_elim
+      (λ begins.
+      let mark = get_or file 7 0 in
+      let frames : HasFrames file (get_or file 7 0) 8 [] = begins_frames (version_of (get_or file 7 0)) file (omega (arith, more)) (begins, refl, inl more) in
+      frames_judged (get_or file 7 0) (walk (get_or file 7 0) (length file) 8 [] frames (omega (arith, more)) (omega arith)) more)
       (λ foreign. inr (0, damaged_short file start 0 sound_start (record { long = more; broken = inl (record { begins = foreign; none = refl; place = refl }) })))
-      (same_list (take 8 file) magic))
+      (same_list (take 7 file) magic))
       (below_or_not (length file) 10)
 
 pub each_is_judged : EachIsJudged

@@ -5,7 +5,7 @@ use Rattle.std.proofs.lemmas.Bool.{true≢false}
 use Rattle.std.proofs.Math.Nat.{min-le_left, min-le_right, le-min}
 use Rattle.ts_schema.specs.Faults.{Rose}
 use Rattle.ts_model.specs.declared.events.Event.{Event}
-use Rattle.ts_model.specs.History.{History, start, position, prefix, Begins, same}
+use Rattle.ts_model.specs.History.{History, position, prefix, Begins, same}
 use Rattle.ts_model.proofs.HistoryLaws.{begins_prefix, begins_trans, prefix_end, prefix_stays}
 use Rattle.engine_core.specs.Histories.{history_of}
 use Rattle.engine_core.specs.Values.{EngineValue}
@@ -18,7 +18,7 @@ use Rattle.txn_journal.specs.declared.journals.Standing.TheVariants.{Bare, Ready
 use Rattle.txn_journal.proofs.JournalLaws.{lies_ready, lies_stands}
 use Rattle.ts_store.specs.Images.{HasHeader, IsBetween, IsDurable, StandsForEither, latest}
 use Rattle.ts_store.specs.Safe.{IsSafe}
-use Rattle.ts_store.specs.Stands.{Stands, IsSound, payloads_of}
+use Rattle.ts_store.specs.Stands.{Stands, IsSound, content_of}
 use Rattle.ts_store.specs.Stores.{StoreValue, IsKept, Rests, is_still, opening, seen}
 use Rattle.ts_store.proofs.ImageLaws.{begin_on, begins_latest, between_either, between_on, either_more, holds_header, shown_at_rest, some_also, some_is}
 
@@ -110,11 +110,11 @@ module _ {D : Type 0} (bytes : D → Option (List ℕ)) (may_leave : D → List 
       safe_of old new
       (λ rest. subst (λ (j : Logged D). LeavesOnly moment left_since old.journal.disk j.disk (StandsForEither (seen old) (latest (seen new) new.failed))) (sym journal) (run rest))
       (subst (λ (h : History). Begins (seen old) h) (sym same_history) same)
-      (λ rest none. subst (λ (h : History). IsAtRest bytes may_leave new.journal (payloads_of h)) (sym same_history) (subst (λ (j : Logged D). IsAtRest bytes may_leave j (payloads_of (seen old))) (sym journal) rest))
+      (λ rest none. subst (λ (h : History). IsAtRest bytes may_leave new.journal (content_of h)) (sym same_history) (subst (λ (j : Logged D). IsAtRest bytes may_leave j (content_of (seen old))) (sym journal) rest))
       (λ _ _. journal)
     where
       stands_at_rest : (s : StoreValue D) (sound : IsSound (seen s)) (rest : Rests bytes may_leave s) → Stands rest.file (seen s)
-      stands_at_rest s sound rest = record { holds = lies_stands s.journal.standing rest.file s.journal.end (payloads_of (seen s)) rest.lies; sound = sound }
+      stands_at_rest s sound rest = record { holds = lies_stands s.journal.standing s.journal.version rest.file s.journal.end (content_of (seen s)) rest.lies; sound = sound }
 
   -- ---- what is true of a store stays so over a call whose images are those of the history at entry, or of the one with its event
 
@@ -190,14 +190,14 @@ module _ {D : Type 0} (bytes : D → Option (List ℕ)) (may_leave : D → List 
   pub shows_header : (s : StoreValue D) → Kept s → s.armed ≡ true → s.failed ≡ None → IsDurable bytes may_leave s.begun → IsSomeAnd (bytes s.journal.disk) HasHeader
   shows_header s kept armed going durable =
       let rest = kept.rests durable going in
-      some_is (bytes s.journal.disk) rest.file HasHeader rest.told (holds_header rest.file (payloads_of (seen s)) (lies_ready s.journal.standing rest.file s.journal.end (payloads_of (seen s)) (kept.headed armed) rest.lies).0)
+      some_is (bytes s.journal.disk) rest.file HasHeader rest.told (holds_header rest.file (content_of (seen s)) (lies_ready s.journal.standing s.journal.version rest.file s.journal.end (content_of (seen s)) (kept.headed armed) rest.lies).holds)
 
   -- ---- the start
 
   pub kept_at_start : ((disk : D) (c : List ℕ) → left_since disk (moment disk) c → may_leave disk c) → (begun : D) (journal : Logged D) (engine : EngineValue)
       → faults begun < 2 ^ 64 → Keeps bytes may_leave moment left_since begun journal.disk → faults journal.disk ≡ faults begun → IsSound (history_of engine.events) → journal.standing ≢ Still
       → ((file : List ℕ) → bytes begun ≡ Some file → Stands file (history_of engine.events))
-      → ((file : List ℕ) → bytes begun ≡ Some file → Only file (may_leave begun) → IsAtRest bytes may_leave journal (payloads_of (history_of engine.events)))
+      → ((file : List ℕ) → bytes begun ≡ Some file → Only file (may_leave begun) → IsAtRest bytes may_leave journal (content_of (history_of engine.events)))
       → Kept (record { engine = engine; journal = journal; failed = None; begun = begun; opened = length engine.events; armed = false })
   kept_at_start only_now begun journal engine few keeps count sound goes_on stands at_rest =
       let h = history_of engine.events in

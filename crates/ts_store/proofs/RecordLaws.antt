@@ -21,6 +21,7 @@ use Rattle.txn_journal.specs.Calls.{IfDone, IfStopped, IsAtRest}
 use Rattle.txn_journal.specs.declared.journals.Append.{Append}
 use Rattle.txn_journal.specs.declared.journals.Append.TheVariants.{Done, DiskFault, Stopped}
 use Rattle.ts_store.specs.Arming.{armed_after}
+use Rattle.txn_journal.specs.Contents.{Content, with_payload}
 use Rattle.txn_journal.specs.Frames.{StandsFor, WithOrWithout}
 use Rattle.txn_journal.specs.declared.journals.Standing.TheVariants.{Bare, Ready, Still}
 use Rattle.txn_journal.proofs.Moments.{weaker}
@@ -28,19 +29,19 @@ use Rattle.ts_store.specs.Drafts.{IsDraft}
 use Rattle.ts_store.specs.Images.{StandsForEither, latest}
 use Rattle.ts_store.specs.Recorders.{store_of, ArmsSafely, DoesIn, IsKeptIn, IsSafeIn, RestsIn}
 use Rattle.ts_store.specs.Safe.{IsSafe}
-use Rattle.ts_store.specs.Stands.{Stands, IsSound, payloads_of}
+use Rattle.ts_store.specs.Stands.{Stands, IsSound, content_of}
 use Rattle.ts_store.specs.Stores.{is_still}
 use Rattle.ts_store.specs.declared.drafts.Draft.{Draft}
 use Rattle.ts_store.specs.declared.recorders.Recorder.{Recorder}
 use Rattle.ts_store.proofs.CallLaws.{does_failed, does_made, fails_state, makes_state}
-use Rattle.ts_store.proofs.HistoryLaws.{sound_push}
+use Rattle.ts_store.proofs.HistoryLaws.{event_counts, sound_push}
 use Rattle.ts_store.proofs.ImageLaws.{begin_on, either_stands, shown_at_rest, some_also}
 use Rattle.ts_store.proofs.KeptLaws.{kept_after, ready_headed, still_headed, rose_above, rose_from, rose_none, safe_of}
 use Rattle.engine_core.proofs.StoreLaws.{history_push}
 
 module _ {D : Type 0} (bytes : D → Option (List ℕ)) (may_leave : D → List ℕ → Type 0) (moment : D → ℕ) (left_since : D → ℕ → List ℕ → Type 0) (faults : D → ℕ) where
   module _ (old new : Recorder D) (e : Event) (frame : List ℕ) (sound : IsSound (history_of old.engine.events)) (fits : IsTrue (allowed (history_of old.engine.events) e)) (formed : IsFormed e) (framed : frame ≡ spelling.event e) (going : old.failed ≡ None)
-      (run : (payloads : List (List ℕ)) → IsAtRest bytes may_leave old.journal payloads → LeavesOnly moment left_since old.journal.disk new.journal.disk (WithOrWithout payloads frame)) where
+      (run : (content : Content) → IsAtRest bytes may_leave old.journal content → LeavesOnly moment left_since old.journal.disk new.journal.disk (WithOrWithout old.journal.version content frame)) where
     abbrev before : History
     before = history_of old.engine.events
 
@@ -49,13 +50,13 @@ module _ {D : Type 0} (bytes : D → Option (List ℕ)) (may_leave : D → List 
 
     -- each image is that of the history, or of it with the event
     run_of : (last : History) → last ≡ (before ▸ e) → RestsIn bytes may_leave old → LeavesOnly moment left_since old.journal.disk new.journal.disk (StandsForEither before last)
-    run_of last is rest = weaker moment left_since old.journal.disk new.journal.disk (WithOrWithout (payloads_of before) frame) (StandsForEither before last) (run (payloads_of before) rest)
-        (λ c either. subst (λ (h : History). StandsForEither before h c) (sym is) (either_stands before e frame c sound sound_after framed either))
+    run_of last is rest = weaker moment left_since old.journal.disk new.journal.disk (WithOrWithout old.journal.version (content_of before) frame) (StandsForEither before last) (run (content_of before) rest)
+        (λ c either. subst (λ (h : History). StandsForEither before h c) (sym is) (either_stands old.journal.version before e frame c sound sound_after framed either))
 
     -- ---- the event is on the disk
 
     module _ (with : new.engine.events ≡ old.engine.events ++ (e ∷ [])) (goes : new.failed ≡ None) (ready : new.journal.standing ≡ Ready) (count : faults new.journal.disk ≡ faults old.journal.disk)
-        (done : (payloads : List (List ℕ)) → IsAtRest bytes may_leave old.journal payloads → IsAtRest bytes may_leave new.journal (payloads ++ frame ∷ [])) where
+        (done : (content : Content) → IsAtRest bytes may_leave old.journal content → IsAtRest bytes may_leave new.journal (with_payload old.journal.version content frame)) where
       now : history_of new.engine.events ≡ (before ▸ e)
       now = ap history_of with ∙ history_push old.engine.events e
 
@@ -64,8 +65,8 @@ module _ {D : Type 0} (bytes : D → Option (List ℕ)) (may_leave : D → List 
 
       rests_now : RestsIn bytes may_leave old → RestsIn bytes may_leave new
       rests_now rest =
-          let framed_rest : IsAtRest bytes may_leave new.journal (payloads_of before ++ spelling.event e ∷ []) = subst (λ (p : List ℕ). IsAtRest bytes may_leave new.journal (payloads_of before ++ p ∷ [])) framed (done (payloads_of before) rest) in
-          subst (λ (h : History). IsAtRest bytes may_leave new.journal (payloads_of h)) (sym now) framed_rest
+          let counts : with_payload old.journal.version (content_of before) frame ≡ content_of (before ▸ e) = ap (with_payload old.journal.version (content_of before)) framed ∙ event_counts old.journal.version before e in
+          subst (λ (h : History). IsAtRest bytes may_leave new.journal (content_of h)) (sym now) (subst (IsAtRest bytes may_leave new.journal) counts (done (content_of before) rest))
 
       goes_on : Begins before (history_of new.engine.events)
       goes_on = subst (λ (h : History). Begins before h) (sym now) (further same)
@@ -103,7 +104,7 @@ module _ {D : Type 0} (bytes : D → Option (List ℕ)) (may_leave : D → List 
     -- ---- the disk failed
 
     module _ (events : new.engine.events ≡ old.engine.events) (failed : new.failed ≡ Some e) (still : new.journal.standing ≡ Still) (rose : Rose (faults old.journal.disk) (faults new.journal.disk))
-        (shown : (payloads : List (List ℕ)) → IsAtRest bytes may_leave old.journal payloads → IsSomeAnd (bytes new.journal.disk) (WithOrWithout payloads frame)) where
+        (shown : (content : Content) → IsAtRest bytes may_leave old.journal content → IsSomeAnd (bytes new.journal.disk) (WithOrWithout old.journal.version content frame)) where
       same_history : history_of new.engine.events ≡ before
       same_history = ap history_of events
 
@@ -133,9 +134,9 @@ module _ {D : Type 0} (bytes : D → Option (List ℕ)) (may_leave : D → List 
           (λ _. risen)
           (ap is_some failed ∙ ap is_still (sym still))
           (λ is. is) (λ _. still_headed new.journal.standing still)
-          (λ rest. some_also (bytes new.journal.disk) (WithOrWithout (payloads_of before) frame) (StandsForEither (history_of new.engine.events) (latest (history_of new.engine.events) new.failed))
-          (λ file either. subst (λ (h : History). StandsForEither h (latest (history_of new.engine.events) new.failed) file) (sym same_history) (subst (λ (h : History). StandsForEither before h file) (sym latest_failed) (either_stands before e frame file sound sound_after framed either)))
-          (shown (payloads_of before) rest))
+          (λ rest. some_also (bytes new.journal.disk) (WithOrWithout old.journal.version (content_of before) frame) (StandsForEither (history_of new.engine.events) (latest (history_of new.engine.events) new.failed))
+          (λ file either. subst (λ (h : History). StandsForEither h (latest (history_of new.engine.events) new.failed) file) (sym same_history) (subst (λ (h : History). StandsForEither before h file) (sym latest_failed) (either_stands old.journal.version before e frame file sound sound_after framed either)))
+          (shown (content_of before) rest))
 
       pub does_fail : (begun : D) (opened : ℕ) (armed : Bool) → IsKeptIn bytes may_leave moment left_since faults old begun opened armed → DoesIn faults moment (making_event e) begun opened armed old FailedCall new
       does_fail begun opened armed kept = does_failed bytes may_leave moment left_since faults (store_of old begun opened armed) (store_of new begun opened armed) e kept fits
@@ -165,7 +166,7 @@ module _ {D : Type 0} (bytes : D → Option (List ℕ)) (may_leave : D → List 
   -- ---- a header was written
 
   module _ (old new : Recorder D) (sound : IsSound (history_of old.engine.events)) (events : new.engine ≡ old.engine)
-      (run : (payloads : List (List ℕ)) → IsAtRest bytes may_leave old.journal payloads → LeavesOnly moment left_since old.journal.disk new.journal.disk (λ file. StandsFor file payloads)) where
+      (run : (content : Content) → IsAtRest bytes may_leave old.journal content → LeavesOnly moment left_since old.journal.disk new.journal.disk (λ file. StandsFor file content)) where
     abbrev there : History
     there = history_of old.engine.events
 
@@ -173,7 +174,7 @@ module _ {D : Type 0} (bytes : D → Option (List ℕ)) (may_leave : D → List 
     same_there = ap (λ (engine : EngineValue). history_of engine.events) events
 
     pub armed_run : RestsIn bytes may_leave old → LeavesOnly moment left_since old.journal.disk new.journal.disk (λ file. Stands file there)
-    armed_run rest = weaker moment left_since old.journal.disk new.journal.disk (λ file. StandsFor file (payloads_of there)) (λ file. Stands file there) (run (payloads_of there) rest) (λ c stands. record { holds = stands; sound = sound })
+    armed_run rest = weaker moment left_since old.journal.disk new.journal.disk (λ file. StandsFor file (content_of there)) (λ file. Stands file there) (run (content_of there) rest) (λ c stands. record { holds = stands; sound = sound })
 
     pub arms_safely : (answer : Append) → (RestsIn bytes may_leave old → IfDone answer (RestsIn bytes may_leave new)) → ArmsSafely bytes may_leave moment left_since answer old new
     arms_safely answer done = record {
@@ -186,7 +187,7 @@ module _ {D : Type 0} (bytes : D → Option (List ℕ)) (may_leave : D → List 
         → ((begun : D) → faults begun < 2 ^ 64 → faults begun ≤ faults old.journal.disk → faults begun ≤ faults new.journal.disk)
         → ((begun : D) → faults begun ≤ faults old.journal.disk → IsTrue (is_some new.failed) → Rose (faults begun) (faults new.journal.disk))
         → is_some new.failed ≡ is_still new.journal.standing → new.journal.standing ≢ Bare
-        → ((payloads : List (List ℕ)) → IsAtRest bytes may_leave old.journal payloads → IsSomeAnd (bytes new.journal.disk) (λ file. StandsFor file payloads))
+        → ((content : Content) → IsAtRest bytes may_leave old.journal content → IsSomeAnd (bytes new.journal.disk) (λ file. StandsFor file content))
         → (begun : D) (opened : ℕ) (armed : Bool) → IsKeptIn bytes may_leave moment left_since faults old begun opened armed → IsKeptIn bytes may_leave moment left_since faults new begun opened armed
     kept_armed going rests counted fell still headed shown begun opened armed kept =
         let last : History = latest (history_of new.engine.events) new.failed in
@@ -199,8 +200,8 @@ module _ {D : Type 0} (bytes : D → Option (List ℕ)) (may_leave : D → List 
         (counted begun kept.bounded kept.counted)
         (fell begun kept.counted)
         still (λ is. is) (λ _. headed)
-        (λ rest. some_also (bytes new.journal.disk) (λ file. StandsFor file (payloads_of there)) (StandsForEither (history_of new.engine.events) (latest (history_of new.engine.events) new.failed))
-        (λ file stands. inl (subst (λ (h : History). Stands file h) (sym same_there) (record { holds = stands; sound = sound }))) (shown (payloads_of there) rest))
+        (λ rest. some_also (bytes new.journal.disk) (λ file. StandsFor file (content_of there)) (StandsForEither (history_of new.engine.events) (latest (history_of new.engine.events) new.failed))
+        (λ file stands. inl (subst (λ (h : History). Stands file h) (sym same_there) (record { holds = stands; sound = sound }))) (shown (content_of there) rest))
 
 -- a draft is one of the event that it holds
 pub own_draft : (h : History) (e : Event) (draft : Draft) → IsDraft h e draft → IsDraft h draft.prepared.event draft

@@ -13,11 +13,12 @@ pub record IsDurable {D : Type 0} (bytes : D → Option (List ℕ)) (may_leave :
   pub told : bytes disk ≡ Some file
   pub durable : Only file (may_leave disk)
 
--- a file begins with the eight bytes that a journal begins with, and a gate
+-- a file begins with the seven bytes that a journal begins with, the byte of its version, and a gate
 pub record HasHeader (file : List ℕ) : Type 0 where
+  pub mark : ℕ
   pub gate : ℕ
   pub rest : List ℕ
-  pub begins : file ≡ magic ++ gate ∷ rest
+  pub begins : file ≡ magic ++ mark ∷ gate ∷ rest
 
 -- a file stands for a history that begins with this one
 pub record StandsForMore (h : History) (file : List ℕ) : Type 0 where

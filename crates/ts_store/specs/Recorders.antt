@@ -10,7 +10,7 @@ use Rattle.txn_journal.specs.declared.journals.Append.{Append}
 use Rattle.ts_store.specs.declared.recorders.Recorder.{Recorder}
 use Rattle.ts_store.specs.Images.{BeginSince}
 use Rattle.ts_store.specs.Safe.{IsSafe}
-use Rattle.ts_store.specs.Stands.{Stands, payloads_of}
+use Rattle.ts_store.specs.Stands.{Stands, content_of}
 use Rattle.ts_store.specs.Stores.{StoreValue, Does, IsKept}
 
 -- the store that has this recorder
@@ -64,7 +64,7 @@ IsSafeIn {D} bytes may_leave moment left_since old new =
 -- its journal didn't stop, and all of it is on the disk: the events of the history
 abbrev pub RestsIn : {D : Type 0} → (D → Option (List ℕ)) → (D → List ℕ → Type 0) → Recorder D → Type 0
 RestsIn bytes may_leave recorder =
-    IsAtRest bytes may_leave recorder.journal (payloads_of (history_of recorder.engine.events))
+    IsAtRest bytes may_leave recorder.journal (content_of (history_of recorder.engine.events))
 
 -- what a header that is written leaves
 pub record ArmsSafely {D : Type 0} (bytes : D → Option (List ℕ)) (may_leave : D → List ℕ → Type 0) (moment : D → ℕ)

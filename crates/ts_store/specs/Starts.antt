@@ -5,7 +5,7 @@ use Rattle.engine_core.specs.Histories.{history_of}
 use Rattle.engine_core.specs.Values.{EngineValue}
 use Rattle.txn_journal.specs.Calls.{Logged, IsAtRest}
 use Rattle.txn_journal.specs.declared.journals.Standing.TheVariants.{Still}
-use Rattle.ts_store.specs.Stands.{Stands, IsDamagedAt, IsSound, payloads_of}
+use Rattle.ts_store.specs.Stands.{Stands, IsDamagedAt, IsSound, content_of}
 use Rattle.ts_store.specs.Stores.{StoreValue, opening, seen}
 use Rattle.ts_store.specs.declared.replays.Replayed.{Replayed}
 use Rattle.ts_store.specs.declared.replays.Replayed.TheVariants as replayed
@@ -44,7 +44,7 @@ IfReplayed (replayed.NoMemory disk) P = ⊤
 -- the journal is at rest with the events of the engine's history
 abbrev pub RestsReplayed : {D : Type 0} → (D → Option (List ℕ)) → (D → List ℕ → Type 0) → Replayed D → Type 0
 RestsReplayed bytes may_leave found =
-    IfReplayed found (λ journal engine. IsAtRest bytes may_leave journal (payloads_of (history_of engine.events)))
+    IfReplayed found (λ journal engine. IsAtRest bytes may_leave journal (content_of (history_of engine.events)))
 
 -- the engine's history may stand in a journal
 abbrev pub SoundReplayed : {D : Type 0} → Replayed D → Type 0

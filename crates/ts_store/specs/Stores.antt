@@ -12,7 +12,7 @@ use Rattle.txn_journal.specs.Calls.{Logged, IsAtRest}
 use Rattle.txn_journal.specs.declared.journals.Standing.{Standing}
 use Rattle.txn_journal.specs.declared.journals.Standing.TheVariants.{Bare, Ready, Still}
 use Rattle.ts_store.specs.Images.{IsDurable, IsBetween, StandsForEither, latest}
-use Rattle.ts_store.specs.Stands.{IsSound, payloads_of}
+use Rattle.ts_store.specs.Stands.{IsSound, content_of}
 
 -- a store: its engine, its journal, the event at which the disk failed, the disk as it was at the start, how many
 -- events were read from it, and whether it was armed since
@@ -84,7 +84,7 @@ is_still Still = true
 
 -- its journal didn't stop, and all of it is on the disk: the events of the history
 abbrev pub Rests : {D : Type 0} → (D → Option (List ℕ)) → (D → List ℕ → Type 0) → StoreValue D → Type 0
-Rests bytes may_leave s = IsAtRest bytes may_leave s.journal (payloads_of (seen s))
+Rests bytes may_leave s = IsAtRest bytes may_leave s.journal (content_of (seen s))
 
 -- what is true of each store. Where all was on the disk at the start, it tells of each image since then
 pub record IsKept {D : Type 0} (bytes : D → Option (List ℕ)) (may_leave : D → List ℕ → Type 0) (moment : D → ℕ)

@@ -8,6 +8,7 @@ ghost use Rattle.ts_disk.specs.Disk.{Keeps};
 ghost use Rattle.ts_model.specs.Allowed.{allowed};
 ghost use Rattle.refresh_build.specs.Fitting.{JobIsFor};
 ghost use Rattle.engine_core.specs.Histories.{history_of};
+ghost use Rattle.txn_journal.specs.Contents.{nothing};
 ghost use Rattle.txn_journal.specs.Reading.{HasRead};
 ghost use Rattle.ts_store.specs.Starts.{CountsReplayed, GoesOn, Replays, RestsReplayed, SoundReplayed, disk_of_replayed};
 ghost use Rattle.ts_store.specs.Takes.{Takes};
@@ -55,8 +56,8 @@ pub(crate) fn replay<R: Threads + Sync, D: Disk>(
 ) -> Replayed<D>
     requires sync { IsSync R.row }
     requires empty { engine.events ≡ [] }
-    ensures replays { (file : List ℕ) → HasRead D.bytes reader file [] → Replays result file }
-    ensures at_rest { (file : List ℕ) → HasRead D.bytes reader file [] → Only file (D.may_leave reader.disk)
+    ensures replays { (file : List ℕ) → HasRead D.bytes reader file nothing → Replays result file }
+    ensures at_rest { (file : List ℕ) → HasRead D.bytes reader file nothing → Only file (D.may_leave reader.disk)
         → RestsReplayed D.bytes D.may_leave result }
     ensures sound { SoundReplayed result }
     ensures goes_on { GoesOn result }
@@ -67,6 +68,13 @@ pub(crate) fn replay<R: Threads + Sync, D: Disk>(
     let mut engine = engine;
     'events: loop {
         match reader.next() {
+            // No history begins with a base yet.
+            Next::Base(at) => {
+                return Replayed::Damaged {
+                    disk: reader.close(),
+                    at,
+                };
+            }
             Next::Payload(at) => match take_payload(rt, alloc, &mut engine, reader.payload()) {
                 Taken::Done => {}
                 Taken::NoEvent => {

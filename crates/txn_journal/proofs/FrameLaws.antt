@@ -1,10 +1,14 @@
 -- What a crash leaves in each of the steps of an append.
-use Rattle.std.proofs.Common.{◌≡◌, inl, inr, ℕ, ◌+◌, ◌-◌, ◌<◌, ◌≤◌, List, [], ◌∷◌, ◌++◌, length, take, drop, get_or, refl, sym, ◌∙◌, ap, arith, append_assoc, length-append, take-append-drop}
+use Rattle.std.proofs.Common.{◌≡◌, ◌⊎◌, inl, inr, ⊎_elim, ℕ, ◌+◌, ◌-◌, ◌<◌, ◌≤◌, List, [], ◌∷◌, ◌++◌, length, take, drop, get_or, refl, sym, ◌∙◌, ap, subst, arith, append_assoc, length-append, take-append-drop}
 use Rattle.std.proofs.lemmas.Bool.{cases_eq}
 use Rattle.std.proofs.lemmas.List.{append-nil, take_at, drop_at, drop_all, drop_more}
 use Rattle.std.specs.Int.{w32, to_le_bytes}
 use Rattle.ts_disk.specs.CrashImage.{written, Torn}
-use Rattle.txn_journal.specs.Frames.{AllFit, Fits, Holds, StandsFor, WithOrWithout, IsFront, body, frames, front, header, magic, payload_of}
+use Rattle.txn_journal.specs.Contents.{Content, counted, nothing, raised, version_of, with_payload}
+use Rattle.txn_journal.specs.Frames.{AllFit, Fits, HoldsTo, StandsFor, StandsForEither, WithOrWithout, body, frames, front, header, magic, payload_of}
+use Rattle.txn_journal.specs.declared.versions.Version.{Version}
+use Rattle.txn_journal.specs.declared.versions.Version.TheVariants.{One, Two}
+use Rattle.txn_journal.proofs.ContentLaws.{payloads_push, raised_one, raised_two}
 
 pub length-body : (payload : List ℕ) → length (body payload) ≡ 4 + length payload
 length-body payload = omega (arith, length-append (to_le_bytes w32 (length payload)) payload)
@@ -17,111 +21,191 @@ frames-push (p ∷ payloads) payload rest = ap (λ (l : List ℕ). 1 ∷ l)
     ∙ sym (append_assoc (body p) (frames payloads) (1 ∷ (body payload ++ rest))))
 
 -- one payload more, before a gate
-pub front-push : (payloads : List (List ℕ)) (payload rest : List ℕ) → front (payloads ++ payload ∷ []) ++ rest ≡ front payloads ++ 1 ∷ (body payload ++ rest)
-front-push payloads payload rest =
-    append_assoc magic (frames (payloads ++ payload ∷ [])) rest
-    ∙ ap (λ (l : List ℕ). magic ++ l) (frames-push payloads payload rest)
-    ∙ sym (append_assoc magic (frames payloads) (1 ∷ (body payload ++ rest)))
+pub front-push : (mark : ℕ) (payloads : List (List ℕ)) (payload rest : List ℕ) → front mark (payloads ++ payload ∷ []) ++ rest ≡ front mark payloads ++ 1 ∷ (body payload ++ rest)
+front-push mark payloads payload rest = ap (λ (l : List ℕ). magic ++ mark ∷ l) (frames-push payloads payload rest)
 
-pub length-front-push : (payloads : List (List ℕ)) (payload : List ℕ) → length (front (payloads ++ payload ∷ [])) ≡ length (front payloads) + 5 + length payload
-length-front-push payloads payload =
-    let whole : front (payloads ++ payload ∷ []) ++ [] ≡ front payloads ++ 1 ∷ (body payload ++ []) = front-push payloads payload [] in
-    omega (arith, ap length (append-nil (front (payloads ++ payload ∷ []))), ap length whole, length-append (front payloads) (1 ∷ (body payload ++ [])), ap length (append-nil (body payload)))
+pub length-front-push : (mark : ℕ) (payloads : List (List ℕ)) (payload : List ℕ) → length (front mark (payloads ++ payload ∷ [])) ≡ length (front mark payloads) + 5 + length payload
+length-front-push mark payloads payload =
+    let whole : front mark (payloads ++ payload ∷ []) ++ [] ≡ front mark payloads ++ 1 ∷ (body payload ++ []) = front-push mark payloads payload [] in
+    omega (arith, ap length (append-nil (front mark (payloads ++ payload ∷ []))), ap length whole, length-append (front mark payloads) (1 ∷ (body payload ++ [])), ap length (append-nil (body payload)), length-body payload)
 
 pub fit-push : (payloads : List (List ℕ)) (payload : List ℕ) → AllFit payloads → Fits payload → AllFit (payloads ++ payload ∷ [])
 fit-push [] payload all fits = (fits, tt)
 fit-push (p ∷ payloads) payload all fits = (all.0, fit-push payloads payload all.1 fits)
 
+pub fit-append : (some more : List (List ℕ)) → AllFit (some ++ more) → AllFit some × AllFit more
+fit-append [] more all = (tt, all)
+fit-append (p ∷ some) more all = let rest = fit-append some more all.1 in ((all.0, rest.0), rest.1)
+
+pub fit-join : (some more : List (List ℕ)) → AllFit some → AllFit more → AllFit (some ++ more)
+fit-join [] more fits all = all
+fit-join (p ∷ some) more fits all = (fits.0, fit-join some more fits.1 all)
+
 -- a file that is the front of these payloads and a gate, whatever stands behind it
 split_at_gate : (file : List ℕ) (n : ℕ) (before : List ℕ) → take n file ≡ before → n < length file → file ≡ before ++ get_or file n 0 ∷ drop (n + 1) file
 split_at_gate file n before is le = sym (take-append-drop n file) ∙ ap (λ (l : List ℕ). l ++ drop n file) is ∙ ap (λ (l : List ℕ). before ++ l) (drop_more file n 0 le)
 
-module _ (payloads : List (List ℕ)) (end : ℕ) (place : end ≡ length (front payloads)) where
+module _ (version : Version) (content : Content) (end : ℕ) where
   -- the closed gate stands in each outcome of the first write
-  pub torn_behind : (file c : List ℕ) (n : ℕ) → Holds file payloads → Torn (end + 1) n file c → StandsFor c payloads
-  torn_behind file c n holds torn =
-      let kept : take (end + 1) file ≡ front payloads ++ holds.gate ∷ [] =
-      ap (take (end + 1)) (holds.split ∙ sym (append_assoc (front payloads) (holds.gate ∷ []) holds.ignored))
-      ∙ take_at (front payloads ++ holds.gate ∷ []) holds.ignored (end + 1) (omega (arith, length-append (front payloads) (holds.gate ∷ []))) in
-      let whole : c ≡ front payloads ++ holds.gate ∷ drop (end + 1) c =
-      sym (take-append-drop (end + 1) c) ∙ ap (λ (l : List ℕ). l ++ drop (end + 1) c) (torn.before ∙ kept) ∙ append_assoc (front payloads) (holds.gate ∷ []) (drop (end + 1) c) in
-      inr (record { gate = holds.gate; ignored = drop (end + 1) c; split = whole; closed = holds.closed; fit = holds.fit })
+  pub torn_behind : (file c : List ℕ) (n : ℕ) → HoldsTo file version end content → Torn (end + 1) n file c → StandsFor c content
+  torn_behind file c n lies torn =
+      let holds = lies.holds in
+      let before = front holds.mark holds.all in
+      let kept : take (end + 1) file ≡ before ++ holds.gate ∷ [] =
+      ap (take (end + 1)) (holds.split ∙ sym (append_assoc before (holds.gate ∷ []) holds.ignored))
+      ∙ take_at (before ++ holds.gate ∷ []) holds.ignored (end + 1) (omega (arith, lies.place, length-append before (holds.gate ∷ []))) in
+      let whole : c ≡ before ++ holds.gate ∷ drop (end + 1) c =
+      sym (take-append-drop (end + 1) c) ∙ ap (λ (l : List ℕ). l ++ drop (end + 1) c) (torn.before ∙ kept) ∙ append_assoc before (holds.gate ∷ []) (drop (end + 1) c) in
+      inr (record { mark = holds.mark; all = holds.all; gate = holds.gate; ignored = drop (end + 1) c; split = whole; closed = holds.closed; fit = holds.fit; counts = holds.counts })
 
+module _ (mark : ℕ) (payloads : List (List ℕ)) (end : ℕ) (place : end ≡ length (front mark payloads)) where
   -- the frame stands behind the closed gate after it
   abbrev pub staged : ℕ → List ℕ → List ℕ → List ℕ
-  staged gate payload rest = front payloads ++ gate ∷ (body payload ++ 0 ∷ rest)
+  staged gate payload rest = front mark payloads ++ gate ∷ (body payload ++ 0 ∷ rest)
 
-  pub written_behind : (file : List ℕ) (payload : List ℕ) (holds : Holds file payloads) → (rest : List ℕ) × (written file (end + 1) (body payload ++ 0 ∷ []) ≡ staged holds.gate payload rest)
-  written_behind file payload holds =
+  pub written_behind : (file : List ℕ) (payload : List ℕ) (gate : ℕ) (ignored : List ℕ) → file ≡ front mark payloads ++ gate ∷ ignored
+      → (rest : List ℕ) × (written file (end + 1) (body payload ++ 0 ∷ []) ≡ staged gate payload rest)
+  written_behind file payload gate ignored split =
       let piece = body payload ++ 0 ∷ [] in
       let rest = drop (end + 1 + length piece) file in
-      let kept : take (end + 1) file ≡ front payloads ++ holds.gate ∷ [] =
-      ap (take (end + 1)) (holds.split ∙ sym (append_assoc (front payloads) (holds.gate ∷ []) holds.ignored))
-      ∙ take_at (front payloads ++ holds.gate ∷ []) holds.ignored (end + 1) (omega (arith, length-append (front payloads) (holds.gate ∷ []))) in (
+      let kept : take (end + 1) file ≡ front mark payloads ++ gate ∷ [] =
+      ap (take (end + 1)) (split ∙ sym (append_assoc (front mark payloads) (gate ∷ []) ignored))
+      ∙ take_at (front mark payloads ++ gate ∷ []) ignored (end + 1) (omega (arith, place, length-append (front mark payloads) (gate ∷ []))) in (
         rest,
         ap (λ (l : List ℕ). l ++ piece ++ rest) kept
-            ∙ append_assoc (front payloads ++ holds.gate ∷ []) piece rest
-            ∙ append_assoc (front payloads) (holds.gate ∷ []) (piece ++ rest)
-            ∙ ap (λ (l : List ℕ). front payloads ++ holds.gate ∷ l) (append_assoc (body payload) (0 ∷ []) rest),
+            ∙ append_assoc (front mark payloads ++ gate ∷ []) piece rest
+            ∙ append_assoc (front mark payloads) (gate ∷ []) (piece ++ rest)
+            ∙ ap (λ (l : List ℕ). front mark payloads ++ gate ∷ l) (append_assoc (body payload) (0 ∷ []) rest),
       )
 
+  -- a payload more counts
+  one_more : (version : Version) (content : Content) (payload : List ℕ) → version_of mark ≡ version → content ≡ counted (version_of mark) payloads
+      → with_payload version content payload ≡ counted (version_of mark) (payloads ++ payload ∷ [])
+  one_more version content payload of_version counts =
+      (λ k. with_payload (sym of_version k) (counts k) payload) ∙ sym (payloads_push (version_of mark) nothing payloads payload)
+
   -- the frame stands whole in each outcome of the second write
-  pub torn_gate : (gate : ℕ) (payload rest c : List ℕ) → Fits payload → AllFit payloads → Torn end 1 (staged gate payload rest) c → WithOrWithout payloads payload c
-  torn_gate gate payload rest c fits all torn =
+  pub torn_gate : (version : Version) (content : Content) (gate : ℕ) (payload rest c : List ℕ) → version_of mark ≡ version → content ≡ counted (version_of mark) payloads
+      → Fits payload → AllFit payloads → Torn end 1 (staged gate payload rest) c → WithOrWithout version content payload c
+  torn_gate version content gate payload rest c of_version counts fits all torn =
       let file = staged gate payload rest in
-      let longer : length (front payloads) < length c = omega (arith, torn.no_shorter, length-append (front payloads) (gate ∷ (body payload ++ 0 ∷ rest))) in
-      let low : take end c ≡ front payloads = torn.before ∙ take_at (front payloads) (gate ∷ (body payload ++ 0 ∷ rest)) end (omega arith) in
+      let longer : length (front mark payloads) < length c = omega (arith, torn.no_shorter, length-append (front mark payloads) (gate ∷ (body payload ++ 0 ∷ rest))) in
+      let low : take end c ≡ front mark payloads = torn.before ∙ take_at (front mark payloads) (gate ∷ (body payload ++ 0 ∷ rest)) end (omega (arith, place)) in
       let high : drop (end + 1) c ≡ body payload ++ 0 ∷ rest =
       torn.after
-      ∙ ap (drop (end + 1)) (sym (append_assoc (front payloads) (gate ∷ []) (body payload ++ 0 ∷ rest)))
-      ∙ drop_at (front payloads ++ gate ∷ []) (body payload ++ 0 ∷ rest) (end + 1) (omega (arith, length-append (front payloads) (gate ∷ []))) in
-      let whole : c ≡ front payloads ++ get_or c end 0 ∷ (body payload ++ 0 ∷ rest) =
-      split_at_gate c end (front payloads) low (omega arith) ∙ ap (λ (l : List ℕ). front payloads ++ get_or c end 0 ∷ l) high in
+      ∙ ap (drop (end + 1)) (sym (append_assoc (front mark payloads) (gate ∷ []) (body payload ++ 0 ∷ rest)))
+      ∙ drop_at (front mark payloads ++ gate ∷ []) (body payload ++ 0 ∷ rest) (end + 1) (omega (arith, place, length-append (front mark payloads) (gate ∷ []))) in
+      let whole : c ≡ front mark payloads ++ get_or c end 0 ∷ (body payload ++ 0 ∷ rest) =
+      split_at_gate c end (front mark payloads) low (omega (arith, place, longer)) ∙ ap (λ (l : List ℕ). front mark payloads ++ get_or c end 0 ∷ l) high in
       elim (cases_eq (get_or c end 0) 1) [
         | inl is_open ↦ inr (inr (record {
+          mark = mark;
+          all = payloads ++ payload ∷ [];
           gate = 0;
           ignored = rest;
-          split = whole ∙ ap (λ (g : ℕ). front payloads ++ g ∷ (body payload ++ 0 ∷ rest)) is_open ∙ sym (front-push payloads payload (0 ∷ rest));
+          split = whole ∙ ap (λ (g : ℕ). front mark payloads ++ g ∷ (body payload ++ 0 ∷ rest)) is_open ∙ sym (front-push mark payloads payload (0 ∷ rest));
           closed = λ is. absurd (omega arith);
           fit = fit-push payloads payload all fits;
+          counts = one_more version content payload of_version counts;
         }))
-        | inr shut ↦ inl (inr (record { gate = get_or c end 0; ignored = body payload ++ 0 ∷ rest; split = whole; closed = shut; fit = all }))
+        | inr shut ↦ inl (inr (record { mark = mark; all = payloads; gate = get_or c end 0; ignored = body payload ++ 0 ∷ rest; split = whole; closed = shut; fit = all; counts = counts }))
       ]
 
   -- and after it the gate is open
-  pub written_gate : (gate : ℕ) (payload rest : List ℕ) → Fits payload → AllFit payloads → Holds (written (staged gate payload rest) end (1 ∷ [])) (payloads ++ payload ∷ [])
-  written_gate gate payload rest fits all = record {
-    gate = 0;
-    ignored = rest;
-    split =
-        ap (λ (l : List ℕ). l ++ (1 ∷ []) ++ drop (end + 1) (staged gate payload rest)) (take_at (front payloads) (gate ∷ (body payload ++ 0 ∷ rest)) end (omega arith))
-        ∙ ap (λ (l : List ℕ). front payloads ++ (1 ∷ []) ++ l)
-        (ap (drop (end + 1)) (sym (append_assoc (front payloads) (gate ∷ []) (body payload ++ 0 ∷ rest)))
-        ∙ drop_at (front payloads ++ gate ∷ []) (body payload ++ 0 ∷ rest) (end + 1) (omega (arith, length-append (front payloads) (gate ∷ []))))
-        ∙ append_assoc (front payloads) (1 ∷ []) (body payload ++ 0 ∷ rest)
-        ∙ sym (front-push payloads payload (0 ∷ rest));
-    closed = λ is. absurd (omega arith);
-    fit = fit-push payloads payload all fits;
+  pub written_gate : (version : Version) (content : Content) (gate : ℕ) (payload rest : List ℕ) → version_of mark ≡ version → content ≡ counted (version_of mark) payloads
+      → Fits payload → AllFit payloads → (later : ℕ) → later ≡ end + 5 + length payload → HoldsTo (written (staged gate payload rest) end (1 ∷ [])) version later (with_payload version content payload)
+  written_gate version content gate payload rest of_version counts fits all later is = record {
+    holds = record {
+      mark = mark;
+      all = payloads ++ payload ∷ [];
+      gate = 0;
+      ignored = rest;
+      split =
+          ap (λ (l : List ℕ). l ++ (1 ∷ []) ++ drop (end + 1) (staged gate payload rest)) (take_at (front mark payloads) (gate ∷ (body payload ++ 0 ∷ rest)) end (omega (arith, place)))
+          ∙ ap (λ (l : List ℕ). front mark payloads ++ (1 ∷ []) ++ l)
+          (ap (drop (end + 1)) (sym (append_assoc (front mark payloads) (gate ∷ []) (body payload ++ 0 ∷ rest)))
+          ∙ drop_at (front mark payloads ++ gate ∷ []) (body payload ++ 0 ∷ rest) (end + 1) (omega (arith, place, length-append (front mark payloads) (gate ∷ []))))
+          ∙ append_assoc (front mark payloads) (1 ∷ []) (body payload ++ 0 ∷ rest)
+          ∙ sym (front-push mark payloads payload (0 ∷ rest));
+      closed = λ is_open. absurd (omega arith);
+      fit = fit-push payloads payload all fits;
+      counts = one_more version content payload of_version counts;
+    };
+    of_version = of_version;
+    place = omega (arith, is, place, length-front-push mark payloads payload);
   }
 
 -- a file of at most nine bytes, over which a header is written, has at most nine bytes in each outcome
-pub torn_header : (file c : List ℕ) → length file ≤ 9 → Torn 0 9 file c → StandsFor c []
+pub torn_header : (file c : List ℕ) → length file ≤ 9 → Torn 0 9 file c → StandsFor c nothing
 torn_header file c short torn = inl (omega (arith, torn.no_longer), refl)
 
 pub written_header : (file : List ℕ) → length file ≤ 9 → written file 0 header ≡ header
 written_header file short = ap (λ (l : List ℕ). header ++ l) (drop_all 9 file short)
 
-pub header_holds : Holds header []
-header_holds = record { gate = 0; ignored = []; split = refl; closed = λ is. absurd (omega arith); fit = tt }
+pub header_holds : HoldsTo header One 8 nothing
+header_holds = record {
+  holds = record { mark = 49; all = []; gate = 0; ignored = []; split = refl; closed = λ is. absurd (omega arith); fit = tt; counts = refl };
+  of_version = refl;
+  place = refl;
+}
 
-pub fronts_begin : (before payloads : List (List ℕ)) (payload : List ℕ) → IsFront before payloads → IsFront before (payloads ++ payload ∷ [])
-fronts_begin [] payloads payload is = refl
-fronts_begin (b ∷ before) [] payload is = absurd (cc is)
-fronts_begin (b ∷ before) (p ∷ payloads) payload is =
-    let same_head : p ≡ b = cc is in
-    let same_rest : take (length before) payloads ≡ before = cc is in
-    let rest = fronts_begin before payloads payload same_rest in
-    λ k. same_head k ∷ rest k
+-- ---- the byte of the version
+
+-- a file over whose eighth byte another is written
+version_written : (mark other : ℕ) (rest : List ℕ) → written (magic ++ mark ∷ rest) 7 (other ∷ []) ≡ magic ++ other ∷ rest
+version_written mark other rest = refl
+
+-- each outcome of that write differs in this byte alone
+torn_version : (mark : ℕ) (rest c : List ℕ) → Torn 7 1 (magic ++ mark ∷ rest) c → c ≡ magic ++ get_or c 7 0 ∷ rest
+torn_version mark rest c torn =
+    split_at_gate c 7 magic torn.before (omega (arith, torn.no_shorter)) ∙ ap (λ (l : List ℕ). magic ++ get_or c 7 0 ∷ l) torn.after
+
+-- what counts with this byte of a version, where this counts in version 1
+counts_with : (mark other : ℕ) (content : Content) (all : List (List ℕ)) → version_of mark ≡ One → content ≡ counted (version_of mark) all
+    → (version_of other ≡ One → content ≡ counted (version_of other) all) × (version_of other ≡ Two → raised content ≡ counted (version_of other) all)
+counts_with mark other content all is_one counts = (
+  λ one. counts ∙ ap (λ (v : Version). counted v all) (is_one ∙ sym one),
+  λ two. ap raised (counts ∙ ap (λ (v : Version). counted v all) is_one) ∙ raised_one all ∙ ap (λ (v : Version). counted v all) (sym two),
+)
+
+one_or_two : (version : Version) → (version ≡ One) ⊎ (version ≡ Two)
+one_or_two One = inl refl
+one_or_two Two = inr refl
+
+pub torn_raise : (file c : List ℕ) (end : ℕ) (content : Content) → HoldsTo file One end content → Torn 7 1 file c → StandsForEither content (raised content) c
+torn_raise file c end content lies torn =
+    let holds = lies.holds in
+    let rest = frames holds.all ++ holds.gate ∷ holds.ignored in
+    let whole : c ≡ magic ++ get_or c 7 0 ∷ rest = torn_version holds.mark rest c (subst (λ (f : List ℕ). Torn 7 1 f c) holds.split torn) in
+    let with = counts_with holds.mark (get_or c 7 0) content holds.all lies.of_version holds.counts in
+    ⊎_elim
+    (λ one. inl (inr (record { mark = get_or c 7 0; all = holds.all; gate = holds.gate; ignored = holds.ignored; split = whole; closed = holds.closed; fit = holds.fit; counts = with.0 one })))
+    (λ two. inr (inr (record { mark = get_or c 7 0; all = holds.all; gate = holds.gate; ignored = holds.ignored; split = whole; closed = holds.closed; fit = holds.fit; counts = with.1 two })))
+    (one_or_two (version_of (get_or c 7 0)))
+
+pub written_raise : (file : List ℕ) (end : ℕ) (content : Content) → HoldsTo file One end content → HoldsTo (written file 7 (50 ∷ [])) Two end (raised content)
+written_raise file end content lies =
+    let holds = lies.holds in
+    record {
+      holds = record {
+        mark = 50;
+        all = holds.all;
+        gate = holds.gate;
+        ignored = holds.ignored;
+        split = ap (λ (f : List ℕ). written f 7 (50 ∷ [])) holds.split;
+        closed = holds.closed;
+        fit = holds.fit;
+        counts = (counts_with holds.mark 50 content holds.all lies.of_version holds.counts).1 refl;
+      };
+      of_version = refl;
+      place = lies.place;
+    }
+
+-- one of version 2 counts as it did
+pub raised_holds : (file : List ℕ) (end : ℕ) (content : Content) → HoldsTo file Two end content → raised content ≡ content
+raised_holds file end content lies =
+    let is : content ≡ counted Two lies.holds.all = lies.holds.counts ∙ ap (λ (v : Version). counted v lies.holds.all) lies.of_version in
+    ap raised is ∙ raised_two lies.holds.all ∙ sym is
 
 -- what a closed frame holds
 pub closed_frame : (payload bytes : List ℕ) → bytes ≡ to_le_bytes w32 (length payload) ++ payload ++ 0 ∷ [] → (payload_of bytes ≡ payload) × (bytes ≡ body (payload_of bytes) ++ 0 ∷ [])

@@ -1,3 +1,6 @@
+pub mod BaseLaws
+pub mod ContentLaws
+pub mod FollowsLaws
 pub mod FrameLaws
 pub mod HeadLaws
 pub mod JournalLaws

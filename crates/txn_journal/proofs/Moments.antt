@@ -1,5 +1,5 @@
 -- How a run of disk calls goes on.
-use Rattle.std.proofs.Common.{inl, inr, ⊎_elim, ℕ, List, Option, refl, ◌∙◌, arith}
+use Rattle.std.proofs.Common.{inl, inr, ⊎_elim, ℕ, List, Option, Result, Ok, Err, OnOk, refl, ◌∙◌, arith}
 use Rattle.ts_disk.specs.CrashImage.{Elapses, LeavesOnly}
 use Rattle.ts_disk.specs.Disk.{Keeps}
 
@@ -51,3 +51,8 @@ keeps_both bytes may_leave moment left_since old mid new first second = record {
 
 pub keeps_same : {D : Type 0} (bytes : D → Option (List ℕ)) (may_leave : D → List ℕ → Type 0) (moment : D → ℕ) (left_since : D → ℕ → List ℕ → Type 0) (disk : D) → Keeps bytes may_leave moment left_since disk disk
 keeps_same bytes may_leave moment left_since disk = record { same = refl; at_moment = refl; leaves = λ c left. left; left = λ c left. left; past = λ t c left. left; past_left = λ t c left. left }
+
+-- what follows from a call that succeeded
+pub on_ok : {T E : Type 0} (P Q : Type 0) (result : Result T E) → OnOk result P → (P → Q) → OnOk result Q
+on_ok P Q (Ok v) here from = from here
+on_ok P Q (Err e) here from = tt

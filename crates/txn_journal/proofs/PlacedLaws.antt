@@ -1,8 +1,15 @@
 -- Payloads with their places.
-use Rattle.std.proofs.Common.{◌≡◌, ℕ, ◌+◌, List, [], ◌∷◌, ◌++◌, length, sym, ◌∙◌, ap, arith, length-append}
+use Rattle.std.proofs.Common.{◌≡◌, ◌⊎◌, inl, inr, ⊎_elim, ℕ, ◌+◌, false, List, [], ◌∷◌, ◌++◌, length, Option, Some, None, refl, sym, ◌∙◌, ap, subst, arith, append_assoc, length-append}
+use Rattle.std.specs.Prelude.{IsSome, is_some}
+use Rattle.std.proofs.lemmas.Bool.{cond-false, true≢false}
 use Rattle.std.proofs.lemmas.List.{map-append}
-use Rattle.txn_journal.specs.Frames.{body, frames, front, magic, placed, payloads_of}
+use Rattle.txn_journal.specs.Contents.{Content, base_alone, counted, is_base, listed, nothing}
+use Rattle.txn_journal.specs.Frames.{Follows, body, frames, front, placed, payloads_of}
+use Rattle.txn_journal.specs.Reading.{based_on, with_next}
+use Rattle.txn_journal.specs.Recovering.{AreListed}
 use Rattle.txn_journal.specs.declared.payloads.Payload.{Payload}
+use Rattle.txn_journal.specs.declared.versions.Version.{Version}
+use Rattle.txn_journal.proofs.ContentLaws.{all_without_base}
 use Rattle.txn_journal.proofs.FrameLaws.{length-body}
 
 placed-push : (at : ℕ) (payloads : List (List ℕ)) (payload : List ℕ) → placed at (payloads ++ payload ∷ []) ≡ placed at payloads ++ record { bytes = payload; at = at + length (frames payloads) } ∷ []
@@ -13,16 +20,75 @@ placed-push at (p ∷ payloads) payload =
     ap (λ (ps : List Payload). record { bytes = p; at = at } ∷ ps)
     (placed-push (at + 5 + length p) payloads payload ∙ ap (λ (n : ℕ). placed (at + 5 + length p) payloads ++ record { bytes = payload; at = n } ∷ []) moved)
 
+length-frames-push : (payloads : List (List ℕ)) (payload : List ℕ) → length (frames (payloads ++ payload ∷ [])) ≡ length (frames payloads) + 5 + length payload
+length-frames-push [] payload = omega (arith, length-append (body payload) [], length-body payload)
+length-frames-push (p ∷ payloads) payload =
+    omega (arith, length-frames-push payloads payload, length-append (body p) (frames payloads), length-append (body p) (frames (payloads ++ payload ∷ [])))
+
+-- payloads with their places are what counts, up to this gate
+pub record ListedTo (payloads : List Payload) (content : Content) (at : ℕ) : Type 0 where
+  pub first : ℕ
+  pub all : payloads_of payloads ≡ listed content
+  pub places : payloads ≡ placed first (payloads_of payloads)
+  pub upto : at ≡ first + length (frames (payloads_of payloads))
+  pub begins : (payloads ≡ []) ⊎ ((first ≡ 8) ⊎ IsSome content.base)
+
+pub are_listed : (payloads : List Payload) (content : Content) (at : ℕ) → ListedTo payloads content at → AreListed payloads content
+are_listed payloads content at to = ⊎_elim
+    (λ none. record { first = 8; all = to.all; places = subst (λ (ps : List Payload). ps ≡ placed 8 (payloads_of ps)) (sym none) refl; from_first_gate = inl refl })
+    (λ there. record { first = to.first; all = to.all; places = to.places; from_first_gate = there })
+    to.begins
+
+pub none_listed : (payloads : List Payload) (at : ℕ) → payloads ≡ [] → ListedTo payloads nothing at
+none_listed payloads at is = subst (λ (ps : List Payload). ListedTo ps nothing at) (sym is) (record { first = at; all = refl; places = refl; upto = omega arith; begins = inl refl })
+
+-- a base alone
+pub base_listed : (new : List Payload) (bytes : List ℕ) (at later : ℕ) → new ≡ record { bytes = bytes; at = at } ∷ [] → later ≡ at + 5 + length bytes → ListedTo new (based_on bytes) later
+base_listed new bytes at later is moves =
+    let all : payloads_of new ≡ bytes ∷ [] = ap payloads_of is in
+    record {
+      first = at;
+      all = all;
+      places = is ∙ sym (ap (placed at) all);
+      upto = omega (arith, moves, ap (λ (ps : List (List ℕ)). length (frames ps)) all, length-frames-push [] bytes);
+      begins = inr (inr refl);
+    }
+
+-- where nothing counted so far and none is a base, a payload stands behind the first gate
+first_place : (file : List ℕ) (version : Version) (content : Content) (payload : List ℕ) (at : ℕ) → Follows file version content payload at → is_base version payload ≡ false
+    → listed content ≡ [] → (at ≡ 8) ⊎ IsSome content.base
+first_place file version content payload at follows plain none = by_base content.base refl
+  where
+    counts : content ≡ counted version follows.before
+    counts = follows.counts ∙ cond-false _ nothing (counted version follows.before) plain
+
+    by_base : (base : Option (List ℕ)) → content.base ≡ base → (at ≡ 8) ⊎ IsSome content.base
+    by_base (Some b) is = inr (ap is_some is)
+    by_base None is =
+        let without : IsSome (counted version follows.before).base → ⊥ = λ some. true≢false (sym some ∙ ap (λ (c : Content). is_some c.base) (sym counts) ∙ ap is_some is) in
+        let before : follows.before ≡ [] =
+        sym (all_without_base version nothing follows.before without) ∙ ap (λ (c : Content). c.payloads) (sym counts) ∙ ap (λ (b : Option (List ℕ)). base_alone b ++ content.payloads) (sym is) ∙ none in
+        inl (follows.place ∙ ap (λ (ps : List (List ℕ)). length (front follows.mark ps)) before)
+
 -- one payload more, at its place
-pub kept_payload : (payloads new : List Payload) (bytes : List ℕ) (at : ℕ) → new ≡ payloads ++ record { bytes = bytes; at = at } ∷ []
-    → payloads ≡ placed 8 (payloads_of payloads) → at ≡ length (front (payloads_of payloads))
-    → (payloads_of new ≡ payloads_of payloads ++ bytes ∷ []) × (new ≡ placed 8 (payloads_of new))
-kept_payload payloads new bytes at is so_far place =
+pub next_listed : (file : List ℕ) (version : Version) (payloads new : List Payload) (content : Content) (bytes : List ℕ) (at later : ℕ) → new ≡ payloads ++ record { bytes = bytes; at = at } ∷ []
+    → ListedTo payloads content at → later ≡ at + 5 + length bytes → Follows file version content bytes at → is_base version bytes ≡ false → ListedTo new (with_next content bytes) later
+next_listed file version payloads new content bytes at later is before moves follows plain =
     let all : payloads_of new ≡ payloads_of payloads ++ bytes ∷ [] = ap payloads_of is ∙ map-append (λ (p : Payload). p.bytes) payloads (record { bytes = bytes; at = at } ∷ []) in
-    let there : at ≡ 8 + length (frames (payloads_of payloads)) = omega (arith, place, length-append magic (frames (payloads_of payloads))) in (
-      all,
-      is
-          ∙ (λ k. so_far k ++ record { bytes = bytes; at = there k } ∷ [])
-          ∙ sym (placed-push 8 (payloads_of payloads) bytes)
-          ∙ ap (placed 8) (sym all),
-    )
+    let listed_now : payloads_of new ≡ listed (with_next content bytes) = all ∙ ap (λ (ps : List (List ℕ)). ps ++ bytes ∷ []) before.all ∙ append_assoc (base_alone content.base) content.payloads (bytes ∷ []) in
+    let places_now : new ≡ placed before.first (payloads_of new) =
+    is ∙ (λ k. before.places k ++ record { bytes = bytes; at = before.upto k } ∷ []) ∙ sym (placed-push before.first (payloads_of payloads) bytes) ∙ ap (placed before.first) (sym all) in
+    let upto_now : later ≡ before.first + length (frames (payloads_of new)) =
+    omega (arith, moves, before.upto, ap (λ (ps : List (List ℕ)). length (frames ps)) all, length-frames-push (payloads_of payloads) bytes) in
+    record {
+      first = before.first;
+      all = listed_now;
+      places = places_now;
+      upto = upto_now;
+      begins = ⊎_elim
+          (λ none.
+          let here : at ≡ before.first = before.upto ∙ ap (λ (ps : List Payload). before.first + length (frames (payloads_of ps))) none ∙ omega arith in
+          inr (⊎_elim (λ eight. inl (sym here ∙ eight)) inr (first_place file version content bytes at follows plain (sym before.all ∙ ap payloads_of none))))
+          inr
+          before.begins;
+    }

@@ -1,17 +1,18 @@
 -- What a file stands for is one list, and so is what stands before the damage.
-use Rattle.std.proofs.Common.{◌≡◌, ◌≢◌, ◌⊎◌, inl, inr, ⊎_elim, ℕ, ◌<◌, ◌≤◌, List, [], ◌∷◌, ◌++◌, length, take, drop, refl, sym, ◌∙◌, ap, subst, arith, append_assoc, length-append}
-use Rattle.std.proofs.lemmas.List.{take_at, drop_at, append_cancel_left}
+use Rattle.std.proofs.Common.{◌≡◌, ◌≢◌, ◌⊎◌, inl, inr, ⊎_elim, ℕ, ◌<◌, ◌≤◌, List, [], ◌∷◌, ◌++◌, length, take, drop, get_or, refl, sym, ◌∙◌, ap, subst, arith, append_assoc, length-append}
+use Rattle.std.proofs.lemmas.List.{take_at, drop_at}
 use Rattle.std.proofs.lemmas.Nat.{from_le_bytes-to_le_bytes_4}
 use Rattle.std.specs.Int.{w32, to_le_bytes, from_le_bytes}
+use Rattle.txn_journal.specs.Contents.{Content, counted, nothing, version_of}
 use Rattle.txn_journal.specs.Frames.{AllFit, Fits, Holds, StandsFor, IsDamaged, IsShort, body, frames, front, magic}
 use Rattle.txn_journal.proofs.FrameLaws.{length-body}
 
 -- the frames end here: the gate is closed, or too little stands behind it
-abbrev Stops : ℕ → List ℕ → Type 0
+abbrev pub Stops : ℕ → List ℕ → Type 0
 Stops gate rest = (gate ≢ 1) ⊎ IsShort rest
 
 -- a whole frame follows an open gate, so they don't end there
-goes_on : (payload rest : List ℕ) → Fits payload → Stops 1 (body payload ++ rest) → 0 < length rest → ⊥
+pub goes_on : (payload rest : List ℕ) → Fits payload → Stops 1 (body payload ++ rest) → 0 < length rest → ⊥
 goes_on payload rest fits (inl shut) more = shut refl
 goes_on payload rest fits (inr (inl few)) more = absurd (omega (arith, length-append (body payload) rest, length-body payload))
 goes_on payload rest fits (inr (inr less)) more =
@@ -21,7 +22,7 @@ goes_on payload rest fits (inr (inr less)) more =
     absurd (omega (arith, less, count, length-append (body payload) rest, length-body payload))
 
 -- two frames that begin alike hold the same payload
-same_payload : (p q x y : List ℕ) → Fits p → Fits q → body p ++ x ≡ body q ++ y → (p ≡ q) × (x ≡ y)
+pub same_payload : (p q x y : List ℕ) → Fits p → Fits q → body p ++ x ≡ body q ++ y → (p ≡ q) × (x ≡ y)
 same_payload p q x y fits_p fits_q is =
     let a : take 4 (body p ++ x) ≡ to_le_bytes w32 (length p) = ap (take 4) (append_assoc (to_le_bytes w32 (length p)) p x) ∙ take_at (to_le_bytes w32 (length p)) (p ++ x) 4 refl in
     let b : take 4 (body q ++ y) ≡ to_le_bytes w32 (length q) = ap (take 4) (append_assoc (to_le_bytes w32 (length q)) q y) ∙ take_at (to_le_bytes w32 (length q)) (q ++ y) 4 refl in
@@ -32,6 +33,10 @@ same_payload p q x y fits_p fits_q is =
       sym (take_at p x (length p) refl) ∙ ap (take (length p)) both ∙ take_at q y (length p) (sym size),
       sym (drop_at p x (length p) refl) ∙ ap (drop (length p)) both ∙ drop_at q y (length p) (sym size),
     )
+
+-- two journals that are the same have the same byte of a version, and the same frames
+same_front : (m n : ℕ) (a b : List (List ℕ)) (r s : List ℕ) → front m a ++ r ≡ front n b ++ s → (m ≡ n) × (frames a ++ r ≡ frames b ++ s)
+same_front m n a b r s is = (ap (λ (l : List ℕ). get_or l 7 0) is, ap (drop 8) is)
 
 frames_one : (a b : List (List ℕ)) (g h : ℕ) (r s : List ℕ) → AllFit a → AllFit b → Stops g r → Stops h s → frames a ++ g ∷ r ≡ frames b ++ h ∷ s → (a ≡ b) × (g ≡ h)
 frames_one [] [] g h r s fit_a fit_b stop_g stop_h is = let same : g ≡ h = cc is in (refl, same)
@@ -51,10 +56,12 @@ frames_one (p ∷ a) (q ∷ b) g h r s fit_a fit_b stop_g stop_h is =
     let rest = frames_one a b g h r s fit_a.1 fit_b.1 stop_g stop_h parts.1 in
     ((λ k. parts.0 k ∷ rest.0 k), rest.1)
 
-fronts_one : (file : List ℕ) (a b : List (List ℕ)) (g h : ℕ) (r s : List ℕ) → AllFit a → AllFit b → Stops g r → Stops h s → file ≡ front a ++ g ∷ r → file ≡ front b ++ h ∷ s → (a ≡ b) × (g ≡ h)
-fronts_one file a b g h r s fit_a fit_b stop_g stop_h is_a is_b =
-    frames_one a b g h r s fit_a fit_b stop_g stop_h
-    (append_cancel_left magic (frames a ++ g ∷ r) (frames b ++ h ∷ s) (sym (append_assoc magic (frames a) (g ∷ r)) ∙ sym is_a ∙ is_b ∙ append_assoc magic (frames b) (h ∷ s)))
+fronts_one : (file : List ℕ) (m n : ℕ) (a b : List (List ℕ)) (g h : ℕ) (r s : List ℕ) → AllFit a → AllFit b → Stops g r → Stops h s → file ≡ front m a ++ g ∷ r → file ≡ front n b ++ h ∷ s
+    → (m ≡ n) × (a ≡ b) × (g ≡ h)
+fronts_one file m n a b g h r s fit_a fit_b stop_g stop_h is_a is_b =
+    let both = same_front m n a b (g ∷ r) (h ∷ s) (sym is_a ∙ is_b) in
+    let rest = frames_one a b g h r s fit_a fit_b stop_g stop_h both.1 in
+    (both.0, rest.0, rest.1)
 
 -- ---- what stands before two gates
 
@@ -85,49 +92,59 @@ frames_begin (p ∷ a) (q ∷ b) g h r s fit_a fit_b stop is =
     let more = frames_begin a b g h r s fit_a.1 fit_b.1 stop parts.1 in
     (more.0, λ k. sym parts.0 k ∷ more.1 k)
 
-frames_of : (a b : List (List ℕ)) (r s : List ℕ) → front a ++ r ≡ front b ++ s → frames a ++ r ≡ frames b ++ s
-frames_of a b r s is = append_cancel_left magic (frames a ++ r) (frames b ++ s) (sym (append_assoc magic (frames a) r) ∙ is ∙ append_assoc magic (frames b) s)
+pub compared : (file : List ℕ) (m n : ℕ) (a b : List (List ℕ)) (g h : ℕ) (r s : List ℕ) → AllFit a → AllFit b → file ≡ front m a ++ g ∷ r → file ≡ front n b ++ h ∷ s
+    → (m ≡ n) × (((more : List (List ℕ)) × (b ≡ a ++ more)) ⊎ ((more : List (List ℕ)) × (a ≡ b ++ more)))
+compared file m n a b g h r s fit_a fit_b is_a is_b =
+    let both = same_front m n a b (g ∷ r) (h ∷ s) (sym is_a ∙ is_b) in
+    (both.0, frames_compared a b g h r s fit_a fit_b both.1)
 
-pub compared : (file : List ℕ) (a b : List (List ℕ)) (g h : ℕ) (r s : List ℕ) → AllFit a → AllFit b → file ≡ front a ++ g ∷ r → file ≡ front b ++ h ∷ s
-    → ((more : List (List ℕ)) × (b ≡ a ++ more)) ⊎ ((more : List (List ℕ)) × (a ≡ b ++ more))
-compared file a b g h r s fit_a fit_b is_a is_b = frames_compared a b g h r s fit_a fit_b (frames_of a b (g ∷ r) (h ∷ s) (sym is_a ∙ is_b))
-
-pub begin_all : (file : List ℕ) (a b : List (List ℕ)) (g h : ℕ) (r s : List ℕ) → AllFit a → AllFit b → (h ≢ 1) ⊎ IsShort s → file ≡ front a ++ g ∷ r → file ≡ front b ++ h ∷ s
-    → (more : List (List ℕ)) × (b ≡ a ++ more)
-begin_all file a b g h r s fit_a fit_b stop is_a is_b = frames_begin a b g h r s fit_a fit_b stop (frames_of a b (g ∷ r) (h ∷ s) (sym is_a ∙ is_b))
+pub begin_all : (file : List ℕ) (m n : ℕ) (a b : List (List ℕ)) (g h : ℕ) (r s : List ℕ) → AllFit a → AllFit b → (h ≢ 1) ⊎ IsShort s → file ≡ front m a ++ g ∷ r → file ≡ front n b ++ h ∷ s
+    → (m ≡ n) × ((more : List (List ℕ)) × (b ≡ a ++ more))
+begin_all file m n a b g h r s fit_a fit_b stop is_a is_b =
+    let both = same_front m n a b (g ∷ r) (h ∷ s) (sym is_a ∙ is_b) in
+    (both.0, frames_begin a b g h r s fit_a fit_b stop both.1)
 
 -- a file of at most nine bytes holds no payload
-none_held : (file : List ℕ) (payloads : List (List ℕ)) → length file ≤ 9 → Holds file payloads → payloads ≡ []
-none_held file [] short holds = refl
-none_held file (p ∷ payloads) short holds =
-    absurd (omega (arith, short, ap length holds.split, length-append (front (p ∷ payloads)) (holds.gate ∷ holds.ignored), length-append magic (frames (p ∷ payloads)), length-append (body p) (frames payloads), length-body p))
+none_held : (file : List ℕ) (content : Content) → length file ≤ 9 → Holds file content → content ≡ nothing
+none_held file content short holds = holds.counts ∙ ap (counted (version_of holds.mark)) (none_of holds.all holds.split)
+  where
+    none_of : (all : List (List ℕ)) → file ≡ front holds.mark all ++ holds.gate ∷ holds.ignored → all ≡ []
+    none_of [] split = refl
+    none_of (p ∷ all) split =
+        absurd (omega (arith, short, ap length split, length-append (frames (p ∷ all)) (holds.gate ∷ holds.ignored), length-append (body p) (frames all), length-body p))
 
-pub stands_once : (file : List ℕ) (a b : List (List ℕ)) → StandsFor file a → StandsFor file b → a ≡ b
+-- of the same payloads in the same version the same counts
+same_counts : (m n : ℕ) (a b : List (List ℕ)) (c d : Content) → m ≡ n → a ≡ b → c ≡ counted (version_of m) a → d ≡ counted (version_of n) b → c ≡ d
+same_counts m n a b c d marks all is_c is_d = is_c ∙ (λ k. counted (version_of (marks k)) (all k)) ∙ sym is_d
+
+pub stands_once : (file : List ℕ) (a b : Content) → StandsFor file a → StandsFor file b → a ≡ b
 stands_once file a b (inl x) (inl y) = x.1 ∙ sym y.1
 stands_once file a b (inl x) (inr y) = x.1 ∙ sym (none_held file b x.0 y)
 stands_once file a b (inr x) (inl y) = none_held file a y.0 x ∙ sym y.1
-stands_once file a b (inr x) (inr y) = (fronts_one file a b x.gate y.gate x.ignored y.ignored x.fit y.fit (inl x.closed) (inl y.closed) x.split y.split).0
+stands_once file a b (inr x) (inr y) =
+    let one = fronts_one file x.mark y.mark x.all y.all x.gate y.gate x.ignored y.ignored x.fit y.fit (inl x.closed) (inl y.closed) x.split y.split in
+    same_counts x.mark y.mark x.all y.all a b one.0 one.1 x.counts y.counts
 
-pub begins_magic : (file : List ℕ) (payloads : List (List ℕ)) (rest : List ℕ) → file ≡ front payloads ++ rest → take 8 file ≡ magic
-begins_magic file payloads rest is = ap (take 8) (is ∙ append_assoc magic (frames payloads) rest) ∙ take_at magic (frames payloads ++ rest) 8 refl
+pub begins_magic : (file : List ℕ) (mark : ℕ) (payloads : List (List ℕ)) (rest : List ℕ) → file ≡ front mark payloads ++ rest → take 7 file ≡ magic
+begins_magic file mark payloads rest is = ap (take 7) is
 
-pub damaged_or_not : (file : List ℕ) (a b : List (List ℕ)) (at : ℕ) → StandsFor file a → IsDamaged file b at → ⊥
+pub damaged_or_not : (file : List ℕ) (a b : Content) (at : ℕ) → StandsFor file a → IsDamaged file b at → ⊥
 damaged_or_not file a b at (inl x) damage = absurd (omega (arith, x.0, damage.long))
 damaged_or_not file a b at (inr x) damage = ⊎_elim
-    (λ other. other.begins (begins_magic file a (x.gate ∷ x.ignored) x.split))
-    (λ broken. x.closed (fronts_one file a b x.gate 1 x.ignored broken.rest x.fit broken.fit (inl x.closed) (inr broken.short) x.split broken.split).1)
+    (λ other. other.begins (begins_magic file x.mark x.all (x.gate ∷ x.ignored) x.split))
+    (λ broken. x.closed (fronts_one file x.mark broken.mark x.all broken.all x.gate 1 x.ignored broken.rest x.fit broken.fit (inl x.closed) (inr broken.short) x.split broken.split).2)
     damage.broken
 
-pub damaged_once : (file : List ℕ) (a b : List (List ℕ)) (p q : ℕ) → IsDamaged file a p → IsDamaged file b q → (a ≡ b) × (p ≡ q)
+pub damaged_once : (file : List ℕ) (a b : Content) (p q : ℕ) → IsDamaged file a p → IsDamaged file b q → (a ≡ b) × (p ≡ q)
 damaged_once file a b p q x y = ⊎_elim
     (λ one. ⊎_elim
     (λ other. (one.none ∙ sym other.none, one.place ∙ sym other.place))
-    (λ other. absurd (one.begins (begins_magic file b (1 ∷ other.rest) other.split)))
+    (λ other. absurd (one.begins (begins_magic file other.mark other.all (1 ∷ other.rest) other.split)))
     y.broken)
     (λ one. ⊎_elim
-    (λ other. absurd (other.begins (begins_magic file a (1 ∷ one.rest) one.split)))
+    (λ other. absurd (other.begins (begins_magic file one.mark one.all (1 ∷ one.rest) one.split)))
     (λ other.
-    let same = (fronts_one file a b 1 1 one.rest other.rest one.fit other.fit (inr one.short) (inr other.short) one.split other.split).0 in
-    (same, one.place ∙ ap (λ (ps : List (List ℕ)). length (front ps)) same ∙ sym other.place))
+    let same = fronts_one file one.mark other.mark one.all other.all 1 1 one.rest other.rest one.fit other.fit (inr one.short) (inr other.short) one.split other.split in
+    (same_counts one.mark other.mark one.all other.all a b same.0 same.1 one.counts other.counts, one.place ∙ (λ k. length (front (same.0 k) (same.1 k))) ∙ sym other.place))
     y.broken)
     x.broken

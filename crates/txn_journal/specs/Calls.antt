@@ -1,37 +1,43 @@
 -- What the calls of a journal say of its disk.
-use Rattle.std.specs.Prelude.{◌≡◌, ◌≢◌, ℕ, ◌≤◌, List, [], Option, Some, length, ⊤}
+use Rattle.std.specs.Prelude.{◌≡◌, ◌≢◌, ℕ, ◌≤◌, List, Option, Some, length, ⊤}
 use Rattle.ts_schema.specs.Faults.{Rose}
 use Rattle.ts_disk.specs.CrashImage.{Only}
-use Rattle.txn_journal.specs.Frames.{Holds, StandsForMore, front, header}
+use Rattle.txn_journal.specs.Contents.{Content, nothing}
+use Rattle.txn_journal.specs.Frames.{HoldsTo, StandsForMore, header}
 use Rattle.txn_journal.specs.declared.journals.Append.{Append}
 use Rattle.txn_journal.specs.declared.journals.Append.TheVariants.{Done, DiskFault, Stopped}
 use Rattle.txn_journal.specs.declared.journals.Standing.{Standing}
 use Rattle.txn_journal.specs.declared.journals.Standing.TheVariants.{Bare, Ready, Still}
+use Rattle.txn_journal.specs.declared.versions.Version.{Version}
+use Rattle.txn_journal.specs.declared.versions.Version.TheVariants.{One}
 
--- a journal: its disk, the place of the gate behind its last payload, and whether it has a header or stopped
+-- a journal: its disk, its version, the place of the gate behind its last payload, and whether it has a header or
+-- stopped
 pub record Logged (D : Type 0) : Type 0 where
   pub disk : D
+  pub version : Version
   pub end : ℕ
   pub standing : Standing
 
--- a journal's file and its place: one without a header has at most nine bytes, and another holds the payloads up to
--- the place
-abbrev pub LiesAs : Standing → List ℕ → ℕ → List (List ℕ) → Type 0
-LiesAs Bare file end payloads = (length file ≤ 9) × (file ≢ header) × (payloads ≡ [])
-LiesAs Ready file end payloads = Holds file payloads × (end ≡ length (front payloads))
-LiesAs Still file end payloads = ⊥
+-- a journal's file and its place: one without a header has at most nine bytes and will be of version 1, and another
+-- holds payloads up to the place
+abbrev pub LiesAs : Standing → Version → List ℕ → ℕ → Content → Type 0
+LiesAs Bare version file end content =
+    (length file ≤ 9) × (file ≢ header) × (content ≡ nothing) × (version ≡ One)
+LiesAs Ready version file end content = HoldsTo file version end content
+LiesAs Still version file end content = ⊥
 
--- a journal that didn't stop stands for these payloads, and all of it is on the disk
+-- a journal that didn't stop stands for this content, and all of it is on the disk
 pub record IsAtRest {D : Type 0} (bytes : D → Option (List ℕ)) (may_leave : D → List ℕ → Type 0) (journal : Logged D)
-    (payloads : List (List ℕ)) : Type 0 where
+    (content : Content) : Type 0 where
   pub file : List ℕ
   pub told : bytes journal.disk ≡ Some file
-  pub lies : LiesAs journal.standing file journal.end payloads
+  pub lies : LiesAs journal.standing journal.version file journal.end content
   pub durable : Only file (may_leave journal.disk)
 
--- each image since this moment stands for payloads that begin with these
-abbrev pub BeginSince : {D : Type 0} → (D → ℕ → List ℕ → Type 0) → D → ℕ → List (List ℕ) → Type 0
-BeginSince left_since disk t payloads = (c : List ℕ) → left_since disk t c → StandsForMore payloads c
+-- each image since this moment stands for content that begins with this
+abbrev pub BeginSince : {D : Type 0} → (D → ℕ → List ℕ → Type 0) → D → ℕ → Content → Type 0
+BeginSince left_since disk t content = (c : List ℕ) → left_since disk t c → StandsForMore content c
 
 -- an answer, and how the journal stood before it and stands after it: `Stopped` comes exactly where it had stopped,
 -- and it stops by a fault

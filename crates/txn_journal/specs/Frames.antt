@@ -1,13 +1,15 @@
 -- What the bytes of a journal stand for.
-use Rattle.std.specs.Prelude.{◌≡◌, ◌≢◌, ◌⊎◌, ℕ, ◌+◌, ◌^◌, ◌<◌, ◌≤◌, List, [], ◌∷◌, ◌++◌, length, take, drop, map, ◌-◌, ⊤}
+use Rattle.std.specs.Prelude.{◌≡◌, ◌≢◌, ◌⊎◌, ℕ, false, cond, ◌+◌, ◌^◌, ◌<◌, ◌≤◌, List, [], ◌∷◌, ◌++◌, length, take, drop, map, ◌-◌, ⊤}
 use Rattle.std.specs.Int.{w32, to_le_bytes, from_le_bytes}
+use Rattle.txn_journal.specs.Contents.{Content, IsFront, counted, has_base, is_base, nothing, version_of, with_payload}
 use Rattle.txn_journal.specs.declared.payloads.Payload.{Payload}
+use Rattle.txn_journal.specs.declared.versions.Version.{Version}
 
--- the eight bytes that a journal begins with: TSCTLJ01
+-- the seven bytes that a journal begins with: TSCTLJ0
 abbrev pub magic : List ℕ
-magic = 84 ∷ 83 ∷ 67 ∷ 84 ∷ 76 ∷ 74 ∷ 48 ∷ 49 ∷ []
+magic = 84 ∷ 83 ∷ 67 ∷ 84 ∷ 76 ∷ 74 ∷ 48 ∷ []
 
--- they and a closed gate
+-- they, the byte of version 1, which is `1`, and a closed gate
 abbrev pub header : List ℕ
 header = 84 ∷ 83 ∷ 67 ∷ 84 ∷ 76 ∷ 74 ∷ 48 ∷ 49 ∷ 0 ∷ []
 
@@ -20,9 +22,9 @@ abbrev pub frames : List (List ℕ) → List ℕ
 frames [] = []
 frames (payload ∷ payloads) = 1 ∷ body payload ++ frames payloads
 
--- a journal up to the gate behind these payloads
-abbrev pub front : List (List ℕ) → List ℕ
-front payloads = magic ++ frames payloads
+-- a journal with this byte of its version up to the gate behind these payloads
+abbrev pub front : ℕ → List (List ℕ) → List ℕ
+front mark payloads = magic ++ mark ∷ frames payloads
 
 -- a payload's length fits its four bytes
 abbrev pub Fits : List ℕ → Type 0
@@ -32,54 +34,89 @@ abbrev pub AllFit : List (List ℕ) → Type 0
 AllFit [] = ⊤
 AllFit (payload ∷ payloads) = Fits payload × AllFit payloads
 
--- a file holds these payloads, and the gate behind them is closed; what stands behind it is ignored
-pub record Holds (file : List ℕ) (payloads : List (List ℕ)) : Type 0 where
+-- a file holds payloads of which this counts, and the gate behind them is closed; what stands behind it is ignored
+pub record Holds (file : List ℕ) (content : Content) : Type 0 where
+  pub mark : ℕ
+  pub all : List (List ℕ)
   pub gate : ℕ
   pub ignored : List ℕ
-  pub split : file ≡ front payloads ++ gate ∷ ignored
+  pub split : file ≡ front mark all ++ gate ∷ ignored
   pub closed : gate ≢ 1
-  pub fit : AllFit payloads
+  pub fit : AllFit all
+  pub counts : content ≡ counted (version_of mark) all
 
--- a file stands for these payloads: it has at most nine bytes and stands for none, or holds these
-abbrev pub StandsFor : List ℕ → List (List ℕ) → Type 0
-StandsFor file payloads = ((length file ≤ 9) × (payloads ≡ [])) ⊎ Holds file payloads
+-- a file stands for what counts in it: it has at most nine bytes and stands for nothing, or holds payloads
+abbrev pub StandsFor : List ℕ → Content → Type 0
+StandsFor file content = ((length file ≤ 9) × (content ≡ nothing)) ⊎ Holds file content
+
+-- a file of this version holds payloads of which this counts, up to the closed gate at this place
+pub record HoldsTo (file : List ℕ) (version : Version) (end : ℕ) (content : Content) : Type 0 where
+  pub holds : Holds file content
+  pub of_version : version_of holds.mark ≡ version
+  pub place : end ≡ length (front holds.mark holds.all)
 
 -- what stands behind an open gate is too short for a length, for that many bytes, and for a next gate
 abbrev pub IsShort : List ℕ → Type 0
 IsShort rest = (length rest < 4) ⊎ (length rest < 5 + from_le_bytes w32 (take 4 rest))
 
--- a file holds these payloads, and behind the open gate at this place it is too short
-pub record BreaksOff (file : List ℕ) (payloads : List (List ℕ)) (at : ℕ) : Type 0 where
+-- a file holds payloads of which this counts, and behind the open gate at this place it is too short
+pub record BreaksOff (file : List ℕ) (content : Content) (at : ℕ) : Type 0 where
+  pub mark : ℕ
+  pub all : List (List ℕ)
   pub rest : List ℕ
-  pub split : file ≡ front payloads ++ 1 ∷ rest
+  pub split : file ≡ front mark all ++ 1 ∷ rest
   pub short : IsShort rest
-  pub place : at ≡ length (front payloads)
-  pub fit : AllFit payloads
+  pub place : at ≡ length (front mark all)
+  pub fit : AllFit all
+  pub counts : content ≡ counted (version_of mark) all
 
 -- a file of more than nine bytes begins with other bytes than a journal
-pub record IsForeign (file : List ℕ) (payloads : List (List ℕ)) (at : ℕ) : Type 0 where
-  pub begins : take 8 file ≢ magic
-  pub none : payloads ≡ []
+pub record IsForeign (file : List ℕ) (content : Content) (at : ℕ) : Type 0 where
+  pub begins : take 7 file ≢ magic
+  pub none : content ≡ nothing
   pub place : at ≡ 0
 
--- a file is damaged at this place, behind these payloads
-pub record IsDamaged (file : List ℕ) (payloads : List (List ℕ)) (at : ℕ) : Type 0 where
+-- a file is damaged at this place, and this counts before it
+pub record IsDamaged (file : List ℕ) (content : Content) (at : ℕ) : Type 0 where
   pub long : 9 < length file
-  pub broken : IsForeign file payloads at ⊎ BreaksOff file payloads at
+  pub broken : IsForeign file content at ⊎ BreaksOff file content at
 
--- one list is the front of another
-abbrev pub IsFront : List (List ℕ) → List (List ℕ) → Type 0
-IsFront front whole = take (length front) whole ≡ front
+-- no whole frame behind these payloads is one of a base
+abbrev pub NoBaseBehind : List ℕ → ℕ → List (List ℕ) → Type 0
+NoBaseBehind file mark payloads =
+    (more : List (List ℕ)) (gate : ℕ) (rest : List ℕ) → AllFit (payloads ++ more)
+    → file ≡ front mark (payloads ++ more) ++ gate ∷ rest → has_base (version_of mark) more ≡ false
 
--- a file stands for payloads that begin with these
-pub record StandsForMore (payloads : List (List ℕ)) (file : List ℕ) : Type 0 where
-  pub all : List (List ℕ)
+-- what counts before a payload: nothing, where it is a base
+abbrev pub counted_before : Version → List (List ℕ) → List ℕ → Content
+counted_before version payloads payload = cond (is_base version payload) nothing (counted version payloads)
+
+-- behind the open gate at this place stands a whole frame of this payload. It counts, and this counts before it
+pub record Follows (file : List ℕ) (version : Version) (content : Content) (payload : List ℕ) (at : ℕ) : Type 0 where
+  pub mark : ℕ
+  pub before : List (List ℕ)
+  pub gate : ℕ
+  pub rest : List ℕ
+  pub split : file ≡ front mark (before ++ payload ∷ []) ++ gate ∷ rest
+  pub fit : AllFit (before ++ payload ∷ [])
+  pub place : at ≡ length (front mark before)
+  pub of_version : version_of mark ≡ version
+  pub counts : content ≡ counted_before version before payload
+  pub last : NoBaseBehind file mark (before ++ payload ∷ [])
+
+-- a file stands for content that begins with this
+pub record StandsForMore (content : Content) (file : List ℕ) : Type 0 where
+  pub all : Content
   pub stands : StandsFor file all
-  pub begins : IsFront payloads all
+  pub begins : IsFront content all
 
--- a file stands for these payloads, with one more or without it
-abbrev pub WithOrWithout : List (List ℕ) → List ℕ → List ℕ → Type 0
-WithOrWithout payloads payload file = StandsFor file payloads ⊎ StandsFor file (payloads ++ payload ∷ [])
+-- a file stands for the one content or for the other
+abbrev pub StandsForEither : Content → Content → List ℕ → Type 0
+StandsForEither one other file = StandsFor file one ⊎ StandsFor file other
+
+-- a file stands for this content, with one more payload or without it
+abbrev pub WithOrWithout : Version → Content → List ℕ → List ℕ → Type 0
+WithOrWithout version content payload file = StandsForEither content (with_payload version content payload) file
 
 -- payloads with the places of their open gates, the first of which stands at this place
 abbrev pub placed : ℕ → List (List ℕ) → List Payload

@@ -1,4 +1,5 @@
 pub mod Calls
+pub mod Contents
 pub mod Frames
 pub mod Opening
 pub mod Places

@@ -1,6 +1,7 @@
 -- The beginning of reading.
-use Rattle.std.specs.Prelude.{◌≡◌, ℕ, List, [], Option, ⊤}
+use Rattle.std.specs.Prelude.{◌≡◌, ℕ, List, Option, ⊤}
 use Rattle.ts_schema.specs.Faults.{Rose}
+use Rattle.txn_journal.specs.Contents.{nothing}
 use Rattle.txn_journal.specs.Frames.{IsDamaged}
 use Rattle.txn_journal.specs.Reading.{HasRead}
 use Rattle.txn_journal.specs.declared.openings.Opened.{Opened}
@@ -12,8 +13,8 @@ disk_of_opened (Damaged disk at) = disk
 disk_of_opened (DiskFault disk) = disk
 
 abbrev pub Opens : {D : Type 0} → (D → Option (List ℕ)) → Opened D → List ℕ → Type 0
-Opens bytes (Reading reader) file = HasRead bytes reader file []
-Opens bytes (Damaged disk at) file = IsDamaged file [] at
+Opens bytes (Reading reader) file = HasRead bytes reader file nothing
+Opens bytes (Damaged disk at) file = IsDamaged file nothing at
 Opens bytes (DiskFault disk) file = ⊤
 
 abbrev pub CountsOpened : {D : Type 0} → Opened D → ℕ → ℕ → Type 0

@@ -8,11 +8,11 @@ use Rattle.txn_journal.specs.declared.journals.Standing.TheVariants.{Bare, Ready
 -- a journal that takes payloads has its gate within its file
 abbrev pub IsPlaced : Option (List ℕ) → Standing → ℕ → Type 0
 IsPlaced told Bare end = ⊤
-IsPlaced told Ready end = (end + 1 ≤ MOST_BYTES) × HasRange told (end + 1)
+IsPlaced told Ready end = (8 ≤ end) × (end + 1 ≤ MOST_BYTES) × HasRange told (end + 1)
 IsPlaced told Still end = ⊤
 
 -- a reader stands at a gate of its file
 abbrev pub IsReading : Option (List ℕ) → Standing → ℕ → ℕ → Type 0
 IsReading told Bare size at = ⊤
-IsReading told Ready size at = (at < size) × (size ≤ MOST_BYTES) × HasLength told size
+IsReading told Ready size at = (8 ≤ at) × (at < size) × (size ≤ MOST_BYTES) × HasLength told size
 IsReading told Still size at = ⊥

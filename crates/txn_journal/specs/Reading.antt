@@ -5,7 +5,10 @@ use Rattle.ts_schema.specs.Faults.{Rose}
 use Rattle.ts_disk.specs.Disk.{IsRange}
 use Rattle.ts_disk.specs.declared.disks.TheConstants.{MOST_BYTES}
 use Rattle.txn_journal.specs.Calls.{LiesAs}
-use Rattle.txn_journal.specs.Frames.{AllFit, StandsFor, IsDamaged, IsShort, front, magic, header}
+use Rattle.txn_journal.specs.Contents.{Content, counted, is_base, nothing, version_of}
+use Rattle.txn_journal.specs.Frames.{AllFit, Fits, Follows, NoBaseBehind, StandsFor, IsDamaged, IsShort, front, magic, header}
+use Rattle.txn_journal.specs.Places.{IsReading}
+use Rattle.txn_journal.specs.declared.bases.Beginning.{Beginning}
 use Rattle.txn_journal.specs.declared.heads.Head.{Head}
 use Rattle.txn_journal.specs.declared.heads.Head.TheVariants.{Closed, Frame, Short}
 use Rattle.txn_journal.specs.declared.heads.Start.{Start}
@@ -13,9 +16,11 @@ use Rattle.txn_journal.specs.declared.heads.Start.TheVariants.{Bare as StartsBar
 use Rattle.txn_journal.specs.declared.journals.Standing.{Standing}
 use Rattle.txn_journal.specs.declared.journals.Standing.TheVariants.{Bare, Ready, Still}
 use Rattle.txn_journal.specs.declared.readers.Next.{Next}
-use Rattle.txn_journal.specs.declared.readers.Next.TheVariants.{Payload, End, Damaged, DiskFault, NoMemory}
+use Rattle.txn_journal.specs.declared.readers.Next.TheVariants.{Base, Payload, End, Damaged, DiskFault, NoMemory}
 use Rattle.txn_journal.specs.declared.openings.Found.{Found}
 use Rattle.txn_journal.specs.declared.readers.Taken.{Taken}
+use Rattle.txn_journal.specs.declared.versions.Version.{Version}
+use Rattle.txn_journal.specs.declared.versions.Version.TheVariants.{One}
 use Rattle.txn_journal.specs.declared.readers.Taken.TheVariants.{Done as Taking, DiskFault as TakeFault, NoMemory as TakeNothing}
 
 -- ---- what is read
@@ -23,64 +28,120 @@ use Rattle.txn_journal.specs.declared.readers.Taken.TheVariants.{Done as Taking,
 -- how a file begins
 abbrev pub StartsAs : Start → List ℕ → Type 0
 StartsAs StartsBare file = (length file ≤ 9) × (file ≢ header)
-StartsAs StartsJournal file = (take 8 file ≡ magic) × ((9 < length file) ⊎ (file ≡ header))
-StartsAs StartsForeign file = (9 < length file) × (take 8 file ≢ magic)
+StartsAs (StartsJournal version) file =
+    (take 7 file ≡ magic) × (version ≡ version_of (slice_index file 7)) × ((9 < length file) ⊎ (file ≡ header))
+StartsAs StartsForeign file = (9 < length file) × (take 7 file ≢ magic)
 
--- what stands at a gate: it is closed, or a whole frame of this length follows, or it is open and too little follows
+-- what stands at a gate: it is closed, or a whole frame of this length follows, with this byte behind its length, or
+-- it is open and too little follows
 abbrev pub IsHead : Head → List ℕ → ℕ → Type 0
 IsHead Closed file at = slice_index file at ≢ 1
-IsHead (Frame n) file at =
+IsHead (Frame n first) file at =
     (slice_index file at ≡ 1) × (5 + n ≤ length (drop (at + 1) file)) × (n < 2 ^ 32)
-    × (to_le_bytes w32 n ≡ take 4 (drop (at + 1) file))
+    × (to_le_bytes w32 n ≡ take 4 (drop (at + 1) file)) × (first ≡ slice_index file (at + 5))
 IsHead Short file at = (slice_index file at ≡ 1) × IsShort (drop (at + 1) file)
+
+-- a journal begins with the frames of these payloads, up to the gate at this place
+pub record HasFrames (file : List ℕ) (mark at : ℕ) (payloads : List (List ℕ)) : Type 0 where
+  pub before : take at file ≡ front mark payloads
+  pub place : at ≡ length (front mark payloads)
+  pub long : (9 < length file) ⊎ (file ≡ header)
+  pub fit : AllFit payloads
+
+-- behind these payloads a whole frame of a base follows, and no base behind it
+pub record BaseFollows (file : List ℕ) (mark : ℕ) (payloads : List (List ℕ)) : Type 0 where
+  pub payload : List ℕ
+  pub gate : ℕ
+  pub rest : List ℕ
+  pub split : file ≡ front mark (payloads ++ payload ∷ []) ++ gate ∷ rest
+  pub fits : Fits payload
+  pub base : is_base (version_of mark) payload ≡ true
+  pub last : NoBaseBehind file mark (payloads ++ payload ∷ [])
 
 -- ---- a reader
 
--- its disk, how its file begins and how long it is, the place of the next gate, the payload that was read last, and
--- whether the end was found
+-- its disk, how its file begins, of which version and how long it is, the place of the next gate, the payload that was
+-- read last, and whether the end was found
 pub record Progress (D : Type 0) : Type 0 where
   pub disk : D
   pub standing : Standing
+  pub version : Version
   pub size : ℕ
   pub at : ℕ
   pub payload : List ℕ
   pub is_done : Bool
 
--- a reader that has read no payload, at the first gate
-abbrev pub at_start : {D : Type 0} → D → Standing → ℕ → Progress D
-at_start disk standing size =
-    record { disk = disk; standing = standing; size = size; at = 8; payload = []; is_done = false }
+-- a reader that has read no payload, at this gate
+abbrev pub at_gate : {D : Type 0} → D → Standing → Version → ℕ → ℕ → Progress D
+at_gate disk standing version size at =
+    record {
+      disk = disk;
+      standing = standing;
+      version = version;
+      size = size;
+      at = at;
+      payload = [];
+      is_done = false;
+    }
 
--- how far a file was read, with these payloads
-abbrev pub IsReadTo : Standing → List ℕ → ℕ → List (List ℕ) → Type 0
-IsReadTo Bare file at payloads = (length file ≤ 9) × (file ≢ header) × (payloads ≡ [])
-IsReadTo Ready file at payloads =
-    (take at file ≡ front payloads) × (at ≡ length (front payloads)) × ((9 < length file) ⊎ (file ≡ header))
-    × AllFit payloads
-IsReadTo Still file at payloads = ⊥
+-- what counts so far: that of the payloads before the place, and no base follows; or nothing yet, where the last base
+-- follows
+abbrev pub Counts : List ℕ → ℕ → List (List ℕ) → Content → Type 0
+Counts file mark payloads content =
+    ((content ≡ counted (version_of mark) payloads) × NoBaseBehind file mark payloads)
+    ⊎ ((content ≡ nothing) × BaseFollows file mark payloads)
 
--- the reader has read these payloads of this file, and where it found the end, there are no others
+-- a journal of this version was read up to the gate at this place
+pub record ReadsTo (file : List ℕ) (version : Version) (at : ℕ) (content : Content) : Type 0 where
+  pub mark : ℕ
+  pub before : List (List ℕ)
+  pub frames : HasFrames file mark at before
+  pub of_version : version_of mark ≡ version
+  pub counts : Counts file mark before content
+
+-- how far a file was read, and what counts so far
+abbrev pub IsReadTo : Standing → Version → List ℕ → ℕ → Content → Type 0
+IsReadTo Bare version file at content = LiesAs Bare version file at content
+IsReadTo Ready version file at content = ReadsTo file version at content
+IsReadTo Still version file at content = ⊥
+
+-- the reader has read this much of this file, and where it found the end, there is no more
 pub record HasRead {D : Type 0} (bytes : D → Option (List ℕ)) (reader : Progress D) (file : List ℕ)
-    (payloads : List (List ℕ)) : Type 0 where
+    (content : Content) : Type 0 where
   pub told : bytes reader.disk ≡ Some file
   pub size : reader.size ≡ length file
-  pub read : IsReadTo reader.standing file reader.at payloads
-  pub done : reader.is_done ≡ true → LiesAs reader.standing file reader.at payloads
+  pub read : IsReadTo reader.standing reader.version file reader.at content
+  pub done : reader.is_done ≡ true → LiesAs reader.standing reader.version file reader.at content
 
--- what one step of reading answers, behind these payloads
-abbrev pub Steps :
-    {D : Type 0} → (D → Option (List ℕ)) → Next → List ℕ → List (List ℕ) → Progress D → Progress D → Type 0
-Steps bytes (Payload at) file payloads old new =
-    (at ≡ length (front payloads)) × HasRead bytes new file (payloads ++ new.payload ∷ [])
-Steps bytes End file payloads old new = StandsFor file payloads × HasRead bytes new file payloads
-Steps bytes (Damaged at) file payloads old new = IsDamaged file payloads at × HasRead bytes new file payloads
-Steps bytes DiskFault file payloads old new = HasRead bytes new file payloads
-Steps bytes NoMemory file payloads old new = HasRead bytes new file payloads
+-- the payloads that counted, and one more
+abbrev pub with_next : Content → List ℕ → Content
+with_next content payload = record { base = content.base; payloads = content.payloads ++ payload ∷ [] }
+
+-- nothing but a base
+abbrev pub based_on : List ℕ → Content
+based_on payload = record { base = Some payload; payloads = [] }
+
+-- what one step of reading answers, where this much counted so far
+abbrev pub Steps : {D : Type 0} → (D → Option (List ℕ)) → Next → List ℕ → Content → Progress D → Progress D → Type 0
+Steps bytes (Base at) file content old new =
+    Follows file new.version content new.payload at × HasRead bytes new file (based_on new.payload)
+Steps bytes (Payload at) file content old new =
+    Follows file new.version content new.payload at × HasRead bytes new file (with_next content new.payload)
+Steps bytes End file content old new = StandsFor file content × HasRead bytes new file content
+Steps bytes (Damaged at) file content old new = IsDamaged file content at × HasRead bytes new file content
+Steps bytes DiskFault file content old new = HasRead bytes new file content
+Steps bytes NoMemory file content old new = HasRead bytes new file content
 
 -- the place moves on by what a payload takes, and stays before the end of the file, which may have grown
+pub record GoesBehind {D : Type 0} (at : ℕ) (old new : Progress D) : Type 0 where
+  pub from : at ≡ old.at
+  pub to : new.at ≡ old.at + 5 + length new.payload
+  pub within : new.at < new.size
+  pub most : new.size ≤ MOST_BYTES
+
 abbrev pub Moves : {D : Type 0} → Next → Progress D → Progress D → Type 0
-Moves (Payload at) old new =
-    (at ≡ old.at) × (new.at ≡ old.at + 5 + length new.payload) × (new.at < new.size) × (new.size ≤ MOST_BYTES)
+Moves (Base at) old new = GoesBehind at old new × (is_base new.version new.payload ≡ true)
+Moves (Payload at) old new = GoesBehind at old new × (is_base new.version new.payload ≡ false)
 Moves End old new = new.at ≡ old.at
 Moves (Damaged at) old new = (at ≡ old.at) × (new.at ≡ old.at)
 Moves DiskFault old new = new.at ≡ old.at
@@ -88,6 +149,7 @@ Moves NoMemory old new = new.at ≡ old.at
 
 -- the end was found
 abbrev pub is_end : Next → Bool
+is_end (Base at) = false
 is_end (Payload at) = false
 is_end End = true
 is_end (Damaged at) = false
@@ -96,6 +158,7 @@ is_end NoMemory = false
 
 -- the count of faults rises with a fault, and else stays
 abbrev pub CountsNext : Next → ℕ → ℕ → Type 0
+CountsNext (Base at) before now = now ≡ before
 CountsNext (Payload at) before now = now ≡ before
 CountsNext End before now = now ≡ before
 CountsNext (Damaged at) before now = now ≡ before
@@ -107,32 +170,49 @@ CountsNext NoMemory before now = now ≡ before
 -- how a file of so many bytes begins, by its first nine
 abbrev pub IsStart : Start → List ℕ → ℕ → Type 0
 IsStart StartsBare head size = (size ≤ 9) × (head ≢ header)
-IsStart StartsJournal head size = (take 8 head ≡ magic) × ((9 < size) ⊎ (head ≡ header))
-IsStart StartsForeign head size = (9 < size) × (take 8 head ≢ magic)
+IsStart (StartsJournal version) head size =
+    (take 7 head ≡ magic) × (version ≡ version_of (slice_index head 7)) × ((9 < size) ⊎ (head ≡ header))
+IsStart StartsForeign head size = (9 < size) × (take 7 head ≢ magic)
 
 -- a journal has a gate
 abbrev pub IsSized : Start → ℕ → Type 0
 IsSized StartsBare size = ⊤
-IsSized StartsJournal size = 9 ≤ size
+IsSized (StartsJournal version) size = 9 ≤ size
 IsSized StartsForeign size = ⊤
 
--- what stands at a gate from which on so many bytes stand, by its first five
+-- what stands at a gate from which on so many bytes stand, by its first six
 abbrev pub JudgesHead : Head → List ℕ → ℕ → Type 0
 JudgesHead Closed head left = slice_index head 0 ≢ 1
-JudgesHead (Frame n) head left =
+JudgesHead (Frame n first) head left =
     (slice_index head 0 ≡ 1) × (5 + n < left) × (n < 2 ^ 32) × (to_le_bytes w32 n ≡ take 4 (drop 1 head))
+    × (first ≡ slice_index head 5)
 JudgesHead Short head left =
     (slice_index head 0 ≡ 1) × ((left < 5) ⊎ (left ≤ 5 + from_le_bytes w32 (take 4 (drop 1 head))))
 
 -- behind a frame there is a gate
 abbrev pub EndsWithin : Head → ℕ → ℕ → Type 0
 EndsWithin Closed at size = ⊤
-EndsWithin (Frame n) at size = at + 5 + n < size
+EndsWithin (Frame n first) at size = at + 5 + n < size
 EndsWithin Short at size = ⊤
 
--- how a file begins, and how many bytes it has
+-- reading begins at this gate in a file that begins so
+abbrev pub BeginsAt : Start → List ℕ → ℕ → Type 0
+BeginsAt StartsBare file at = IsReadTo Bare One file at nothing
+BeginsAt (StartsJournal version) file at = IsReadTo Ready version file at nothing
+BeginsAt StartsForeign file at = ⊤
+
+-- and it may begin there
+abbrev pub MayBeginAt : Option (List ℕ) → Start → Beginning → Type 0
+MayBeginAt told StartsBare begin = IsReading told Bare begin.size begin.at
+MayBeginAt told (StartsJournal version) begin = IsReading told Ready begin.size begin.at
+MayBeginAt told StartsForeign begin = ⊤
+
+-- how a file begins, and where reading begins in it
 abbrev pub IsFound : Found → List ℕ → Type 0
-IsFound found file = (found.size ≡ length file) × StartsAs found.start file
+IsFound found file = StartsAs found.start file × BeginsAt found.start file found.beginning.at
+
+abbrev pub MayBegin : Option (List ℕ) → Found → Type 0
+MayBegin told found = MayBeginAt told found.start found.beginning
 
 -- the bytes of a payload were read, or not
 abbrev pub Takes : Taken → Option (List ℕ) → ℕ → List ℕ → Type 0

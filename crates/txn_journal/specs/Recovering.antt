@@ -1,9 +1,11 @@
 -- A journal that is read at once.
-use Rattle.std.specs.Prelude.{◌≡◌, ◌≢◌, ℕ, List, Option, ⊤}
+use Rattle.std.specs.Prelude.{◌≡◌, ◌≢◌, ◌⊎◌, ℕ, List, Option, IsSome, ⊤}
 use Rattle.ts_schema.specs.Faults.{Rose}
 use Rattle.txn_journal.specs.Calls.{IsAtRest}
+use Rattle.txn_journal.specs.Contents.{Content, listed}
 use Rattle.txn_journal.specs.Frames.{StandsFor, IsDamaged, placed, payloads_of}
 use Rattle.txn_journal.specs.declared.journals.Standing.TheVariants.{Still}
+use Rattle.txn_journal.specs.declared.payloads.Payload.{Payload}
 use Rattle.txn_journal.specs.declared.recovery.Recovered.{Recovered}
 use Rattle.txn_journal.specs.declared.recovery.Recovered.TheVariants.{Ready, Damaged, DiskFault, NoMemory}
 
@@ -13,12 +15,18 @@ disk_of (Damaged disk payloads at) = disk
 disk_of (DiskFault disk) = disk
 disk_of (NoMemory disk) = disk
 
--- the payloads of the open frames with their places, or those before the least damaged place
+-- payloads with their places are what counts, one frame behind the other; where there is no base, from the first gate
+-- on
+pub record AreListed (payloads : List Payload) (content : Content) : Type 0 where
+  pub first : ℕ
+  pub all : payloads_of payloads ≡ listed content
+  pub places : payloads ≡ placed first (payloads_of payloads)
+  pub from_first_gate : (first ≡ 8) ⊎ IsSome content.base
+
+-- what counts with the places of its payloads, or what counts before the least damaged place
 abbrev pub Recovers : {D : Type 0} → Recovered D → List ℕ → Type 0
-Recovers (Ready journal payloads) file =
-    StandsFor file (payloads_of payloads) × (payloads ≡ placed 8 (payloads_of payloads))
-Recovers (Damaged disk payloads at) file =
-    IsDamaged file (payloads_of payloads) at × (payloads ≡ placed 8 (payloads_of payloads))
+Recovers (Ready journal payloads) file = (content : Content) × AreListed payloads content × StandsFor file content
+Recovers (Damaged disk payloads at) file = (content : Content) × AreListed payloads content × IsDamaged file content at
 Recovers (DiskFault disk) file = ⊤
 Recovers (NoMemory disk) file = ⊤
 
@@ -30,7 +38,8 @@ CountsRecovered (NoMemory disk) before now = now ≡ before
 
 -- the journal that was read is at rest
 abbrev pub RestsAfter : {D : Type 0} → (D → Option (List ℕ)) → (D → List ℕ → Type 0) → Recovered D → Type 0
-RestsAfter bytes may_leave (Ready journal payloads) = IsAtRest bytes may_leave journal (payloads_of payloads)
+RestsAfter bytes may_leave (Ready journal payloads) =
+    (content : Content) × AreListed payloads content × IsAtRest bytes may_leave journal content
 RestsAfter bytes may_leave (Damaged disk payloads at) = ⊤
 RestsAfter bytes may_leave (DiskFault disk) = ⊤
 RestsAfter bytes may_leave (NoMemory disk) = ⊤

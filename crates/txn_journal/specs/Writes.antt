@@ -1,7 +1,9 @@
 -- A write that is put onto the disk before anything else.
-use Rattle.std.specs.Prelude.{◌≡◌, ℕ, List, Option, Some, length}
+use Rattle.std.specs.Prelude.{◌≡◌, ℕ, List, Option, Some}
 use Rattle.ts_disk.specs.CrashImage.{Only}
-use Rattle.txn_journal.specs.Frames.{Holds, front}
+use Rattle.txn_journal.specs.Contents.{Content}
+use Rattle.txn_journal.specs.Frames.{HoldsTo}
+use Rattle.txn_journal.specs.declared.versions.Version.{Version}
 
 -- a disk has these bytes, and all of them are on it
 pub record IsWritten {D : Type 0} (bytes : D → Option (List ℕ)) (may_leave : D → List ℕ → Type 0) (disk : D)
@@ -9,10 +11,9 @@ pub record IsWritten {D : Type 0} (bytes : D → Option (List ℕ)) (may_leave :
   pub told : bytes disk ≡ Some file
   pub durable : Only file (may_leave disk)
 
--- a disk holds these payloads up to the gate at this place, and all of it is on the disk
-pub record Rests {D : Type 0} (bytes : D → Option (List ℕ)) (may_leave : D → List ℕ → Type 0) (disk : D) (end : ℕ)
-    (payloads : List (List ℕ)) : Type 0 where
+-- a disk holds payloads of which this counts, up to the gate at this place, and all of it is on the disk
+pub record Rests {D : Type 0} (bytes : D → Option (List ℕ)) (may_leave : D → List ℕ → Type 0) (disk : D)
+    (version : Version) (end : ℕ) (content : Content) : Type 0 where
   pub file : List ℕ
   pub written : IsWritten bytes may_leave disk file
-  pub holds : Holds file payloads
-  pub place : end ≡ length (front payloads)
+  pub lies : HoldsTo file version end content

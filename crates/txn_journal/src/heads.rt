@@ -4,13 +4,17 @@ ghost use Rattle.ts_disk.specs.Disk.{Counted, HasLength, Keeps};
 ghost use Rattle.txn_journal.specs.Frames.{magic, header};
 ghost use Rattle.txn_journal.specs.Reading.{StartsAs, IsHead, IsStart, IsSized, JudgesHead, EndsWithin};
 
+use crate::versions::Version;
 use ts_disk::{Disk, Failed, MOST_BYTES};
 
-/// What a journal begins with.
-pub const MAGIC: [u8; 8] = *b"TSCTLJ01";
+/// What a journal begins with. The byte of its version follows.
+pub const MAGIC: [u8; 7] = *b"TSCTLJ0";
 
-/// The magic bytes and a closed gate.
+/// The magic bytes, the byte of version 1, and a closed gate.
 pub const HEADER: [u8; 9] = *b"TSCTLJ01\0";
+
+/// The place of the byte of the version.
+pub const VERSION_BYTE: u64 = 7;
 
 /// The place of the first gate.
 pub const FIRST_GATE: u64 = 8;
@@ -19,15 +23,18 @@ pub const FIRST_GATE: u64 = 8;
 pub const OPEN: u8 = 1;
 
 /// The bytes of a gate and of a length.
-const HEAD_BYTES: usize = 5;
+const GATE_AND_LENGTH: u64 = 5;
+
+/// The bytes of a gate, of a length, and of what follows: a payload's first, or the next gate.
+const HEAD_BYTES: usize = 6;
 
 /// How a file begins.
 #[derive(Clone, Copy)]
 pub enum Start {
     /// It has at most nine bytes, and isn't a header.
     Bare,
-    /// It begins with the magic bytes and is longer than they and a gate, or it is a header.
-    Journal,
+    /// It begins with the magic bytes and is longer than a header, or it is a header.
+    Journal(Version),
     /// It is longer than a header, and begins otherwise.
     Foreign,
 }
@@ -54,13 +61,13 @@ fn judge_start(head: &[u8; 9], size: u64) -> Start
     ensures { IsStart result head.now size }
 {
     if size > HEADER.len() as u64 {
-        if &head[..8] == MAGIC.as_slice() {
-            Start::Journal
+        if &head[..7] == MAGIC.as_slice() {
+            Start::Journal(Version::of(head[7]))
         } else {
             Start::Foreign
         }
     } else if *head == HEADER {
-        Start::Journal
+        Start::Journal(Version::One)
     } else {
         Start::Bare
     }
@@ -71,8 +78,9 @@ fn judge_start(head: &[u8; 9], size: u64) -> Start
 pub enum Head {
     /// The gate is closed.
     Closed,
-    /// The gate is open, and a whole frame of a payload of so many bytes follows.
-    Frame(u64),
+    /// The gate is open, and a whole frame of a payload of so many bytes follows. Behind its length stands
+    /// this byte: the payload's first, or the next gate.
+    Frame { length: u64, first: u8 },
     /// The gate is open, and too few bytes follow.
     Short,
 }
@@ -120,7 +128,7 @@ pub fn sight_head<D: Disk>(disk: &mut D, at: u64, size: u64) -> Result<Sighted, 
         let now = match head {
             Head::Short => disk.len()?,
             Head::Closed => size,
-            Head::Frame(_) => size,
+            Head::Frame { .. } => size,
         };
         if now <= size {
             return Ok(Sighted { head, size });
@@ -130,19 +138,22 @@ pub fn sight_head<D: Disk>(disk: &mut D, at: u64, size: u64) -> Result<Sighted, 
 }
 
 /// What stands at a gate with its first bytes, where so many bytes stand from it on.
-fn judge_head(head: &[u8; 5], left: u64) -> Head
+fn judge_head(head: &[u8; 6], left: u64) -> Head
     requires { 0 < left }
     ensures { JudgesHead result head.now left }
 {
     if head[0] != OPEN {
         return Head::Closed;
     }
-    if left < HEAD_BYTES as u64 {
+    if left < GATE_AND_LENGTH {
         return Head::Short;
     }
     let length = u32::from_le_bytes([head[1], head[2], head[3], head[4]]) as u64;
-    if left - HEAD_BYTES as u64 <= length {
+    if left - GATE_AND_LENGTH <= length {
         return Head::Short;
     }
-    Head::Frame(length)
+    Head::Frame {
+        length,
+        first: head[5],
+    }
 }

@@ -1,17 +1,19 @@
 //! A journal to which payloads are appended.
-ghost use Rattle.std.specs.Prelude.{◌≡◌, ◌≢◌, ◌⊎◌, ℕ, ◌+◌, ◌≤◌, [], ◌∷◌, ◌++◌, List, IsSomeAnd};
+ghost use Rattle.std.specs.Prelude.{◌≡◌, ◌≢◌, ℕ, ◌≤◌, IsSomeAnd};
 ghost use Rattle.ts_disk.specs.CrashImage.{LeavesOnly};
 ghost use Rattle.txn_journal.specs.Calls.{IsAtRest, BeginSince, Ends, IsCounted, IfDone, IfStopped};
+ghost use Rattle.txn_journal.specs.Contents.{Content, IsFront, number_of, raised, with_payload};
+ghost use Rattle.txn_journal.specs.Frames.{StandsFor, StandsForEither, WithOrWithout};
 ghost use Rattle.txn_journal.specs.Places.{IsPlaced};
-ghost use Rattle.txn_journal.specs.Frames.{StandsFor, WithOrWithout, IsFront};
 
 use crate::frames::Frame;
 use crate::heads::{FIRST_GATE, HEADER};
-use crate::writes::{put_frame, write_synced};
+use crate::versions::Version;
+use crate::writes::{put_frame, put_version, write_synced};
 use std::marker::Model;
 use ts_disk::{Disk, Failed};
 
-/// What `Journal::arm` or `Journal::append` answered.
+/// What `Journal::arm`, `Journal::append` or `Journal::raise_version` answered.
 #[derive(Clone, Copy, Debug, PartialEq, Eq)]
 pub enum Append {
     /// It is on the disk, and stays there.
@@ -37,6 +39,8 @@ pub enum Standing {
 #[derive(Drop)]
 pub struct Journal<D: Disk> {
     disk: D,
+    /// One of a file without a header will be of version 1.
+    version: Version,
     /// The place of the gate behind the last payload.
     end: u64,
     standing: Standing,
@@ -49,42 +53,51 @@ impl<D: Disk> Model for Journal<D> {
 
     ghost use Rattle.txn_journal.specs.Places.{IsPlaced};
 
-    ghost view = { λ j. record { disk = j.disk; end = j.end; standing = j.standing } };
+    ghost view = { λ j. record { disk = j.disk; version = j.version; end = j.end; standing = j.standing } };
 
     ghost invariant = { λ j. IsPlaced (D.bytes j.disk) j.standing j.end };
 }
 
 impl<D: Disk> Journal<D> {
-    /// A journal on this disk, whose gate behind the last payload stands at this place.
-    pub(crate) fn new(disk: D, end: u64, standing: Standing) -> Journal<D>
+    /// A journal of this version on this disk, whose gate behind the last payload stands at this place.
+    pub(crate) fn new(disk: D, version: Version, end: u64, standing: Standing) -> Journal<D>
         requires placed { IsPlaced (D.bytes disk) standing end }
-        ensures made { result ≡ record { disk = disk; end = end; standing = standing } }
+        ensures made { result ≡ record { disk = disk; version = version; end = end; standing = standing } }
     {
         Journal {
             disk,
+            version,
             end,
             standing,
         }
     }
 
+    /// Its version: 1 or 2. A journal without a header gets one of version 1.
+    pub fn version(&self) -> u8
+        ensures { result ≡ number_of self.now.version }
+    {
+        self.version.number()
+    }
+
     /// Writes and syncs the header where the file has at most nine bytes and isn't the header, and else
     /// does nothing.
     pub fn arm(&mut self) -> Append
-        ensures done { (payloads : List (List ℕ)) → IsAtRest D.bytes D.may_leave self.old payloads
-            → IfDone result (IsAtRest D.bytes D.may_leave self.new payloads) }
-        // A crash at any moment leaves a file that stands for the payloads.
-        ensures any_moment { (payloads : List (List ℕ)) → IsAtRest D.bytes D.may_leave self.old payloads
-            → LeavesOnly D.moment D.left_since self.old.disk self.new.disk (λ file. StandsFor file payloads) }
-        // And since each earlier moment at which there were these, it leaves payloads that begin with them.
-        ensures earlier { (t : ℕ) (before payloads : List (List ℕ)) → IsAtRest D.bytes D.may_leave self.old payloads
-            → IsFront before payloads → t ≤ D.moment self.old.disk
+        ensures done { (content : Content) → IsAtRest D.bytes D.may_leave self.old content
+            → IfDone result (IsAtRest D.bytes D.may_leave self.new content) }
+        // A crash at any moment leaves a file that stands for the same.
+        ensures any_moment { (content : Content) → IsAtRest D.bytes D.may_leave self.old content
+            → LeavesOnly D.moment D.left_since self.old.disk self.new.disk (λ file. StandsFor file content) }
+        // And since each earlier moment at which there was less, it leaves what begins with that.
+        ensures earlier { (t : ℕ) (before content : Content) → IsAtRest D.bytes D.may_leave self.old content
+            → IsFront before content → t ≤ D.moment self.old.disk
             → BeginSince D.left_since self.old.disk t before → BeginSince D.left_since self.new.disk t before }
         // So does what reads give.
-        ensures shown { (payloads : List (List ℕ)) → IsAtRest D.bytes D.may_leave self.old payloads
-            → IsSomeAnd (D.bytes self.new.disk) (λ file. StandsFor file payloads) }
+        ensures shown { (content : Content) → IsAtRest D.bytes D.may_leave self.old content
+            → IsSomeAnd (D.bytes self.new.disk) (λ file. StandsFor file content) }
         ensures ends { Ends result self.old.standing self.new.standing }
         ensures armed { self.new.standing ≢ Standing.Bare }
         ensures stopped { IfStopped result (self.new ≡ self.old) }
+        ensures version { self.new.version ≡ self.old.version }
         ensures idle { self.old.standing ≢ Standing.Bare → self.new ≡ self.old }
         ensures counted { IsCounted result (D.faults self.old.disk) (D.faults self.new.disk) }
     {
@@ -111,19 +124,23 @@ impl<D: Disk> Journal<D> {
     /// answers `Done`, every crash leaves a file that has it.
     pub fn append(&mut self, frame: &Frame) -> Append
         requires armed { self.old.standing ≢ Standing.Bare }
-        ensures done { (payloads : List (List ℕ)) → IsAtRest D.bytes D.may_leave self.old payloads
-            → IfDone result (IsAtRest D.bytes D.may_leave self.new (payloads ++ frame.now ∷ [])) }
-        // A crash at any moment leaves a file that stands for the payloads, with this one or without it.
-        ensures any_moment { (payloads : List (List ℕ)) → IsAtRest D.bytes D.may_leave self.old payloads
-            → LeavesOnly D.moment D.left_since self.old.disk self.new.disk (WithOrWithout payloads frame.now) }
-        // And since each earlier moment at which there were these, it leaves payloads that begin with them.
-        ensures earlier { (t : ℕ) (before payloads : List (List ℕ)) → IsAtRest D.bytes D.may_leave self.old payloads
-            → IsFront before payloads → t ≤ D.moment self.old.disk
+        ensures done { (content : Content) → IsAtRest D.bytes D.may_leave self.old content
+            → IfDone result
+            (IsAtRest D.bytes D.may_leave self.new (with_payload self.old.version content frame.now)) }
+        // A crash at any moment leaves a file that stands for what was there, with this payload or without it.
+        ensures any_moment { (content : Content) → IsAtRest D.bytes D.may_leave self.old content
+            → LeavesOnly D.moment D.left_since self.old.disk self.new.disk
+            (WithOrWithout self.old.version content frame.now) }
+        // And since each earlier moment with which both begin, it leaves what begins with the same.
+        ensures earlier { (t : ℕ) (before content : Content) → IsAtRest D.bytes D.may_leave self.old content
+            → IsFront before content → IsFront before (with_payload self.old.version content frame.now)
+            → t ≤ D.moment self.old.disk
             → BeginSince D.left_since self.old.disk t before → BeginSince D.left_since self.new.disk t before }
         // So does what reads give.
-        ensures shown { (payloads : List (List ℕ)) → IsAtRest D.bytes D.may_leave self.old payloads
-            → IsSomeAnd (D.bytes self.new.disk) (WithOrWithout payloads frame.now) }
+        ensures shown { (content : Content) → IsAtRest D.bytes D.may_leave self.old content
+            → IsSomeAnd (D.bytes self.new.disk) (WithOrWithout self.old.version content frame.now) }
         ensures ends { Ends result self.old.standing self.new.standing }
+        ensures version { self.new.version ≡ self.old.version }
         ensures armed { self.new.standing ≢ Standing.Bare }
         ensures stopped { IfStopped result (self.new ≡ self.old) }
         ensures counted { IsCounted result (D.faults self.old.disk) (D.faults self.new.disk) }
@@ -140,6 +157,43 @@ impl<D: Disk> Journal<D> {
                 self.standing = Standing::Still;
                 Append::DiskFault
             }
+        }
+    }
+
+    /// Makes a journal of version 1 one of version 2: writes the byte of its version, and syncs. In version 2
+    /// it does nothing.
+    pub fn raise_version(&mut self) -> Append
+        requires armed { self.old.standing ≢ Standing.Bare }
+        ensures done { (content : Content) → IsAtRest D.bytes D.may_leave self.old content
+            → IfDone result (IsAtRest D.bytes D.may_leave self.new (raised content)) }
+        // A crash at any moment leaves a file that stands for what counts in the one version or in the other.
+        ensures any_moment { (content : Content) → IsAtRest D.bytes D.may_leave self.old content
+            → LeavesOnly D.moment D.left_since self.old.disk self.new.disk (StandsForEither content (raised content)) }
+        // So does what reads give.
+        ensures shown { (content : Content) → IsAtRest D.bytes D.may_leave self.old content
+            → IsSomeAnd (D.bytes self.new.disk) (StandsForEither content (raised content)) }
+        ensures ends { Ends result self.old.standing self.new.standing }
+        ensures version { IfDone result (self.new.version ≡ Version.Two) }
+        ensures armed { self.new.standing ≢ Standing.Bare }
+        ensures stopped { IfStopped result (self.new ≡ self.old) }
+        ensures idle { self.old.standing ≢ Standing.Still → self.old.version ≡ Version.Two → self.new ≡ self.old }
+        ensures counted { IsCounted result (D.faults self.old.disk) (D.faults self.new.disk) }
+    {
+        if let Standing::Still = self.standing {
+            return Append::Stopped;
+        }
+        match self.version {
+            Version::Two => Append::Done,
+            Version::One => match put_version(&mut self.disk) {
+                Ok(()) => {
+                    self.version = Version::Two;
+                    Append::Done
+                }
+                Err(Failed) => {
+                    self.standing = Standing::Still;
+                    Append::DiskFault
+                }
+            },
         }
     }
 

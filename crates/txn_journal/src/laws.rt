@@ -1,11 +1,12 @@
 //! Laws of what journals stand for, as clauses of functions that do nothing.
 ghost use Rattle.std.specs.Prelude.{◌≡◌, ℕ, List};
+ghost use Rattle.txn_journal.specs.Contents.{Content};
 ghost use Rattle.txn_journal.specs.Frames.{StandsFor, IsDamaged};
 
-/// A file stands for one list of payloads, or is damaged at one place behind one list of payloads.
+/// A file stands for one content, or is damaged at one place behind one content.
 pub fn files_are_read_in_one_way()
-    ensures one { (file : List ℕ) (a b : List (List ℕ)) → StandsFor file a → StandsFor file b → a ≡ b }
-    ensures apart { (file : List ℕ) (a b : List (List ℕ)) (at : ℕ) → StandsFor file a → IsDamaged file b at → ⊥ }
-    ensures one_damage { (file : List ℕ) (a b : List (List ℕ)) (p q : ℕ) → IsDamaged file a p → IsDamaged file b q
+    ensures one { (file : List ℕ) (a b : Content) → StandsFor file a → StandsFor file b → a ≡ b }
+    ensures apart { (file : List ℕ) (a b : Content) (at : ℕ) → StandsFor file a → IsDamaged file b at → ⊥ }
+    ensures one_damage { (file : List ℕ) (a b : Content) (p q : ℕ) → IsDamaged file a p → IsDamaged file b q
         → (a ≡ b) × (p ≡ q) }
 {}

@@ -1,7 +1,9 @@
 //! A journal of payloads on a disk: each is there whole or not at all, whenever a crash comes, and what
-//! was answered with `Done` stays. Reading it writes nothing.
+//! was answered with `Done` stays. Reading it writes nothing. In version 2 reading begins at the last base,
+//! a payload that stands for all before it.
 #![tactic(auto)]
 
+mod bases;
 mod frames;
 mod framing;
 mod heads;
@@ -11,6 +13,7 @@ mod openings;
 mod payloads;
 mod readers;
 mod recovery;
+mod versions;
 mod writes;
 
 pub use frames::Frame;
@@ -20,3 +23,4 @@ pub use openings::Opened;
 pub use payloads::Payload;
 pub use readers::{Next, Reader};
 pub use recovery::{Recovered, recover};
+pub use versions::Version;

@@ -2,11 +2,17 @@
 ghost use Rattle.std.specs.Prelude.{◌≡◌, ℕ, ◌≤◌, List, Some, IfOk};
 ghost use Rattle.ts_disk.specs.Disk.{Counted, HasLength, Keeps};
 ghost use Rattle.txn_journal.specs.Opening.{Opens, CountsOpened, disk_of_opened};
-ghost use Rattle.txn_journal.specs.Reading.{IsFound, IsSized};
+ghost use Rattle.txn_journal.specs.Places.{IsReading};
+ghost use Rattle.txn_journal.specs.Contents.{nothing};
+ghost use Rattle.txn_journal.specs.Reading.{BeginsAt, IsFound, IsSized, MayBegin, MayBeginAt, ReadsTo, StartsAs};
+ghost use Rattle.txn_journal.specs.declared.heads.Start.TheVariants.{Journal as StartsJournal};
+ghost use Rattle.txn_journal.specs.declared.journals.Standing.TheVariants.{Ready};
 
-use crate::heads::{Start, read_start};
+use crate::bases::{Beginning, find_base};
+use crate::heads::{FIRST_GATE, Start, read_start};
 use crate::journals::Standing;
 use crate::readers::Reader;
+use crate::versions::Version;
 use std::alloc::Global;
 use ts_disk::{Disk, Failed, MOST_BYTES};
 
@@ -31,12 +37,20 @@ impl<D: Disk> Reader<D> {
         let mut disk = disk;
         match find_start(&mut disk) {
             Ok(found) => match found.start {
-                Start::Bare => {
-                    Opened::Reading(Reader::start(alloc, disk, found.size, Standing::Bare))
-                }
-                Start::Journal => {
-                    Opened::Reading(Reader::start(alloc, disk, found.size, Standing::Ready))
-                }
+                Start::Bare => Opened::Reading(Reader::start(
+                    alloc,
+                    disk,
+                    Standing::Bare,
+                    Version::One,
+                    found.beginning,
+                )),
+                Start::Journal(version) => Opened::Reading(Reader::start(
+                    alloc,
+                    disk,
+                    Standing::Ready,
+                    version,
+                    found.beginning,
+                )),
                 Start::Foreign => Opened::Damaged { disk, at: 0 },
             },
             Err(Failed) => Opened::DiskFault(disk),
@@ -44,23 +58,68 @@ impl<D: Disk> Reader<D> {
     }
 }
 
-/// How a file begins, and how many bytes it has.
+/// How a file begins, and where reading begins in it.
 #[derive(Clone, Copy)]
 struct Found {
-    size: u64,
     start: Start,
+    beginning: Beginning,
 }
 
-/// Finds how the file of a disk begins.
+/// Finds how the file of a disk begins, and where reading begins in it.
 fn find_start<D: Disk>(disk: &mut D) -> Result<Found, Failed>
     ensures found { (file : List ℕ) → D.bytes disk.old ≡ Some file → IfOk result (λ found. IsFound found file) }
-    ensures size { IfOk result (λ found. HasLength (D.bytes disk.new) found.size) }
-    ensures most { IfOk result (λ found. found.size ≤ MOST_BYTES) }
-    ensures sized { IfOk result (λ found. IsSized found.start found.size) }
+    ensures reading { IfOk result (λ found. MayBegin (D.bytes disk.new) found) }
+    ensures size { IfOk result (λ found. HasLength (D.bytes disk.new) found.beginning.size) }
     ensures kept { Keeps D.bytes D.may_leave D.moment D.left_since disk.old disk.new }
     ensures counted { Counted (D.faults disk.old) (D.faults disk.new) result }
 {
     let size = disk.len()?;
     let start = read_start(disk, size)?;
-    Ok(Found { size, start })
+    let beginning = find_beginning(disk, start, size)?;
+    Ok(Found { start, beginning })
+}
+
+/// Where reading begins in a file that begins so: at the first gate, but for a journal of version 2.
+fn find_beginning<D: Disk>(disk: &mut D, start: Start, size: u64) -> Result<Beginning, Failed>
+    requires sized { IsSized start size }
+    requires most { size ≤ MOST_BYTES }
+    requires size { HasLength (D.bytes disk.old) size }
+    ensures found { (file : List ℕ) → D.bytes disk.old ≡ Some file → StartsAs start file
+        → IfOk result (λ beginning. BeginsAt start file beginning.at) }
+    ensures reading { IfOk result (λ beginning. MayBeginAt (D.bytes disk.new) start beginning) }
+    ensures length { IfOk result (λ beginning. HasLength (D.bytes disk.new) beginning.size) }
+    ensures kept { Keeps D.bytes D.may_leave D.moment D.left_since disk.old disk.new }
+    ensures counted { Counted (D.faults disk.old) (D.faults disk.new) result }
+{
+    match start {
+        Start::Journal(version) => find_gate(disk, version, size),
+        Start::Bare => Ok(Beginning {
+            at: FIRST_GATE,
+            size,
+        }),
+        Start::Foreign => Ok(Beginning {
+            at: FIRST_GATE,
+            size,
+        }),
+    }
+}
+
+/// Where reading begins in a journal of a version.
+fn find_gate<D: Disk>(disk: &mut D, version: Version, size: u64) -> Result<Beginning, Failed>
+    requires gate { 9 ≤ size }
+    requires most { size ≤ MOST_BYTES }
+    requires size { HasLength (D.bytes disk.old) size }
+    ensures found { (file : List ℕ) → D.bytes disk.old ≡ Some file → StartsAs (StartsJournal version) file
+        → IfOk result (λ beginning. ReadsTo file version beginning.at nothing) }
+    ensures reading { IfOk result (λ beginning. IsReading (D.bytes disk.new) Ready beginning.size beginning.at) }
+    ensures kept { Keeps D.bytes D.may_leave D.moment D.left_since disk.old disk.new }
+    ensures counted { Counted (D.faults disk.old) (D.faults disk.new) result }
+{
+    match version {
+        Version::One => Ok(Beginning {
+            at: FIRST_GATE,
+            size,
+        }),
+        Version::Two => find_base(disk, size),
+    }
 }

@@ -4,10 +4,13 @@ ghost use Rattle.ts_disk.specs.CrashImage.{Only};
 ghost use Rattle.ts_disk.specs.Disk.{HasRange, Keeps};
 ghost use Rattle.txn_journal.specs.Calls.{IsAtRest};
 ghost use Rattle.txn_journal.specs.Places.{IsReading};
-ghost use Rattle.txn_journal.specs.Reading.{HasRead, Steps, Moves, Takes, IfTaken, CountsNext, CountsTaken, is_end, at_start};
+ghost use Rattle.txn_journal.specs.Contents.{Content};
+ghost use Rattle.txn_journal.specs.Reading.{CountsNext, CountsTaken, HasRead, IfTaken, Moves, Steps, Takes, at_gate, is_end};
 
-use crate::heads::{FIRST_GATE, Head, sight_head};
+use crate::bases::Beginning;
+use crate::heads::{Head, sight_head};
 use crate::journals::{Journal, Standing};
+use crate::versions::Version;
 use std::alloc::Global;
 use std::marker::Model;
 use ts_disk::{Disk, Failed, MOST_BYTES};
@@ -18,6 +21,7 @@ pub struct Reader<D: Disk> {
     disk: D,
     /// How the file begins: bare or ready.
     standing: Standing,
+    version: Version,
     /// How many bytes the file had when that was last asked for.
     size: u64,
     /// The place of the next gate.
@@ -36,6 +40,7 @@ impl<D: Disk> Model for Reader<D> {
     ghost view = { λ r. record {
       disk = r.disk;
       standing = r.standing;
+      version = r.version;
       size = r.size;
       at = r.at;
       payload = r.payload.items;
@@ -48,7 +53,10 @@ impl<D: Disk> Model for Reader<D> {
 /// What one step of reading found.
 #[derive(Clone, Copy, Debug, PartialEq, Eq)]
 pub enum Next {
-    /// A payload, which `Reader::payload` gives, with the place of its open gate.
+    /// A base, which `Reader::payload` gives, with the place of its open gate. What was read before it
+    /// counts no more.
+    Base(u64),
+    /// Another payload, which `Reader::payload` gives, with the place of its open gate.
     Payload(u64),
     /// A closed gate ends the journal.
     End,
@@ -62,26 +70,35 @@ pub enum Next {
 
 impl<D: Disk> Reader<D> {
     /// A reader that has read no payload.
-    pub(crate) fn start(alloc: Global, disk: D, size: u64, standing: Standing) -> Reader<D>
-        requires reading { IsReading (D.bytes disk) standing size 8 }
-        ensures made { result ≡ at_start disk standing size }
+    pub(crate) fn start(
+        alloc: Global,
+        disk: D,
+        standing: Standing,
+        version: Version,
+        beginning: Beginning,
+    ) -> Reader<D>
+        requires reading { IsReading (D.bytes disk) standing beginning.size beginning.at }
+        ensures made { result ≡ at_gate disk standing version beginning.size beginning.at }
     {
         Reader {
             disk,
             standing,
-            size,
-            at: FIRST_GATE,
+            version,
+            size: beginning.size,
+            at: beginning.at,
             payload: Vec::new(alloc),
             is_done: false,
         }
     }
 
-    /// Reads the next payload. After `Payload` there may be others; `End` and `Damaged` come again.
+    /// Reads the next payload. After `Base` and `Payload` there may be others; `End` and `Damaged` come
+    /// again.
     pub fn next(&mut self) -> Next
-        ensures steps { (file : List ℕ) (payloads : List (List ℕ)) → HasRead D.bytes self.old file payloads
-            → Steps D.bytes result file payloads self.old self.new }
+        ensures steps { (file : List ℕ) (content : Content) → HasRead D.bytes self.old file content
+            → Steps D.bytes result file content self.old self.new }
         ensures moves { Moves result self.old self.new }
         ensures done { self.new.is_done ≡ is_end result }
+        ensures version { self.new.version ≡ self.old.version }
         ensures kept { Keeps D.bytes D.may_leave D.moment D.left_since self.old.disk self.new.disk }
         ensures counted { CountsNext result (D.faults self.old.disk) (D.faults self.new.disk) }
     {
@@ -99,11 +116,14 @@ impl<D: Disk> Reader<D> {
                 self.is_done = true;
                 Next::End
             }
-            Head::Frame(length) => {
+            Head::Frame { length, .. } => {
                 match read_payload(&mut self.disk, self.at + 5, length, &mut self.payload) {
                     Taken::Done => {
                         let at = self.at;
                         self.at += 5 + length;
+                        if self.version.is_base(&self.payload) {
+                            return Next::Base(at);
+                        }
                         Next::Payload(at)
                     }
                     Taken::DiskFault => Next::DiskFault,
@@ -114,7 +134,7 @@ impl<D: Disk> Reader<D> {
         }
     }
 
-    /// The payload of the last `Payload`.
+    /// The payload of the last `Base` or `Payload`.
     pub fn payload(&self) -> &[u8]
         ensures payload { result.now ≡ self.now.payload }
     {
@@ -126,10 +146,11 @@ impl<D: Disk> Reader<D> {
         requires done { self.is_done ≡ true }
         ensures disk { result.disk ≡ self.disk }
         ensures goes_on { result.standing ≢ Standing.Still }
-        ensures at_rest { (file : List ℕ) (payloads : List (List ℕ)) → HasRead D.bytes self file payloads
-            → Only file (D.may_leave self.disk) → IsAtRest D.bytes D.may_leave result payloads }
+        ensures version { result.version ≡ self.version }
+        ensures at_rest { (file : List ℕ) (content : Content) → HasRead D.bytes self file content
+            → Only file (D.may_leave self.disk) → IsAtRest D.bytes D.may_leave result content }
     {
-        Journal::new(self.disk, self.at, self.standing)
+        Journal::new(self.disk, self.version, self.at, self.standing)
     }
 
     /// The disk.

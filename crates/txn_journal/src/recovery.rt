@@ -2,6 +2,7 @@
 ghost use Rattle.std.specs.Prelude.{◌≡◌, ℕ, [], ◌∷◌, ◌++◌, List, Some, IfOk, OnErr};
 ghost use Rattle.ts_disk.specs.CrashImage.{Only};
 ghost use Rattle.ts_disk.specs.Disk.{Keeps};
+ghost use Rattle.txn_journal.specs.Contents.{nothing};
 ghost use Rattle.txn_journal.specs.Reading.{HasRead};
 ghost use Rattle.txn_journal.specs.Recovering.{CountsRecovered, GoesOn, Recovers, RestsAfter, disk_of};
 
@@ -16,12 +17,12 @@ use ts_schema::{NoMemory, Seq};
 /// What reading a journal found.
 #[derive(Drop)]
 pub enum Recovered<D: Disk> {
-    /// The payloads of the open frames, and the journal behind them.
+    /// What counts of the payloads of the open frames, and the journal behind them.
     Ready {
         journal: Journal<D>,
         payloads: Seq<Payload>,
     },
-    /// The least damaged place, and the payloads of the open frames before it.
+    /// The least damaged place, and what counts of the payloads of the open frames before it.
     Damaged {
         disk: D,
         payloads: Seq<Payload>,
@@ -33,7 +34,7 @@ pub enum Recovered<D: Disk> {
     NoMemory(D),
 }
 
-/// Reads a journal. It writes nothing. It holds all payloads at once; `Reader` holds one at a time.
+/// Reads a journal from its base on. It writes nothing. It holds all these payloads at once; `Reader` holds one at a time.
 pub fn recover<D: Disk>(alloc: Global, disk: D) -> Recovered<D>
     ensures recovers { (file : List ℕ) → D.bytes disk ≡ Some file → Recovers result file }
     ensures at_rest { (file : List ℕ) → D.bytes disk ≡ Some file → Only file (D.may_leave disk)
@@ -55,8 +56,8 @@ pub fn recover<D: Disk>(alloc: Global, disk: D) -> Recovered<D>
 
 /// Reads all payloads, where none was read yet.
 fn read_all<D: Disk>(alloc: Global, reader: Reader<D>) -> Recovered<D>
-    ensures recovers { (file : List ℕ) → HasRead D.bytes reader file [] → Recovers result file }
-    ensures at_rest { (file : List ℕ) → HasRead D.bytes reader file [] → Only file (D.may_leave reader.disk)
+    ensures recovers { (file : List ℕ) → HasRead D.bytes reader file nothing → Recovers result file }
+    ensures at_rest { (file : List ℕ) → HasRead D.bytes reader file nothing → Only file (D.may_leave reader.disk)
         → RestsAfter D.bytes D.may_leave result }
     ensures goes_on { GoesOn result }
     ensures kept { Keeps D.bytes D.may_leave D.moment D.left_since reader.disk (disk_of result) }
@@ -66,6 +67,10 @@ fn read_all<D: Disk>(alloc: Global, reader: Reader<D>) -> Recovered<D>
     let mut payloads = Seq::new(alloc);
     'payloads: loop {
         match reader.next() {
+            Next::Base(at) => match keep_alone(alloc, &mut payloads, reader.payload(), at) {
+                Ok(()) => {}
+                Err(NoMemory) => return Recovered::NoMemory(reader.close()),
+            },
             Next::Payload(at) => match keep(alloc, &mut payloads, reader.payload(), at) {
                 Ok(()) => {}
                 Err(NoMemory) => return Recovered::NoMemory(reader.close()),
@@ -95,4 +100,17 @@ fn keep(alloc: Global, payloads: &mut Seq<Payload>, bytes: &[u8], at: u64) -> Re
 {
     let copy = Seq::of(Vec::from_slice(alloc, bytes)?);
     payloads.push(Payload { bytes: copy, at })
+}
+
+/// Keeps a copy of a payload, and no other payload.
+fn keep_alone(
+    alloc: Global,
+    payloads: &mut Seq<Payload>,
+    bytes: &[u8],
+    at: u64,
+) -> Result<(), NoMemory>
+    ensures kept { IfOk result (λ _. payloads.new ≡ record { bytes = bytes.now; at = at } ∷ []) }
+{
+    *payloads = Seq::new(alloc);
+    keep(alloc, payloads, bytes, at)
 }

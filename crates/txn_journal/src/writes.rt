@@ -2,11 +2,15 @@
 ghost use Rattle.std.specs.Prelude.{◌≡◌, ℕ, ◌+◌, ◌≤◌, [], ◌∷◌, ◌++◌, List, Some, length, OnOk, IsSome};
 ghost use Rattle.ts_disk.specs.CrashImage.{written, Torn, Only, LeavesOnly};
 ghost use Rattle.ts_disk.specs.Disk.{Counted, HasRange};
-ghost use Rattle.txn_journal.specs.Frames.{Fits, WithOrWithout};
+ghost use Rattle.txn_journal.specs.Contents.{Content, raised, with_payload};
+ghost use Rattle.txn_journal.specs.Frames.{Fits, StandsForEither, WithOrWithout};
 ghost use Rattle.txn_journal.specs.Writes.{IsWritten, Rests};
+ghost use Rattle.txn_journal.specs.declared.versions.Version.{Version};
+ghost use Rattle.txn_journal.specs.declared.versions.Version.TheVariants.{One, Two};
 
 use crate::frames::Frame;
-use crate::heads::OPEN;
+use crate::heads::{OPEN, VERSION_BYTE};
+use crate::versions::SECOND;
 use ts_disk::{Disk, Failed, MOST_BYTES};
 
 /// Writes bytes at a place and syncs.
@@ -32,10 +36,11 @@ pub fn write_synced<D: Disk>(disk: &mut D, at: u64, piece: &[u8]) -> Result<(), 
 pub fn put_frame<D: Disk>(disk: &mut D, end: u64, frame: &Frame) -> Result<(), Failed>
     requires most { end + 1 ≤ MOST_BYTES }
     requires range { HasRange (D.bytes disk.old) (end + 1) }
-    ensures any_moment { (payloads : List (List ℕ)) → Rests D.bytes D.may_leave disk.old end payloads
-        → LeavesOnly D.moment D.left_since disk.old disk.new (WithOrWithout payloads frame.now) }
-    ensures done { OnOk result ((payloads : List (List ℕ)) → Rests D.bytes D.may_leave disk.old end payloads
-        → Rests D.bytes D.may_leave disk.new (end + 5 + length frame.now) (payloads ++ frame.now ∷ [])) }
+    ensures any_moment { (version : Version) (content : Content) → Rests D.bytes D.may_leave disk.old version end content
+        → LeavesOnly D.moment D.left_since disk.old disk.new (WithOrWithout version content frame.now) }
+    ensures done { OnOk result ((version : Version) (content : Content)
+        → Rests D.bytes D.may_leave disk.old version end content
+        → Rests D.bytes D.may_leave disk.new version (end + 5 + length frame.now) (with_payload version content frame.now)) }
     ensures told { (file : List ℕ) → D.bytes disk.old ≡ Some file → IsSome (D.bytes disk.new) }
     ensures reaches { OnOk result (HasRange (D.bytes disk.new) (end + 6 + length frame.now)) }
     ensures most { OnOk result (end + 6 + length frame.now ≤ MOST_BYTES) }
@@ -45,4 +50,19 @@ pub fn put_frame<D: Disk>(disk: &mut D, end: u64, frame: &Frame) -> Result<(), F
     // in one write, a crash might leave the gate open and the frame torn.
     write_synced(disk, end + 1, frame.bytes())?;
     write_synced(disk, end, &[OPEN])
+}
+
+/// Writes the byte of version 2 and syncs.
+pub fn put_version<D: Disk>(disk: &mut D) -> Result<(), Failed>
+    requires range { HasRange (D.bytes disk.old) 8 }
+    // As long as the write may be torn the byte may be any.
+    ensures any_moment { (end : ℕ) (content : Content) → Rests D.bytes D.may_leave disk.old One end content
+        → LeavesOnly D.moment D.left_since disk.old disk.new (StandsForEither content (raised content)) }
+    ensures done { OnOk result ((end : ℕ) (content : Content) → Rests D.bytes D.may_leave disk.old One end content
+        → Rests D.bytes D.may_leave disk.new Two end (raised content)) }
+    ensures told { (file : List ℕ) → D.bytes disk.old ≡ Some file → IsSome (D.bytes disk.new) }
+    ensures grown { (end : ℕ) → HasRange (D.bytes disk.old) end → OnOk result (HasRange (D.bytes disk.new) end) }
+    ensures counted { Counted (D.faults disk.old) (D.faults disk.new) result }
+{
+    write_synced(disk, VERSION_BYTE, &[SECOND])
 }
