@@ -17,7 +17,7 @@ use Rattle.stmt_reader.specs.Tokens.{begins_with, blank_len}
 use Rattle.stmt_reader.specs.declared.lines.LineKind.TheVariants.{Stmt}
 use Rattle.demo_script.specs.Demo.{aggregate_line, answer_line, hypertable_line, insert_line, late_line, number_of, range_text, refresh_line, row_text, rows_text, table_line, time_of, value_of, values_text}
 use Rattle.demo_laws.proofs.Rows.{IsSmall}
-use Rattle.demo_laws.proofs.TokenLaws.{IsDigit, digit_in_front}
+use Rattle.policy_jobs.proofs.TokenLaws.{IsDigit, digit_in_front}
 
 -- no comment begins in a text, whatever stands behind it; it is ASCII, and has at most so many bytes
 pub record IsClean (most : ℕ) (text : List ℕ) : Type 0 where

@@ -5,7 +5,6 @@ pub mod LineLaws
 mod NumberedLines
 mod PassLaws
 mod Rows
-mod TokenLaws
 pub mod CountLaws
 pub mod ChunkLaws
 pub mod HistoryLaws

@@ -14,8 +14,8 @@ use Rattle.demo_script.specs.Demo.{insert_line, late_line, range_text, refresh_l
 use Rattle.demo_laws.specs.Statements.{stmt_of, values_at, values_of, values_with}
 use Rattle.demo_script.specs.declared.lines.Line.TheVariants as lines
 use Rattle.demo_laws.proofs.ClosedLines.{Reads}
-use Rattle.demo_laws.proofs.TokenLaws.{Comes, IsAt, behind_space, comes, ends_at, first_token, number_token}
-use Rattle.demo_laws.proofs.Rows.{IsSmall, RowComes, RowsCome, ValueComes, is_word, no_digit, one_row, row_comes, rows_come, rows_end, value_bytes, value_comes, value_stream}
+use Rattle.policy_jobs.proofs.TokenLaws.{is_word, Comes, IsAt, behind_space, comes, ends_at, first_token, number_token}
+use Rattle.demo_laws.proofs.Rows.{IsSmall, RowComes, RowsCome, ValueComes, no_digit, one_row, row_comes, rows_come, rows_end, value_bytes, value_comes, value_stream}
 
 -- ---- rows are inserted
 

@@ -16,12 +16,7 @@ use Rattle.stmt_reader.specs.declared.tokens.Mark.TheVariants.{Open, Close, Comm
 use Rattle.stmt_reader.proofs.Loops.{more_ends, more_goes}
 use Rattle.demo_script.specs.Demo.{number_of, row_text, time_of, value_of, values_text}
 use Rattle.demo_laws.specs.Statements.{values_at, values_with}
-use Rattle.demo_laws.proofs.TokenLaws.{Comes, IsAt, first_token, behind_space, closing, comes, comma, decimal_token, ends_at, number_token, opening}
-
--- a number of 63 bits is one of 64 bits with its sign
-pub is_word : (z : ℤ) → mag z < 2 ^ 63 → is_i64 z ≡ true
-is_word (pos n) small = le-leb n 9223372036854775807 (omega arith)
-is_word (negsuc n) small = and_from _ _ (le-leb n 9223372036854775807 (omega arith)) refl
+use Rattle.policy_jobs.proofs.TokenLaws.{is_word, Comes, IsAt, first_token, behind_space, closing, comes, comma, decimal_token, ends_at, number_token, opening}
 
 -- ---- a value behind a comma
 

@@ -1,2 +1,7 @@
 pub mod PolicyRules
 pub mod Judging
+mod WideNumbers
+pub mod TokenLaws
+pub mod DueTexts
+pub mod RunLaws
+pub mod TurnLaws

@@ -1,6 +1,6 @@
 -- Which policies are refused.
-use Rattle.std.specs.Prelude.{ℕ, suc, ◌^◌, ℤ, pos, ◌-ℤ◌, Bool, true, ◌&&◌, not, int_le, nat_le, List, Option, Some, None}
-use Rattle.std.specs.Int.{◌*ℤ◌}
+use Rattle.std.specs.Prelude.{◌≡◌, ℕ, suc, ◌^◌, ℤ, pos, ◌-ℤ◌, ◌+ℤ◌, Bool, true, ◌&&◌, not, int_le, nat_le, List, Option, Some, None}
+use Rattle.std.specs.List.{AllByRecursion}
 use Rattle.ts_model.specs.declared.outcomes.Refusal.{Refusal}
 use Rattle.ts_model.specs.declared.rosters.Roster.{Roster}
 use Rattle.ts_model.specs.declared.views.ViewDef.{ViewDef}
@@ -12,6 +12,7 @@ use Rattle.stmt_check.specs.Refusals.{◌⊳◌, hypertable_refusal, marked, ref
 use Rattle.result_text.specs.declared.codes.TheConstants.{BAD_POLICY, TOO_MANY_POLICIES}
 use Rattle.policy_jobs.specs.declared.jobs.Job.{Job}
 use Rattle.policy_jobs.specs.declared.jobs.Job.TheVariants as jobs
+use Rattle.policy_jobs.specs.declared.policies.Policy.{Policy}
 
 -- the most policies of a session
 abbrev pub most_policies : ℕ
@@ -36,7 +37,7 @@ is_interval every = is_from (pos 1) every
 
 -- a window with two ends is at least twice the step wide
 abbrev pub is_wide : Option ViewDef → Option ℤ → Option ℤ → Bool
-is_wide (Some def) (Some from) (Some to) = int_le (pos 2 *ℤ def.fold.width.step) (from -ℤ to)
+is_wide (Some def) (Some from) (Some to) = int_le (def.fold.width.step +ℤ def.fold.width.step) (from -ℤ to)
 is_wide def from to = true
 
 -- the aggregate that was found
@@ -48,6 +49,10 @@ view_found r other = None
 abbrev pub has_offsets : Job → Bool
 has_offsets (jobs.Refresh view from to) = is_offset from && is_offset to
 has_offsets (jobs.Drop table after) = is_from (pos 0) after
+
+-- policies whose offsets are
+abbrev pub AreKept : List Policy → Type 0
+AreKept policies = AllByRecursion (λ p. has_offsets p.job ≡ true) policies
 
 -- its window is wide enough for the step
 abbrev pub fits_step : Roster → Job → Bool

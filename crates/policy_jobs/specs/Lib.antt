@@ -6,3 +6,4 @@ pub mod Policies
 pub mod Adding
 pub mod Turns
 pub mod Runs
+pub mod Sessions

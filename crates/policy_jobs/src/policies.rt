@@ -1,7 +1,11 @@
 //! Policies that a session keeps: which of them are due at a time, and the statements that they run.
-ghost use Rattle.std.specs.Prelude.{◌≡◌, ◌++◌, length, IfOk, OnOk, Some};
-ghost use Rattle.policy_jobs.specs.Policies.{due, due_text, end_of, end_text, is_due, refresh_text, retention_text};
+ghost use Rattle.std.specs.Prelude.{◌≡◌, ◌++◌, true, IfOk, OnOk, Some};
+ghost use Rattle.std.specs.List.{AllByRecursion};
+ghost use Rattle.ts_bucket.specs.Bucket.{is_time};
+ghost use Rattle.policy_jobs.specs.Policies.{due_text, due_texts as texts_due, end_of, end_text, is_due, refresh_text, retention_text, ticked, ticked_one};
 ghost use Rattle.policy_jobs.specs.Policies as spec;
+ghost use Rattle.policy_jobs.specs.Adding.{AreKept, has_offsets};
+ghost use Rattle.policy_jobs.specs.Runs.{IsRunnable};
 
 use crate::jobs::Job;
 use std::alloc::Global;
@@ -31,13 +35,29 @@ impl Policy {
         }
     }
 
+    /// It has run at a time, if it is due then.
+    fn mark(&mut self, now: i64)
+        ensures ran { self.new ≡ ticked_one now self.old }
+    {
+        if self.is_due(now) {
+            self.ran = Some(now);
+        }
+    }
+
     /// The statement that it runs at a time.
     pub fn text(&self, alloc: Global, now: i64) -> Result<Seq<u8>, NoMemory>
         ensures text { IfOk result (λ text. text ≡ due_text now self.now.job) }
+        ensures runnable { is_time now ≡ true → has_offsets self.now.job ≡ true → IfOk result IsRunnable }
     {
         match &self.job {
-            Job::Refresh { view, from, to } => refresh_at(alloc, now, view, *from, *to),
-            Job::Drop { table, after } => retention_at(alloc, now, table, *after),
+            Job::Refresh { view, from, to } => {
+                let _name = view.bytes();
+                refresh_at(alloc, now, view, *from, *to)
+            }
+            Job::Drop { table, after } => {
+                let _name = table.bytes();
+                retention_at(alloc, now, table, *after)
+            }
         }
     }
 }
@@ -49,11 +69,28 @@ fn is_back(now: i64, every: i64, last: i64) -> bool
     every as i128 <= now as i128 - last as i128
 }
 
-/// How many policies are due at a time.
-pub fn count_due(policies: &[Policy], now: i64) -> usize
-    ensures count { result ≡ length (due now policies.now) }
+/// The statements that those which are due run at a time, in the order of adding.
+pub fn due_texts(alloc: Global, policies: &[Policy], now: i64) -> Result<Seq<Seq<u8>>, NoMemory>
+    ensures texts { IfOk result (λ texts. texts ≡ texts_due now policies.now) }
+    ensures runnable { is_time now ≡ true → AreKept policies.now
+        → IfOk result (λ texts. AllByRecursion IsRunnable texts) }
 {
-    policies.iter().filter(|policy| policy.is_due(now)).count()
+    let mut texts = Seq::new(alloc);
+    for policy in policies {
+        if policy.is_due(now) {
+            texts.push(policy.text(alloc, now)?)?;
+        }
+    }
+    Ok(texts)
+}
+
+/// Those that are due at a time have run then.
+pub fn mark_due(policies: &mut [Policy], now: i64)
+    ensures ran { policies.new ≡ ticked now policies.old }
+{
+    for policy in policies.iter_mut() {
+        policy.mark(now);
+    }
 }
 
 /// `CALL refresh_continuous_aggregate` of the window that a refresh policy means at a time.

@@ -1,29 +1,31 @@
 -- The tokens of a text, one after the other, by the bytes that are left.
-use Rattle.std.proofs.Common.{◌≡◌, ◌∙◌, refl, sym, ap, subst, ℕ, suc, ◌+◌, ◌<◌, ◌≤◌, ◌^◌, ℤ, pos, negsuc, neg_ℤ, Bool, true, false, cond, eqb, List, [], ◌∷◌, ◌++◌, length, take, drop, Option, Some, None, arith}
+use Rattle.std.proofs.Common.{◌≡◌, ◌∙◌, refl, sym, ap, subst, ℕ, suc, ◌+◌, ◌<◌, ◌≤◌, ◌^◌, ℤ, pos, negsuc, neg_ℤ, Bool, true, false, cond, eqb, leb, ◌&&◌, List, [], ◌∷◌, ◌++◌, length, take, drop, get_or, Option, Some, None, arith}
 use lib.Signed.{mag}
 use Rattle.std.specs.Prelude.{decimal}
-use Rattle.std.specs.Char.{is_ascii_digit}
+use Rattle.std.specs.Char.{is_ascii_digit, to_ascii_lowercase}
 use Rattle.std.specs.Fmt.{signed_decimal}
-use Rattle.std.specs.List.{prefix_len}
+use Rattle.std.specs.List.{list_all, prefix_len}
 use Rattle.std.specs.Str.Parse.{AllDigits, IsNumeral, digits_value, signed_digits_value}
 use Rattle.std.proofs.Math.Numerals.{one-add}
 use Rattle.std.proofs.Math.Seq.{drop-append_seam, take-append_seam}
-use Rattle.std.proofs.lemmas.Bool.{ne_eqb}
+use Rattle.std.proofs.lemmas.Bool.{and_from, and_parts, le-leb, ne_eqb, true≢false}
 use Rattle.std.proofs.lemmas.Bool.Decides.{nat_tests}
 use Rattle.std.proofs.lemmas.Fmt.{decimal_is_IsNumeral}
 use Rattle.std.proofs.lemmas.List.{drop-drop, length-drop}
 use Rattle.std.proofs.lemmas.Str.Parse.{digit_from_value}
-use Rattle.stmt_reader.specs.Bytes.{is_space, begins_word}
+use Rattle.ts_schema.specs.Names.{is_head, is_name, is_tail}
+use Rattle.stmt_reader.specs.Bytes.{is_space, begins_word, continues_word, lower}
 use Rattle.stmt_reader.specs.Streams.{ends, ◌then◌, stream}
-use Rattle.stmt_reader.specs.Tokens.{Lexeme, Token, token, number, mark, blank_len, is_return, lexeme_at, next_here, number_at, of_lexeme, sign_len}
+use Rattle.stmt_reader.specs.Tokens.{Lexeme, Token, token, number, quoted, mark, begins_with, blank_len, is_i64, is_return, lexeme_at, next_here, number_at, of_lexeme, quoted_at, sign_len}
 use Rattle.stmt_reader.specs.declared.tokens.Mark.TheVariants.{Open, Close, Comma}
 use Rattle.stmt_reader.proofs.Flow.{stream_is_flow, flow}
 use Rattle.stmt_reader.proofs.Lexemes.{Fits, blank_len-le-length, lexeme_fits}
+use Rattle.stmt_reader.proofs.Named.{lower_name}
 
 -- ---- the token in front
 
 -- a lexeme's token, and the bytes behind it
-abbrev behind : List ℕ → Option Lexeme → Option (Token × List ℕ)
+abbrev pub behind : List ℕ → Option Lexeme → Option (Token × List ℕ)
 behind bytes None = None
 behind bytes (Some l) = Some (l.token, drop l.len bytes)
 
@@ -110,7 +112,7 @@ not_blank b bytes no_space no_return =
     ap (λ n. cond (is_return (drop n (b ∷ bytes))) (n + 1) n) none ∙ ap (λ t. cond t 1 0) (return_not b bytes no_return)
 
 -- no blank stands in front
-first_here : (b : ℕ) (bytes : List ℕ) → is_space b ≡ false → eqb b 13 ≡ false → first_token (b ∷ bytes) ≡ behind (b ∷ bytes) (lexeme_at (b ∷ bytes))
+pub first_here : (b : ℕ) (bytes : List ℕ) → is_space b ≡ false → eqb b 13 ≡ false → first_token (b ∷ bytes) ≡ behind (b ∷ bytes) (lexeme_at (b ∷ bytes))
 first_here b bytes no_space no_return = ap (λ n. let here = drop n (b ∷ bytes) in behind here (lexeme_at here)) (not_blank b bytes no_space no_return)
 
 one_blank_more : (r : Bool) (n : ℕ) → cond r (suc n + 1) (suc n) ≡ suc (cond r (n + 1) n)
@@ -216,3 +218,62 @@ number_token (negsuc n) rest small none =
 -- the same of a number without a sign behind a space
 pub decimal_token : (n : ℕ) (rest : List ℕ) → n < 2 ^ 63 → prefix_len is_ascii_digit rest ≡ 0 → first_token (32 ∷ (decimal n ++ rest)) ≡ Some (number (pos n), rest)
 decimal_token n rest small none = behind_space (decimal n ++ rest) ∙ number_token (pos n) rest small none
+
+-- a number of 64 bits
+pub is_word : (z : ℤ) → mag z < 2 ^ 63 → is_i64 z ≡ true
+is_word (pos n) small = le-leb n 9223372036854775807 (omega arith)
+is_word (negsuc n) small = and_from _ _ (le-leb n 9223372036854775807 (omega arith)) refl
+
+-- ---- names in quotes
+
+abbrev second : List ℕ → ℕ
+second bytes = get_or bytes 1 0
+
+-- a byte of a name is in lower case
+tail_lower : (b : ℕ) → is_tail b ≡ true → to_ascii_lowercase b ≡ b
+tail_lower b e = ap second (lower_name (97 ∷ b ∷ []) (rw e refl))
+
+-- and goes on with a word
+tail_byte : (b : ℕ) → is_tail b ≡ true → continues_word b ≡ true
+tail_byte b e = rw (tail_lower b e) e
+
+tails_in_front : (bs rest : List ℕ) → list_all is_tail bs ≡ true → prefix_len continues_word rest ≡ 0 → prefix_len continues_word (bs ++ rest) ≡ length bs
+tails_in_front [] rest all none = none
+tails_in_front (b ∷ bs) rest all none =
+    let k = and_parts (is_tail b) (list_all is_tail bs) all in
+    ap (λ t. cond t (1 + prefix_len continues_word (bs ++ rest)) 0) (tail_byte b k.0)
+    ∙ one-add (prefix_len continues_word (bs ++ rest))
+    ∙ ap suc (tails_in_front bs rest k.1 none)
+
+-- a name in quotes, by how many bytes go on with a word
+abbrev quoted_by : Bool → ℕ → List ℕ → Option Lexeme
+quoted_by begins n bytes =
+    cond (begins && leb n 63 && begins_with 39 (drop n bytes)) (Some (record { token = quoted (lower (take n bytes)); len = n + 2 })) None
+
+past_quotes : (name rest : List ℕ) → drop (length name + 2) (39 ∷ (name ++ 39 ∷ rest)) ≡ rest
+past_quotes name rest =
+    let more : length name + 2 ≡ suc (length name + 1) = omega arith in
+    ap (λ n. drop n (39 ∷ (name ++ 39 ∷ rest))) more
+    ∙ sym (drop-drop 1 (length name) (name ++ 39 ∷ rest))
+    ∙ ap (drop 1) (drop-append_seam name (39 ∷ rest))
+
+-- a name in quotes, and whatever is behind it
+pub quoted_token : (name rest : List ℕ) → is_name name ≡ true → first_token (39 ∷ (name ++ 39 ∷ rest)) ≡ Some (quoted name, rest)
+quoted_token [] rest e = absurd (true≢false (sym e))
+quoted_token (b ∷ bs) rest e =
+    let name : List ℕ = b ∷ bs in
+    let left : List ℕ = 39 ∷ rest in
+    let k = and_parts (leb (length name) 63 && is_head b) (list_all is_tail bs) e in
+    let h = and_parts (leb (length name) 63) (is_head b) k.0 in
+    let head : is_tail b ≡ true = rw h.1 refl in
+    let tails : list_all is_tail name ≡ true = and_from (is_tail b) (list_all is_tail bs) head k.1 in
+    let begins : begins_word b ≡ true = ap is_head (tail_lower b head) ∙ h.1 in
+    let len : prefix_len continues_word (name ++ left) ≡ length name = tails_in_front name left tails refl in
+    first_here 39 (name ++ left) refl refl
+    ∙ ap (λ n. behind (39 ∷ (name ++ left)) (quoted_by (begins_word b) n (name ++ left))) len
+    ∙ ap (λ t. behind (39 ∷ (name ++ left)) (quoted_by t (length name) (name ++ left))) begins
+    ∙ ap (λ t. behind (39 ∷ (name ++ left)) (cond (t && begins_with 39 (drop (length name) (name ++ left))) (Some (record { token = quoted (lower (take (length name) (name ++ left))); len = length name + 2 })) None)) h.0
+    ∙ ap (λ l. behind (39 ∷ (name ++ left)) (cond (begins_with 39 l) (Some (record { token = quoted (lower (take (length name) (name ++ left))); len = length name + 2 })) None)) (drop-append_seam name left)
+    ∙ ap (λ w. Some (quoted (lower w), drop (length name + 2) (39 ∷ (name ++ left)))) (take-append_seam name left)
+    ∙ ap (λ w. Some (quoted w, drop (length name + 2) (39 ∷ (name ++ left)))) (lower_name name e)
+    ∙ ap (λ r. Some (quoted name, r)) (past_quotes name rest)

@@ -1,0 +1,16 @@
+-- What contracts see of a session with policies.
+use Rattle.std.specs.Prelude.{◌≡◌, List}
+use Rattle.ts_model.specs.States.{State}
+use Rattle.policy_jobs.specs.declared.policies.Policy.{Policy}
+use Rattle.policy_jobs.specs.declared.sessions.PolicySession.{PolicySession}
+use Rattle.policy_jobs.specs.Adding.{AreKept}
+use Rattle.policy_jobs.specs.Turns.{PolicyPlaces}
+
+-- its places, by those of the actor in it
+abbrev pub places_in : {A P : Type 0} → (A → P) → PolicySession A → PolicyPlaces P
+places_in places s = record { inner = places s.actor; policies = s.policies.items }
+
+-- what the actor in it holds goes with what its store has seen, and its policies passed when they were added
+pub record HoldsOf {A : Type 0} (Holds : A → State → Type 0) (session : PolicySession A) (s : State) : Type 0 where
+  pub actor : Holds session.actor s
+  pub policies : AreKept session.policies.items

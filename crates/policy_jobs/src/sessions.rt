@@ -1,0 +1,254 @@
+//! Sessions with policies.
+ghost use Rattle.std.specs.Prelude.{◌≡◌, ◌∷◌, ◌≤◌, [], None, false, true, IfOk, OnOk};
+ghost use Rattle.std.specs.Thread.{IsSync};
+ghost use Rattle.ts_bucket.specs.Bucket.{is_time as is_time_of};
+ghost use Rattle.ts_model.specs.Allowed.{all_allowed};
+ghost use Rattle.result_text.specs.declared.replies.Said.TheVariants.{Fault as FaultLine};
+ghost use Rattle.ts_sessions.specs.declared.kinds.Kind.TheVariants.{Defines};
+ghost use Rattle.ts_sessions.specs.Places.{Block as BlockPlace, block_kind, none};
+ghost use Rattle.ts_sessions.specs.Sessions.{AnswersSo, IfAnswered, IsReply, Stepped};
+ghost use Rattle.ts_sessions.specs.Step.{block_refusal, misread as misread_as};
+ghost use Rattle.policy_jobs.specs.Adding.{has_offsets};
+ghost use Rattle.policy_jobs.specs.Policies.{ticked};
+ghost use Rattle.policy_jobs.specs.Runs.{RunsTo};
+ghost use Rattle.policy_jobs.specs.Sessions.{HoldsOf, places_in};
+ghost use Rattle.policy_jobs.specs.Turns.{PolicyPlaces, adds_policy, lets_pass, misses_time, policy_does, policy_semantics, runs_due, ticks};
+
+use crate::adding::adding_refusal;
+use crate::jobs::Job;
+use crate::policies::{Policy, due_texts, mark_due};
+use crate::reading::{PolicyRead, read_policy};
+use crate::runs::{Run, run_all};
+use crate::statements::PolicyStmt;
+use result_text::{Said, codes};
+use std::alloc::Global;
+use std::thread::Threads;
+use stmt_reader::Fault;
+use ts_bucket::{MAX_TIME, MIN_TIME};
+use ts_model::{Backend, Gate, Refusal, Shown};
+use ts_schema::{Name, NoMemory, Steps};
+use ts_sessions::{Actor, Block, Reply, StepEnd, bare, placed, replied, write_reply};
+
+/// A session with policies: an actor, which executes every line that is none on policies, and the policies
+/// that were added, in the order of adding. They live as long as it does.
+#[derive(Drop)]
+pub struct PolicySession<A> {
+    /// The actor.
+    pub actor: A,
+    /// The policies.
+    pub policies: Vec<Policy>,
+}
+
+impl<A: Actor> PolicySession<A> {
+    /// Executes a statement on policies, where the block lets it pass.
+    fn perform<R: Threads + Sync, B: Backend<Shot = A::Shot>, G: Gate, L>(
+        &mut self,
+        rt: &R,
+        alloc: Global,
+        backend: &mut B,
+        gate: &G,
+        stmt: PolicyStmt,
+        steps: &mut Steps<L>,
+    ) -> StepEnd
+        requires sync { IsSync R.row }
+        requires holds { HoldsOf A.holds self.old (B.state backend.old) }
+        ensures stepped { Stepped B.alone (B.state backend.old)
+            (lets_pass A.semantics.does (places_in A.places self.old) stmt
+            (block_refusal (A.within (A.places self.old.actor)) Defines))
+            (A.named self.old.actor) result (B.state backend.new) (places_in A.places self.new) steps.old steps.new }
+        ensures name { A.named self.new.actor ≡ A.named self.old.actor }
+        ensures number { A.numbered self.new.actor ≡ A.numbered self.old.actor }
+        ensures waiting { A.waiting self.new.actor ≤ A.waiting self.old.actor }
+        ensures holds { IfAnswered result (HoldsOf A.holds self.new (B.state backend.new)) }
+        ensures kin { B.kin backend.new ≡ B.kin backend.old }
+    {
+        match barrier(self.actor.block()) {
+            Some(refusal) => refuse(alloc, self.actor.name(), refusal),
+            None => match stmt {
+                PolicyStmt::Add { job, every } => self.add(alloc, backend, job, every),
+                PolicyStmt::Tick(now) => self.tick(rt, alloc, backend, gate, now, steps),
+            },
+        }
+    }
+
+    /// Adds a policy, unless it is refused.
+    fn add<B: Backend<Shot = A::Shot>>(
+        &mut self,
+        alloc: Global,
+        backend: &mut B,
+        job: Job,
+        every: i64,
+    ) -> StepEnd
+        requires holds { HoldsOf A.holds self.old (B.state backend.old) }
+        ensures stepped { (count : ℕ) → Stepped B.alone (B.state backend.old)
+            (adds_policy (places_in A.places self.old) job every)
+            (A.named self.old.actor) result (B.state backend.new) (places_in A.places self.new) count count }
+        ensures actor { self.new.actor ≡ self.old.actor }
+        ensures holds { IfAnswered result (HoldsOf A.holds self.new (B.state backend.new)) }
+        ensures kin { B.kin backend.new ≡ B.kin backend.old }
+    {
+        let shot = match backend.snap() {
+            Ok(shot) => shot,
+            Err(NoMemory) => return StepEnd::NoMemory,
+        };
+        let pos = shot.position();
+        match adding_refusal(pos, shot.roster(), self.policies.len(), &job, every) {
+            Some(refusal) => refuse(alloc, self.actor.name(), refusal),
+            None => self.keep(alloc, pos, Policy { job, every, ran: None }),
+        }
+    }
+
+    /// Keeps a policy that was added at a position. Where there is no memory it stays as it is.
+    fn keep(&mut self, alloc: Global, pos: u64, policy: Policy) -> StepEnd
+        ensures actor { self.new.actor ≡ self.old.actor }
+    {
+        let number = self.policies.len() as u64 + 1;
+        let reply = match write_line(alloc, self.actor.name(), Said::Policy { number, pos }) {
+            Ok(reply) => reply,
+            Err(NoMemory) => return StepEnd::NoMemory,
+        };
+        match self.policies.push(policy) {
+            Ok(()) => StepEnd::Reply(reply),
+            Err(_) => StepEnd::NoMemory,
+        }
+    }
+
+    /// It is this time: what is due runs, and has run then, whatever came of it.
+    fn tick<R: Threads + Sync, B: Backend<Shot = A::Shot>, G: Gate, L>(
+        &mut self,
+        rt: &R,
+        alloc: Global,
+        backend: &mut B,
+        gate: &G,
+        now: i64,
+        steps: &mut Steps<L>,
+    ) -> StepEnd
+        requires sync { IsSync R.row }
+        requires outside { A.within (A.places self.old.actor) ≡ none }
+        requires holds { HoldsOf A.holds self.old (B.state backend.old) }
+        ensures stepped { Stepped B.alone (B.state backend.old)
+            (ticks A.semantics.does (places_in A.places self.old) now)
+            (A.named self.old.actor) result (B.state backend.new) (places_in A.places self.new) steps.old steps.new }
+        ensures name { A.named self.new.actor ≡ A.named self.old.actor }
+        ensures number { A.numbered self.new.actor ≡ A.numbered self.old.actor }
+        ensures waiting { A.waiting self.new.actor ≡ 0 }
+        ensures holds { IfAnswered result (HoldsOf A.holds self.new (B.state backend.new)) }
+        ensures kin { B.kin backend.new ≡ B.kin backend.old }
+    {
+        if !is_time(now) {
+            return miss_time(alloc, backend, self.actor.name());
+        }
+        match self.run_due(rt, alloc, backend, gate, now, steps) {
+            Ok(run) => {
+                mark_due(&mut self.policies, now);
+                replied(run.reply, run.failed)
+            }
+            Err(NoMemory) => StepEnd::NoMemory,
+        }
+    }
+
+    /// Runs what is due at a time, behind the line of the tick.
+    fn run_due<R: Threads + Sync, B: Backend<Shot = A::Shot>, G: Gate, L>(
+        &mut self,
+        rt: &R,
+        alloc: Global,
+        backend: &mut B,
+        gate: &G,
+        now: i64,
+        steps: &mut Steps<L>,
+    ) -> Result<Run, NoMemory>
+        requires sync { IsSync R.row }
+        requires time { is_time_of now ≡ true }
+        requires outside { A.within (A.places self.old.actor) ≡ none }
+        requires holds { HoldsOf A.holds self.old (B.state backend.old) }
+        ensures ran { RunsTo B.alone (B.state backend.old)
+            (runs_due A.semantics.does now (A.places self.old.actor) self.old.policies.items)
+            (A.named self.old.actor) result (B.state backend.new) (A.places self.new.actor) steps.old steps.new }
+        ensures policies { self.new.policies ≡ self.old.policies }
+        ensures name { A.named self.new.actor ≡ A.named self.old.actor }
+        ensures number { A.numbered self.new.actor ≡ A.numbered self.old.actor }
+        ensures waiting { A.waiting self.new.actor ≡ 0 }
+        ensures holds { OnOk result (A.holds self.new.actor (B.state backend.new)) }
+        ensures kin { B.kin backend.new ≡ B.kin backend.old }
+    {
+        let _so_far = steps.count();
+        let texts = due_texts(alloc, &self.policies, now)?;
+        let line = Said::Tick {
+            time: now,
+            due: texts.len() as u64,
+        };
+        let reply = write_line(alloc, self.actor.name(), line)?;
+        let run = Run {
+            reply,
+            failed: false,
+        };
+        run_all(rt, alloc, &mut self.actor, backend, gate, texts.items(), run, steps)
+    }
+}
+
+/// A tick at a time out of range is refused where the store is found.
+fn miss_time<B: Backend>(alloc: Global, backend: &mut B, name: &Name) -> StepEnd
+    ensures kin { B.kin backend.new ≡ B.kin backend.old }
+{
+    match backend.snap() {
+        Ok(shot) => refuse(alloc, name, bad_time(shot.position())),
+        Err(NoMemory) => StepEnd::NoMemory,
+    }
+}
+
+/// A time is out of range.
+fn bad_time(pos: u64) -> Refusal
+    ensures { result ≡ record { code = 9; pos = pos; mark = 0 } }
+{
+    Refusal {
+        code: codes::BAD_TIME,
+        pos,
+        mark: 0,
+    }
+}
+
+/// Whether this is a time.
+fn is_time(now: i64) -> bool
+    ensures { result ≡ is_time_of now }
+{
+    MIN_TIME <= now && now <= MAX_TIME
+}
+
+/// Why a block lets no statement on policies pass, if it doesn't.
+fn barrier(block: Block) -> Option<Refusal>
+    ensures { (place : BlockPlace) → block ≡ block_kind place → result ≡ block_refusal place Defines }
+{
+    match block {
+        Block::Outside => None,
+        Block::Write => Some(bare(codes::IN_WRITE_BLOCK)),
+        Block::Read => Some(bare(codes::IN_READ_BLOCK)),
+    }
+}
+
+/// What can't be read is refused at its place.
+fn misread(fault: Fault) -> Refusal
+    ensures { result ≡ misread_as fault }
+{
+    match fault {
+        Fault::NoToken(place) => placed(codes::NO_TOKEN, place),
+        Fault::Syntax(place) => placed(codes::SYNTAX, place),
+        Fault::BadNumber(place) => placed(codes::BAD_NUMBER, place),
+    }
+}
+
+/// The answer that a statement of the session with a name is refused.
+fn refuse(alloc: Global, name: &Name, refusal: Refusal) -> StepEnd
+    ensures { AnswersSo name.now (FaultLine refusal ∷ []) false result }
+{
+    match write_line(alloc, name, Said::Fault(refusal)) {
+        Ok(reply) => StepEnd::Reply(reply),
+        Err(NoMemory) => StepEnd::NoMemory,
+    }
+}
+
+/// The reply of the session with a name that has this one line.
+fn write_line(alloc: Global, name: &Name, line: Said) -> Result<Reply, NoMemory>
+    ensures { IfOk result (λ r. IsReply name.now (line ∷ []) r) }
+{
+    write_reply(alloc, name, &[line])
+}
