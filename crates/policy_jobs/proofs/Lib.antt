@@ -5,3 +5,4 @@ pub mod TokenLaws
 pub mod DueTexts
 pub mod RunLaws
 pub mod TurnLaws
+pub mod AddLaws

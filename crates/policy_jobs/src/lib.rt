@@ -7,9 +7,11 @@
 //! - `adding`: why a policy is refused that is to be added.
 //! - `policies`: policies that are kept, which of them are due, and what they run.
 //! - `runs`: statements that an actor executes one after the other.
-//! - `sessions`: sessions with policies.
+//! - `sessions`: sessions with policies, and what they do with statements on them.
+//! - `actors`: sessions with policies execute the lines of a session.
 #![tactic(auto)]
 
+mod actors;
 mod adding;
 mod jobs;
 mod policies;

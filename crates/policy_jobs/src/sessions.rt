@@ -1,18 +1,17 @@
 //! Sessions with policies.
-ghost use Rattle.std.specs.Prelude.{◌≡◌, ◌∷◌, ◌≤◌, [], None, false, true, IfOk, OnOk};
+ghost use Rattle.std.specs.Prelude.{◌≡◌, ℕ, suc, ◌<◌, ◌≤◌, ◌^◌, List, [], ◌∷◌, ◌++◌, length, None, false, true, IfOk, OnOk};
 ghost use Rattle.std.specs.Thread.{IsSync};
 ghost use Rattle.ts_bucket.specs.Bucket.{is_time as is_time_of};
-ghost use Rattle.ts_model.specs.Allowed.{all_allowed};
-ghost use Rattle.result_text.specs.declared.replies.Said.TheVariants.{Fault as FaultLine};
+ghost use Rattle.result_text.specs.declared.replies.Said.TheVariants.{Fault as FaultLine, Policy as PolicyLine};
 ghost use Rattle.ts_sessions.specs.declared.kinds.Kind.TheVariants.{Defines};
+ghost use Rattle.ts_sessions.specs.Held.{GoesOn};
 ghost use Rattle.ts_sessions.specs.Places.{Block as BlockPlace, block_kind, none};
 ghost use Rattle.ts_sessions.specs.Sessions.{AnswersSo, IfAnswered, IsReply, Stepped};
 ghost use Rattle.ts_sessions.specs.Step.{block_refusal, misread as misread_as};
-ghost use Rattle.policy_jobs.specs.Adding.{has_offsets};
 ghost use Rattle.policy_jobs.specs.Policies.{ticked};
 ghost use Rattle.policy_jobs.specs.Runs.{RunsTo};
 ghost use Rattle.policy_jobs.specs.Sessions.{HoldsOf, places_in};
-ghost use Rattle.policy_jobs.specs.Turns.{PolicyPlaces, adds_policy, lets_pass, misses_time, policy_does, policy_semantics, runs_due, ticks};
+ghost use Rattle.policy_jobs.specs.Turns.{adds_policy, lets_pass, misses_time, runs_due, ticks};
 
 use crate::adding::adding_refusal;
 use crate::jobs::Job;
@@ -41,7 +40,7 @@ pub struct PolicySession<A> {
 
 impl<A: Actor> PolicySession<A> {
     /// Executes a statement on policies, where the block lets it pass.
-    fn perform<R: Threads + Sync, B: Backend<Shot = A::Shot>, G: Gate, L>(
+    pub(crate) fn perform<R: Threads + Sync, B: Backend<Shot = A::Shot>, G: Gate, L>(
         &mut self,
         rt: &R,
         alloc: Global,
@@ -62,6 +61,7 @@ impl<A: Actor> PolicySession<A> {
         ensures holds { IfAnswered result (HoldsOf A.holds self.new (B.state backend.new)) }
         ensures kin { B.kin backend.new ≡ B.kin backend.old }
     {
+        let _so_far = steps.count();
         match barrier(self.actor.block()) {
             Some(refusal) => refuse(alloc, self.actor.name(), refusal),
             None => match stmt {
@@ -80,9 +80,9 @@ impl<A: Actor> PolicySession<A> {
         every: i64,
     ) -> StepEnd
         requires holds { HoldsOf A.holds self.old (B.state backend.old) }
-        ensures stepped { (count : ℕ) → Stepped B.alone (B.state backend.old)
+        ensures stepped { (n : ℕ) → n < 2 ^ 64 → Stepped B.alone (B.state backend.old)
             (adds_policy (places_in A.places self.old) job every)
-            (A.named self.old.actor) result (B.state backend.new) (places_in A.places self.new) count count }
+            (A.named self.old.actor) result (B.state backend.new) (places_in A.places self.new) n n }
         ensures actor { self.new.actor ≡ self.old.actor }
         ensures holds { IfAnswered result (HoldsOf A.holds self.new (B.state backend.new)) }
         ensures kin { B.kin backend.new ≡ B.kin backend.old }
@@ -98,19 +98,36 @@ impl<A: Actor> PolicySession<A> {
         }
     }
 
-    /// Keeps a policy that was added at a position. Where there is no memory it stays as it is.
+    /// Keeps a policy that was added at a position.
     fn keep(&mut self, alloc: Global, pos: u64, policy: Policy) -> StepEnd
+        ensures says { AnswersSo (A.named self.old.actor)
+            (PolicyLine (suc (length self.old.policies.items)) pos ∷ []) false result }
+        ensures policies { IfAnswered result
+            (self.new.policies.items ≡ self.old.policies.items ++ policy ∷ []) }
+        ensures actor { self.new.actor ≡ self.old.actor }
+    {
+        match self.keep_with_reply(alloc, pos, policy) {
+            Ok(reply) => StepEnd::Reply(reply),
+            Err(NoMemory) => StepEnd::NoMemory,
+        }
+    }
+
+    /// Keeps a policy, with the reply that it was added at a position.
+    fn keep_with_reply(
+        &mut self,
+        alloc: Global,
+        pos: u64,
+        policy: Policy,
+    ) -> Result<Reply, NoMemory>
+        ensures reply { IfOk result (λ r. IsReply (A.named self.old.actor)
+            (PolicyLine (suc (length self.old.policies.items)) pos ∷ []) r) }
+        ensures policies { OnOk result (self.new.policies.items ≡ self.old.policies.items ++ policy ∷ []) }
         ensures actor { self.new.actor ≡ self.old.actor }
     {
         let number = self.policies.len() as u64 + 1;
-        let reply = match write_line(alloc, self.actor.name(), Said::Policy { number, pos }) {
-            Ok(reply) => reply,
-            Err(NoMemory) => return StepEnd::NoMemory,
-        };
-        match self.policies.push(policy) {
-            Ok(()) => StepEnd::Reply(reply),
-            Err(_) => StepEnd::NoMemory,
-        }
+        let reply = write_line(alloc, self.actor.name(), Said::Policy { number, pos })?;
+        self.policies.push(policy)?;
+        Ok(reply)
     }
 
     /// It is this time: what is due runs, and has run then, whatever came of it.
@@ -135,14 +152,37 @@ impl<A: Actor> PolicySession<A> {
         ensures holds { IfAnswered result (HoldsOf A.holds self.new (B.state backend.new)) }
         ensures kin { B.kin backend.new ≡ B.kin backend.old }
     {
+        let _so_far = steps.count();
         if !is_time(now) {
-            return miss_time(alloc, backend, self.actor.name());
+            return self.miss_time(alloc, backend);
         }
         match self.run_due(rt, alloc, backend, gate, now, steps) {
             Ok(run) => {
-                mark_due(&mut self.policies, now);
+                self.mark(now);
                 replied(run.reply, run.failed)
             }
+            Err(NoMemory) => StepEnd::NoMemory,
+        }
+    }
+
+    /// What is due at a time has run then.
+    fn mark(&mut self, now: i64)
+        ensures policies { self.new.policies.items ≡ ticked now self.old.policies.items }
+        ensures actor { self.new.actor ≡ self.old.actor }
+    {
+        mark_due(&mut self.policies, now);
+    }
+
+    /// A tick at a time out of range is refused where the store is found.
+    fn miss_time<B: Backend<Shot = A::Shot>>(&self, alloc: Global, backend: &mut B) -> StepEnd
+        ensures stepped { (n : ℕ) → n < 2 ^ 64 → Stepped B.alone (B.state backend.old)
+            (misses_time (places_in A.places self.now)) (A.named self.now.actor) result
+            (B.state backend.new) (places_in A.places self.now) n n }
+        ensures goes { GoesOn (B.state backend.old) (B.state backend.new) }
+        ensures kin { B.kin backend.new ≡ B.kin backend.old }
+    {
+        match backend.snap() {
+            Ok(shot) => refuse(alloc, self.actor.name(), bad_time(shot.position())),
             Err(NoMemory) => StepEnd::NoMemory,
         }
     }
@@ -186,16 +226,6 @@ impl<A: Actor> PolicySession<A> {
     }
 }
 
-/// A tick at a time out of range is refused where the store is found.
-fn miss_time<B: Backend>(alloc: Global, backend: &mut B, name: &Name) -> StepEnd
-    ensures kin { B.kin backend.new ≡ B.kin backend.old }
-{
-    match backend.snap() {
-        Ok(shot) => refuse(alloc, name, bad_time(shot.position())),
-        Err(NoMemory) => StepEnd::NoMemory,
-    }
-}
-
 /// A time is out of range.
 fn bad_time(pos: u64) -> Refusal
     ensures { result ≡ record { code = 9; pos = pos; mark = 0 } }
@@ -226,7 +256,7 @@ fn barrier(block: Block) -> Option<Refusal>
 }
 
 /// What can't be read is refused at its place.
-fn misread(fault: Fault) -> Refusal
+pub(crate) fn misread(fault: Fault) -> Refusal
     ensures { result ≡ misread_as fault }
 {
     match fault {
@@ -237,7 +267,7 @@ fn misread(fault: Fault) -> Refusal
 }
 
 /// The answer that a statement of the session with a name is refused.
-fn refuse(alloc: Global, name: &Name, refusal: Refusal) -> StepEnd
+pub(crate) fn refuse(alloc: Global, name: &Name, refusal: Refusal) -> StepEnd
     ensures { AnswersSo name.now (FaultLine refusal ∷ []) false result }
 {
     match write_line(alloc, name, Said::Fault(refusal)) {

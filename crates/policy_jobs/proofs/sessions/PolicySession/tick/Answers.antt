@@ -1,0 +1,80 @@
+use Rattle.std.proofs.Common.{◌≡◌, ◌∙◌, ◌<◌, ◌≤◌, ◌^◌, FitsSigned, ap, cond, false, of_z, rules, subst, sym, to_z, true, w64}
+use Rattle.std.specs.Prelude.{Ok}
+use Rattle.std.proofs.Math.Facts.{to_z-of_z}
+use Rattle.ts_bucket.specs.Bucket.{is_time}
+use Rattle.ts_sessions.specs.Procedures.{ending_as, ends}
+use Rattle.ts_sessions.specs.Sessions.{Stepped}
+use Rattle.ts_sessions.specs.Walks.{Breaks}
+use Rattle.ts_sessions.proofs.WalkLaws.{breaks_first}
+use Rattle.policy_jobs.specs.Adding.{AreKept}
+use Rattle.policy_jobs.specs.Policies.{ticked}
+use Rattle.policy_jobs.specs.Runs.{RunsTo}
+use Rattle.policy_jobs.specs.Sessions.{HoldsOf, places_in}
+use Rattle.policy_jobs.specs.Turns.{beside, misses_time, runs_due}
+use Rattle.policy_jobs.proofs.AddLaws.{always, kept_ticked}
+use Rattle.policy_jobs.proofs.TurnLaws.{beside_stepped, run_stepped}
+use Rattle.policy_jobs.proofs.sessions.PolicySession.tick.Goals as goal
+
+pub returns-then-not-is_time-clause-stepped : goal.returns-then-not-is_time-clause-stepped
+returns-then-not-is_time-clause-stepped g c =
+    let does = g.A.Actor.semantics.does in
+    let p = places_in g.A.Actor.places c.args.self.now in
+    let n = c.args.steps.now in
+    let short : n < 2 ^ 64 = search rules in
+    let no_time : is_time c.args.now ≡ false = search rules in
+    subst (λ t. Stepped g.B.Backend.alone (g.B.Backend.state c.args.backend.now) (cond t (ending_as (beside (ticked c.args.now p.policies)) (runs_due does c.args.now p.inner p.policies)) (misses_time p)) (g.A.Actor.named c.args.self.now.actor) c.miss_time.result (g.B.Backend.state c.miss_time.new.backend) p n n)
+    (sym no_time) (c.miss_time.ensures.stepped n short)
+
+pub returns-in-Ok-clause-stepped : goal.returns-in-Ok-clause-stepped
+returns-in-Ok-clause-stepped g c =
+    let alone = g.B.Backend.alone in
+    let does = g.A.Actor.semantics.does in
+    let old = g.B.Backend.state c.args.backend.now in
+    let new = g.B.Backend.state c.run_due.new.backend in
+    let name = g.A.Actor.named c.args.self.now.actor in
+    let now = c.args.now in
+    let fits : FitsSigned w64 now = c.ranges.now in
+    let here = to_z-of_z {w = w64} {z = now} fits in
+    let p = places_in g.A.Actor.places c.args.self.now in
+    let q = places_in g.A.Actor.places c.mark.new.self in
+    let n = c.args.steps.now in
+    let m = c.run_due.new.steps in
+    let d = runs_due does now p.inner p.policies in
+    let in_there : c.is_time.result ≡ true = search rules in
+    let in_time : is_time now ≡ true = subst (λ t. is_time t ≡ true) here (sym c.is_time.ensures ∙ in_there) in
+    let ran : RunsTo alone old d name (Ok c.in-Ok.run') new (g.A.Actor.places c.run_due.new.self.actor) n m = subst (λ t. RunsTo alone old (runs_due does t p.inner p.policies) name (Ok c.in-Ok.run') new (g.A.Actor.places c.run_due.new.self.actor) n m) here c.in-Ok.ensures.ran in
+    let whole = beside_stepped (ticked now p.policies) alone old d name c.replied.result new (g.A.Actor.places c.run_due.new.self.actor) n m (run_stepped alone old d name c.in-Ok.run' c.replied.result new (g.A.Actor.places c.run_due.new.self.actor) n m ran c.replied.ensures) in
+    let marked : c.mark.new.self.policies.items ≡ ticked now p.policies = subst (λ t. c.mark.new.self.policies.items ≡ ticked t p.policies) here (c.mark.ensures.policies ∙ ap (λ v. ticked (to_z w64 (of_z w64 now)) v.items) c.in-Ok.ensures.policies) in
+    subst (λ t. Stepped alone old (cond t (ending_as (beside (ticked now p.policies)) d) (misses_time p)) name c.replied.result new q n m) (sym in_time)
+    (subst (λ a. Stepped alone old (ending_as (beside (ticked now p.policies)) d) name c.replied.result new (record { inner = g.A.Actor.places a; policies = q.policies }) n m) (sym c.mark.ensures.actor)
+    (subst (λ ps. Stepped alone old (ending_as (beside (ticked now p.policies)) d) name c.replied.result new (record { inner = g.A.Actor.places c.run_due.new.self.actor; policies = ps }) n m) (sym marked) whole))
+
+pub returns-in-Ok-clause-holds : goal.returns-in-Ok-clause-holds
+returns-in-Ok-clause-holds g c =
+    let new = g.B.Backend.state c.run_due.new.backend in
+    let policies = c.args.self.now.policies.items in
+    let time = to_z w64 (of_z w64 c.args.now) in
+    let marked : c.mark.new.self.policies.items ≡ ticked time policies = c.mark.ensures.policies ∙ ap (λ v. ticked time v.items) c.in-Ok.ensures.policies in
+    let inner = subst (λ a. g.A.Actor.holds a new) (sym c.mark.ensures.actor) c.in-Ok.ensures.holds in
+    always c.replied.result (HoldsOf g.A.Actor.holds c.mark.new.self new)
+    (record { actor = inner; policies = subst AreKept (sym marked) (kept_ticked time policies c.requires.holds.policies) })
+
+pub returns-in-Err-clause-stepped : goal.returns-in-Err-clause-stepped
+returns-in-Err-clause-stepped g c =
+    let alone = g.B.Backend.alone in
+    let does = g.A.Actor.semantics.does in
+    let old = g.B.Backend.state c.args.backend.now in
+    let new = g.B.Backend.state c.run_due.new.backend in
+    let now = c.args.now in
+    let fits : FitsSigned w64 now = c.ranges.now in
+    let here = to_z-of_z {w = w64} {z = now} fits in
+    let p = places_in g.A.Actor.places c.args.self.now in
+    let n = c.args.steps.now in
+    let m = c.run_due.new.steps in
+    let d = runs_due does now p.inner p.policies in
+    let in_there : c.is_time.result ≡ true = search rules in
+    let in_time : is_time now ≡ true = subst (λ t. is_time t ≡ true) here (sym c.is_time.ensures ∙ in_there) in
+    let broke : Breaks alone old (runs_due does (to_z w64 (of_z w64 now)) p.inner p.policies) new × (n ≤ m) = c.in-Err.ensures.ran in
+    let broke_here = subst (λ t. Breaks alone old (runs_due does t p.inner p.policies) new) here broke.0 in
+    subst (λ t. Breaks alone old (cond t (ending_as (beside (ticked now p.policies)) d) (misses_time p)) new × (n ≤ m)) (sym in_time)
+    (breaks_first alone old d (λ y. ends (beside (ticked now p.policies) y)) new broke_here, broke.1)
