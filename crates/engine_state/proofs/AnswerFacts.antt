@@ -16,6 +16,7 @@ use Rattle.ts_model.specs.declared.tables.TableDef.{TableDef}
 use Rattle.ts_model.specs.declared.tables.TableInfo.{TableInfo}
 use Rattle.ts_model.specs.declared.views.Fold.{Fold}
 use Rattle.ts_model.specs.History.{History, position, prefix}
+use Rattle.ts_model.specs.Allowed.{all_consistent}
 use Rattle.ts_model.specs.Roster.{roster, table_of, hyper_of, of_table, of_hyper}
 use Rattle.ts_model.specs.Rows.{in_order, rows}
 use Rattle.ts_model.specs.Reads.{chunk_within, inserted, rows_near}
@@ -65,6 +66,10 @@ long_hyper hyper (Some info) e =
 
 long_there : (h : History) (t : ℕ) (info : TableInfo) (hyper : Hyper) → is_hyper_sound info info.hyper ≡ true → info.hyper ≡ Some hyper → IsInterval hyper.interval
 long_there h t info hyper sound is = long_hyper hyper (Some info) (sym (ap (is_hyper_sound info) is) ∙ sound)
+
+-- the interval of a hypertable of a consistent history keeps its bounds
+pub interval_there : (h : History) (t : ℕ) (info : TableInfo) (hyper : Hyper) → all_consistent h ≡ true → table_of (roster h) t ≡ Some info → info.hyper ≡ Some hyper → IsInterval hyper.interval
+interval_there h t info hyper ok there is = long_there h t info hyper (and_parts _ (is_hyper_sound info info.hyper) ((rosters_are_sound h ok).tables t info there)).1 is
 
 same_all : (test : Row → Bool) (xs ys : List Row) → in_order xs ≡ in_order ys → list_all test ys ≡ true → list_all test xs ≡ true
 same_all test xs ys same e = sym (all-in_order test xs) ∙ (ap (list_all test) same ∙ (all-in_order test ys ∙ e))

@@ -186,6 +186,17 @@ all_occurring fold test xs e =
     all_from_none test (occurring_buckets fold xs)
     ((results_come_in_order.buckets fold xs).occurring (λ b. not (test b)) ∙ none_from_all test keys (all_passing (λ row. passes_all row fold.tests) (λ row. true) (λ row. bucket_of fold.width row.at) test xs e))
 
+-- the groups of rows are of buckets
+pub all_starts : (fold : Fold) (xs : List Row) → IsWidth fold.width → list_all (λ g. is_bucket fold.width g.start) (groups_of fold xs) ≡ true
+all_starts fold xs width =
+    all_flat (is_bucket fold.width) (λ g. is_bucket fold.width g.start) (groups_in fold xs) (occurring_buckets fold xs)
+    (λ b e. all_mapped (λ g. is_bucket fold.width g.start) (group_at fold b (bucket_rows fold b xs)) _ (λ keys. e))
+    (all_occurring fold (is_bucket fold.width) xs (each xs))
+  where
+    each : (ys : List Row) → list_all (λ row. is_bucket fold.width (bucket_of fold.width row.at)) ys ≡ true
+    each [] = refl
+    each (row ∷ ys) = and_from _ _ (is_bucket-bucket_of fold.width row.at width) (each ys)
+
 all_materialised : (def : ViewDef) (m : Option ℤ) (xs : List Row) → IsWidth def.fold.width → list_all (λ row. is_below (bucket_of def.fold.width row.at) m) xs ≡ true → list_all (is_materialised def m) (groups_of def.fold xs) ≡ true
 all_materialised def m xs width below =
     let test : ℤ → Bool = λ b. is_bucket def.fold.width b && is_below b m in

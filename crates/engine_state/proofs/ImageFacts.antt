@@ -1,13 +1,11 @@
 -- What the image of a history is made of, taken of a state that stands for it.
-use Rattle.std.proofs.Common.{◌≡◌, ℕ, suc, zero, ◌+◌, ◌<◌, Bool, true, false, ◌&&◌, ◌||◌, not, cond, List, [], ◌∷◌, ◌++◌, map, filter, take, length, get_or, add-one, ℤ, pos, ◌≤ℤ◌, ◌<ℤ◌, int_le, int_lt, Option, Some, None, Result, Ok, Err, IfOk, sym, refl, ap, ◌∙◌, subst, arith}
+use Rattle.std.proofs.Common.{◌≡◌, ℕ, suc, zero, ◌+◌, ◌<◌, Bool, true, false, ◌&&◌, ◌||◌, cond, List, [], ◌∷◌, ◌++◌, map, filter, take, length, get_or, add-one, ℤ, pos, ◌≤ℤ◌, ◌<ℤ◌, Option, Some, None, Result, Ok, Err, IfOk, sym, refl, ap, ◌∙◌, subst, arith}
 use Rattle.std.specs.Prelude.{is_none, is_some, IsSome}
 use Rattle.std.specs.List.{AllByRecursion, list_all}
 use Rattle.std.specs.List.Sorted.{IsStrictlySortedBy}
 use Rattle.std.specs.Ordering.{int_eq, is_lt}
-use Rattle.std.specs.declared.cmp.Ordering.{Ordering}
 use Rattle.std.specs.declared.cmp.Ordering.TheVariants.{Less}
 use Rattle.std.proofs.lemmas.Bool.{true≢false, and_parts, and_from}
-use Rattle.std.proofs.lemmas.Bool.Decides.{Decides-int_eq}
 use Rattle.std.proofs.lemmas.Int.{ints}
 use Rattle.ts_bucket.specs.Bucket.{IsWidth, bucket_of, first_of, is_bucket}
 use Rattle.ts_bucket.specs.Ranges.{AreRanges, is_asked, lies_in}
@@ -18,7 +16,7 @@ use Rattle.ts_bucket.proofs.WholeSpanLaws.{is_bucket-range_end}
 use Rattle.ts_bucket.specs.declared.spans.Span.{Span}
 use Rattle.ts_bucket.proofs.BucketLaws.{bucket_of-last, is_bucket-first}
 use Rattle.ts_bucket.proofs.SpanLaws.{in_span-ends, in_span-from_ends}
-use Rattle.ts_schema.proofs.Cases.{by_test, le-int_le}
+use Rattle.ts_schema.proofs.Cases.{le-int_le}
 use Rattle.ts_schema.specs.declared.rows.Row.{Row}
 use Rattle.partial_agg.specs.Groups.{AreInOrder, group_cmp}
 use Rattle.partial_agg.specs.Summaries.{Summary}
@@ -33,13 +31,12 @@ use Rattle.mat_rows.proofs.PlaceLaws.{order_within}
 use Rattle.mat_rows.proofs.ReplaceLaws.{of_bucket-within}
 use Rattle.ts_model.specs.declared.images.SavedGroup.{SavedGroup}
 use Rattle.ts_model.specs.declared.images.SavedLast.{SavedLast}
-use Rattle.ts_model.specs.declared.images.Sums.{Sums}
 use Rattle.ts_model.specs.declared.tables.Hyper.{Hyper}
 use Rattle.ts_model.specs.declared.views.ViewDef.{ViewDef}
-use Rattle.ts_model.specs.History.{History, position, prefix}
+use Rattle.ts_model.specs.History.{History, position}
 use Rattle.ts_model.specs.Roster.{hyper_of, roster, view_of}
 use Rattle.ts_model.specs.Rows.{in_order, rows}
-use Rattle.ts_model.specs.Refreshes.{invalid, is_invalid, last}
+use Rattle.ts_model.specs.Refreshes.{invalid, last}
 use Rattle.ts_model.specs.Saved.{group_of, groups_among, pos_in, summary_of}
 use Rattle.ts_model.specs.Allowed.{all_consistent}
 use Rattle.ts_model.specs.Valid.{all_rise}
@@ -60,7 +57,7 @@ use Rattle.engine_state.specs.Scans.{seen_rows}
 use Rattle.engine_state.specs.Shown.{IsViewOf}
 use Rattle.engine_state.specs.Stands.{StateValue, StandsFor}
 use Rattle.engine_state.specs.Tables.{TableValue, table_at}
-use Rattle.engine_state.specs.Views.{ViewValue, ViewStands}
+use Rattle.engine_state.specs.Views.{ViewValue}
 use Rattle.engine_state.proofs.AnswerFacts.{table_tells, table_there}
 use Rattle.engine_state.proofs.ShownFacts.{dirty_is}
 use Rattle.engine_state.proofs.StartFacts.{cut_span}

@@ -20,3 +20,6 @@ pub mod ShownFacts
 pub mod UnnamedFacts
 pub mod StartFacts
 pub mod ImageFacts
+pub mod ResumedTables
+pub mod ResumedViews
+pub mod ResumedStates

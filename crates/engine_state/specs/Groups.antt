@@ -1,5 +1,5 @@
 -- The materialised groups of an aggregate beside a history.
-use Rattle.std.specs.Prelude.{◌≡◌, ℕ, Bool, true, not, ◌&&◌, cond, List, [], ℤ, Option, Some, None}
+use Rattle.std.specs.Prelude.{◌≡◌, ℕ, Bool, true, not, ◌&&◌, cond, List, ℤ, Option}
 use Rattle.std.specs.List.{list_all}
 use Rattle.ts_bucket.specs.Bucket.{is_bucket}
 use Rattle.ts_bucket.specs.Positions.{is_above}

@@ -10,3 +10,4 @@ pub mod Afters
 pub mod Scans
 pub mod Nexts
 pub mod Shown
+pub mod Resumed

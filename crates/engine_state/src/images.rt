@@ -23,7 +23,7 @@ use ts_model::{Finished, Roster, SavedGroup, SavedLast, Sums, Waiting};
 use ts_schema::{NoMemory, Row, Seq, Steps, row_order};
 
 /// All times.
-fn all_times() -> Span
+pub(crate) fn all_times() -> Span
     ensures { result ≡ all_times }
 {
     Span {

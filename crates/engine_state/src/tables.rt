@@ -104,7 +104,7 @@ impl TableState {
     }
 
     /// The state of these rows and this log.
-    fn of(alloc: Global, rows: Table, log: InvalLog) -> Result<TableState, NoMemory>
+    pub(crate) fn of(alloc: Global, rows: Table, log: InvalLog) -> Result<TableState, NoMemory>
         ensures rows { IfOk result (λ t. t.rows ≡ rows) }
         ensures log { IfOk result (λ t. t.log ≡ log) }
     {

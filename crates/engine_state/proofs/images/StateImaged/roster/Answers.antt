@@ -1,4 +1,4 @@
-use Rattle.std.proofs.Common.{◌≡◌, ◌≤◌, ◌∙◌, ap, sym, subst, length}
+use Rattle.std.proofs.Common.{◌≤◌, ◌∙◌, ap, sym, subst, length}
 use Rattle.ts_model.specs.declared.rosters.Roster.{Roster}
 use Rattle.ts_model.proofs.SoundLaws.{rosters_are_sound}
 use Rattle.engine_state.specs.declared.states.State.TheInside.{Inside}

@@ -1,18 +1,14 @@
 -- The buckets that changed in the log are those touched after their last refresh.
-use Rattle.std.proofs.Common.{◌≡◌, ◌∙◌, List, ap, sym, subst}
-use Rattle.std.specs.Prelude.{IfOk}
+use Rattle.std.proofs.Common.{◌∙◌, List, ap, sym, subst}
 use Rattle.std.proofs.lemmas.Result.{IfOk-weaker}
 use Rattle.inval_log.specs.declared.entries.Entry.{Entry}
 use Rattle.mat_log.specs.Feeding.{AreWithin, is_changed_with}
 use Rattle.mat_log.specs.Logs.{LogValue}
 use Rattle.base_image.specs.Taking.{AreDirty}
-use Rattle.ts_bucket.specs.Bucket.{IsWidth}
 use Rattle.ts_bucket.specs.Ranges.{AreRanges}
 use Rattle.ts_bucket.specs.WholeSpans.{IsWholeSpan, whole_span}
 use Rattle.ts_bucket.specs.declared.spans.Span.{Span}
 use Rattle.ts_bucket.specs.declared.widths.Width.{Width}
-use Rattle.ts_bucket.proofs.WholeSpanLaws.{is_bucket-range_end}
-use Rattle.ts_bucket.proofs.BucketLaws.{is_bucket-first}
 use Rattle.ts_model.specs.declared.views.ViewDef.{ViewDef}
 use Rattle.ts_model.specs.Roster.{roster}
 use Rattle.engine_state.proofs.ImageFacts.{dirty_taken, one_def, whole_is}

@@ -1,11 +1,11 @@
 use Rattle.std.proofs.Common.{◌≡◌, ◌∙◌, ap, subst}
-use Rattle.std.specs.Prelude.{Ok, Err, IfOk, List}
+use Rattle.std.specs.Prelude.{IfOk, List}
 use Rattle.ts_model.specs.declared.images.Finished.{Finished}
 use Rattle.ts_model.specs.History.{position}
 use Rattle.image_laws.specs.Images.{finished_upto}
 use Rattle.refresh_list.specs.Refreshes.{CutsRise, done_in}
 use Rattle.refresh_list.proofs.ImageLaws.{done_are}
-use Rattle.engine_state.specs.Stands.{StateValue, StandsFor}
+use Rattle.engine_state.specs.Stands.{StateValue}
 use Rattle.engine_state.proofs.parts.Parts.done.Goals as goal
 
 pub returns : goal.returns

@@ -1,5 +1,5 @@
 -- The groups of the aggregate are what the last refreshes have left.
-use Rattle.std.proofs.Common.{◌≡◌, ◌∙◌, ◌∷◌, [], List, map, ap, sym, subst}
+use Rattle.std.proofs.Common.{◌≡◌, ◌∙◌, ◌∷◌, [], List, map, ap, subst}
 use Rattle.std.specs.Prelude.{IfOk}
 use Rattle.partial_agg.specs.declared.groups.Group.{Group}
 use Rattle.mat_rows.specs.Replacing.{within}

@@ -1,5 +1,5 @@
 -- The pieces of the log are the last refreshes of the history.
-use Rattle.std.proofs.Common.{◌≡◌, ◌∙◌, List, map, ap, sym, subst}
+use Rattle.std.proofs.Common.{◌≡◌, List, map, subst}
 use Rattle.std.specs.Prelude.{IfOk}
 use Rattle.span_map.specs.declared.pieces.Piece.{Piece}
 use Rattle.mat_log.specs.Lasts.{AreLasts as AreLastPieces}

@@ -1,12 +1,10 @@
 -- A hypertable gives what its position sees, and another table nothing.
-use Rattle.std.proofs.Common.{◌≡◌, ◌∙◌, Some, None, Ok, Err, IfOk, List, [], ap, sym, subst}
+use Rattle.std.proofs.Common.{◌≡◌, ◌∙◌, Some, ap, sym}
 use Rattle.std.specs.Prelude.{option_copied}
-use Rattle.ts_schema.specs.declared.rows.Row.{Row}
 use Rattle.ts_model.specs.Rows.{in_order, rows}
 use Rattle.row_versions.specs.Tables.{rows_of_span, visible_rows}
 use Rattle.std.proofs.lemmas.Result.{IfOk-weaker}
 use Rattle.realtime_union.specs.Live.{all_times}
-use Rattle.ts_bucket.specs.declared.spans.Span.{Span}
 use Rattle.engine_state.specs.Scans.{seen_rows}
 use Rattle.engine_state.specs.Stands.{StateValue}
 use Rattle.engine_state.specs.Tables.{table_at}
