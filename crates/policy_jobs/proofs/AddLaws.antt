@@ -1,5 +1,5 @@
 -- Policies that are added, and those that a tick marks.
-use Rattle.std.proofs.Common.{◌≡◌, ◌∙◌, ℕ, suc, ◌<◌, ◌^◌, ℤ, Bool, true, false, List, [], ◌∷◌, ◌++◌, length, Option, Some, None, sym, refl, ap, subst}
+use Rattle.std.proofs.Common.{◌≡◌, ℕ, suc, ◌<◌, ◌^◌, ℤ, Bool, true, false, List, [], ◌∷◌, ◌++◌, length, Option, Some, None, sym, refl, subst}
 use Rattle.std.specs.Prelude.{◌&&◌, not, nat_le}
 use Rattle.std.proofs.lemmas.Bool.{and_parts, true≢false}
 use Rattle.ts_model.specs.declared.outcomes.Refusal.{Refusal}
@@ -10,7 +10,6 @@ use Rattle.ts_model.specs.States.{State}
 use Rattle.stmt_check.specs.Refusals.{◌⊳◌, marked, refused}
 use Rattle.result_text.specs.declared.codes.TheConstants.{BAD_POLICY, TOO_MANY_POLICIES}
 use Rattle.result_text.specs.declared.replies.Said.TheVariants as said
-use Rattle.ts_sessions.specs.Held.{GoesOn}
 use Rattle.ts_sessions.specs.Procedures.{ends}
 use Rattle.ts_sessions.specs.Sessions.{AnswersSo, IfAnswered, Reports, Stepped}
 use Rattle.ts_sessions.specs.declared.replies.StepEnd.{StepEnd}

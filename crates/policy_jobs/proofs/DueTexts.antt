@@ -1,10 +1,10 @@
 -- The statements that policies run are read as such, and are short.
 use lib.Signed.{mag}
-use Rattle.std.proofs.Common.{◌≡◌, ◌∙◌, refl, sym, ap, subst, ℕ, suc, ◌+◌, ◌<◌, ◌≤◌, ◌^◌, ℤ, pos, negsuc, ◌-ℤ◌, Bool, true, false, ◌&&◌, leb, List, [], ◌∷◌, ◌++◌, length, Option, Some, None, Ok, codes, arith}
+use Rattle.std.proofs.Common.{◌≡◌, ◌∙◌, refl, sym, ap, subst, ℕ, ◌+◌, ◌<◌, ◌≤◌, ◌^◌, ℤ, pos, true, false, ◌&&◌, leb, List, [], ◌∷◌, ◌++◌, length, Option, Some, None, Ok, codes, arith}
 use Rattle.std.specs.Prelude.{Result, Err, IfOk}
 use Rattle.std.specs.Char.{is_ascii_digit}
 use Rattle.std.specs.Fmt.{signed_decimal}
-use Rattle.std.specs.List.{list_all, prefix_len}
+use Rattle.std.specs.List.{list_all}
 use Rattle.std.proofs.lemmas.Bool.{and_parts, leb-true}
 use Rattle.std.proofs.lemmas.Fmt.{length_signed_le}
 use Rattle.std.proofs.lemmas.Int.{ints}
@@ -23,7 +23,7 @@ use Rattle.policy_jobs.specs.Adding.{has_offsets, is_from, is_offset}
 use Rattle.policy_jobs.specs.declared.jobs.Job.TheVariants as jobs
 use Rattle.policy_jobs.specs.Policies.{end_of, end_text, refresh_text, retention_text}
 use Rattle.policy_jobs.specs.Runs.{IsRunnable}
-use Rattle.policy_jobs.proofs.TokenLaws.{Comes, IsAt, behind_space, comes, ends_at, first_token, is_word, number_token, quoted_token}
+use Rattle.policy_jobs.proofs.TokenLaws.{Comes, behind_space, comes, ends_at, first_token, is_word, number_token, quoted_token}
 
 -- ---- ends of windows
 
@@ -179,10 +179,10 @@ refresh_runs now view from to n t o =
     let reads = refresh_reads now view from to n s u in
     record {
       short =
-      let front = codes "CALL refresh_continuous_aggregate('" in
-      let named = four_len front view (codes "', ") (end_text now from) in
-      let whole = four_len (((front ++ view) ++ codes "', ") ++ end_text now from) (codes ", ") (end_text now to) (codes ")") in
-      omega (arith, whole, named, name_len view n, end_len now from s, end_len now to u);
+          let front = codes "CALL refresh_continuous_aggregate('" in
+          let named = four_len front view (codes "', ") (end_text now from) in
+          let whole = four_len (((front ++ view) ++ codes "', ") ++ end_text now from) (codes ", ") (end_text now to) (codes ")") in
+          omega (arith, whole, named, name_len view n, end_len now from s, end_len now to u);
       event = subst ReadsEvent (sym reads.is) refl;
     }
 
@@ -192,9 +192,9 @@ retention_runs now table after n t f =
     let reads = retention_reads now table after n s in
     record {
       short =
-      let named = two_len (codes "SELECT drop_chunks('") table 20 (omega arith) in
-      let whole = four_len (codes "SELECT drop_chunks('" ++ table) (codes "', ") (signed_decimal (end_of now after)) (codes ")") in
-      omega (arith, whole, named, name_len table n, end_len now (Some after) s);
+          let named = two_len (codes "SELECT drop_chunks('") table 20 (omega arith) in
+          let whole = four_len (codes "SELECT drop_chunks('" ++ table) (codes "', ") (signed_decimal (end_of now after)) (codes ")") in
+          omega (arith, whole, named, name_len table n, end_len now (Some after) s);
       event = subst ReadsEvent (sym reads.is) refl;
     }
 

@@ -6,3 +6,5 @@ pub mod DueTexts
 pub mod RunLaws
 pub mod TurnLaws
 pub mod AddLaws
+pub mod OtherLines
+pub mod ActorLaws

@@ -12,10 +12,10 @@ use Rattle.result_text.specs.Replies.{reply_text}
 use Rattle.ts_sessions.specs.Made.{made_by, made_in}
 use Rattle.ts_sessions.specs.Actors.{StaysOutside}
 use Rattle.ts_sessions.specs.Places.{Block, none, Turn}
-use Rattle.ts_sessions.specs.Procedures.{Procedure, ends, followed_by, ending_as}
+use Rattle.ts_sessions.specs.Procedures.{Procedure, ends, ending_as}
 use Rattle.ts_sessions.specs.Script.{has_fault, is_fault, text_of}
 use Rattle.ts_sessions.specs.Sessions.{IfAnswered, Reports, Stepped}
-use Rattle.ts_sessions.specs.Walks.{Breaks, Walks}
+use Rattle.ts_sessions.specs.Walks.{Breaks}
 use Rattle.ts_sessions.specs.declared.replies.Reply.{Reply}
 use Rattle.ts_sessions.specs.declared.replies.StepEnd.{StepEnd}
 use Rattle.ts_sessions.specs.declared.replies.StepEnd.TheVariants as steps
@@ -42,7 +42,7 @@ fault_behind : (xs ys : List Said) → has_fault (xs ++ ys) ≡ (has_fault xs ||
 fault_behind [] ys = refl
 fault_behind (x ∷ xs) ys = ap (λ t. is_fault x || t) (fault_behind xs ys) ∙ or_behind (is_fault x) (has_fault xs) (has_fault ys)
 
-or_false : (b : Bool) → (b || false) ≡ b
+pub or_false : (b : Bool) → (b || false) ≡ b
 or_false true = refl
 or_false false = refl
 

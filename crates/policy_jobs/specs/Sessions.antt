@@ -1,7 +1,5 @@
 -- What contracts see of a session with policies.
-use Rattle.std.specs.Prelude.{◌≡◌, List}
 use Rattle.ts_model.specs.States.{State}
-use Rattle.policy_jobs.specs.declared.policies.Policy.{Policy}
 use Rattle.policy_jobs.specs.declared.sessions.PolicySession.{PolicySession}
 use Rattle.policy_jobs.specs.Adding.{AreKept}
 use Rattle.policy_jobs.specs.Turns.{PolicyPlaces}

@@ -1,9 +1,9 @@
 -- What the lines of a session with policies mean, by what those of the actor in it do.
-use Rattle.std.specs.Prelude.{ℕ, suc, ◌+◌, ℤ, Bool, cond, List, [], ◌∷◌, ◌++◌, length, Option, Some, None, Result, Ok, Err}
+use Rattle.std.specs.Prelude.{ℕ, suc, ◌+◌, ℤ, cond, List, [], ◌∷◌, ◌++◌, length, Option, Some, None, Result, Ok, Err}
 use Rattle.ts_bucket.specs.Bucket.{is_time}
 use Rattle.ts_model.specs.declared.outcomes.Refusal.{Refusal}
 use Rattle.ts_model.specs.Calls.{refusal}
-use Rattle.ts_model.specs.History.{History, position}
+use Rattle.ts_model.specs.History.{position}
 use Rattle.ts_model.specs.Roster.{roster}
 use Rattle.stmt_reader.specs.declared.faults.Fault.{Fault}
 use Rattle.stmt_reader.specs.Streams.{Stream, stream}

@@ -111,7 +111,11 @@ fn fits_step(roster: &Roster, job: &Job) -> bool
     ensures { result ≡ fits roster.now job.now }
 {
     match job {
-        Job::Refresh { view, from, to } => is_wide(view_found(roster, find(roster, view)), *from, *to),
+        Job::Refresh { view, from, to } => is_wide(
+            view_found(roster, find(roster, view)),
+            *from,
+            *to,
+        ),
         Job::Drop { .. } => true,
     }
 }

@@ -94,7 +94,15 @@ impl<A: Actor> PolicySession<A> {
         let pos = shot.position();
         match adding_refusal(pos, shot.roster(), self.policies.len(), &job, every) {
             Some(refusal) => refuse(alloc, self.actor.name(), refusal),
-            None => self.keep(alloc, pos, Policy { job, every, ran: None }),
+            None => self.keep(
+                alloc,
+                pos,
+                Policy {
+                    job,
+                    every,
+                    ran: None,
+                },
+            ),
         }
     }
 
@@ -222,7 +230,16 @@ impl<A: Actor> PolicySession<A> {
             reply,
             failed: false,
         };
-        run_all(rt, alloc, &mut self.actor, backend, gate, texts.items(), run, steps)
+        run_all(
+            rt,
+            alloc,
+            &mut self.actor,
+            backend,
+            gate,
+            texts.items(),
+            run,
+            steps,
+        )
     }
 }
 

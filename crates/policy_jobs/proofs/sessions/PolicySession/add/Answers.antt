@@ -2,14 +2,13 @@ use Rattle.std.proofs.Common.{◌≡◌, ◌∙◌, FitsSigned, [], ◌∷◌, �
 use Rattle.ts_model.specs.History.{position}
 use Rattle.ts_model.specs.Roster.{roster}
 use Rattle.result_text.specs.declared.replies.Said.TheVariants as said
-use Rattle.ts_sessions.specs.Places.{refuses}
 use Rattle.ts_sessions.specs.Procedures.{ends}
 use Rattle.ts_sessions.specs.Sessions.{AnswersSo, IfAnswered, Stepped}
 use Rattle.ts_sessions.proofs.SoundLaws.{is_numbered}
 use Rattle.ts_sessions.proofs.StateLaws.{goes_seen, looked_reports, sees_looked}
 use Rattle.policy_jobs.specs.Adding.{AreKept, adding_refusal}
 use Rattle.policy_jobs.specs.Sessions.{HoldsOf, places_in}
-use Rattle.policy_jobs.specs.Turns.{PolicyPlaces, added}
+use Rattle.policy_jobs.specs.Turns.{added}
 use Rattle.policy_jobs.specs.declared.policies.Policy.{Policy}
 use Rattle.policy_jobs.proofs.AddLaws.{added_stepped, adding_at, always, if_answered, kept_push, offsets_passed}
 use Rattle.policy_jobs.proofs.TurnLaws.{line_stepped, seen_stepped}

@@ -1,6 +1,5 @@
-use Rattle.std.proofs.Common.{◌≡◌, ◌∙◌, [], ◌∷◌, ap, false, refl, subst, sym, true}
+use Rattle.std.proofs.Common.{◌≡◌, ◌∙◌, [], ◌∷◌, ap, false, refl, subst, true}
 use Rattle.ts_model.specs.Calls.{refusal}
-use Rattle.ts_model.specs.History.{position}
 use Rattle.result_text.specs.declared.replies.Said.TheVariants as said
 use Rattle.ts_sessions.specs.Places.{refuses}
 use Rattle.ts_sessions.specs.Procedures.{ends}

@@ -1,11 +1,11 @@
-use Rattle.std.proofs.Common.{◌≡◌, ◌∙◌, ◌<◌, ◌^◌, [], ◌∷◌, length, refl, rules, subst, arith}
+use Rattle.std.proofs.Common.{◌≡◌, ◌<◌, ◌^◌, [], ◌∷◌, length, refl, rules, subst, arith}
 use Rattle.std.proofs.lemmas.List.{length-map}
 use Rattle.result_text.specs.declared.replies.Said.TheVariants as said
 use Rattle.ts_sessions.specs.Places.{turns}
 use Rattle.ts_sessions.specs.Procedures.{ends}
 use Rattle.ts_sessions.specs.Sessions.{IsReply}
 use Rattle.ts_sessions.proofs.WalkLaws.{not_begun}
-use Rattle.policy_jobs.specs.Policies.{due, due_text, due_texts}
+use Rattle.policy_jobs.specs.Policies.{due, due_texts}
 use Rattle.policy_jobs.specs.Runs.{RunsTo}
 use Rattle.policy_jobs.specs.Turns.{and_all, runs_due}
 use Rattle.policy_jobs.proofs.RunLaws.{broken_run}
