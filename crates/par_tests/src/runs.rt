@@ -1,12 +1,41 @@
 //! What a run over an empty store prints.
+ghost use Rattle.std.specs.Prelude.{◌≡◌, ◌≤◌, false, length, IsTrue};
+ghost use Rattle.std.specs.Thread.{IsSync};
+ghost use Rattle.ts_io.specs.declared.limits.TheConstants.{INPUT_LIMIT};
+ghost use Rattle.ts_model.specs.States.{stands_still};
+
 use engine_core::MemStore;
 use par_run::{ParEnd, ParStop, par};
+use std::alloc::Global;
 use std::process::Abort;
 use std::sync::Wait;
 use std::test::Fail;
 use std::thread::Threads;
 use ts_io::INPUT_LIMIT;
-use ts_model::{Gate, NoGate};
+use ts_model::{Backend, Gate, NoGate, Shown};
+use ts_sessions::Session;
+
+/// How a run over a store ends that is alone and goes on.
+pub(crate) fn run_sessions<B, R, G>(
+    rt: &R,
+    alloc: Global,
+    backend: B,
+    input: &[u8],
+    gate: &G,
+) -> ParEnd<B>
+where
+    B: Backend + Send,
+    B::Shot: Send,
+    <B::Shot as Shown>::Job: Send + Drop,
+    G: Gate + Sync,
+    R: Threads + Wait + Sync,
+    requires sync { IsSync R.row }
+    requires alone { IsTrue B.alone }
+    requires going { stands_still (B.state backend) ≡ false }
+    requires within { length input.now ≤ INPUT_LIMIT }
+{
+    par::<Session<B::Shot>, B, R, G>(rt, alloc, backend, input, gate)
+}
 
 /// How a run over an empty store in memory ends.
 pub(crate) fn run<R: Threads + Wait + Abort + Sync + AllocGlobal, G: Gate + Sync>(
@@ -15,7 +44,8 @@ pub(crate) fn run<R: Threads + Wait + Abort + Sync + AllocGlobal, G: Gate + Sync
     gate: &G,
 ) -> Result<ParEnd<MemStore>, Fail> {
     assert!(rt; input.len() <= INPUT_LIMIT);
-    Ok(par(rt, rt.alloc(), MemStore::new(rt.alloc())?, input, gate))
+    let store = MemStore::new(rt.alloc())?;
+    Ok(run_sessions(rt, rt.alloc(), store, input, gate))
 }
 
 /// Inputs with what they print, whether a reply is a FAULT, and how many stored rows the answers look at.

@@ -1,5 +1,6 @@
 //! A run over a disk that fails.
-use par_run::{ParStop, par};
+use crate::runs::run_sessions;
+use par_run::ParStop;
 use std::test::Fail;
 use ts_disk::{FailDisk, Kind};
 use ts_model::{Backend, NoGate};
@@ -13,7 +14,7 @@ fn a_store_that_stopped_stands_still_for_all(rt: HostRuntime) -> Result<(), Fail
         return Err("no store".into());
     };
     let input = b"setup: CREATE TABLE m (time BIGINT)\na: CREATE TABLE k (time BIGINT)\n";
-    let end = par(&rt, rt.alloc(), store, input, &NoGate);
+    let end = run_sessions(&rt, rt.alloc(), store, input, &NoGate);
     let text = b"setup: FAULT E24 stopped @0\na: FAULT E24 stopped @0\n";
     assert!(rt; end.text.items() == text.as_slice());
     assert_eq!(rt; (end.stop, end.fault), (ParStop::DiskFault, true));

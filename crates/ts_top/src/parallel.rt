@@ -1,9 +1,18 @@
 //! Inputs that are run by a worker for each session, over the history of a journal.
-ghost use Rattle.std.specs.Prelude.{◌≡◌, ◌≤◌, ℕ, List, None, Option, false, true, length, IfSome, IsSomeAnd};
+ghost use Rattle.std.specs.Prelude.{◌≡◌, ◌≢◌, ◌≤◌, ℕ, List, None, Option, false, true, length, IfSome, IsSomeAnd, IsTrue};
+ghost use Rattle.std.specs.Thread.{IsSync};
 ghost use Rattle.ts_schema.specs.Faults.{Rose};
 ghost use Rattle.ts_disk.specs.Disk.{Keeps};
 ghost use Rattle.ts_io.specs.Faults.{Counted};
 ghost use Rattle.ts_io.specs.declared.limits.TheConstants.{INPUT_LIMIT};
+ghost use Rattle.ts_model.specs.States.{stands_still};
+ghost use Rattle.ts_sessions.specs.Places.{no_places};
+ghost use Rattle.ts_sessions.specs.Replies.{reply_to};
+ghost use Rattle.shared_store.specs.Wrapped.{GoesOn};
+ghost use Rattle.par_lines.specs.Sorted.{sorted};
+ghost use Rattle.par_run.specs.Crews.{LinesRan};
+ghost use Rattle.par_run.specs.Ends.{is_disk_fault};
+ghost use Rattle.par_run.specs.Outputs.{output_of};
 ghost use Rattle.ts_store.specs.Images.{HasHeader, IsDurable};
 ghost use Rattle.ts_store.specs.Stands.{Stands};
 ghost use Rattle.ts_store.specs.Stores.{opening, seen};
@@ -20,7 +29,8 @@ use std::sync::Wait;
 use std::thread::Threads;
 use ts_disk::Disk;
 use ts_io::{AllEnd, Sink, Source, WriteFault, read_all, write_whole};
-use ts_model::Gate;
+use ts_model::{Backend, Gate, Shown};
+use ts_sessions::Session;
 use ts_store::Store;
 
 /// A call that ended so without a statement, over a store whose journal has its header.
@@ -62,6 +72,28 @@ fn print_replies<K: Sink>(sink: &mut K, text: &[u8], fault: bool, stop: ParStop)
     }
 }
 
+/// Runs an input by a worker for each session, over a store that is alone and goes on.
+fn run_sessions<B, R, G>(rt: &R, alloc: Global, backend: B, input: &[u8], gate: &G) -> ParEnd<B>
+where
+    B: Backend + Send,
+    B::Shot: Send,
+    <B::Shot as Shown>::Job: Send + Drop,
+    G: Gate + Sync,
+    R: Threads + Wait + Sync,
+    requires sync { IsSync R.row }
+    requires alone { IsTrue B.alone }
+    requires going { stands_still (B.state backend) ≡ false }
+    requires within { length input.now ≤ INPUT_LIMIT }
+    ensures ran { result.stop ≢ ParStop.NoMemory → LinesRan reply_to no_places
+        (B.state backend).history (sorted input.now) (B.state result.backend) (output_of result) result.reads }
+    ensures stop { result.stop ≢ ParStop.NoMemory
+        → stands_still (B.state result.backend) ≡ is_disk_fault result.stop }
+    ensures goes_on { GoesOn (B.state backend) (B.state result.backend) }
+    ensures kin { B.kin result.backend ≡ B.kin backend }
+{
+    run_in_parallel::<Session<B::Shot>, B, R, G>(rt, alloc, backend, input, gate)
+}
+
 /// Runs an input by a worker for each session, over a store whose journal has its header, and prints the
 /// replies.
 fn run_input<R, K, D, G>(
@@ -96,7 +128,7 @@ where
         reads,
         stop,
         ..
-    } = run_in_parallel(rt, alloc, store, input, gate);
+    } = run_sessions(rt, alloc, store, input, gate);
     let status = print_replies(sink, text.items(), fault, stop);
     Ended {
         status,

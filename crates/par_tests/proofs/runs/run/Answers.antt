@@ -9,8 +9,8 @@ use Rattle.par_tests.proofs.runs.run.Goals as goal
 mem_store_send : IsSend the_row
 mem_store_send = search (engine_send, crosses, sendable)
 
-pub par-requires-send-B : goal.par-requires-send-B
-par-requires-send-B g c κs within = param_send 0 _ (arg_send _ no the_row mem_store_send)
+pub run_sessions-requires-send-B : goal.run_sessions-requires-send-B
+run_sessions-requires-send-B g c κs within = param_send 0 _ (arg_send _ no the_row mem_store_send)
 
-pub par-requires-send-B-Shot : goal.par-requires-send-B-Shot
-par-requires-send-B-Shot g c κs within = search (shot_send, arg_send, param_send) depth 10
+pub run_sessions-requires-send-B-Shot : goal.run_sessions-requires-send-B-Shot
+run_sessions-requires-send-B-Shot g c κs within = search (shot_send, arg_send, param_send) depth 10

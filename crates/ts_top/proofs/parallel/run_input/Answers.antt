@@ -14,21 +14,21 @@ use Rattle.ts_top.proofs.OutcomeLaws.{Closed}
 use Rattle.ts_top.proofs.ParallelLaws.{counted_by, input_to}
 use Rattle.ts_top.proofs.parallel.run_input.Goals as goal
 
-pub par-backend-requires-send-B : goal.par-backend-requires-send-B
-par-backend-requires-send-B g c κs within = param_send 0 _ (arg_send _ no _ (store_send (D-row g.row.R g.row.K g.row.D g.row.G) g.D.Disk c.type_bounds.send-D))
+pub run_sessions-backend-requires-send-B : goal.run_sessions-backend-requires-send-B
+run_sessions-backend-requires-send-B g c κs within = param_send 0 _ (arg_send _ no _ (store_send (D-row g.row.R g.row.K g.row.D g.row.G) g.D.Disk c.type_bounds.send-D))
 
-pub par-backend-requires-send-B-Shot : goal.par-backend-requires-send-B-Shot
-par-backend-requires-send-B-Shot g c κs within = search (shot_send, arg_send, param_send) depth 10
+pub run_sessions-backend-requires-send-B-Shot : goal.run_sessions-backend-requires-send-B-Shot
+run_sessions-backend-requires-send-B-Shot g c κs within = search (shot_send, arg_send, param_send) depth 10
 
 pub returns-clause-ran : goal.returns-clause-ran
 returns-clause-ran g c =
     let D = g.D.Disk in
     let old = c.args.store in
-    let end = c.par-backend.result in
+    let end = c.run_sessions-backend.result in
     let new = end.backend in
     let state : State = state_of D.faults D.moment new in
-    let begun : new.begun ≡ old.begun = ap (λ k. k.disk) c.par-backend.ensures.kin in
-    let from : opening new ≡ seen old = ap (λ o. o.opening) c.par-backend.ensures.goes_on.origin ∙ c.requires.whole in
+    let begun : new.begun ≡ old.begun = ap (λ k. k.disk) c.run_sessions-backend.ensures.kin in
+    let from : opening new ≡ seen old = ap (λ o. o.opening) c.run_sessions-backend.ensures.goes_on.origin ∙ c.requires.whole in
     let durable : Type 0 = IsDurable D.bytes D.may_leave old.begun in
     let left : List ℕ → Type 0 = D.left_since c.close.result (D.moment old.begun) in
     let still_durable : durable → IsDurable D.bytes D.may_leave new.begun = λ d. subst (λ disk. IsDurable D.bytes D.may_leave disk) (sym begun) d in
@@ -38,16 +38,16 @@ returns-clause-ran g c =
     } in
     let failed : Type 0 = Rose (g.K.Sink.faults c.args.sink.now) (g.K.Sink.faults c.print_replies-status.new.sink) in
     input_to durable left failed (seen old) c.args.input.now end.reads (g.K.Sink.written c.args.sink.now) (g.K.Sink.written c.print_replies-status.new.sink) (D.bytes c.close.result) state (output_of end) closed
-    end.stop c.print_replies-status.result (subst (λ text. PrintsReplies end.stop end.fault text c.print_replies-status.result failed (g.K.Sink.written c.args.sink.now) (g.K.Sink.written c.print_replies-status.new.sink)) c.items.ensures.items c.print_replies-status.ensures.prints) c.par-backend.ensures.ran c.par-backend.ensures.stop c.par-backend.ensures.goes_on.begins
+    end.stop c.print_replies-status.result (subst (λ text. PrintsReplies end.stop end.fault text c.print_replies-status.result failed (g.K.Sink.written c.args.sink.now) (g.K.Sink.written c.print_replies-status.new.sink)) c.items.ensures.items c.print_replies-status.ensures.prints) c.run_sessions-backend.ensures.ran c.run_sessions-backend.ensures.stop c.run_sessions-backend.ensures.goes_on.begins
 
 pub returns-clause-disk : goal.returns-clause-disk
 returns-clause-disk g c =
     let D = g.D.Disk in
-    let end = c.par-backend.result in
+    let end = c.run_sessions-backend.result in
     let new = end.backend in
     let old = c.args.store in
     let state : State = state_of D.faults D.moment new in
     let failed : Type 0 = Rose (g.K.Sink.faults c.args.sink.now) (g.K.Sink.faults c.print_replies-status.new.sink) in
     let prints = subst (λ text. PrintsReplies end.stop end.fault text c.print_replies-status.result failed (g.K.Sink.written c.args.sink.now) (g.K.Sink.written c.print_replies-status.new.sink)) c.items.ensures.items c.print_replies-status.ensures.prints in
     subst (λ disk. CountedAfterWorkers c.print_replies-status.result (D.faults old.journal.disk) (D.faults disk)) (sym c.close.ensures.disk)
-    (counted_by end.stop end.fault end.text c.print_replies-status.result failed _ _ (state_of D.faults D.moment old) state prints c.par-backend.ensures.stop c.par-backend.ensures.goes_on)
+    (counted_by end.stop end.fault end.text c.print_replies-status.result failed _ _ (state_of D.faults D.moment old) state prints c.run_sessions-backend.ensures.stop c.run_sessions-backend.ensures.goes_on)
