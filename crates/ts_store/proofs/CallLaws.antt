@@ -17,9 +17,8 @@ use Rattle.ts_model.proofs.HistoryLaws.{prefix_further}
 use Rattle.event_check.specs.Checks.{call_refusal}
 use Rattle.engine_core.specs.Acts.{making_event, unless}
 use Rattle.engine_core.specs.Effects.{effect_of}
-use Rattle.engine_core.specs.Histories.{history_of}
+use Rattle.engine_core.specs.Histories.{history_of, with_event}
 use Rattle.engine_core.proofs.ActLaws.{free_where_allowed, room_where_free}
-use Rattle.engine_core.proofs.EventLaws.{position_of}
 use Rattle.engine_core.proofs.StoreLaws.{kept_by_any, history_push}
 use Rattle.ts_store.specs.Stores.{StoreValue, Does, IsKept, numbers_above, seen, state_of}
 
@@ -42,7 +41,7 @@ number_push p h e le = cond-false _ [] (numbers_above p h ++ (suc (position h) �
 
 -- two stores that differ in no more than how their journal and their room stand
 pub record Same {D : Type 0} (faults : D → ℕ) (old new : StoreValue D) : Type 0 where
-  pub events : new.engine.events ≡ old.engine.events
+  pub past : new.engine.past ≡ old.engine.past
   pub failed : new.failed ≡ old.failed
   pub counted : faults new.journal.disk ≡ faults old.journal.disk
   pub begun : new.begun ≡ old.begun
@@ -59,18 +58,18 @@ module _ {D : Type 0} (bytes : D → Option (List ℕ)) (may_leave : D → List 
 
   pub keeps_state : (old new : StoreValue D) → Same faults old new → Keeps (state old) (state new)
   keeps_state old new is = record {
-    history = ap history_of is.events;
+    history = ap history_of is.past;
     failed = is.failed;
     faults = is.counted;
-    made = λ k. numbers_above (is.opened k) (history_of (is.events k));
-    origin = λ k. record { faults = faults (is.begun k); opening = prefix (history_of (is.events k)) (is.opened k); moment = moment (is.begun k) };
+    made = λ k. numbers_above (is.opened k) (history_of (is.past k));
+    origin = λ k. record { faults = faults (is.begun k); opening = prefix (history_of (is.past k)) (is.opened k); moment = moment (is.begun k) };
   }
 
-  pub makes_state : (old new : StoreValue D) (e : Event) → Kept old → old.failed ≡ None → new.failed ≡ None → new.engine.events ≡ old.engine.events ++ (e ∷ [])
+  pub makes_state : (old new : StoreValue D) (e : Event) → Kept old → old.failed ≡ None → new.failed ≡ None → new.engine.past ≡ with_event old.engine.past e
       → faults new.journal.disk ≡ faults old.journal.disk → new.begun ≡ old.begun → new.opened ≡ old.opened → Makes e (state old) (state new)
   makes_state old new e kept going goes with count begun opened =
-      let now : seen new ≡ (seen old ▸ e) = ap history_of with ∙ history_push old.engine.events e in
-      let within : old.opened ≤ position (seen old) = omega (arith, kept.from, position_of old.engine.events) in
+      let now : seen new ≡ (seen old ▸ e) = ap history_of with ∙ history_push old.engine.past e in
+      let within : old.opened ≤ position (seen old) = kept.from in
       record {
         went_on = going;
         history = now;
@@ -81,7 +80,7 @@ module _ {D : Type 0} (bytes : D → Option (List ℕ)) (may_leave : D → List 
             ∙ ap (λ (h : History). record { faults = faults old.begun; opening = h; moment = moment old.begun }) (prefix_further (seen old) e old.opened within);
       }
 
-  pub fails_state : (old new : StoreValue D) (e : Event) → old.failed ≡ None → new.failed ≡ Some e → new.engine.events ≡ old.engine.events
+  pub fails_state : (old new : StoreValue D) (e : Event) → old.failed ≡ None → new.failed ≡ Some e → new.engine.past ≡ old.engine.past
       → Rose (faults old.journal.disk) (faults new.journal.disk) → new.begun ≡ old.begun → new.opened ≡ old.opened → Fails e (state old) (state new)
   fails_state old new e going failed events rose begun opened = record {
     went_on = going;

@@ -7,6 +7,8 @@ use Rattle.std.specs.contracts.option.Option as Option
 use Rattle.txn_journal.proofs.journals.Journal.TheSendSync as OfJournal
 use Rattle.ts_disk.specs.declared.disks.Disk.{Ghosts}
 use Rattle.ts_model.specs.contracts.events.Event as Event
+use Rattle.ts_model.specs.contracts.images.Image as Image
+use Rattle.ts_model.specs.contracts.images.SavedView as SavedView
 use Rattle.txn_journal.specs.contracts.journals.Journal as Journal
 use Rattle.ts_store.specs.contracts.begun.Begun as Begun
 use Rattle.ts_store.specs.contracts.recorders.Recorder as Recorder
@@ -95,14 +97,23 @@ state_send = search (roster_send, roster_sync, refreshes_send, table_state_send,
 state_sync : IsSync State.the_row
 state_sync = search (roster_send, roster_sync, refreshes_sync, table_state_sync, view_state_sync, OfOption.the_field_sync, OfOption.the_sync, OfArc.the_sync, OfGlobal.the_field_sync, OfSeq.the_sync, Crossing.crosses, sendable) depth 60 fits 20000
 
+event_send : IsSend Event.the_row
+event_send = search (Crossing.crosses, sendable) depth 60 fits 20000
+
+saved_view_send : IsSend SavedView.the_row
+saved_view_send = search (OfSeq.the_send, Crossing.crosses, sendable) depth 60 fits 20000
+
+image_send : IsSend Image.the_row
+image_send = search (event_send, saved_view_send, OfSeq.the_send, Crossing.crosses, sendable) depth 60 fits 20000
+
+base_send : IsSend (Option.the_row Image.the_row)
+base_send = search (image_send, OfOption.the_field_send, OfOption.the_send, Crossing.crosses, sendable) depth 60 fits 20000
+
 pub engine_send : IsSend Engine.the_row
-engine_send = search (state_send, state_sync, Crossing.crosses, sendable) depth 60 fits 20000
+engine_send = search (state_send, state_sync, base_send, image_send, event_send, OfOption.the_field_send, OfOption.the_send, Crossing.crosses, sendable) depth 60 fits 20000
 
 pub shot_send : IsSend Shot.the_row
 shot_send = search (state_send, state_sync, Crossing.crosses, sendable) depth 60 fits 20000
-
-event_send : IsSend Event.the_row
-event_send = search (Crossing.crosses, sendable) depth 60 fits 20000
 
 failed_send : IsSend (Option.the_row Event.the_row)
 failed_send = search (event_send, OfOption.the_field_send, OfOption.the_send, Crossing.crosses, sendable) depth 60 fits 20000

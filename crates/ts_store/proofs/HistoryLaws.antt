@@ -1,13 +1,22 @@
 -- Histories and the bytes of their events.
-use Rattle.std.proofs.Common.{◌≡◌, true, false, ℕ, List, [], ◌∷◌, length, refl, sym, ◌∙◌, ap, subst, arith, length-append}
+use Rattle.std.proofs.Common.{◌≡◌, true, false, ℕ, List, [], ◌∷◌, length, Some, refl, sym, ◌∙◌, ap, subst, arith, length-append}
 use Rattle.std.specs.Prelude.{IsTrue}
 use Rattle.std.proofs.lemmas.Bool.{and_from, true≢false}
 use Rattle.std.proofs.lemmas.List.{append-nil}
 use Rattle.ts_model.specs.declared.events.Event.{Event}
 use Rattle.ts_model.specs.declared.events.Event.TheVariants.{Table, Hyper, View, Mode, Commit, Cut, Built}
+use Rattle.ts_model.specs.declared.images.Image.{Image}
+use Rattle.ts_model.specs.declared.rosters.Roster.{Roster}
 use Rattle.ts_model.specs.Allowed.{allowed, all_allowed}
 use Rattle.ts_model.specs.History.{History, start, resumed, ◌▸◌, Begins, same, further}
 use Rattle.ts_model.proofs.AllowedLaws.{allowed_begins}
+use Rattle.ts_model.specs.Valid.{image_roster, valid}
+use Rattle.base_image.specs.Formed.{IsFormed as IsFormedImage}
+use Rattle.base_image.specs.Reading.{whole_image}
+use Rattle.base_image.specs.Spelling as images
+use Rattle.base_image.proofs.PartLaws.{image_again}
+use Rattle.base_image.proofs.ReadLaws.{readable}
+use Rattle.event_codec.proofs.Formats.{same_value}
 use Rattle.event_codec.specs.Formed.{IsFormed}
 use Rattle.event_codec.specs.Spelling as spelling
 use Rattle.event_codec.proofs.Decodings.{no_prefix}
@@ -16,7 +25,7 @@ use Rattle.txn_journal.specs.declared.versions.Version.{Version}
 use Rattle.txn_journal.specs.declared.versions.Version.TheVariants.{One, Two}
 use Rattle.txn_journal.proofs.ContentLaws.{next_counts}
 use Rattle.txn_journal.proofs.FollowsLaws.{last_apart}
-use Rattle.ts_store.specs.Stands.{content_of, payloads_of, AllFormed, IsSound, IsNoEvent}
+use Rattle.ts_store.specs.Stands.{base_of, content_of, payloads_of, AllFormed, IsSound, IsNoEvent, IsNoImage}
 
 -- ---- the beginning of a history
 
@@ -40,19 +49,40 @@ sound_push h e sound fits formed = record { allowed = and_from (all_allowed h) (
 pub spelled_once : (d e : Event) → IsFormed d → IsFormed e → spelling.event d ≡ spelling.event e → d ≡ e
 spelled_once d e fd fe is = sym (no_prefix e d [] fe fd (is ∙ sym (append-nil (spelling.event e)))).0
 
--- two histories whose events have the same bytes are one
-pub payloads_once : (g h : History) → AllFormed g → AllFormed h → payloads_of g ≡ payloads_of h → g ≡ h
-payloads_once (resumed i) h fg fh is = absurd fg
-payloads_once start (resumed i) fg fh is = absurd fh
-payloads_once (g ▸ d) (resumed i) fg fh is = absurd fh
-payloads_once start start fg fh is = refl
-payloads_once start (h ▸ e) fg fh is = absurd (omega (arith, ap length is, length-append (payloads_of h) (spelling.event e ∷ [])))
-payloads_once (g ▸ d) start fg fh is = absurd (omega (arith, ap length is, length-append (payloads_of g) (spelling.event d ∷ [])))
-payloads_once (g ▸ d) (h ▸ e) fg fh is =
+-- two valid images with the same bytes are one
+pub image_spelled_once : (i j : Image) → IsFormedImage i → IsFormedImage j → valid i ≡ true → valid j ≡ true → images.image i ≡ images.image j → i ≡ j
+image_spelled_once i j fi fj vi vj is =
+    ap (λ (x : Image × Roster). x.0)
+    (same_value (i, image_roster i) (j, image_roster j) [] [] (sym (image_again i (readable i fi vi)) ∙ ap whole_image is ∙ image_again j (readable j fj vj)))
+
+-- two sound histories of the same base and the same bytes of events are one
+pub content_once : (g h : History) → IsSound g → IsSound h → base_of g ≡ base_of h → payloads_of g ≡ payloads_of h → g ≡ h
+content_once start start sg sh base is = refl
+content_once start (resumed j) sg sh base is = absurd (cc base)
+content_once (resumed i) start sg sh base is = absurd (cc base)
+content_once (resumed i) (resumed j) sg sh base is =
+    let bytes : images.image i ≡ images.image j = cc base in
+    ap resumed (image_spelled_once i j sg.formed sh.formed sg.allowed sh.allowed bytes)
+content_once start (h ▸ e) sg sh base is = absurd (omega (arith, ap length is, length-append (payloads_of h) (spelling.event e ∷ [])))
+content_once (resumed i) (h ▸ e) sg sh base is = absurd (omega (arith, ap length is, length-append (payloads_of h) (spelling.event e ∷ [])))
+content_once (g ▸ d) start sg sh base is = absurd (omega (arith, ap length is, length-append (payloads_of g) (spelling.event d ∷ [])))
+content_once (g ▸ d) (resumed j) sg sh base is = absurd (omega (arith, ap length is, length-append (payloads_of g) (spelling.event d ∷ [])))
+content_once (g ▸ d) (h ▸ e) sg sh base is =
     let parts = last_apart (payloads_of g) (payloads_of h) (spelling.event d) (spelling.event e) is in
-    let before = payloads_once g h fg.0 fh.0 parts.0 in
-    let last = spelled_once d e fg.1 fh.1 parts.1 in
+    let before = content_once g h (sound_begins (further same) sg) (sound_begins (further same) sh) base parts.0 in
+    let last = spelled_once d e sg.formed.1 sh.formed.1 parts.1 in
     (λ k. before k ▸ last k)
+
+-- the base of a sound history is that of a valid image
+pub base_is_image : (h : History) (payload : List ℕ) → IsSound h → base_of h ≡ Some payload → IsNoImage payload → ⊥
+base_is_image start payload sound is none = absurd (cc is)
+base_is_image (resumed i) payload sound is none =
+    let bytes : payload ≡ images.image i = cc is in
+    none i sound.formed sound.allowed bytes
+base_is_image (h ▸ e) payload sound is none = base_is_image h payload (sound_begins (further same) sound) is none
+
+pub sound_resumed : (i : Image) → IsFormedImage i → valid i ≡ true → IsSound (resumed i)
+sound_resumed i formed is = record { allowed = is; formed = formed }
 
 -- a payload is the bytes of one event, so where that one may not come next, no other may
 pub no_other : (h : History) (e : Event) → IsFormed e → (allowed h e ≡ true → ⊥) → IsNoEvent h (spelling.event e)
@@ -74,7 +104,3 @@ no_event_is_base Two (Built cut snap) = refl
 -- a payload that isn't one counts beside the others
 pub event_counts : (version : Version) (h : History) (e : Event) → with_payload version (content_of h) (spelling.event e) ≡ content_of (h ▸ e)
 event_counts version h e = next_counts version (content_of h) (spelling.event e) (no_event_is_base version e)
-
--- a base is no event
-pub base_is_no_event : (version : Version) (h : History) (payload : List ℕ) → is_base version payload ≡ true → IsNoEvent h payload
-base_is_no_event version h payload base e next = true≢false (sym base ∙ ap (is_base version) next.spelled ∙ no_event_is_base version e)

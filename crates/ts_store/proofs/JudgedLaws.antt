@@ -6,25 +6,32 @@ use Rattle.std.proofs.lemmas.Nat.{le_bytes_4}
 use Rattle.std.proofs.lemmas.List.{append-nil, get_or-drop, get_or-take, length-drop, length-take-le, take_all}
 use Rattle.std.proofs.Math.ListN.{get_or-eq_default}
 use Rattle.ts_model.specs.declared.events.Event.{Event}
+use Rattle.ts_model.specs.declared.images.Image.{Image}
+use Rattle.ts_model.specs.declared.rosters.Roster.{Roster}
 use Rattle.ts_model.specs.Allowed.{allowed}
-use Rattle.ts_model.specs.History.{History, start, ◌▸◌}
+use Rattle.ts_model.specs.Valid.{valid}
+use Rattle.base_image.specs.Formed.{IsFormed as IsFormedImage}
+use Rattle.base_image.specs.Reading.{whole_image}
+use Rattle.base_image.specs.Spelling as images
+use Rattle.base_image.proofs.ReadLaws.{is_formed as is_formed_image, is_spelled as is_spelled_image, not_another, not_one}
+use Rattle.ts_model.specs.History.{History, start, resumed, ◌▸◌}
 use Rattle.event_codec.specs.Formed.{IsFormed}
 use Rattle.event_codec.specs.Reading.{whole_event}
 use Rattle.event_codec.specs.Spelling as spelling
 use Rattle.event_codec.proofs.Decodings.{is_formed, is_no_event, is_spelled}
 use Rattle.txn_journal.specs.Contents.{counted, has_base, nothing, version_of, with_payload}
 use Rattle.txn_journal.specs.Frames.{AllFit, Follows, IsShort, counted_before, front, magic}
-use Rattle.txn_journal.specs.Reading.{HasFrames, IsHead}
+use Rattle.txn_journal.specs.Reading.{HasFrames, IsHead, based_on}
 use Rattle.txn_journal.specs.declared.heads.Head.{Head}
 use Rattle.txn_journal.specs.declared.heads.Head.TheVariants.{Closed, Frame, Short}
 use Rattle.txn_journal.specs.declared.versions.Version.{Version}
-use Rattle.txn_journal.proofs.ContentLaws.{base_or_none, head_and_rest, payloads_push}
+use Rattle.txn_journal.proofs.ContentLaws.{LastBase, base_counts, base_or_none, head_and_rest, payloads_push}
 use Rattle.txn_journal.proofs.FollowsLaws.{front-append, gate_behind, none_there}
 use Rattle.txn_journal.proofs.FrameLaws.{fit-append}
 use Rattle.txn_journal.proofs.ReadingLaws.{begins_frames, frame_read, split}
 use Rattle.ts_store.specs.Laws.{AreBytes, IsJudged, EachIsJudged}
-use Rattle.ts_store.specs.Stands.{IsNextEvent, IsNoEvent, IsSound, content_of}
-use Rattle.ts_store.proofs.HistoryLaws.{base_is_no_event, event_counts, no_other, sound_push, sound_start}
+use Rattle.ts_store.specs.Stands.{IsNeither, IsNextEvent, IsNoEvent, IsNoImage, IsSound, content_of}
+use Rattle.ts_store.proofs.HistoryLaws.{event_counts, no_other, sound_push, sound_resumed, sound_start}
 use Rattle.ts_store.proofs.ReplayLaws.{damaged_short, damaged_there}
 
 -- ---- numbers and lists are the same or not
@@ -66,6 +73,22 @@ by_reading h payload (Err left) is = inr (λ e next. is_no_event payload left is
 
 next_or_none : (h : History) (payload : List ℕ) → NextOrNone h payload
 next_or_none h payload = by_reading h payload (whole_event payload) refl
+
+-- ---- a payload is the bytes of a valid image, or of none
+
+abbrev ImageOrNone : List ℕ → Type 0
+ImageOrNone payload = ((i : Image) × (IsFormedImage i × (valid i ≡ true) × (payload ≡ images.image i))) ⊎ IsNoImage payload
+
+by_validity : (payload : List ℕ) (i : Image) (r : Roster) (end : List ℕ) (is_valid : Bool) → whole_image payload ≡ Ok ((i, r), end) → valid i ≡ is_valid → ImageOrNone payload
+by_validity payload i r end true read is = inl (i, (is_formed_image payload i r end read, is, is_spelled_image payload i r end read))
+by_validity payload i r end false read is = inr (not_another payload i r end read is)
+
+by_image : (payload : List ℕ) (read : Result ((Image × Roster) × List ℕ) (List ℕ)) → whole_image payload ≡ read → ImageOrNone payload
+by_image payload (Ok ((i, r), end)) is = by_validity payload i r end (valid i) is refl
+by_image payload (Err left) is = inr (not_one payload left is)
+
+image_or_none : (payload : List ℕ) → ImageOrNone payload
+image_or_none payload = by_image payload (whole_image payload) refl
 
 -- ---- what stands at a gate
 
@@ -155,10 +178,10 @@ module _ (file : List ℕ) (bytes : AreBytes file) where
         }
 
     wrong_at : (h : History) (seen behind : List (List ℕ)) (payload : List ℕ) → IsSound h → frames.all ≡ (seen ++ payload ∷ []) ++ behind → content_of h ≡ counted_before version seen payload → has_base version behind ≡ false
-        → IsNoEvent h payload → IsJudged file
-    wrong_at h seen behind payload sound is counts none no_event = inr (
+        → IsNeither version h payload → IsJudged file
+    wrong_at h seen behind payload sound is counts none neither = inr (
       length (front mark seen),
-      damaged_there file h (length (front mark seen)) sound (record { version = version; payload = payload; follows = follows_at h seen behind payload is counts none; no_event = no_event }),
+      damaged_there file h (length (front mark seen)) sound (record { version = version; payload = payload; follows = follows_at h seen behind payload is counts none; neither = neither }),
     )
 
     -- all payloads counted, so the end tells
@@ -211,13 +234,24 @@ module _ (file : List ℕ) (bytes : AreBytes file) where
         ∙ (λ k. with_payload version (counts k) (sym next.1.spelled k))
         ∙ sym (payloads_push version nothing seen payload))
         kinds.1)
-        (wrong_at h seen todo payload sound joined (counts ∙ sym (cond-false _ nothing (counted version seen) kinds.0)) kinds.1)
+        (λ no_event. wrong_at h seen todo payload sound joined (counts ∙ sym (cond-false _ nothing (counted version seen) kinds.0)) kinds.1 (inr (kinds.0, no_event)))
         (next_or_none h payload)
+
+    -- the last base is the image that the history begins with
+    base_judged : LastBase version frames.all → IsJudged file
+    base_judged last = ⊎_elim
+        (λ image.
+        let i = image.0 in
+        let counts : content_of (resumed i) ≡ counted version (last.before ++ last.payload ∷ []) =
+        ap based_on (sym image.1.2) ∙ sym (base_counts version (counted version last.before) last.payload last.base) ∙ sym (payloads_push version nothing last.before last.payload) in
+        events_judged (resumed i) (last.before ++ last.payload ∷ []) last.behind (sound_resumed i image.1.0 image.1.1) last.split counts last.none)
+        (λ no_image. wrong_at start last.before last.behind last.payload sound_start last.split (sym (cond-true _ nothing (counted version last.before) last.base)) last.none (inl (last.base, no_image)))
+        (image_or_none last.payload)
 
     frames_judged : IsJudged file
     frames_judged = ⊎_elim
         (λ none. events_judged start [] frames.all sound_start refl refl none)
-        (λ some. wrong_at start some.before some.behind some.payload sound_start some.split (sym (cond-true _ nothing (counted version some.before) some.base)) some.none (base_is_no_event version start some.payload some.base))
+        base_judged
         (base_or_none version frames.all)
 
   judged : IsJudged file

@@ -8,8 +8,7 @@ use Rattle.ts_model.specs.declared.events.Event.{Event}
 use Rattle.ts_model.specs.History.{History, position, prefix, Begins, same}
 use Rattle.ts_model.proofs.HistoryLaws.{begins_prefix, begins_trans, prefix_end, prefix_stays}
 use Rattle.engine_core.specs.Histories.{history_of}
-use Rattle.engine_core.specs.Values.{EngineValue}
-use Rattle.engine_core.proofs.EventLaws.{position_of}
+use Rattle.engine_core.specs.Values.{EngineValue, Past}
 use Rattle.ts_disk.specs.CrashImage.{LeavesOnly, Only}
 use Rattle.ts_disk.specs.Disk.{Keeps}
 use Rattle.txn_journal.specs.Calls.{Logged, IsAtRest}
@@ -101,7 +100,7 @@ module _ {D : Type 0} (bytes : D → Option (List ℕ)) (may_leave : D → List 
 
   -- a call that leaves events, journal and failure as they were
   pub safe_same : ((disk : D) (c : List ℕ) → left_since disk (moment disk) c → may_leave disk c) → (old new : StoreValue D) → IsSound (seen old)
-      → new.engine.events ≡ old.engine.events → new.journal ≡ old.journal → new.failed ≡ old.failed → Safe old new
+      → new.engine.past ≡ old.engine.past → new.journal ≡ old.journal → new.failed ≡ old.failed → Safe old new
   safe_same only_now old new sound events journal failed =
       let same_history : seen new ≡ seen old = ap history_of events in
       let run : Rests bytes may_leave old → LeavesOnly moment left_since old.journal.disk old.journal.disk (StandsForEither (seen old) (latest (seen new) new.failed)) = λ rest.
@@ -121,7 +120,7 @@ module _ {D : Type 0} (bytes : D → Option (List ℕ)) (may_leave : D → List 
   pub kept_after : (old new : StoreValue D) → Kept old → old.failed ≡ None
       → (Rests bytes may_leave old → LeavesOnly moment left_since old.journal.disk new.journal.disk (StandsForEither (seen old) (latest (seen new) new.failed)))
       → (Rests bytes may_leave old → new.failed ≡ None → Rests bytes may_leave new) → new.begun ≡ old.begun → new.opened ≡ old.opened
-      → Begins (seen old) (seen new) → IsSound (seen new) → length old.engine.events ≤ length new.engine.events
+      → Begins (seen old) (seen new) → IsSound (seen new) → position (seen old) ≤ position (seen new)
       → faults old.begun ≤ faults new.journal.disk → (IsTrue (is_some new.failed) → Rose (faults old.begun) (faults new.journal.disk))
       → is_some new.failed ≡ is_still new.journal.standing → (new.armed ≡ true → old.armed ≡ true) → (old.journal.standing ≢ Bare → new.journal.standing ≢ Bare)
       → (Rests bytes may_leave old → IsSomeAnd (bytes new.journal.disk) (StandsForEither (seen new) (latest (seen new) new.failed)))
@@ -129,7 +128,7 @@ module _ {D : Type 0} (bytes : D → Option (List ℕ)) (may_leave : D → List 
   kept_after old new kept going runs rested_on begun opened goes sound longer counted fell still armed headed shown =
       let durable : IsDurable bytes may_leave new.begun → IsDurable bytes may_leave old.begun = subst (λ (d : D). IsDurable bytes may_leave d) begun in
       let rested : IsDurable bytes may_leave new.begun → Rests bytes may_leave old = λ d. kept.rests (durable d) going in
-      let within : old.opened ≤ position (seen old) = omega (arith, kept.from, position_of old.engine.events) in
+      let within : old.opened ≤ position (seen old) = kept.from in
       let same_opening : opening new ≡ opening old = ap (λ (n : ℕ). prefix (seen new) n) opened ∙ opening_stays (seen old) (seen new) old.opened goes within in
       record {
         sound = sound;
@@ -153,9 +152,9 @@ module _ {D : Type 0} (bytes : D → Option (List ℕ)) (may_leave : D → List 
       }
 
   -- only the room of its engine changed
-  pub kept_room : (s : StoreValue D) (engine : EngineValue) → engine.events ≡ s.engine.events → Kept s → Kept (record s { engine = engine })
+  pub kept_room : (s : StoreValue D) (engine : EngineValue) → engine.past ≡ s.engine.past → Kept s → Kept (record s { engine = engine })
   kept_room s engine is kept =
-      let P : List Event → Type 0 = λ events. Kept (record s { engine = record { events = events; room = engine.room } }) in
+      let P : Past → Type 0 = λ past. Kept (record s { engine = record { past = past; room = engine.room } }) in
       subst P (sym is) (record {
         sound = kept.sound;
         from = kept.from;
@@ -195,13 +194,13 @@ module _ {D : Type 0} (bytes : D → Option (List ℕ)) (may_leave : D → List 
   -- ---- the start
 
   pub kept_at_start : ((disk : D) (c : List ℕ) → left_since disk (moment disk) c → may_leave disk c) → (begun : D) (journal : Logged D) (engine : EngineValue)
-      → faults begun < 2 ^ 64 → Keeps bytes may_leave moment left_since begun journal.disk → faults journal.disk ≡ faults begun → IsSound (history_of engine.events) → journal.standing ≢ Still
-      → ((file : List ℕ) → bytes begun ≡ Some file → Stands file (history_of engine.events))
-      → ((file : List ℕ) → bytes begun ≡ Some file → Only file (may_leave begun) → IsAtRest bytes may_leave journal (content_of (history_of engine.events)))
-      → Kept (record { engine = engine; journal = journal; failed = None; begun = begun; opened = length engine.events; armed = false })
+      → faults begun < 2 ^ 64 → Keeps bytes may_leave moment left_since begun journal.disk → faults journal.disk ≡ faults begun → IsSound (history_of engine.past) → journal.standing ≢ Still
+      → ((file : List ℕ) → bytes begun ≡ Some file → Stands file (history_of engine.past))
+      → ((file : List ℕ) → bytes begun ≡ Some file → Only file (may_leave begun) → IsAtRest bytes may_leave journal (content_of (history_of engine.past)))
+      → Kept (record { engine = engine; journal = journal; failed = None; begun = begun; opened = position (history_of engine.past); armed = false })
   kept_at_start only_now begun journal engine few keeps count sound goes_on stands at_rest =
-      let h = history_of engine.events in
-      let opened_is : prefix (history_of engine.events) (length engine.events) ≡ history_of engine.events = prefix_end (history_of engine.events) (length engine.events) (omega (arith, position_of engine.events)) in
+      let h = history_of engine.past in
+      let opened_is : prefix (history_of engine.past) (position (history_of engine.past)) ≡ history_of engine.past = prefix_end (history_of engine.past) (position (history_of engine.past)) (omega arith) in
       record {
         sound = sound;
         from = omega arith;
@@ -212,15 +211,15 @@ module _ {D : Type 0} (bytes : D → Option (List ℕ)) (may_leave : D → List 
         headed = λ is. absurd (true≢false (sym is));
         later = λ d. omega (arith, keeps.at_moment);
         rests = λ d none. at_rest d.file d.told d.durable;
-        shown = λ d. some_also (bytes journal.disk) (λ file. Stands file (history_of engine.events)) (StandsForEither (history_of engine.events) (history_of engine.events)) (λ file is. inl is)
-            (shown_at_rest bytes may_leave moment left_since journal (history_of engine.events) sound (at_rest d.file d.told d.durable));
+        shown = λ d. some_also (bytes journal.disk) (λ file. Stands file (history_of engine.past)) (StandsForEither (history_of engine.past) (history_of engine.past)) (λ file is. inl is)
+            (shown_at_rest bytes may_leave moment left_since journal (history_of engine.past) sound (at_rest d.file d.told d.durable));
         images = λ d c left.
             let was : left_since begun (moment begun) c = keeps.past (moment begun) c left in
             let is : c ≡ d.file = d.durable c (only_now begun c was) in
             record {
-              history = history_of engine.events;
-              stands = subst (λ (file : List ℕ). Stands file (history_of engine.events)) (sym is) (stands d.file d.told);
-              from = subst (λ (g : History). Begins g (history_of engine.events)) (sym opened_is) same;
+              history = history_of engine.past;
+              stands = subst (λ (file : List ℕ). Stands file (history_of engine.past)) (sym is) (stands d.file d.told);
+              from = subst (λ (g : History). Begins g (history_of engine.past)) (sym opened_is) same;
               upto = inl same;
             };
       }

@@ -1,5 +1,5 @@
 -- How an event is put onto the disk and counts from then on.
-use Rattle.std.proofs.Common.{◌≡◌, ◌≢◌, Bool, inl, ℕ, ◌≤◌, ◌<◌, ◌^◌, List, [], ◌∷◌, ◌++◌, length, ◌+◌, Option, Some, None, IsSomeAnd, refl, sym, ◌∙◌, ap, subst, arith, length-append}
+use Rattle.std.proofs.Common.{◌≡◌, ◌≢◌, Bool, inl, ℕ, ◌≤◌, ◌<◌, ◌^◌, List, [], ◌∷◌, ◌++◌, length, ◌+◌, Option, Some, None, IsSomeAnd, suc, refl, sym, ◌∙◌, ap, subst, arith, length-append}
 use Rattle.std.specs.Prelude.{IsTrue, is_some}
 use Rattle.std.proofs.lemmas.Bool.{true≢false}
 use Rattle.ts_schema.specs.Faults.{Rose}
@@ -14,8 +14,8 @@ use Rattle.event_codec.specs.Formed.{IsFormed}
 use Rattle.event_codec.specs.Spelling as spelling
 use Rattle.engine_core.specs.Acts.{making_event}
 use Rattle.engine_core.specs.Effects.{effect_of}
-use Rattle.engine_core.specs.Histories.{history_of}
-use Rattle.engine_core.specs.Values.{EngineValue}
+use Rattle.engine_core.specs.Histories.{history_of, with_event}
+use Rattle.engine_core.specs.Values.{EngineValue, Past}
 use Rattle.ts_disk.specs.CrashImage.{LeavesOnly}
 use Rattle.txn_journal.specs.Calls.{IfDone, IfStopped, IsAtRest}
 use Rattle.txn_journal.specs.declared.journals.Append.{Append}
@@ -40,10 +40,10 @@ use Rattle.ts_store.proofs.KeptLaws.{kept_after, ready_headed, still_headed, ros
 use Rattle.engine_core.proofs.StoreLaws.{history_push}
 
 module _ {D : Type 0} (bytes : D → Option (List ℕ)) (may_leave : D → List ℕ → Type 0) (moment : D → ℕ) (left_since : D → ℕ → List ℕ → Type 0) (faults : D → ℕ) where
-  module _ (old new : Recorder D) (e : Event) (frame : List ℕ) (sound : IsSound (history_of old.engine.events)) (fits : IsTrue (allowed (history_of old.engine.events) e)) (formed : IsFormed e) (framed : frame ≡ spelling.event e) (going : old.failed ≡ None)
+  module _ (old new : Recorder D) (e : Event) (frame : List ℕ) (sound : IsSound (history_of old.engine.past)) (fits : IsTrue (allowed (history_of old.engine.past) e)) (formed : IsFormed e) (framed : frame ≡ spelling.event e) (going : old.failed ≡ None)
       (run : (content : Content) → IsAtRest bytes may_leave old.journal content → LeavesOnly moment left_since old.journal.disk new.journal.disk (WithOrWithout old.journal.version content frame)) where
     abbrev before : History
-    before = history_of old.engine.events
+    before = history_of old.engine.past
 
     sound_after : IsSound (before ▸ e)
     sound_after = sound_push before e sound fits formed
@@ -55,38 +55,38 @@ module _ {D : Type 0} (bytes : D → Option (List ℕ)) (may_leave : D → List 
 
     -- ---- the event is on the disk
 
-    module _ (with : new.engine.events ≡ old.engine.events ++ (e ∷ [])) (goes : new.failed ≡ None) (ready : new.journal.standing ≡ Ready) (count : faults new.journal.disk ≡ faults old.journal.disk)
+    module _ (with : new.engine.past ≡ with_event old.engine.past e) (goes : new.failed ≡ None) (ready : new.journal.standing ≡ Ready) (count : faults new.journal.disk ≡ faults old.journal.disk)
         (done : (content : Content) → IsAtRest bytes may_leave old.journal content → IsAtRest bytes may_leave new.journal (with_payload old.journal.version content frame)) where
-      now : history_of new.engine.events ≡ (before ▸ e)
-      now = ap history_of with ∙ history_push old.engine.events e
+      now : history_of new.engine.past ≡ (before ▸ e)
+      now = ap history_of with ∙ history_push old.engine.past e
 
-      latest_now : latest (history_of new.engine.events) new.failed ≡ (before ▸ e)
-      latest_now = ap (λ (o : Option Event). latest (history_of new.engine.events) o) goes ∙ now
+      latest_now : latest (history_of new.engine.past) new.failed ≡ (before ▸ e)
+      latest_now = ap (λ (o : Option Event). latest (history_of new.engine.past) o) goes ∙ now
 
       rests_now : RestsIn bytes may_leave old → RestsIn bytes may_leave new
       rests_now rest =
           let counts : with_payload old.journal.version (content_of before) frame ≡ content_of (before ▸ e) = ap (with_payload old.journal.version (content_of before)) framed ∙ event_counts old.journal.version before e in
           subst (λ (h : History). IsAtRest bytes may_leave new.journal (content_of h)) (sym now) (subst (IsAtRest bytes may_leave new.journal) counts (done (content_of before) rest))
 
-      goes_on : Begins before (history_of new.engine.events)
+      goes_on : Begins before (history_of new.engine.past)
       goes_on = subst (λ (h : History). Begins before h) (sym now) (further same)
 
-      longer : length new.engine.events ≡ length old.engine.events + 1
-      longer = ap length with ∙ length-append old.engine.events (e ∷ [])
+      longer : position (history_of new.engine.past) ≡ suc (position (history_of old.engine.past))
+      longer = ap position now
 
       one_more : (h : History) → h ≡ (h ▸ e) → ⊥
       one_more h is = absurd (omega (arith, ap position is))
 
       pub safe_done : IsSafeIn bytes may_leave moment left_since old new
       safe_done begun opened armed = safe_of bytes may_leave moment left_since faults (store_of old begun opened armed) (store_of new begun opened armed)
-          (run_of (latest (history_of new.engine.events) new.failed) latest_now)
+          (run_of (latest (history_of new.engine.past) new.failed) latest_now)
           goes_on
           (λ rest none. rests_now rest)
           (λ kept _. absurd (one_more before (sym (sym now ∙ kept))))
 
       pub kept_done : (begun : D) (opened : ℕ) (armed : Bool) → IsKeptIn bytes may_leave moment left_since faults old begun opened armed → IsKeptIn bytes may_leave moment left_since faults new begun opened armed
       kept_done begun opened armed kept =
-          let sound_now : IsSound (history_of new.engine.events) = subst IsSound (sym now) sound_after in
+          let sound_now : IsSound (history_of new.engine.past) = subst IsSound (sym now) sound_after in
           kept_after bytes may_leave moment left_since faults (store_of old begun opened armed) (store_of new begun opened armed) kept going (safe_done begun opened armed).any_moment (safe_done begun opened armed).rests refl refl
           goes_on sound_now
           (omega (arith, longer))
@@ -94,8 +94,8 @@ module _ {D : Type 0} (bytes : D → Option (List ℕ)) (may_leave : D → List 
           (rose_none new.failed (faults begun) (faults new.journal.disk) goes)
           (ap is_some goes ∙ ap is_still (sym ready))
           (λ is. is) (λ _. ready_headed new.journal.standing ready)
-          (λ rest. some_also (bytes new.journal.disk) (λ file. Stands file (history_of new.engine.events)) (StandsForEither (history_of new.engine.events) (latest (history_of new.engine.events) new.failed)) (λ file is. inl is)
-          (shown_at_rest bytes may_leave moment left_since new.journal (history_of new.engine.events) sound_now (rests_now rest)))
+          (λ rest. some_also (bytes new.journal.disk) (λ file. Stands file (history_of new.engine.past)) (StandsForEither (history_of new.engine.past) (latest (history_of new.engine.past) new.failed)) (λ file is. inl is)
+          (shown_at_rest bytes may_leave moment left_since new.journal (history_of new.engine.past) sound_now (rests_now rest)))
 
       pub does_done : (effect : Committed) → effect ≡ effect_of before e → (begun : D) (opened : ℕ) (armed : Bool) → IsKeptIn bytes may_leave moment left_since faults old begun opened armed → DoesIn faults moment (making_event e) begun opened armed old (DoneCall effect) new
       does_done effect told begun opened armed kept = does_made bytes may_leave moment left_since faults (store_of old begun opened armed) (store_of new begun opened armed) e effect kept fits told
@@ -103,15 +103,15 @@ module _ {D : Type 0} (bytes : D → Option (List ℕ)) (may_leave : D → List 
 
     -- ---- the disk failed
 
-    module _ (events : new.engine.events ≡ old.engine.events) (failed : new.failed ≡ Some e) (still : new.journal.standing ≡ Still) (rose : Rose (faults old.journal.disk) (faults new.journal.disk))
+    module _ (events : new.engine.past ≡ old.engine.past) (failed : new.failed ≡ Some e) (still : new.journal.standing ≡ Still) (rose : Rose (faults old.journal.disk) (faults new.journal.disk))
         (shown : (content : Content) → IsAtRest bytes may_leave old.journal content → IsSomeAnd (bytes new.journal.disk) (WithOrWithout old.journal.version content frame)) where
-      same_history : history_of new.engine.events ≡ before
+      same_history : history_of new.engine.past ≡ before
       same_history = ap history_of events
 
-      latest_failed : latest (history_of new.engine.events) new.failed ≡ (before ▸ e)
-      latest_failed = ap (λ (o : Option Event). latest (history_of new.engine.events) o) failed ∙ ap (λ (h : History). h ▸ e) same_history
+      latest_failed : latest (history_of new.engine.past) new.failed ≡ (before ▸ e)
+      latest_failed = ap (λ (o : Option Event). latest (history_of new.engine.past) o) failed ∙ ap (λ (h : History). h ▸ e) same_history
 
-      stays : Begins before (history_of new.engine.events)
+      stays : Begins before (history_of new.engine.past)
       stays = subst (λ (h : History). Begins before h) (sym same_history) same
 
       not_none : new.failed ≡ None → ⊥
@@ -119,7 +119,7 @@ module _ {D : Type 0} (bytes : D → Option (List ℕ)) (may_leave : D → List 
 
       pub safe_failed : IsSafeIn bytes may_leave moment left_since old new
       safe_failed begun opened armed = safe_of bytes may_leave moment left_since faults (store_of old begun opened armed) (store_of new begun opened armed)
-          (run_of (latest (history_of new.engine.events) new.failed) latest_failed)
+          (run_of (latest (history_of new.engine.past) new.failed) latest_failed)
           stays
           (λ rest none. absurd (not_none none))
           (λ _ kept. absurd (not_none (kept ∙ going)))
@@ -129,13 +129,13 @@ module _ {D : Type 0} (bytes : D → Option (List ℕ)) (may_leave : D → List 
           let risen : Rose (faults begun) (faults new.journal.disk) = rose_from (faults begun) (faults old.journal.disk) (faults new.journal.disk) kept.counted rose in
           kept_after bytes may_leave moment left_since faults (store_of old begun opened armed) (store_of new begun opened armed) kept going (safe_failed begun opened armed).any_moment (safe_failed begun opened armed).rests refl refl
           stays (subst IsSound (sym same_history) sound)
-          (omega (arith, ap length events))
+          (omega (arith, ap position same_history))
           (rose_above (faults begun) (faults new.journal.disk) kept.bounded risen)
           (λ _. risen)
           (ap is_some failed ∙ ap is_still (sym still))
           (λ is. is) (λ _. still_headed new.journal.standing still)
-          (λ rest. some_also (bytes new.journal.disk) (WithOrWithout old.journal.version (content_of before) frame) (StandsForEither (history_of new.engine.events) (latest (history_of new.engine.events) new.failed))
-          (λ file either. subst (λ (h : History). StandsForEither h (latest (history_of new.engine.events) new.failed) file) (sym same_history) (subst (λ (h : History). StandsForEither before h file) (sym latest_failed) (either_stands old.journal.version before e frame file sound sound_after framed either)))
+          (λ rest. some_also (bytes new.journal.disk) (WithOrWithout old.journal.version (content_of before) frame) (StandsForEither (history_of new.engine.past) (latest (history_of new.engine.past) new.failed))
+          (λ file either. subst (λ (h : History). StandsForEither h (latest (history_of new.engine.past) new.failed) file) (sym same_history) (subst (λ (h : History). StandsForEither before h file) (sym latest_failed) (either_stands old.journal.version before e frame file sound sound_after framed either)))
           (shown (content_of before) rest))
 
       pub does_fail : (begun : D) (opened : ℕ) (armed : Bool) → IsKeptIn bytes may_leave moment left_since faults old begun opened armed → DoesIn faults moment (making_event e) begun opened armed old FailedCall new
@@ -150,28 +150,28 @@ module _ {D : Type 0} (bytes : D → Option (List ℕ)) (may_leave : D → List 
 
   -- ---- only the room of the engine changed before
 
-  pub does_room : {A : Type 0} (act other : History → Act A) (old new : Recorder D) (engine : EngineValue) (outcome : Outcome A) (begun : D) (opened : ℕ) (armed : Bool) → engine.events ≡ old.engine.events → act ≡ other
+  pub does_room : {A : Type 0} (act other : History → Act A) (old new : Recorder D) (engine : EngineValue) (outcome : Outcome A) (begun : D) (opened : ℕ) (armed : Bool) → engine.past ≡ old.engine.past → act ≡ other
       → DoesIn faults moment act begun opened armed (record { engine = engine; journal = old.journal; failed = old.failed }) outcome new → DoesIn faults moment other begun opened armed old outcome new
   does_room act other old new engine outcome begun opened armed events same_act does =
       subst (λ (a : History → Act _). DoesIn faults moment a begun opened armed old outcome new) same_act
-      (subst (λ (es : List Event). DoesIn faults moment act begun opened armed (record { engine = record { events = es; room = engine.room }; journal = old.journal; failed = old.failed }) outcome new) events does)
+      (subst (λ (past : Past). DoesIn faults moment act begun opened armed (record { engine = record { past = past; room = engine.room }; journal = old.journal; failed = old.failed }) outcome new) events does)
 
-  pub safe_room : (old new : Recorder D) (engine : EngineValue) → engine.events ≡ old.engine.events
+  pub safe_room : (old new : Recorder D) (engine : EngineValue) → engine.past ≡ old.engine.past
       → IsSafeIn bytes may_leave moment left_since (record { engine = engine; journal = old.journal; failed = old.failed }) new → IsSafeIn bytes may_leave moment left_since old new
   safe_room old new engine events safe begun opened armed =
-      let moved : IsSafe bytes may_leave moment left_since (store_of (record { engine = record { events = old.engine.events; room = engine.room }; journal = old.journal; failed = old.failed }) begun opened armed) (store_of new begun opened armed) =
-      subst (λ (es : List Event). IsSafe bytes may_leave moment left_since (store_of (record { engine = record { events = es; room = engine.room }; journal = old.journal; failed = old.failed }) begun opened armed) (store_of new begun opened armed)) events (safe begun opened armed) in
+      let moved : IsSafe bytes may_leave moment left_since (store_of (record { engine = record { past = old.engine.past; room = engine.room }; journal = old.journal; failed = old.failed }) begun opened armed) (store_of new begun opened armed) =
+      subst (λ (past : Past). IsSafe bytes may_leave moment left_since (store_of (record { engine = record { past = past; room = engine.room }; journal = old.journal; failed = old.failed }) begun opened armed) (store_of new begun opened armed)) events (safe begun opened armed) in
       record { any_moment = moved.any_moment; earlier = moved.earlier; rests = moved.rests; untouched = moved.untouched }
 
   -- ---- a header was written
 
-  module _ (old new : Recorder D) (sound : IsSound (history_of old.engine.events)) (events : new.engine ≡ old.engine)
+  module _ (old new : Recorder D) (sound : IsSound (history_of old.engine.past)) (events : new.engine ≡ old.engine)
       (run : (content : Content) → IsAtRest bytes may_leave old.journal content → LeavesOnly moment left_since old.journal.disk new.journal.disk (λ file. StandsFor file content)) where
     abbrev there : History
-    there = history_of old.engine.events
+    there = history_of old.engine.past
 
-    same_there : history_of new.engine.events ≡ there
-    same_there = ap (λ (engine : EngineValue). history_of engine.events) events
+    same_there : history_of new.engine.past ≡ there
+    same_there = ap (λ (engine : EngineValue). history_of engine.past) events
 
     pub armed_run : RestsIn bytes may_leave old → LeavesOnly moment left_since old.journal.disk new.journal.disk (λ file. Stands file there)
     armed_run rest = weaker moment left_since old.journal.disk new.journal.disk (λ file. StandsFor file (content_of there)) (λ file. Stands file there) (run (content_of there) rest) (λ c stands. record { holds = stands; sound = sound })
@@ -190,17 +190,17 @@ module _ {D : Type 0} (bytes : D → Option (List ℕ)) (may_leave : D → List 
         → ((content : Content) → IsAtRest bytes may_leave old.journal content → IsSomeAnd (bytes new.journal.disk) (λ file. StandsFor file content))
         → (begun : D) (opened : ℕ) (armed : Bool) → IsKeptIn bytes may_leave moment left_since faults old begun opened armed → IsKeptIn bytes may_leave moment left_since faults new begun opened armed
     kept_armed going rests counted fell still headed shown begun opened armed kept =
-        let last : History = latest (history_of new.engine.events) new.failed in
+        let last : History = latest (history_of new.engine.past) new.failed in
         kept_after bytes may_leave moment left_since faults (store_of old begun opened armed) (store_of new begun opened armed) kept going
-        (λ rest. weaker moment left_since old.journal.disk new.journal.disk (λ file. Stands file there) (StandsForEither there (latest (history_of new.engine.events) new.failed)) (armed_run rest) (λ c stands. inl stands))
+        (λ rest. weaker moment left_since old.journal.disk new.journal.disk (λ file. Stands file there) (StandsForEither there (latest (history_of new.engine.past) new.failed)) (armed_run rest) (λ c stands. inl stands))
         rests refl refl
         (subst (λ (h : History). Begins there h) (sym same_there) same)
         (subst IsSound (sym same_there) sound)
-        (omega (arith, ap (λ (engine : EngineValue). length engine.events) events))
+        (omega (arith, ap position same_there))
         (counted begun kept.bounded kept.counted)
         (fell begun kept.counted)
         still (λ is. is) (λ _. headed)
-        (λ rest. some_also (bytes new.journal.disk) (λ file. StandsFor file (content_of there)) (StandsForEither (history_of new.engine.events) (latest (history_of new.engine.events) new.failed))
+        (λ rest. some_also (bytes new.journal.disk) (λ file. StandsFor file (content_of there)) (StandsForEither (history_of new.engine.past) (latest (history_of new.engine.past) new.failed))
         (λ file stands. inl (subst (λ (h : History). Stands file h) (sym same_there) (record { holds = stands; sound = sound }))) (shown (content_of there) rest))
 
 -- a draft is one of the event that it holds

@@ -12,12 +12,14 @@ use Rattle.txn_journal.proofs.ContentLaws.{base_counts, next_counts}
 use Rattle.txn_journal.proofs.FollowsLaws.{Beyond, ends_behind, follow_apart, last_apart, last_of}
 use Rattle.txn_journal.proofs.FrameLaws.{front-push}
 use Rattle.txn_journal.proofs.UniqueLaws.{stands_once, damaged_or_not, damaged_once, begins_magic}
-use Rattle.ts_store.specs.Stands.{Stands, IsSound, IsWrong, IsNoEvent, content_of, payloads_of}
+use Rattle.ts_store.specs.Stands.{Stands, IsSound, IsWrong, IsNeither, IsNoEvent, base_of, content_of, payloads_of}
 use Rattle.ts_store.specs.Laws.{StandsOnce, StandsOrDamaged, DamagedOnce}
-use Rattle.ts_store.proofs.HistoryLaws.{payloads_once, sound_begins}
+use Rattle.ts_store.proofs.HistoryLaws.{base_is_image, content_once, sound_begins}
 
 pub journals_stand_once : StandsOnce
-journals_stand_once file g h a b = payloads_once g h a.sound.formed b.sound.formed (ap (λ (c : Content). c.payloads) (stands_once file (content_of g) (content_of h) a.holds b.holds))
+journals_stand_once file g h a b =
+    let one = stands_once file (content_of g) (content_of h) a.holds b.holds in
+    content_once g h a.sound b.sound (ap (λ (c : Content). c.base) one) (ap (λ (c : Content). c.payloads) one)
 
 -- ---- the beginning of what a journal holds
 
@@ -25,6 +27,7 @@ journals_stand_once file g h a b = payloads_once g h a.sound.formed b.sound.form
 pub record HasFront (h : History) (xs : List (List ℕ)) : Type 0 where
   pub part : History
   pub begins : Begins part h
+  pub base : base_of part ≡ base_of h
   pub payloads : payloads_of part ≡ xs
 
 none_of : (xs more : List (List ℕ)) → [] ≡ xs ++ more → [] ≡ xs
@@ -32,40 +35,39 @@ none_of [] more is = refl
 none_of (x ∷ xs) more is = absurd (cc is)
 
 front_of : (h : History) (xs more : List (List ℕ)) → payloads_of h ≡ xs ++ more → HasFront h xs
-front_of start xs more is = record { part = start; begins = same; payloads = none_of xs more is }
-front_of (resumed i) xs more is = record { part = resumed i; begins = same; payloads = none_of xs more is }
+front_of start xs more is = record { part = start; begins = same; base = refl; payloads = none_of xs more is }
+front_of (resumed i) xs more is = record { part = resumed i; begins = same; base = refl; payloads = none_of xs more is }
 front_of (h ▸ e) xs more is = ⊎_elim
-    (λ none. record { part = h ▸ e; begins = same; payloads = is ∙ ap (λ (l : List (List ℕ)). xs ++ l) none ∙ append-nil xs })
+    (λ none. record { part = h ▸ e; begins = same; base = refl; payloads = is ∙ ap (λ (l : List (List ℕ)). xs ++ l) none ∙ append-nil xs })
     (λ some.
     let parts = last_apart (payloads_of h) (xs ++ some.0) (spelling.event e) some.1.0 (is ∙ ap (λ (l : List (List ℕ)). xs ++ l) some.1.1 ∙ sym (append_assoc xs some.0 (some.1.0 ∷ []))) in
     let before = front_of h xs some.0 parts.0 in
-    record { part = before.part; begins = further before.begins; payloads = before.payloads })
+    record { part = before.part; begins = further before.begins; base = before.base; payloads = before.payloads })
     (last_of more)
 
--- a history of these payloads and one more has an event of that one, which came next
-no_front : (g h : History) (w : List ℕ) → IsSound g → IsSound h → payloads_of g ≡ payloads_of h ++ w ∷ [] → IsNoEvent h w → ⊥
-no_front (resumed i) h w sg sh is none = absurd sg.formed
-no_front start h w sg sh is none = absurd (omega (arith, ap length is, length-append (payloads_of h) (w ∷ [])))
-no_front (g ▸ e) h w sg sh is none =
+-- a history of the same base, of these payloads and one more has an event of that one, which came next
+no_front : (g h : History) (w : List ℕ) → IsSound g → IsSound h → base_of g ≡ base_of h → payloads_of g ≡ payloads_of h ++ w ∷ [] → IsNoEvent h w → ⊥
+no_front start h w sg sh base is none = absurd (omega (arith, ap length is, length-append (payloads_of h) (w ∷ [])))
+no_front (resumed i) h w sg sh base is none = absurd (omega (arith, ap length is, length-append (payloads_of h) (w ∷ [])))
+no_front (g ▸ e) h w sg sh base is none =
     let parts = last_apart (payloads_of g) (payloads_of h) (spelling.event e) w is in
-    let before = payloads_once g h sg.formed.0 sh.formed parts.0 in
+    let before = content_once g h (sound_begins (further same) sg) sh base parts.0 in
     none e (record { spelled = sym parts.1; formed = sg.formed.1; fits = subst (λ (x : History). allowed x e ≡ true) before (and_parts (all_allowed g) (allowed g e) sg.allowed).1 })
 
-no_wrong : (g h : History) (w : List ℕ) (more : List (List ℕ)) → IsSound g → IsSound h → payloads_of g ≡ (payloads_of h ++ w ∷ []) ++ more → IsNoEvent h w → ⊥
-no_wrong g h w more sg sh is none =
+no_wrong : (g h : History) (w : List ℕ) (more : List (List ℕ)) → IsSound g → IsSound h → base_of g ≡ base_of h → payloads_of g ≡ (payloads_of h ++ w ∷ []) ++ more → IsNoEvent h w → ⊥
+no_wrong g h w more sg sh base is none =
     let f = front_of g (payloads_of h ++ w ∷ []) more is in
-    no_front f.part h w (sound_begins f.begins sg) sh f.payloads none
+    no_front f.part h w (sound_begins f.begins sg) sh (f.base ∙ base) f.payloads none
 
--- what counts of a sound history doesn't go on from what counts of one with a payload of no event
-no_beyond : (version : Version) (g h : History) (w : List ℕ) → IsSound g → IsSound h → IsNoEvent h w → Beyond version (content_of h) w (content_of g) → ⊥
-no_beyond version g h w sg sh none beyond = by_kind (is_base version w) refl
-  where
-    by_kind : (b : Bool) → is_base version w ≡ b → ⊥
-    by_kind true is =
-        let some : Some w ≡ None = sym (ap (λ (c : Content). c.base) (beyond.1 ∙ ap (λ (c : Content). record { base = c.base; payloads = c.payloads ++ beyond.0 }) (base_counts version (content_of h) w is))) in
-        absurd (cc some)
-    by_kind false is =
-        no_wrong g h w beyond.0 sg sh (ap (λ (c : Content). c.payloads) (beyond.1 ∙ ap (λ (c : Content). record { base = c.base; payloads = c.payloads ++ beyond.0 }) (next_counts version (content_of h) w is))) none
+-- what counts of a sound history doesn't go on from what counts of one with a payload that is neither an event nor an
+-- image
+no_beyond : (version : Version) (g h : History) (w : List ℕ) → IsSound g → IsSound h → IsNeither version h w → Beyond version (content_of h) w (content_of g) → ⊥
+no_beyond version g h w sg sh (inl no_image) beyond =
+    base_is_image g w sg (ap (λ (c : Content). c.base) (beyond.1 ∙ ap (λ (c : Content). record { base = c.base; payloads = c.payloads ++ beyond.0 }) (base_counts version (content_of h) w no_image.0))) no_image.1
+no_beyond version g h w sg sh (inr no_event) beyond =
+    let counts : content_of g ≡ record { base = base_of h; payloads = (payloads_of h ++ w ∷ []) ++ beyond.0 } =
+    beyond.1 ∙ ap (λ (c : Content). record { base = c.base; payloads = c.payloads ++ beyond.0 }) (next_counts version (content_of h) w no_event.0) in
+    no_wrong g h w beyond.0 sg sh (ap (λ (c : Content). c.base) counts) (ap (λ (c : Content). c.payloads) counts) no_event.1
 
 -- ---- a file that stands for a history is damaged nowhere
 
@@ -79,7 +81,7 @@ apart_wrong file g h at a sound wrong = ⊎_elim
     (λ short. long_before file wrong.version (content_of h) wrong.payload at wrong.follows short.0)
     (λ holds.
     let more = ends_behind file wrong.version (content_of h) wrong.payload at wrong.follows holds.mark holds.all holds.gate holds.ignored holds.fit (inl holds.closed) holds.split in
-    no_beyond wrong.version g h wrong.payload a.sound sound wrong.no_event (more.0, holds.counts ∙ more.1))
+    no_beyond wrong.version g h wrong.payload a.sound sound wrong.neither (more.0, holds.counts ∙ more.1))
     a.holds
 
 pub journals_stand_or_are_damaged : StandsOrDamaged
@@ -95,13 +97,13 @@ apart_broken file g h p q sg sh damaged wrong = ⊎_elim
     (λ foreign. foreign.begins (begins_magic file wrong.follows.mark (wrong.follows.before ++ wrong.payload ∷ []) (wrong.follows.gate ∷ wrong.follows.rest) wrong.follows.split))
     (λ broken.
     let more = ends_behind file wrong.version (content_of h) wrong.payload q wrong.follows broken.mark broken.all 1 broken.rest broken.fit (inr broken.short) broken.split in
-    no_beyond wrong.version g h wrong.payload sg sh wrong.no_event (more.0, broken.counts ∙ more.1))
+    no_beyond wrong.version g h wrong.payload sg sh wrong.neither (more.0, broken.counts ∙ more.1))
     damaged.broken
 
 wrong_once : (file : List ℕ) (g h : History) (p q : ℕ) → IsSound g → IsSound h → IsWrong file g p → IsWrong file h q → p ≡ q
 wrong_once file g h p q sg sh a b = ⊎_elim
     (λ same. same.2)
-    (λ apart. absurd (⊎_elim (no_beyond a.version h g a.payload sh sg a.no_event) (no_beyond b.version g h b.payload sg sh b.no_event) apart))
+    (λ apart. absurd (⊎_elim (no_beyond a.version h g a.payload sh sg a.neither) (no_beyond b.version g h b.payload sg sh b.neither) apart))
     (follow_apart file a.version b.version (content_of g) (content_of h) a.payload b.payload p q a.follows b.follows)
 
 pub journals_are_damaged_once : DamagedOnce

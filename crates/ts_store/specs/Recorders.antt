@@ -64,7 +64,7 @@ IsSafeIn {D} bytes may_leave moment left_since old new =
 -- its journal didn't stop, and all of it is on the disk: the events of the history
 abbrev pub RestsIn : {D : Type 0} → (D → Option (List ℕ)) → (D → List ℕ → Type 0) → Recorder D → Type 0
 RestsIn bytes may_leave recorder =
-    IsAtRest bytes may_leave recorder.journal (content_of (history_of recorder.engine.events))
+    IsAtRest bytes may_leave recorder.journal (content_of (history_of recorder.engine.past))
 
 -- what a header that is written leaves
 pub record ArmsSafely {D : Type 0} (bytes : D → Option (List ℕ)) (may_leave : D → List ℕ → Type 0) (moment : D → ℕ)
@@ -73,8 +73,8 @@ pub record ArmsSafely {D : Type 0} (bytes : D → Option (List ℕ)) (may_leave 
   -- a crash at any moment leaves a file that stands for the history
   pub any_moment : RestsIn bytes may_leave old
       → LeavesOnly moment left_since old.journal.disk new.journal.disk
-      (λ file. Stands file (history_of old.engine.events))
+      (λ file. Stands file (history_of old.engine.past))
   -- and since each earlier moment at which there was this history, it leaves one that begins with it
-  pub earlier : (t : ℕ) (h : History) → RestsIn bytes may_leave old → Begins h (history_of old.engine.events)
+  pub earlier : (t : ℕ) (h : History) → RestsIn bytes may_leave old → Begins h (history_of old.engine.past)
       → t ≤ moment old.journal.disk → BeginSince left_since old.journal.disk t h
       → BeginSince left_since new.journal.disk t h

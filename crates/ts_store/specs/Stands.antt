@@ -1,11 +1,15 @@
 -- What the bytes of a journal stand for as a history, and where they are damaged.
-use Rattle.std.specs.Prelude.{◌≡◌, ◌⊎◌, ℕ, true, List, [], ◌∷◌, ◌++◌, None, IsTrue, ⊤}
+use Rattle.std.specs.Prelude.{◌≡◌, ◌⊎◌, ℕ, true, false, List, [], ◌∷◌, ◌++◌, Option, Some, None, IsTrue, ⊤}
 use Rattle.ts_model.specs.declared.events.Event.{Event}
+use Rattle.ts_model.specs.declared.images.Image.{Image}
 use Rattle.ts_model.specs.Allowed.{allowed, all_allowed}
 use Rattle.ts_model.specs.History.{History, start, resumed, ◌▸◌}
+use Rattle.ts_model.specs.Valid.{valid}
+use Rattle.base_image.specs.Formed.{IsFormed as IsFormedImage}
+use Rattle.base_image.specs.Spelling as images
 use Rattle.event_codec.specs.Formed.{IsFormed}
 use Rattle.event_codec.specs.Spelling as spelling
-use Rattle.txn_journal.specs.Contents.{Content}
+use Rattle.txn_journal.specs.Contents.{Content, is_base}
 use Rattle.txn_journal.specs.Frames.{Follows, StandsFor, IsDamaged}
 use Rattle.txn_journal.specs.declared.versions.Version.{Version}
 
@@ -17,25 +21,31 @@ payloads_of start = []
 payloads_of (resumed i) = []
 payloads_of (h ▸ e) = payloads_of h ++ (spelling.event e ∷ [])
 
--- what a journal of a history counts: no base, and the bytes of each event
-abbrev pub content_of : History → Content
-content_of h = record { base = None; payloads = payloads_of h }
+-- the bytes of the image that a history begins with, where there is one
+abbrev pub base_of : History → Option (List ℕ)
+base_of start = None
+base_of (resumed i) = Some (images.image i)
+base_of (h ▸ e) = base_of h
 
--- a history begins with no image, and all parts of each event are in the range of their fields
+-- what counts in a journal of a history: its base, and the bytes of each event after it
+abbrev pub content_of : History → Content
+content_of h = record { base = base_of h; payloads = payloads_of h }
+
+-- all parts of the image that a history begins with, and of each event, are in the range of their fields
 abbrev pub AllFormed : History → Type 0
 AllFormed start = ⊤
-AllFormed (resumed i) = ⊥
+AllFormed (resumed i) = IsFormedImage i
 AllFormed (h ▸ e) = AllFormed h × IsFormed e
 
--- a history may stand in a journal: it begins with no image, each event was allowed after those before it, and has a
--- spelling
+-- a history may stand in a journal: its image is valid, where it begins with one, each event was allowed after those
+-- before it, and they have a spelling
 pub record IsSound (h : History) : Type 0 where
   pub allowed : all_allowed h ≡ true
   pub formed : AllFormed h
 
 -- ---- files
 
--- a file stands for a history: what counts in it are the bytes of the events
+-- a file stands for a history: what counts in it are the bytes of its image and of the events after it
 pub record Stands (file : List ℕ) (h : History) : Type 0 where
   pub holds : StandsFor file (content_of h)
   pub sound : IsSound h
@@ -50,12 +60,23 @@ pub record IsNextEvent (h : History) (payload : List ℕ) (e : Event) : Type 0 w
 abbrev pub IsNoEvent : History → List ℕ → Type 0
 IsNoEvent h payload = (e : Event) → IsNextEvent h payload e → ⊥
 
--- behind the events of this history and the open gate at this place follows a payload of no event that may come next
+-- a payload is the bytes of no valid image
+abbrev pub IsNoImage : List ℕ → Type 0
+IsNoImage payload = (i : Image) → IsFormedImage i → valid i ≡ true → payload ≡ images.image i → ⊥
+
+-- a payload is neither that of a base that is valid nor that of an event that may come next
+abbrev pub IsNeither : Version → History → List ℕ → Type 0
+IsNeither version h payload =
+    ((is_base version payload ≡ true) × IsNoImage payload)
+    ⊎ ((is_base version payload ≡ false) × IsNoEvent h payload)
+
+-- behind what stands for this history and the open gate at this place follows a payload of no event that may come
+-- next, or a base that is no valid image
 pub record IsWrong (file : List ℕ) (h : History) (at : ℕ) : Type 0 where
   pub version : Version
   pub payload : List ℕ
   pub follows : Follows file version (content_of h) payload at
-  pub no_event : IsNoEvent h payload
+  pub neither : IsNeither version h payload
 
 -- a file is damaged at this place, behind the events of this history: it doesn't begin as a journal, too little
 -- follows an open gate, or no event that may come next

@@ -1,6 +1,7 @@
 -- The start of a store.
-use Rattle.std.specs.Prelude.{◌≡◌, ◌≢◌, ℕ, false, List, Option, None, length, ⊤}
+use Rattle.std.specs.Prelude.{◌≡◌, ◌≢◌, ℕ, false, List, Option, None, ⊤}
 use Rattle.ts_schema.specs.Faults.{Rose}
+use Rattle.ts_model.specs.History.{position}
 use Rattle.engine_core.specs.Histories.{history_of}
 use Rattle.engine_core.specs.Values.{EngineValue}
 use Rattle.txn_journal.specs.Calls.{Logged, IsAtRest}
@@ -22,7 +23,7 @@ disk_of_replayed (replayed.NoMemory disk) = disk
 
 -- the file stands for the engine's history, or is damaged at this place
 abbrev pub Replays : {D : Type 0} → Replayed D → List ℕ → Type 0
-Replays (replayed.Ready journal engine) file = Stands file (history_of engine.events)
+Replays (replayed.Ready journal engine) file = Stands file (history_of engine.past)
 Replays (replayed.Damaged disk at) file = IsDamagedAt file at
 Replays (replayed.DiskFault disk) file = ⊤
 Replays (replayed.NoMemory disk) file = ⊤
@@ -44,11 +45,11 @@ IfReplayed (replayed.NoMemory disk) P = ⊤
 -- the journal is at rest with the events of the engine's history
 abbrev pub RestsReplayed : {D : Type 0} → (D → Option (List ℕ)) → (D → List ℕ → Type 0) → Replayed D → Type 0
 RestsReplayed bytes may_leave found =
-    IfReplayed found (λ journal engine. IsAtRest bytes may_leave journal (content_of (history_of engine.events)))
+    IfReplayed found (λ journal engine. IsAtRest bytes may_leave journal (content_of (history_of engine.past)))
 
 -- the engine's history may stand in a journal
 abbrev pub SoundReplayed : {D : Type 0} → Replayed D → Type 0
-SoundReplayed found = IfReplayed found (λ journal engine. IsSound (history_of engine.events))
+SoundReplayed found = IfReplayed found (λ journal engine. IsSound (history_of engine.past))
 
 -- the journal didn't stop
 abbrev pub GoesOn : {D : Type 0} → Replayed D → Type 0
@@ -88,5 +89,5 @@ pub record IsNew {D : Type 0} (disk : D) (store : StoreValue D) : Type 0 where
   pub begun : store.begun ≡ disk
   pub goes_on : store.failed ≡ None
   pub unarmed : store.armed ≡ false
-  pub opened : store.opened ≡ length store.engine.events
+  pub opened : store.opened ≡ position (seen store)
   pub whole : opening store ≡ seen store

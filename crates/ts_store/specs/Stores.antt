@@ -14,8 +14,8 @@ use Rattle.txn_journal.specs.declared.journals.Standing.TheVariants.{Bare, Ready
 use Rattle.ts_store.specs.Images.{IsDurable, IsBetween, StandsForEither, latest}
 use Rattle.ts_store.specs.Stands.{IsSound, content_of}
 
--- a store: its engine, its journal, the event at which the disk failed, the disk as it was at the start, how many
--- events were read from it, and whether it was armed since
+-- a store: its engine, its journal, the event at which the disk failed, the disk as it was at the start, at
+-- which position it was opened, and whether it was armed since
 pub record StoreValue (D : Type 0) : Type 0 where
   pub engine : EngineValue
   pub journal : Logged D
@@ -32,7 +32,7 @@ store_at_start engine journal begun =
       journal = journal;
       failed = None;
       begun = begun;
-      opened = length engine.events;
+      opened = position (history_of engine.past);
       armed = false;
     }
 
@@ -46,7 +46,7 @@ known_of s = record { disk = s.begun; armed = s.armed }
 
 -- its history
 abbrev pub seen : {D : Type 0} → StoreValue D → History
-seen s = history_of s.engine.events
+seen s = history_of s.engine.past
 
 -- the history that it was opened with
 abbrev pub opening : {D : Type 0} → StoreValue D → History
@@ -90,7 +90,7 @@ Rests bytes may_leave s = IsAtRest bytes may_leave s.journal (content_of (seen s
 pub record IsKept {D : Type 0} (bytes : D → Option (List ℕ)) (may_leave : D → List ℕ → Type 0) (moment : D → ℕ)
     (left_since : D → ℕ → List ℕ → Type 0) (faults : D → ℕ) (s : StoreValue D) : Type 0 where
   pub sound : IsSound (seen s)
-  pub from : s.opened ≤ length s.engine.events
+  pub from : s.opened ≤ position (seen s)
   -- the count is a number of 64 bits, it hasn't fallen, and it rose where the store stands still
   pub bounded : faults s.begun < 2 ^ 64
   pub counted : faults s.begun ≤ faults s.journal.disk

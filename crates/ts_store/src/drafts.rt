@@ -40,8 +40,8 @@ fn frame_of(alloc: Global, event: &Event) -> Result<Frame, NoMemory>
 /// States that an event that may come next has a spelling, in fewer bytes than a frame holds. It does
 /// nothing.
 pub(crate) fn spelling_law(engine: &Engine, event: &Event)
-    requires sound { IsSound (history_of engine.now.events) }
-    requires allowed { IsTrue (allowed (history_of engine.now.events) event.now) }
+    requires sound { IsSound (history_of engine.now.past) }
+    requires allowed { IsTrue (allowed (history_of engine.now.past) event.now) }
     ensures formed { IsFormed event.now }
     ensures few { event_bytes event.now < 2 ^ 32 }
 {
@@ -56,12 +56,12 @@ pub(crate) fn draft_of(
     event: Event,
     job: Option<Job>,
 ) -> Result<Draft, NoMemory>
-    requires sound { IsSound (history_of engine.old.events) }
-    requires allowed { IsTrue (allowed (history_of engine.old.events) event) }
-    requires job { JobIsFor (history_of engine.old.events) event job }
-    ensures events { engine.new.events ≡ engine.old.events }
+    requires sound { IsSound (history_of engine.old.past) }
+    requires allowed { IsTrue (allowed (history_of engine.old.past) event) }
+    requires job { JobIsFor (history_of engine.old.past) event job }
+    ensures past { engine.new.past ≡ engine.old.past }
     ensures room { OnOk result (0 < engine.new.room) }
-    ensures draft { IfOk result (IsDraft (history_of engine.old.events) event) }
+    ensures draft { IfOk result (IsDraft (history_of engine.old.past) event) }
 {
     spelling_law(engine, &event);
     let frame = frame_of(alloc, &event)?;

@@ -39,7 +39,7 @@ pub(crate) struct Recorder<D: Disk> {
 impl<D: Disk> Recorder<D> {
     /// Writes and syncs the header of the journal where there is none.
     pub(crate) fn arm(&mut self) -> Append
-        requires sound { IsSound (history_of self.old.engine.events) }
+        requires sound { IsSound (history_of self.old.engine.past) }
         requires still { is_some self.old.failed ≡ is_still self.old.journal.standing }
         ensures engine { self.new.engine ≡ self.old.engine }
         ensures ends { StopsBy result self.old.failed self.new.failed }
@@ -67,9 +67,9 @@ impl<D: Disk> Recorder<D> {
         event: Event,
         job: Option<Job>,
     ) -> Outcome<Committed>
-        requires history { IsSound (history_of self.old.engine.events) }
-        requires sound { IsTrue (sound (history_of self.old.engine.events) event) }
-        requires job { JobIsFor (history_of self.old.engine.events) event job }
+        requires history { IsSound (history_of self.old.engine.past) }
+        requires sound { IsTrue (sound (history_of self.old.engine.past) event) }
+        requires job { JobIsFor (history_of self.old.engine.past) event job }
         ensures does { DoesKept D.bytes D.may_leave D.moment D.left_since D.faults (making_event event)
             self.old result self.new }
         ensures kept { StaysKept D.bytes D.may_leave D.moment D.left_since D.faults self.old self.new }
@@ -83,9 +83,9 @@ impl<D: Disk> Recorder<D> {
 
     /// Makes an event that is allowed next, unless the journal stopped.
     fn make_allowed(&mut self, alloc: Global, event: Event, job: Option<Job>) -> Outcome<Committed>
-        requires history { IsSound (history_of self.old.engine.events) }
-        requires allowed { IsTrue (allowed (history_of self.old.engine.events) event) }
-        requires job { JobIsFor (history_of self.old.engine.events) event job }
+        requires history { IsSound (history_of self.old.engine.past) }
+        requires allowed { IsTrue (allowed (history_of self.old.engine.past) event) }
+        requires job { JobIsFor (history_of self.old.engine.past) event job }
         ensures does { DoesKept D.bytes D.may_leave D.moment D.left_since D.faults (making_event event)
             self.old result self.new }
         ensures kept { StaysKept D.bytes D.may_leave D.moment D.left_since D.faults self.old self.new }
@@ -99,9 +99,9 @@ impl<D: Disk> Recorder<D> {
 
     /// Makes an event that is allowed next, where the journal didn't stop.
     fn make_going(&mut self, alloc: Global, event: Event, job: Option<Job>) -> Outcome<Committed>
-        requires history { IsSound (history_of self.old.engine.events) }
-        requires allowed { IsTrue (allowed (history_of self.old.engine.events) event) }
-        requires job { JobIsFor (history_of self.old.engine.events) event job }
+        requires history { IsSound (history_of self.old.engine.past) }
+        requires allowed { IsTrue (allowed (history_of self.old.engine.past) event) }
+        requires job { JobIsFor (history_of self.old.engine.past) event job }
         requires goes_on { self.old.failed ≡ None }
         ensures does { DoesKept D.bytes D.may_leave D.moment D.left_since D.faults (making_event event)
             self.old result self.new }
@@ -116,8 +116,8 @@ impl<D: Disk> Recorder<D> {
 
     /// Puts an event onto the disk, and then lets it count. It takes no memory.
     fn put(&mut self, draft: Draft) -> Outcome<Committed>
-        requires history { IsSound (history_of self.old.engine.events) }
-        requires draft { IsDraft (history_of self.old.engine.events) draft.prepared.event draft }
+        requires history { IsSound (history_of self.old.engine.past) }
+        requires draft { IsDraft (history_of self.old.engine.past) draft.prepared.event draft }
         requires room { 0 < self.old.engine.room }
         requires goes_on { self.old.failed ≡ None }
         ensures does { DoesKept D.bytes D.may_leave D.moment D.left_since D.faults (making_event draft.prepared.event)
@@ -141,7 +141,7 @@ impl<D: Disk> Recorder<D> {
 
     /// The refusal of an event where the store stands still.
     fn stop_refusal(&self) -> Refusal
-        ensures { result ≡ refusal stopped (history_of self.now.engine.events) 0 }
+        ensures { result ≡ refusal stopped (history_of self.now.engine.past) 0 }
     {
         Refusal {
             code: STOPPED,
@@ -152,7 +152,7 @@ impl<D: Disk> Recorder<D> {
 
     /// The position at which the store stands still, if it does.
     pub(crate) fn stop(&self) -> Option<u64>
-        ensures { result ≡ stop_at (history_of self.now.engine.events) self.now.failed }
+        ensures { result ≡ stop_at (history_of self.now.engine.past) self.now.failed }
     {
         match self.failed {
             Some(_) => Some(self.engine.length()),

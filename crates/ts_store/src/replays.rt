@@ -1,5 +1,5 @@
 //! The events of a journal, read one after the other.
-ghost use Rattle.std.specs.Prelude.{◌≡◌, ℕ, [], ◌∷◌, ◌++◌, List, IfOk, IsTrue, OnOk};
+ghost use Rattle.std.specs.Prelude.{◌≡◌, ℕ, [], List, IfOk, IsTrue, None, OnOk};
 ghost use Rattle.event_codec.specs.Formed.{IsFormed};
 ghost use Rattle.event_codec.specs.Spelling as spelling;
 ghost use Rattle.std.specs.Thread.{IsSync};
@@ -7,12 +7,13 @@ ghost use Rattle.ts_disk.specs.CrashImage.{Only};
 ghost use Rattle.ts_disk.specs.Disk.{Keeps};
 ghost use Rattle.ts_model.specs.Allowed.{allowed};
 ghost use Rattle.refresh_build.specs.Fitting.{JobIsFor};
-ghost use Rattle.engine_core.specs.Histories.{history_of};
+ghost use Rattle.engine_core.specs.Histories.{history_of, past_from, with_event};
 ghost use Rattle.txn_journal.specs.Contents.{nothing};
 ghost use Rattle.txn_journal.specs.Reading.{HasRead};
 ghost use Rattle.ts_store.specs.Starts.{CountsReplayed, GoesOn, Replays, RestsReplayed, SoundReplayed, disk_of_replayed};
-ghost use Rattle.ts_store.specs.Takes.{Takes};
+ghost use Rattle.ts_store.specs.Takes.{Resumes, Takes};
 
+use base_image::{ReadImage, read};
 use engine_core::Engine;
 use event_codec::{Decoded, decode};
 use refresh_build::Job;
@@ -39,15 +40,15 @@ pub(crate) enum Replayed<D: Disk> {
 /// What became of a payload.
 #[derive(Clone, Copy)]
 pub(crate) enum Taken {
-    /// Its event took effect.
+    /// Its event took effect, or its image took the place of what was there.
     Done,
-    /// It is the bytes of no event that may come next.
+    /// It is the bytes of no event that may come next, or of no valid image.
     NoEvent,
     /// There is no memory.
     NoMemory,
 }
 
-/// Lets the events of a journal take effect, from the first on. It holds one payload at a time.
+/// Lets what counts of a journal take effect, from its base on. It holds one payload at a time.
 pub(crate) fn replay<R: Threads + Sync, D: Disk>(
     rt: &R,
     alloc: Global,
@@ -55,7 +56,7 @@ pub(crate) fn replay<R: Threads + Sync, D: Disk>(
     engine: Engine,
 ) -> Replayed<D>
     requires sync { IsSync R.row }
-    requires empty { engine.events ≡ [] }
+    requires empty { engine.past ≡ past_from None }
     ensures replays { (file : List ℕ) → HasRead D.bytes reader file nothing → Replays result file }
     ensures at_rest { (file : List ℕ) → HasRead D.bytes reader file nothing → Only file (D.may_leave reader.disk)
         → RestsReplayed D.bytes D.may_leave result }
@@ -68,13 +69,16 @@ pub(crate) fn replay<R: Threads + Sync, D: Disk>(
     let mut engine = engine;
     'events: loop {
         match reader.next() {
-            // No history begins with a base yet.
-            Next::Base(at) => {
-                return Replayed::Damaged {
-                    disk: reader.close(),
-                    at,
-                };
-            }
+            Next::Base(at) => match take_base(rt, alloc, &mut engine, reader.payload()) {
+                Taken::Done => {}
+                Taken::NoEvent => {
+                    return Replayed::Damaged {
+                        disk: reader.close(),
+                        at,
+                    };
+                }
+                Taken::NoMemory => return Replayed::NoMemory(reader.close()),
+            },
             Next::Payload(at) => match take_payload(rt, alloc, &mut engine, reader.payload()) {
                 Taken::Done => {}
                 Taken::NoEvent => {
@@ -103,6 +107,24 @@ pub(crate) fn replay<R: Threads + Sync, D: Disk>(
     }
 }
 
+/// Puts the engine of a base's image in the place of another.
+fn take_base<R: Threads + Sync>(rt: &R, alloc: Global, engine: &mut Engine, payload: &[u8]) -> Taken
+    requires sync { IsSync R.row }
+    ensures resumed { Resumes result payload.now engine.new.past }
+{
+    match read(alloc, payload) {
+        ReadImage::Image(image) => match Engine::from_image(rt, alloc, image) {
+            Ok(made) => {
+                *engine = made;
+                Taken::Done
+            }
+            Err(NoMemory) => Taken::NoMemory,
+        },
+        ReadImage::BadImage => Taken::NoEvent,
+        ReadImage::NoMemory => Taken::NoMemory,
+    }
+}
+
 /// Lets the event of a payload take effect.
 fn take_payload<R: Threads + Sync>(
     rt: &R,
@@ -111,7 +133,7 @@ fn take_payload<R: Threads + Sync>(
     payload: &[u8],
 ) -> Taken
     requires sync { IsSync R.row }
-    ensures taken { Takes result payload.now engine.old.events engine.new.events }
+    ensures taken { Takes result payload.now engine.old.past engine.new.past }
 {
     match decode(alloc, payload) {
         Decoded::Event(event) => take_event(rt, engine, event),
@@ -124,7 +146,7 @@ fn take_payload<R: Threads + Sync>(
 fn take_event<R: Threads + Sync>(rt: &R, engine: &mut Engine, event: Event) -> Taken
     requires sync { IsSync R.row }
     requires formed { IsFormed event }
-    ensures taken { Takes result (spelling.event event) engine.old.events engine.new.events }
+    ensures taken { Takes result (spelling.event event) engine.old.past engine.new.past }
 {
     match engine.check(&event) {
         Ok(()) => match install(rt, engine, event) {
@@ -138,8 +160,8 @@ fn take_event<R: Threads + Sync>(rt: &R, engine: &mut Engine, event: Event) -> T
 /// Lets an event take effect that is allowed next.
 fn install<R: Threads + Sync>(rt: &R, engine: &mut Engine, event: Event) -> Result<(), NoMemory>
     requires sync { IsSync R.row }
-    requires allowed { IsTrue (allowed (history_of engine.old.events) event) }
-    ensures events { OnOk result (engine.new.events ≡ engine.old.events ++ event ∷ []) }
+    requires allowed { IsTrue (allowed (history_of engine.old.past) event) }
+    ensures past { OnOk result (engine.new.past ≡ with_event engine.old.past event) }
 {
     let job = job_of(rt, engine, &event)?;
     let prepared = engine.prepare(event, job)?;
@@ -154,8 +176,8 @@ fn job_of<R: Threads + Sync>(
     event: &Event,
 ) -> Result<Option<Job>, NoMemory>
     requires sync { IsSync R.row }
-    requires allowed { IsTrue (allowed (history_of engine.now.events) event.now) }
-    ensures job { IfOk result (JobIsFor (history_of engine.now.events) event.now) }
+    requires allowed { IsTrue (allowed (history_of engine.now.past) event.now) }
+    ensures job { IfOk result (JobIsFor (history_of engine.now.past) event.now) }
 {
     match event {
         Event::Built { cut, snap } => Ok(Some(engine.rebuild(rt, *cut, *snap)?)),

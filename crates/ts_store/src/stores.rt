@@ -31,7 +31,7 @@ pub struct Store<D: Disk> {
     recorder: Recorder<D>,
     /// The disk as it was at the start.
     begun: Begun<D>,
-    /// How many events were read at the start.
+    /// The position at which it was opened.
     opened: u64,
     /// Whether the header stands on the disk since a call of `arm`.
     armed: bool,
@@ -123,7 +123,9 @@ impl<D: Disk> Store<D> {
             → (c : List ℕ) → D.left_since result (D.moment self.begun) c
             → IsBetween (opening self) (seen self) self.failed c }
     {
-        self.recorder.journal.close()
+        let recorder = self.recorder;
+        let journal = recorder.journal;
+        journal.close()
     }
 
     /// Makes an event, unless its call is refused. The job of a finish is given up on every answer.

@@ -10,5 +10,5 @@ use Rattle.ts_store.proofs.backends.StoreBackend.snap.Goals as goal
 pub returns-clause-looked : goal.returns-clause-looked
 returns-clause-looked g c =
     looks g.D.Disk.bytes g.D.Disk.may_leave g.D.Disk.moment g.D.Disk.left_since g.D.Disk.faults (Snapped (λ shot h. StandsFor h shot) c.shot.result) c.args.self.now c.args.self.now c.store_law.ensures.kept
-    (record { events = refl; failed = refl; counted = refl; begun = refl; opened = refl })
-    (c.store_law.ensures.kept.sound.allowed, subst (λ (e : EngineValue). IfOk c.shot.result (λ shot. StandsFor (history_of e.events) shot)) c.engine.ensures.engine c.shot.ensures.stands)
+    (record { past = refl; failed = refl; counted = refl; begun = refl; opened = refl })
+    (c.store_law.ensures.kept.sound.allowed, subst (λ (e : EngineValue). IfOk c.shot.result (λ shot. StandsFor (history_of e.past) shot)) c.engine.ensures.engine c.shot.ensures.stands)

@@ -9,8 +9,8 @@ use Rattle.ts_store.proofs.recorders.Recorder.make.Goals as goal
 pub returns-in-Err-clause-does : goal.returns-in-Err-clause-does
 returns-in-Err-clause-does g c = λ begun opened armed kept.
     does_refused g.D.Disk.bytes g.D.Disk.may_leave g.D.Disk.moment g.D.Disk.left_since g.D.Disk.faults (store_of c.args.self.now begun opened armed) (store_of c.args.self.now begun opened armed)
-    c.args.event c.in-Err.refusal kept (sym (as_call (history_of c.args.self.now.engine.events) c.args.event c.requires.sound) ∙ c.in-Err.ensures.refused)
-    (record { events = refl; failed = refl; counted = refl; begun = refl; opened = refl })
+    c.args.event c.in-Err.refusal kept (sym (as_call (history_of c.args.self.now.engine.past) c.args.event c.requires.sound) ∙ c.in-Err.ensures.refused)
+    (record { past = refl; failed = refl; counted = refl; begun = refl; opened = refl })
 
 pub returns-in-Err-clause-safe : goal.returns-in-Err-clause-safe
 returns-in-Err-clause-safe g c = λ begun opened armed.

@@ -12,22 +12,22 @@ returns-in-Done-clause-does g c =
     let new : Recorder g.row.D.Denot = record { engine = c.install.new.self; journal = c.append_armed.new.journal; failed = c.args.self.now.failed } in
     does_done g.D.Disk.bytes g.D.Disk.may_leave g.D.Disk.moment g.D.Disk.left_since g.D.Disk.faults c.args.self.now new
     c.args.draft.prepared.event c.args.draft.frame c.requires.history c.requires.draft.fits c.requires.draft.formed c.requires.draft.framed c.requires.goes_on c.append_armed.ensures.any_moment
-    c.install.ensures.events c.requires.goes_on (c.in-Done.ensures.ends).1 c.in-Done.ensures.counted c.in-Done.ensures.done
-    c.effect-effect.result (c.effect-effect.ensures.effect (history_of c.args.self.now.engine.events) c.requires.draft.prepared)
+    c.install.ensures.past c.requires.goes_on (c.in-Done.ensures.ends).1 c.in-Done.ensures.counted c.in-Done.ensures.done
+    c.effect-effect.result (c.effect-effect.ensures.effect (history_of c.args.self.now.engine.past) c.requires.draft.prepared)
 
 pub returns-in-Done-clause-kept : goal.returns-in-Done-clause-kept
 returns-in-Done-clause-kept g c =
     let new : Recorder g.row.D.Denot = record { engine = c.install.new.self; journal = c.append_armed.new.journal; failed = c.args.self.now.failed } in
     kept_done g.D.Disk.bytes g.D.Disk.may_leave g.D.Disk.moment g.D.Disk.left_since g.D.Disk.faults c.args.self.now new
     c.args.draft.prepared.event c.args.draft.frame c.requires.history c.requires.draft.fits c.requires.draft.formed c.requires.draft.framed c.requires.goes_on c.append_armed.ensures.any_moment
-    c.install.ensures.events c.requires.goes_on (c.in-Done.ensures.ends).1 c.in-Done.ensures.counted c.in-Done.ensures.done
+    c.install.ensures.past c.requires.goes_on (c.in-Done.ensures.ends).1 c.in-Done.ensures.counted c.in-Done.ensures.done
 
 pub returns-in-Done-clause-safe : goal.returns-in-Done-clause-safe
 returns-in-Done-clause-safe g c =
     let new : Recorder g.row.D.Denot = record { engine = c.install.new.self; journal = c.append_armed.new.journal; failed = c.args.self.now.failed } in
     safe_done g.D.Disk.bytes g.D.Disk.may_leave g.D.Disk.moment g.D.Disk.left_since g.D.Disk.faults c.args.self.now new
     c.args.draft.prepared.event c.args.draft.frame c.requires.history c.requires.draft.fits c.requires.draft.formed c.requires.draft.framed c.requires.goes_on c.append_armed.ensures.any_moment
-    c.install.ensures.events c.requires.goes_on (c.in-Done.ensures.ends).1 c.in-Done.ensures.counted c.in-Done.ensures.done
+    c.install.ensures.past c.requires.goes_on (c.in-Done.ensures.ends).1 c.in-Done.ensures.counted c.in-Done.ensures.done
 
 -- ---- the disk failed
 
