@@ -1,12 +1,12 @@
 -- What a call of a store that is alone does.
-use Rattle.std.proofs.Common.{◌≡◌, true, List, [], ◌∷◌, ◌++◌, Some, None, sym, refl, ap, ◌∙◌, subst, arith}
+use Rattle.std.proofs.Common.{◌≡◌, true, Some, None, sym, refl, ap, ◌∙◌, subst, arith}
 use Rattle.std.proofs.lemmas.Bool.{true≢false, cond-true}
 use Rattle.ts_model.specs.declared.events.Event.{Event}
 use Rattle.ts_model.specs.declared.outcomes.Committed.{Committed}
 use Rattle.ts_model.specs.declared.outcomes.Outcome.{Outcome}
 use Rattle.ts_model.specs.declared.outcomes.Outcome.TheVariants.{Done, DiskFault, NoMemory, Refused}
 use Rattle.ts_model.specs.declared.outcomes.Refusal.{Refusal}
-use Rattle.ts_model.specs.History.{History, start, ◌▸◌, same}
+use Rattle.ts_model.specs.History.{History, ◌▸◌, same}
 use Rattle.ts_model.specs.States.{State, Found, Keeps, Makes}
 use Rattle.ts_model.specs.Calls.{Act, history_full, refusal, makes, making, refuses, returns, Answered, Called, Looked}
 use Rattle.ts_model.specs.Timely.{has_room}

@@ -8,6 +8,7 @@ ghost use Rattle.ts_model.specs.Allowed.{all_allowed, allowed};
 ghost use Rattle.ts_model.specs.History.{History, base_position, event_at, position};
 ghost use Rattle.ts_model.specs.Pending.{waiting};
 ghost use Rattle.ts_model.specs.Roster.{roster, view_of};
+ghost use Rattle.ts_model.specs.Valid.{valid};
 ghost use Rattle.ts_model.specs.Windows.{window};
 ghost use Rattle.event_check.specs.Checks.{PendingIs, event_refusal};
 ghost use Rattle.engine_state.specs.Stands.{StandsFor};
@@ -127,6 +128,31 @@ impl Engine {
             events: Vec::new(alloc),
             state: Arc::new(alloc, State::new(alloc)?)?,
         })
+    }
+
+    /// The engine of the history that begins with this valid image, without events.
+    pub fn from_image<R: Threads + Sync>(
+        rt: &R,
+        alloc: Global,
+        image: Image,
+    ) -> Result<Engine, NoMemory>
+        requires sync { IsSync R.row }
+        requires valid { IsTrue (valid image) }
+        ensures empty { IfOk result (λ engine. engine.past ≡ past_from (Some image)) }
+    {
+        let state = Arc::new(alloc, State::from_image(rt, alloc, &image)?)?;
+        Ok(Engine {
+            base: Some(image),
+            events: Vec::new(alloc),
+            state,
+        })
+    }
+
+    /// The state that stands for its history.
+    pub(crate) fn state(&self) -> &State
+        ensures stands { StandsFor (history_of self.now.past) result.now }
+    {
+        &self.state
     }
 
     /// The image that it was made from, where it was.

@@ -3,6 +3,7 @@
 #![tactic(auto)]
 
 mod engines;
+mod images;
 mod makings;
 mod mem_stores;
 mod prepared;

@@ -4,7 +4,7 @@ use Rattle.event_check.specs.Checks.{event_refusal}
 use Rattle.event_check.proofs.CheckLaws.{none_where_allowed}
 use Rattle.engine_state.specs.Stands.{StandsFor}
 use Rattle.engine_core.specs.Histories.{begun_by, history_of}
-use Rattle.engine_core.specs.Values.{EngineValue, Past}
+use Rattle.engine_core.specs.Values.{EngineValue}
 use Rattle.engine_core.proofs.EventLaws.{base_of}
 use Rattle.engine_core.proofs.engines.Engine.check.Goals as goal
 

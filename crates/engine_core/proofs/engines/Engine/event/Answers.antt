@@ -2,7 +2,7 @@ use Rattle.std.proofs.Common.{◌≡◌, ◌+◌, ◌≤◌, List, suc, slice_ge
 use Rattle.ts_model.specs.declared.events.Event.{Event}
 use Rattle.ts_model.specs.History.{position}
 use Rattle.engine_core.specs.Histories.{begun_by}
-use Rattle.engine_core.specs.Values.{EngineValue, Past}
+use Rattle.engine_core.specs.Values.{EngineValue}
 use Rattle.engine_core.proofs.EventLaws.{event_numbered, event_unnumbered, read_at}
 use Rattle.engine_core.proofs.engines.Engine.event.Goals as goal
 
