@@ -57,8 +57,7 @@ impl Parts {
 }
 
 impl State {
-    /// The state of the history that begins with a valid image, without events. It reads each row of the
-    /// image once for each aggregate over its table that was ever refreshed.
+    /// The state of the history that begins with a valid image, without events.
     pub fn from_image<R: Threads + Sync>(
         rt: &R,
         alloc: Global,

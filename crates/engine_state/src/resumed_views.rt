@@ -129,8 +129,7 @@ fn folded<R: Threads + Sync>(
     MatRows::of(alloc, found)
 }
 
-/// The groups of the rows in these ranges of buckets, which rise, made anew. Where there is no range, no
-/// row is read.
+/// The groups of the rows in these ranges of buckets, which rise, made anew.
 fn made_anew<R: Threads + Sync>(
     rt: &R,
     alloc: Global,
@@ -145,6 +144,7 @@ fn made_anew<R: Threads + Sync>(
         ≡ cond (lies_in ranges.now b) (groups_in def.now.fold (in_order (seen_rows 0 table.now)) b) []) }
     ensures starts { IfOk result (λ groups. list_all (λ g. is_bucket def.now.fold.width g.start) groups ≡ true) }
 {
+    // No scan is needed where nothing was refreshed.
     if ranges.is_empty() {
         return Ok(MatRows::new(alloc));
     }
