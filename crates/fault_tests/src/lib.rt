@@ -8,6 +8,7 @@
 //! - `disks`: a call of the disk that fails, a disk that stops, and what a crash leaves of it.
 //! - `journals`: journals that are cut or changed.
 //! - `reads`: how many stored rows a run looks at, which no reply tells.
+//! - `ticks`: a tick whose disk fails.
 #![tactic(auto)]
 
 #[cfg(test)]
@@ -22,3 +23,5 @@ mod journals;
 mod reads;
 #[cfg(test)]
 mod script;
+#[cfg(test)]
+mod ticks;

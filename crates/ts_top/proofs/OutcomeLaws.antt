@@ -8,7 +8,8 @@ use Rattle.ts_model.specs.declared.events.Event.{Event}
 use Rattle.ts_model.specs.History.{History, ◌▸◌, Begins, same, further}
 use Rattle.ts_model.specs.States.{State, stands_still}
 use Rattle.ts_model.proofs.HistoryLaws.{begins_trans}
-use Rattle.ts_sessions.specs.Script.{session_semantics, opening_script_state}
+use Rattle.ts_sessions.specs.Script.{opening_script_state}
+use Rattle.ts_top.specs.Scripts.{program_semantics}
 use Rattle.ts_store.specs.Images.{IsBetween, StandsForEither, latest}
 use Rattle.ts_store.specs.Stands.{Stands}
 use Rattle.script_run.specs.Runs.{Left, Executed, StoppedBefore, StoppedWriting, StoppedAtEvent, StoppedWithin, Ran as RanScript, executed, is_read_fault as is_read_fault_of, is_write_fault as is_write_fault_of, is_disk_fault as is_disk_fault_of}
@@ -77,7 +78,7 @@ module _ (durable : Type 0) (left : List ℕ → Type 0) (unread unprinted kept 
   images_all : (to : History) → s.failed ≡ None → Begins s.history to → durable → ImagesUpTo left h to
   images_all to none within d = λ c image. image_before h s.history to s.failed c none within (closed.images d c image)
 
-  ran_whole : (lines : List (List ℕ)) → s.failed ≡ None → Executed session_semantics h lines (left_of s o) → RanWhole durable left h lines o
+  ran_whole : (lines : List (List ℕ)) → s.failed ≡ None → Executed program_semantics h lines (left_of s o) → RanWhole durable left h lines o
   ran_whole lines none ran = record {
     wrote = ran.wrote;
     holds = holds_all (history_after h lines) none ran.history;
@@ -85,10 +86,10 @@ module _ (durable : Type 0) (left : List ℕ → Type 0) (unread unprinted kept 
     counted = ran.counted;
   }
 
-  ran_before : (lines : List (List ℕ)) → s.failed ≡ None → StoppedBefore session_semantics h lines (left_of s o) → RanBefore durable left h lines o
+  ran_before : (lines : List (List ℕ)) → s.failed ≡ None → StoppedBefore program_semantics h lines (left_of s o) → RanBefore durable left h lines o
   ran_before lines none stopped = record { done = stopped.done; rest = stopped.rest; split = stopped.split; ran = ran_whole stopped.done none stopped.executed_first }
 
-  ran_writing : (lines : List (List ℕ)) → s.failed ≡ None → StoppedWriting session_semantics h lines (left_of s o) → RanWriting durable left h lines o
+  ran_writing : (lines : List (List ℕ)) → s.failed ≡ None → StoppedWriting program_semantics h lines (left_of s o) → RanWriting durable left h lines o
   ran_writing lines none stopped =
       let to : History = history_after h (stopped.done ++ stopped.line ∷ []) in
       record {
@@ -105,7 +106,7 @@ module _ (durable : Type 0) (left : List ℕ → Type 0) (unread unprinted kept 
         counted = stopped.counted;
       }
 
-  ran_within : (lines : List (List ℕ)) → s.failed ≡ None → StoppedWithin session_semantics h lines (left_of s o) → RanWithin durable left h lines o
+  ran_within : (lines : List (List ℕ)) → s.failed ≡ None → StoppedWithin program_semantics h lines (left_of s o) → RanWithin durable left h lines o
   ran_within lines none stopped =
       let from : History = history_after h stopped.done in
       let to : History = history_after h (stopped.done ++ take 1 stopped.rest) in
@@ -120,7 +121,7 @@ module _ (durable : Type 0) (left : List ℕ → Type 0) (unread unprinted kept 
         counted = stopped.counted;
       }
 
-  ran_at_event : (lines : List (List ℕ)) → StoppedAtEvent session_semantics h lines (left_of s o) → RanWithin durable left h lines o
+  ran_at_event : (lines : List (List ℕ)) → StoppedAtEvent program_semantics h lines (left_of s o) → RanWithin durable left h lines o
   ran_at_event lines stopped =
       let from : History = history_after h stopped.done in
       let to : History = history_after h (stopped.done ++ stopped.line ∷ []) in
@@ -137,7 +138,7 @@ module _ (durable : Type 0) (left : List ℕ → Type 0) (unread unprinted kept 
       }
 
   -- what the call has done whose script ended so
-  pub told_run : (end : RunEnd) → stands_still s ≡ is_disk_fault_of end → IfSome o.file_before (λ file. Stands file h) → IfSome o.input (λ input. RanScript end session_semantics h input o.rest (left_of s o)) → RanTo (status_of end) durable left unread unprinted kept o
+  pub told_run : (end : RunEnd) → stands_still s ≡ is_disk_fault_of end → IfSome o.file_before (λ file. Stands file h) → IfSome o.input (λ input. RanScript end program_semantics h input o.rest (left_of s o)) → RanTo (status_of end) durable left unread unprinted kept o
   told_run ends.Done still stood ran =
       record { opening = h; stood = stood; ran = if_some o.input _ _ (λ input r. (r.0, r.2, ran_whole (executed input) (none_there s.failed still) r.1)) ran }
   told_run ends.Refused still stood ran =

@@ -14,8 +14,7 @@ use Rattle.shared_store.specs.Wrapped.{GoesOn}
 use Rattle.ts_store.specs.Images.{IsBetween, StandsForEither, StandsForMore, latest}
 use Rattle.ts_store.specs.Stands.{Stands}
 use Rattle.par_lines.specs.Sorted.{sorted}
-use Rattle.ts_sessions.specs.Places.{no_places}
-use Rattle.ts_sessions.specs.Replies.{reply_to}
+use Rattle.ts_top.specs.Scripts.{first_places, program_replies}
 use Rattle.par_run.specs.Crews.{LinesRan}
 use Rattle.par_run.specs.Outputs.{Output}
 use Rattle.par_run.specs.Ends.{is_disk_fault as is_disk_fault_of}
@@ -61,7 +60,7 @@ either_more h seen failed file b (inr stands) = record { all = latest seen faile
 
 module _ (durable : Type 0) (left : List ℕ → Type 0) (sink_failed : Type 0) (h : History) (input : List ℕ) (reads : ℕ) (before written file : Option (List ℕ)) (s : State) (out : Output) (closed : Closed durable left h s file) where
   abbrev pub Ran : Type 0
-  Ran = LinesRan reply_to no_places h (sorted input) s out reads
+  Ran = LinesRan program_replies first_places h (sorted input) s out reads
 
   by_workers : (stopped : Bool) (Faulted : Bool → Type 0) (Wrote : List ℕ → Type 0) → Ran → stands_still s ≡ stopped → Faulted out.fault → Wrote out.text → ByWorkers durable left h input reads stopped Faulted Wrote file
   by_workers stopped Faulted Wrote ran stops faulted wrote = record {

@@ -6,8 +6,7 @@ use Rattle.ts_io.specs.Whole.{AppendsPart}
 use Rattle.ts_io.specs.declared.limits.TheConstants.{INPUT_LIMIT}
 use Rattle.ts_model.specs.History.{History}
 use Rattle.ts_model.specs.States.{State, stands_still}
-use Rattle.ts_sessions.specs.Places.{no_places}
-use Rattle.ts_sessions.specs.Replies.{reply_to}
+use Rattle.ts_top.specs.Scripts.{first_places, program_replies}
 use Rattle.ts_store.specs.Images.{IsBetween, StandsForEither, StandsForMore, latest}
 use Rattle.ts_store.specs.Stands.{Stands}
 use Rattle.script_run.specs.Runs.{ReadWhole}
@@ -43,7 +42,7 @@ pub record ByWorkers (durable : Type 0) (left : List ℕ → Type 0) (h : Histor
     (stopped : Bool) (Faulted : Bool → Type 0) (Wrote : List ℕ → Type 0) (file : Option (List ℕ)) : Type 0 where
   pub state : State
   pub out : Output
-  pub ran : LinesRan reply_to no_places h (sorted input) state out reads
+  pub ran : LinesRan program_replies first_places h (sorted input) state out reads
   pub stops : stands_still state ≡ stopped
   pub faulted : Faulted out.fault
   pub wrote : Wrote out.text

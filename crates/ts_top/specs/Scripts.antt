@@ -1,25 +1,41 @@
 -- What scripts write and make, over the history that a journal opens with.
-use Rattle.std.specs.Prelude.{ℕ, Bool, List}
+use Rattle.std.specs.Prelude.{ℕ, Bool, List, []}
 use Rattle.ts_model.specs.History.{History}
-use Rattle.ts_sessions.specs.Script.{session_semantics}
+use Rattle.ts_sessions.specs.Places.{Places, Turn, no_places}
+use Rattle.ts_sessions.specs.Procedures.{Procedure}
+use Rattle.ts_sessions.specs.Replies.{reply_to}
+use Rattle.ts_sessions.specs.Script.{Semantics, session_semantics}
+use Rattle.policy_jobs.specs.Turns.{PolicyPlaces, policy_does, policy_semantics}
 use Rattle.script_run.specs.Runs.{executed, has_fault, history_of, output_of, result_after, reads_of}
+
+-- what the lines of the program mean: those of sessions with policies
+abbrev pub program_semantics : Semantics (PolicyPlaces Places)
+program_semantics = policy_semantics (λ p. p.block) session_semantics
+
+-- what the replies to them say
+abbrev pub program_replies : PolicyPlaces Places → List ℕ → ℕ → Procedure (Turn (PolicyPlaces Places))
+program_replies = policy_does reply_to (λ p. p.block)
+
+-- the places of a session at its first line
+abbrev pub first_places : PolicyPlaces Places
+first_places = record { inner = no_places; policies = [] }
 
 -- the replies to lines
 abbrev pub replies_of : History → List (List ℕ) → List ℕ
-replies_of h lines = output_of session_semantics h lines
+replies_of h lines = output_of program_semantics h lines
 
 -- the reply to a line that follows these
 abbrev pub reply_after : History → List (List ℕ) → List ℕ → List ℕ
-reply_after h lines line = (result_after session_semantics h lines line).text
+reply_after h lines line = (result_after program_semantics h lines line).text
 
 -- the history with the events that the lines make
 abbrev pub history_after : History → List (List ℕ) → History
-history_after h lines = history_of session_semantics h lines
+history_after h lines = history_of program_semantics h lines
 
 -- how many stored rows their answers and refreshes look at
 abbrev pub rows_read : History → List (List ℕ) → ℕ
-rows_read h lines = reads_of session_semantics h lines
+rows_read h lines = reads_of program_semantics h lines
 
 -- one of the replies to a script is a FAULT
 abbrev pub is_faulted : History → List ℕ → Bool
-is_faulted h input = has_fault session_semantics h (executed input)
+is_faulted h input = has_fault program_semantics h (executed input)

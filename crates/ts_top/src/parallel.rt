@@ -6,8 +6,7 @@ ghost use Rattle.ts_disk.specs.Disk.{Keeps};
 ghost use Rattle.ts_io.specs.Faults.{Counted};
 ghost use Rattle.ts_io.specs.declared.limits.TheConstants.{INPUT_LIMIT};
 ghost use Rattle.ts_model.specs.States.{stands_still};
-ghost use Rattle.ts_sessions.specs.Places.{no_places};
-ghost use Rattle.ts_sessions.specs.Replies.{reply_to};
+ghost use Rattle.ts_top.specs.Scripts.{first_places, program_replies};
 ghost use Rattle.shared_store.specs.Wrapped.{GoesOn};
 ghost use Rattle.par_lines.specs.Sorted.{sorted};
 ghost use Rattle.par_run.specs.Crews.{LinesRan};
@@ -24,6 +23,7 @@ ghost use Rattle.ts_top.specs.Parallel.{CountedAfterWorkers, InputTo, ParTo, Pri
 use crate::endings::{Ended, Status, status_answered};
 use crate::openings::open;
 use par_run::{ParEnd, ParStop, par as run_in_parallel};
+use policy_jobs::PolicySession;
 use std::alloc::Global;
 use std::sync::Wait;
 use std::thread::Threads;
@@ -84,14 +84,14 @@ where
     requires alone { IsTrue B.alone }
     requires going { stands_still (B.state backend) ≡ false }
     requires within { length input.now ≤ INPUT_LIMIT }
-    ensures ran { result.stop ≢ ParStop.NoMemory → LinesRan reply_to no_places
+    ensures ran { result.stop ≢ ParStop.NoMemory → LinesRan program_replies first_places
         (B.state backend).history (sorted input.now) (B.state result.backend) (output_of result) result.reads }
     ensures stop { result.stop ≢ ParStop.NoMemory
         → stands_still (B.state result.backend) ≡ is_disk_fault result.stop }
     ensures goes_on { GoesOn (B.state backend) (B.state result.backend) }
     ensures kin { B.kin result.backend ≡ B.kin backend }
 {
-    run_in_parallel::<Session<B::Shot>, B, R, G>(rt, alloc, backend, input, gate)
+    run_in_parallel::<PolicySession<Session<B::Shot>>, B, R, G>(rt, alloc, backend, input, gate)
 }
 
 /// Runs an input by a worker for each session, over a store whose journal has its header, and prints the

@@ -11,6 +11,7 @@ ghost use Rattle.ts_top.specs.Outcomes.{RanTo, HeaderAfter};
 use crate::endings::{Ended, status_of};
 use crate::openings::open;
 use engine_core::Shot;
+use policy_jobs::PolicySession;
 use std::alloc::Global;
 use std::thread::Threads;
 use ts_disk::Disk;
@@ -53,7 +54,7 @@ fn run_lines<R: Threads + Sync, S: Source, K: Sink, D: Disk>(
     ensures disk { Counted (D.faults store.journal.disk) (D.faults result.disk) (is_disk_fault result.status) }
 {
     let mut steps = Steps::new(Reads);
-    let end = script_run::run::<Session<Shot>, R, Store<D>, S, K, Reads>(
+    let end = script_run::run::<PolicySession<Session<Shot>>, R, Store<D>, S, K, Reads>(
         rt, alloc, &mut store, source, sink, &mut steps,
     );
     Ended {

@@ -2,7 +2,7 @@
 use Rattle.std.proofs.Common.{◌≡◌, ℕ, List, true, IfSome, sym, ap, ◌∙◌, subst}
 use Rattle.std.specs.Prelude.{IsSomeAnd}
 use Rattle.ts_io.specs.Faults.{Counted}
-use Rattle.ts_sessions.specs.Script.{session_semantics}
+use Rattle.ts_top.specs.Scripts.{program_semantics}
 use Rattle.ts_store.specs.Images.{HasHeader, IsBetween, IsDurable}
 use Rattle.ts_store.specs.Stores.{known_of, opening, seen, state_of}
 use Rattle.script_run.specs.Runs.{Ran as RanScript}
@@ -31,7 +31,7 @@ returns-clause-outcome g c before stood =
       images = λ d x image. subst (λ h. IsBetween h (seen new) new.failed x) from (c.close.ensures.images (still_durable d) x (subst (λ disk. D.left_since c.close.result (D.moment disk) x) (sym begun) image));
     } in
     let o : Outside = record { input = S.left c.args.source.now; rest = S.left c.run-end.new.source; written_before = K.written c.args.sink.now; written = K.written c.run-end.new.sink; file_before = before; file = D.bytes c.close.result; reads = c.count.result } in
-    let RanFrom : ℕ → ℕ → Type 0 = λ r s. IfSome o.input (λ input. RanScript c.run-end.result session_semantics (seen old) input o.rest (record { store = state; written_before = o.written_before; written = o.written; read_before = r; read = s })) in
+    let RanFrom : ℕ → ℕ → Type 0 = λ r s. IfSome o.input (λ input. RanScript c.run-end.result program_semantics (seen old) input o.rest (record { store = state; written_before = o.written_before; written = o.written; read_before = r; read = s })) in
     let ran : RanFrom 0 c.count.result = subst (λ s. RanFrom 0 s) (sym c.count.ensures.count) (subst (λ r. RanFrom r c.run-end.new.steps) c.new-steps.ensures.zero c.run-end.ensures.ran) in
     subst (λ status. RanTo status durable left ⊥ ⊥ ⊥ o) (sym c.status_of.ensures) (told_run durable left ⊥ ⊥ ⊥ o (seen old) state closed c.run-end.result c.run-end.ensures.still stood ran)
 
