@@ -10,4 +10,5 @@ pub mod ReplayLaws
 pub mod StartLaws
 pub mod StandsLaws
 pub mod JudgedLaws
+pub mod CheckpointLaws
 pub mod Crossing

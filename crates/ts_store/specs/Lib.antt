@@ -9,3 +9,4 @@ pub mod Drafts
 pub mod Takes
 pub mod Starts
 pub mod Laws
+pub mod Checkpoints

@@ -4,18 +4,22 @@
 //! - `starts`: from a disk to a store, or to the place at which its journal is damaged.
 //! - `stores`: a store, and how it makes an event.
 //! - `backends`: the calls of a store.
+//! - `checkpoints`: the image of a store's history, put behind its journal.
 //! - `laws`: each journal stands for one history, or is damaged at one place.
 #![tactic(auto)]
 
 mod appends;
 mod backends;
 mod begun;
+mod checkpoints;
 mod drafts;
 pub mod laws;
 mod recorders;
 mod replays;
+mod saves;
 mod starts;
 mod stores;
 
+pub use checkpoints::{CheckEnd, Checkpointed};
 pub use starts::Started;
 pub use stores::Store;

@@ -159,4 +159,12 @@ impl<D: Disk> Recorder<D> {
             None => None,
         }
     }
+
+    /// The disk.
+    pub(crate) fn into_disk(self) -> D
+        ensures { result ≡ self.journal.disk }
+    {
+        let journal = self.journal;
+        journal.close()
+    }
 }

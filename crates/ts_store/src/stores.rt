@@ -1,5 +1,5 @@
 //! A store.
-ghost use Rattle.std.specs.Prelude.{◌≡◌, ℕ, ◌≤◌, List, None, IsTrue, IsSomeAnd, true};
+ghost use Rattle.std.specs.Prelude.{◌≡◌, ◌⊎◌, ℕ, ◌<◌, ◌≤◌, ◌^◌, List, None, IsTrue, IsSomeAnd, true};
 ghost use Rattle.ts_disk.specs.CrashImage.{LeavesOnly};
 ghost use Rattle.ts_model.specs.History.{History, Begins};
 ghost use Rattle.ts_model.specs.Sound.{sound};
@@ -7,12 +7,14 @@ ghost use Rattle.refresh_build.specs.Fitting.{JobIsFor};
 ghost use Rattle.engine_core.specs.Acts.{making_event};
 ghost use Rattle.txn_journal.specs.Calls.{IfDone, IfStopped, IsCounted};
 ghost use Rattle.ts_store.specs.Arming.{armed_after};
+ghost use Rattle.ts_store.specs.Checkpoints.{BeginsSaved, CountsEnd, EndsAs, IfUntouched, SavesSafely, StandsForImage};
 ghost use Rattle.ts_store.specs.Images.{BeginSince, HasHeader, IsBetween, IsDurable, StandsForEither, latest};
 ghost use Rattle.ts_store.specs.Safe.{IsSafe, StopsBy};
 ghost use Rattle.ts_store.specs.Stands.{Stands};
 ghost use Rattle.ts_store.specs.Stores.{Does, IsKept, Rests, known_of, opening, seen, stop_at, store_at_start};
 
 use crate::begun::Begun;
+use crate::checkpoints::{Checkpointed, checkpoint};
 use crate::recorders::Recorder;
 use engine_core::Engine;
 use refresh_build::Job;
@@ -126,6 +128,31 @@ impl<D: Disk> Store<D> {
         let recorder = self.recorder;
         let journal = recorder.journal;
         journal.close()
+    }
+
+    /// Puts the image of the store's history behind its journal, where it has at most so many bytes: all
+    /// memory is taken, the version is raised, and then the image is appended. A later start begins there.
+    /// The disk is handed back on every answer.
+    pub fn checkpoint(self, most: u64) -> Checkpointed<D>
+        requires armed { self.armed ≡ true }
+        requires most { most < 2 ^ 32 }
+        ensures ends { EndsAs result.end self.engine.past self.failed most }
+        ensures untouched { IfUntouched result.end (result.disk ≡ self.journal.disk) }
+        // A crash at any moment leaves the history, or its image; after `Done` the latter.
+        ensures safe { Rests D.bytes D.may_leave self → SavesSafely D.bytes D.may_leave D.moment D.left_since
+            result.end (seen self) self.journal.disk result.disk }
+        // And since each earlier moment at which there was one that this begins with, it leaves a history that
+        // begins with that, or the image of one.
+        ensures earlier { (t : ℕ) (h : History) → Rests D.bytes D.may_leave self → Begins h (seen self)
+            → t ≤ D.moment self.journal.disk → BeginSince D.left_since self.journal.disk t h
+            → (c : List ℕ) → D.left_since result.disk t c → BeginsSaved h c }
+        // Where all was on the disk at the start, this is what a crash since then might have left.
+        ensures images { IsDurable D.bytes D.may_leave self.begun
+            → (c : List ℕ) → D.left_since result.disk (D.moment self.begun) c
+            → IsBetween (opening self) (seen self) self.failed c ⊎ StandsForImage (seen self) c }
+        ensures counted { CountsEnd result.end (D.faults self.journal.disk) (D.faults result.disk) }
+    {
+        checkpoint(self.alloc, self.recorder, most)
     }
 
     /// Makes an event, unless its call is refused. The job of a finish is given up on every answer.

@@ -1,0 +1,43 @@
+//! Whether the groups of an image are of few rows, as those of a valid one are.
+ghost use Rattle.std.specs.Prelude.{◌≡◌, true};
+ghost use Rattle.ts_model.specs.Allowed.{all_allowed};
+ghost use Rattle.ts_model.specs.History.{History};
+ghost use Rattle.ts_model.specs.Valid.{valid};
+ghost use Rattle.image_laws.specs.Images.{IsImage};
+ghost use Rattle.image_fields.specs.Counts.{few_in_group, few_in_image, few_in_view};
+
+use image_laws::laws::images_are_valid;
+use ts_model::{Image, SavedGroup, SavedView};
+
+/// No group of an image is of so many rows.
+const TOO_MANY: u64 = 1 << 62;
+
+/// Whether a group is of fewer rows.
+fn group_is_few(group: &SavedGroup) -> bool
+    ensures { result ≡ few_in_group group.now }
+{
+    group.parts.items().iter().all(|sums| sums.count < TOO_MANY)
+}
+
+/// Whether the groups of an aggregate are.
+fn view_is_few(view: &SavedView) -> bool
+    ensures { result ≡ few_in_view view.now }
+{
+    view.groups.items().iter().all(|group| group_is_few(group))
+}
+
+/// Whether the groups of an image are.
+pub fn groups_are_few(image: &Image) -> bool
+    ensures { result ≡ few_in_image image.now }
+{
+    image.views.items().iter().all(|view| view_is_few(view))
+}
+
+/// The image of an allowed history is valid where its groups are of few rows. It does nothing.
+#[tactic(auto, using(crate::proofs::FewLaws::is_valid))]
+pub fn validity_law(_image: &Image)
+    ensures { (h : History) → all_allowed h ≡ true → IsImage h _image.now → few_in_image _image.now ≡ true
+        → valid _image.now ≡ true }
+{
+    images_are_valid();
+}

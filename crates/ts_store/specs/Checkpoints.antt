@@ -1,0 +1,131 @@
+-- What a checkpoint answers, and what it leaves on the disk.
+use Rattle.std.specs.Prelude.{◌≡◌, ◌≢◌, ◌⊎◌, ℕ, ◌<◌, ◌≤◌, ◌^◌, ◌-◌, true, min, List, [], length, Option, Some, None, IsSomeAnd, ⊤}
+use Rattle.ts_schema.specs.Faults.{Rose}
+use Rattle.ts_disk.specs.CrashImage.{LeavesOnly, Only}
+use Rattle.ts_model.specs.declared.events.Event.{Event}
+use Rattle.ts_model.specs.declared.images.Image.{Image}
+use Rattle.ts_model.specs.History.{History, Begins, position, resumed}
+use Rattle.ts_model.specs.Valid.{valid}
+use Rattle.image_laws.specs.Images.{IsImage}
+use Rattle.base_image.specs.Formed.{IsFormed as IsFormedImage}
+use Rattle.base_image.specs.Spelling as images
+use Rattle.engine_core.specs.Histories.{history_of}
+use Rattle.engine_core.specs.Values.{Past}
+use Rattle.ts_store.specs.Images.{IsBetween, StandsForMore}
+use Rattle.ts_store.specs.Stands.{Stands}
+use Rattle.ts_store.specs.Stores.{stop_at}
+use Rattle.ts_store.specs.declared.checkpoints.CheckEnd.{CheckEnd}
+use Rattle.ts_store.specs.declared.checkpoints.CheckEnd.TheVariants.{Done, Nothing, TooLong, DiskFault, Stopped, NoMemory}
+use Rattle.ts_store.specs.declared.saves.Saved.{Saved}
+use Rattle.ts_store.specs.declared.saves.Saved.TheVariants as saved
+
+-- ---- the image
+
+-- the bytes of the image of a history are so many, told up to the greatest number of 64 bits
+pub record HasImage (h : History) (n : ℕ) : Type 0 where
+  pub image : Image
+  pub is : IsImage h image
+  pub bytes : n ≡ min (length (images.image image)) (2 ^ 64 - 1)
+
+-- a payload is the bytes of the image of a history, which may stand in a journal
+pub record IsImageOf (h : History) (payload : List ℕ) : Type 0 where
+  pub image : Image
+  pub is : IsImage h image
+  pub is_valid : valid image ≡ true
+  pub formed : IsFormedImage image
+  pub spelled : payload ≡ images.image image
+
+-- the frame of the image is made, or the image is too long
+abbrev pub Saves : Saved → History → ℕ → Type 0
+Saves (saved.Framed frame bytes) h most = IsImageOf h frame × HasImage h bytes × (bytes ≤ most)
+Saves (saved.TooLong bytes) h most = HasImage h bytes × (most < bytes)
+Saves saved.NoMemory h most = ⊤
+
+-- ---- answers
+
+-- the store didn't stop, and has events after its base
+abbrev pub Goes : Past → Option Event → Type 0
+Goes past failed = (failed ≡ None) × (past.events ≢ [])
+
+-- where each answer comes: `Stopped` exactly where the store had stopped, then `Nothing` exactly where no event stands
+-- after the base, then `TooLong` where the image has more bytes than asked for
+abbrev pub EndsAs : CheckEnd → Past → Option Event → ℕ → Type 0
+EndsAs (Done p n) past failed most =
+    Goes past failed × (p ≡ position (history_of past)) × HasImage (history_of past) n × (n ≤ most)
+EndsAs (Nothing p) past failed most = (failed ≡ None) × (past.events ≡ []) × (p ≡ position (history_of past))
+EndsAs (TooLong p n) past failed most =
+    Goes past failed × (p ≡ position (history_of past)) × HasImage (history_of past) n × (most < n)
+EndsAs DiskFault past failed most = Goes past failed
+EndsAs (Stopped p) past failed most = stop_at (history_of past) failed ≡ Some p
+EndsAs NoMemory past failed most = Goes past failed
+
+-- P where something may have been written, and where nothing was
+abbrev pub IfWritten : CheckEnd → Type 0 → Type 0
+IfWritten (Done p n) P = P
+IfWritten (Nothing p) P = ⊤
+IfWritten (TooLong p n) P = ⊤
+IfWritten DiskFault P = P
+IfWritten (Stopped p) P = ⊤
+IfWritten NoMemory P = ⊤
+
+abbrev pub IfUntouched : CheckEnd → Type 0 → Type 0
+IfUntouched (Done p n) P = ⊤
+IfUntouched (Nothing p) P = P
+IfUntouched (TooLong p n) P = P
+IfUntouched DiskFault P = ⊤
+IfUntouched (Stopped p) P = P
+IfUntouched NoMemory P = P
+
+-- P where the image stands on the disk
+abbrev pub IfSaved : CheckEnd → Type 0 → Type 0
+IfSaved (Done p n) P = P
+IfSaved (Nothing p) P = ⊤
+IfSaved (TooLong p n) P = ⊤
+IfSaved DiskFault P = ⊤
+IfSaved (Stopped p) P = ⊤
+IfSaved NoMemory P = ⊤
+
+-- the count of faults rises with a fault, and else stays
+abbrev pub CountsEnd : CheckEnd → ℕ → ℕ → Type 0
+CountsEnd (Done p n) before now = now ≡ before
+CountsEnd (Nothing p) before now = now ≡ before
+CountsEnd (TooLong p n) before now = now ≡ before
+CountsEnd DiskFault before now = Rose before now
+CountsEnd (Stopped p) before now = now ≡ before
+CountsEnd NoMemory before now = now ≡ before
+
+-- ---- the disk
+
+-- a file stands for the image of a history, and no event
+pub record StandsForImage (h : History) (file : List ℕ) : Type 0 where
+  pub image : Image
+  pub is : IsImage h image
+  pub stands : Stands file (resumed image)
+
+-- a file stands for a history, or for its image
+abbrev pub StandsSaved : History → List ℕ → Type 0
+StandsSaved h file = Stands file h ⊎ StandsForImage h file
+
+-- a disk holds the image of a history, all of it is on the disk, and nothing else may be left
+pub record HoldsImage {D : Type 0} (bytes : D → Option (List ℕ)) (may_leave : D → List ℕ → Type 0) (disk : D)
+    (h : History) : Type 0 where
+  pub file : List ℕ
+  pub told : bytes disk ≡ Some file
+  pub durable : Only file (may_leave disk)
+  pub stands : StandsForImage h file
+
+-- a file stands for a history that begins with this one, or for the image of one
+pub record BeginsSaved (h : History) (file : List ℕ) : Type 0 where
+  pub all : History
+  pub stands : StandsSaved all file
+  pub begins : Begins h all
+
+-- what a checkpoint of a history that rests leaves
+pub record SavesSafely {D : Type 0} (bytes : D → Option (List ℕ)) (may_leave : D → List ℕ → Type 0) (moment : D → ℕ)
+    (left_since : D → ℕ → List ℕ → Type 0) (end : CheckEnd) (h : History) (old new : D) : Type 0 where
+  -- a crash at any moment leaves a file that stands for the history, or for its image
+  pub any_moment : IfWritten end (LeavesOnly moment left_since old new (StandsSaved h))
+  -- so does what reads give
+  pub shown : IfWritten end (IsSomeAnd (bytes new) (StandsSaved h))
+  -- once the image stands there, nothing else may be left
+  pub done : IfSaved end (HoldsImage bytes may_leave new h)

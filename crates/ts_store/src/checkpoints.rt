@@ -1,0 +1,122 @@
+//! The image of a store's history, put behind its journal.
+ghost use Rattle.std.specs.Prelude.{◌≡◌, ◌≢◌, ◌<◌, ◌^◌, IsSomeAnd, None, is_some, true};
+ghost use Rattle.ts_disk.specs.CrashImage.{LeavesOnly};
+ghost use Rattle.engine_core.specs.Histories.{history_of};
+ghost use Rattle.txn_journal.specs.Calls.{Ends, IfDone, IsAtRest, IsCounted};
+ghost use Rattle.txn_journal.specs.Contents.{Content, is_base, raised};
+ghost use Rattle.txn_journal.specs.Frames.{StandsForEither};
+ghost use Rattle.txn_journal.specs.Reading.{based_on};
+ghost use Rattle.txn_journal.specs.declared.journals.Standing.TheVariants.{Bare, Still};
+ghost use Rattle.txn_journal.specs.declared.versions.Version.TheVariants.{Two};
+ghost use Rattle.ts_store.specs.Checkpoints.{CountsEnd, EndsAs, IfUntouched, SavesSafely};
+ghost use Rattle.ts_store.specs.Recorders.{RestsIn};
+ghost use Rattle.ts_store.specs.Stands.{IsSound, content_of};
+ghost use Rattle.ts_store.specs.Stores.{is_still};
+
+use crate::recorders::Recorder;
+use crate::saves::{Saved, save};
+use std::alloc::Global;
+use ts_disk::Disk;
+use txn_journal::{Append, Frame, Journal};
+
+/// How a checkpoint ended.
+#[derive(Clone, Copy, Debug, PartialEq, Eq)]
+pub enum CheckEnd {
+    /// The image of the history stands on the disk, at this position and of so many bytes.
+    Done { pos: u64, bytes: u64 },
+    /// No event stands after the image at this position that the history begins with, or there is no
+    /// event at all.
+    Nothing { pos: u64 },
+    /// The image has so many bytes, more than were allowed.
+    TooLong { pos: u64, bytes: u64 },
+    /// The disk failed.
+    DiskFault,
+    /// The store had stopped at this position.
+    Stopped(u64),
+    /// There is no memory.
+    NoMemory,
+}
+
+/// How a checkpoint ended, and the disk.
+#[derive(Drop)]
+pub struct Checkpointed<D: Disk> {
+    pub disk: D,
+    pub end: CheckEnd,
+}
+
+/// Puts the image of a recorder's history behind its journal, where it didn't stop, has events, and the
+/// image has at most so many bytes.
+pub(crate) fn checkpoint<D: Disk>(
+    alloc: Global,
+    recorder: Recorder<D>,
+    most: u64,
+) -> Checkpointed<D>
+    requires history { IsSound (history_of recorder.engine.past) }
+    requires still { is_some recorder.failed ≡ is_still recorder.journal.standing }
+    requires headed { recorder.journal.standing ≢ Bare }
+    requires most { most < 2 ^ 32 }
+    ensures ends { EndsAs result.end recorder.engine.past recorder.failed most }
+    ensures untouched { IfUntouched result.end (result.disk ≡ recorder.journal.disk) }
+    ensures safe { RestsIn D.bytes D.may_leave recorder → SavesSafely D.bytes D.may_leave D.moment D.left_since
+        result.end (history_of recorder.engine.past) recorder.journal.disk result.disk }
+    ensures counted { CountsEnd result.end (D.faults recorder.journal.disk) (D.faults result.disk) }
+{
+    let mut recorder = recorder;
+    let end = put(alloc, &mut recorder, most);
+    Checkpointed {
+        disk: recorder.into_disk(),
+        end,
+    }
+}
+
+/// The same, and the recorder stays. After a fault of the disk it is of no use.
+fn put<D: Disk>(alloc: Global, recorder: &mut Recorder<D>, most: u64) -> CheckEnd
+    requires history { IsSound (history_of recorder.old.engine.past) }
+    requires still { is_some recorder.old.failed ≡ is_still recorder.old.journal.standing }
+    requires headed { recorder.old.journal.standing ≢ Bare }
+    requires most { most < 2 ^ 32 }
+    ensures ends { EndsAs result recorder.old.engine.past recorder.old.failed most }
+    ensures untouched { IfUntouched result (recorder.new.journal.disk ≡ recorder.old.journal.disk) }
+    ensures safe { RestsIn D.bytes D.may_leave recorder.old → SavesSafely D.bytes D.may_leave D.moment D.left_since
+        result (history_of recorder.old.engine.past) recorder.old.journal.disk recorder.new.journal.disk }
+    ensures counted { CountsEnd result (D.faults recorder.old.journal.disk) (D.faults recorder.new.journal.disk) }
+{
+    if let Some(pos) = recorder.stop() {
+        return CheckEnd::Stopped(pos);
+    }
+    let pos = recorder.engine.length();
+    if recorder.engine.events().is_empty() {
+        return CheckEnd::Nothing { pos };
+    }
+    match save(alloc, &recorder.engine, most) {
+        Saved::Framed { frame, bytes } => match put_base(&mut recorder.journal, &frame) {
+            Append::Done => CheckEnd::Done { pos, bytes },
+            Append::DiskFault => CheckEnd::DiskFault,
+            Append::Stopped => CheckEnd::Stopped(pos),
+        },
+        Saved::TooLong(bytes) => CheckEnd::TooLong { pos, bytes },
+        Saved::NoMemory => CheckEnd::NoMemory,
+    }
+}
+
+/// Raises the version, and puts a base behind what is there. It takes no memory.
+fn put_base<D: Disk>(journal: &mut Journal<D>, frame: &Frame) -> Append
+    requires armed { journal.old.standing ≢ Bare }
+    requires base { is_base Two frame.now ≡ true }
+    ensures done { (content : Content) → IsAtRest D.bytes D.may_leave journal.old content
+        → IfDone result (IsAtRest D.bytes D.may_leave journal.new (based_on frame.now)) }
+    ensures any_moment { (content : Content) → IsAtRest D.bytes D.may_leave journal.old content
+        → raised content ≡ content
+        → LeavesOnly D.moment D.left_since journal.old.disk journal.new.disk
+        (StandsForEither content (based_on frame.now)) }
+    ensures shown { (content : Content) → IsAtRest D.bytes D.may_leave journal.old content → raised content ≡ content
+        → IsSomeAnd (D.bytes journal.new.disk) (StandsForEither content (based_on frame.now)) }
+    ensures ends { Ends result journal.old.standing journal.new.standing }
+    ensures counted { IsCounted result (D.faults journal.old.disk) (D.faults journal.new.disk) }
+{
+    match journal.raise_version() {
+        Append::Done => journal.append(frame),
+        Append::DiskFault => Append::DiskFault,
+        Append::Stopped => Append::Stopped,
+    }
+}

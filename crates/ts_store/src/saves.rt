@@ -1,0 +1,63 @@
+//! The image of an engine's history, in its frame.
+ghost use Rattle.std.specs.Prelude.{◌≡◌, ◌<◌, ◌^◌, length, true, IfOk};
+ghost use Rattle.ts_model.specs.Allowed.{all_allowed};
+ghost use Rattle.ts_model.specs.Valid.{valid};
+ghost use Rattle.base_image.specs.Spelling as images;
+ghost use Rattle.engine_core.specs.Histories.{history_of};
+ghost use Rattle.ts_store.specs.Checkpoints.{Saves};
+
+use base_image::{put_image_bytes, size, take};
+use engine_core::Engine;
+use image_fields::{groups_are_few, image_law, validity_law};
+use std::alloc::Global;
+use ts_model::Image;
+use ts_schema::NoMemory;
+use txn_journal::{Frame, close_frame, open_frame};
+
+/// What became of the image of a history.
+#[derive(Drop)]
+pub(crate) enum Saved {
+    /// Its bytes stand in a frame, so many of them.
+    Framed { frame: Frame, bytes: u64 },
+    /// It has so many bytes, which are too many.
+    TooLong(u64),
+    /// There is no memory.
+    NoMemory,
+}
+
+/// Takes all memory for the image of an engine's history, where it has at most so many bytes.
+pub(crate) fn save(alloc: Global, engine: &Engine, most: u64) -> Saved
+    requires allowed { all_allowed (history_of engine.now.past) ≡ true }
+    requires most { most < 2 ^ 32 }
+    ensures saves { Saves result (history_of engine.now.past) most }
+{
+    let Ok(image) = take(alloc, engine) else {
+        return Saved::NoMemory;
+    };
+    // No memory holds so many rows as a group would need to be refused here.
+    if !groups_are_few(&image) {
+        return Saved::NoMemory;
+    }
+    validity_law(&image);
+    let bytes = size(&image);
+    if bytes > most {
+        return Saved::TooLong(bytes);
+    }
+    image_law(&image);
+    match image_frame(alloc, &image, bytes) {
+        Ok(frame) => Saved::Framed { frame, bytes },
+        Err(NoMemory) => Saved::NoMemory,
+    }
+}
+
+/// The frame of an image of so many bytes. It is filled in place: no payload is copied.
+fn image_frame(alloc: Global, image: &Image, bytes: u64) -> Result<Frame, NoMemory>
+    requires valid { valid image.now ≡ true }
+    requires bytes { bytes ≡ length (images.image image.now) }
+    requires few { bytes < 2 ^ 32 }
+    ensures frame { IfOk result (λ frame. frame ≡ images.image image.now) }
+{
+    let mut framed = open_frame(alloc, bytes as usize)?;
+    put_image_bytes(image, &mut framed)?;
+    close_frame(framed)
+}
