@@ -29,6 +29,7 @@ use Rattle.row_versions.specs.contracts.tables.Table as Table
 use Rattle.inval_log.specs.contracts.logs.InvalLog as InvalLog
 use Rattle.mat_log.specs.contracts.logs.MatLog as MatLog
 use Rattle.mat_rows.specs.contracts.rows.MatRows as MatRows
+use Rattle.span_map.specs.contracts.shared.SharedMap as SharedMap
 use Rattle.partial_agg.specs.contracts.groups.Group as Group
 use Rattle.block_list.proofs.lists.BlockList.TheSendSync as OfBlockList
 use Rattle.engine_state.specs.contracts.tables.TableState as TableState
@@ -49,11 +50,17 @@ inval_log_send = search (OfBlockList.the_send, Crossing.crosses, sendable) depth
 inval_log_sync : IsSync InvalLog.the_row
 inval_log_sync = search (OfBlockList.the_sync, Crossing.crosses, sendable) depth 60 fits 20000
 
+shared_map_send : IsSend SharedMap.the_row
+shared_map_send = search (OfBlockList.the_send, Crossing.crosses, sendable) depth 60 fits 20000
+
+shared_map_sync : IsSync SharedMap.the_row
+shared_map_sync = search (OfBlockList.the_sync, Crossing.crosses, sendable) depth 60 fits 20000
+
 mat_log_send : IsSend MatLog.the_row
-mat_log_send = search (Crossing.crosses, sendable) depth 60 fits 20000
+mat_log_send = search (shared_map_send, Crossing.crosses, sendable) depth 60 fits 20000
 
 mat_log_sync : IsSync MatLog.the_row
-mat_log_sync = search (Crossing.crosses, sendable) depth 60 fits 20000
+mat_log_sync = search (shared_map_sync, Crossing.crosses, sendable) depth 60 fits 20000
 
 group_send : IsSend Group.the_row
 group_send = search (Crossing.crosses, sendable) depth 60 fits 20000
