@@ -340,11 +340,9 @@ fn append_base<D: Disk + Drop>(alloc: Global, disk: D) -> Result<(D, Append), No
         Recovered::DiskFault(disk) => return Ok((disk, Append::DiskFault)),
         Recovered::NoMemory(_) => return Err(NoMemory),
     };
-    let [three, eight, five] = [
-        frame_of(alloc, 3)?,
-        frame_of(alloc, 8)?,
-        frame_of(alloc, 5)?,
-    ];
+    let three = frame_of(alloc, 3)?;
+    let eight = frame_of(alloc, 8)?;
+    let five = frame_of(alloc, 5)?;
     let _armed = journal.arm();
     let _appended = journal.append(&three);
     let _raised = journal.raise_version();
@@ -371,6 +369,7 @@ fn a_base_takes_the_place_of_what_stands_before_it(rt: HostRuntime) -> Result<()
         places.push(payload.at)?;
     }
     assert_eq!(rt; places.as_slice(), [16, 29].as_slice());
+    let _armed = journal.arm();
     let raised = journal.raise_version();
     assert_eq!(rt; raised, Append::Done);
     Ok(())
