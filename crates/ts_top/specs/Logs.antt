@@ -1,11 +1,12 @@
 -- What is printed of a journal.
-use Rattle.std.specs.Prelude.{ℕ, suc, List, [], ◌∷◌, ◌++◌, Option, Some, None}
+use Rattle.std.specs.Prelude.{ℕ, suc, List, [], ◌∷◌, ◌++◌, Option, Some, None, codes, decimal}
 use Rattle.ts_bucket.specs.Bucket.{first_of}
 use Rattle.ts_model.specs.declared.events.Event.{Event}
+use Rattle.ts_model.specs.declared.images.Image.{Image}
 use Rattle.ts_model.specs.declared.refreshes.Waiting.{Waiting}
 use Rattle.ts_model.specs.declared.rosters.Roster.{Roster}
 use Rattle.ts_model.specs.declared.views.ViewDef.{ViewDef}
-use Rattle.ts_model.specs.History.{History, base_position, events_of, position}
+use Rattle.ts_model.specs.History.{History, start, resumed, ◌▸◌, base_position, events_of, position}
 use Rattle.ts_model.specs.Pending.{waiting}
 use Rattle.ts_model.specs.Roster.{roster, view_of}
 use Rattle.result_text.specs.Events.{history_text, log_text, pending_text}
@@ -17,9 +18,23 @@ abbrev pub lines_after : Roster → ℕ → List Event → List ℕ
 lines_after names p [] = []
 lines_after names p (e ∷ es) = log_text (suc p) names e ++ lines_after names (suc p) es
 
--- the log of a history, by the names that stand at its end: they are never taken away
+-- an image at a position
+abbrev pub image_text : ℕ → List ℕ
+image_text pos = codes "IMAGE @" ++ decimal pos ++ codes "\n"
+
+abbrev pub begun_text : Option Image → List ℕ
+begun_text None = []
+begun_text (Some i) = image_text i.pos
+
+-- the line of the image that a history begins with, where there is one
+abbrev pub base_text : History → List ℕ
+base_text start = []
+base_text (resumed i) = image_text i.pos
+base_text (h ▸ e) = base_text h
+
+-- the log of a history: its image, and its events by the names that stand at its end, which are never taken away
 abbrev pub log_of : History → List ℕ
-log_of h = lines_after (roster h) (base_position h) (events_of h)
+log_of h = base_text h ++ lines_after (roster h) (base_position h) (events_of h)
 
 -- a refresh that waits, where its aggregate is in the roster
 abbrev pub waiting_text : Waiting → Option ViewDef → List ℕ

@@ -1,5 +1,5 @@
 //! What is printed of a journal.
-ghost use Rattle.std.specs.Prelude.{◌≡◌, ◌++◌, ℕ, List, Option, IfOk, OnErr, OnOk};
+ghost use Rattle.std.specs.Prelude.{◌≡◌, ◌+◌, ◌++◌, ◌<◌, ◌^◌, ℕ, List, Option, IfOk, OnErr, OnOk, length, string_bytes};
 ghost use Rattle.std.specs.Io.KnownBytes.{Appends};
 ghost use Rattle.ts_disk.specs.Disk.{Keeps};
 ghost use Rattle.ts_io.specs.Faults.{Counted};
@@ -8,7 +8,7 @@ ghost use Rattle.engine_core.specs.Histories.{history_of};
 ghost use Rattle.result_text.specs.Events.{log_text};
 ghost use Rattle.ts_model.specs.Roster.{view_of};
 ghost use Rattle.ts_top.specs.Endings.{is_disk_fault, is_write_fault};
-ghost use Rattle.ts_top.specs.Logs.{check_of, log_of, text_of, waiting_text, waiting_texts};
+ghost use Rattle.ts_top.specs.Logs.{begun_text, check_of, image_text, lines_after, log_of, text_of, waiting_text, waiting_texts};
 ghost use Rattle.ts_top.specs.Stops.{failed_writing, status_of_print};
 ghost use Rattle.ts_top.specs.Outcomes.{PrintedTo};
 
@@ -21,7 +21,7 @@ use std::thread::Threads;
 use ts_bucket::first;
 use ts_disk::Disk;
 use ts_io::{Sink, WriteFault, write_whole};
-use ts_model::{Event, Roster, Shown, Waiting};
+use ts_model::{Event, Image, Roster, Shown, Waiting};
 use ts_schema::NoMemory;
 use ts_store::{Started, Store};
 
@@ -74,21 +74,65 @@ fn print_event<K: Sink>(
     Ok(())
 }
 
+/// Prints a line for each of some events, which follow a position.
+fn print_events<K: Sink>(
+    alloc: Global,
+    sink: &mut K,
+    after: u64,
+    events: &[Event],
+    names: &Roster,
+) -> Result<(), Stop>
+    requires room { after + length events.now < 2 ^ 64 }
+    ensures done { OnOk result (Appends (K.written sink.old) (K.written sink.new)
+        (lines_after names.now after events.now)) }
+    ensures part { OnErr result (AppendsPart (K.written sink.old) (K.written sink.new)
+        (lines_after names.now after events.now)) }
+    ensures counted { Counted (K.faults sink.old) (K.faults sink.new) (failed_writing result) }
+{
+    let mut number = after;
+    for event in events {
+        number += 1;
+        print_event(alloc, sink, number, event, names)?;
+    }
+    Ok(())
+}
+
+/// The line of an image at a position.
+fn image_line(alloc: Global, pos: u64) -> Result<String, NoMemory>
+    ensures line { IfOk result (λ line. string_bytes line ≡ image_text pos) }
+{
+    Ok(format!(in alloc; "IMAGE @{}\n", pos)?)
+}
+
+/// Prints the line of the image that a history begins with, where there is one.
+fn print_base<K: Sink>(alloc: Global, sink: &mut K, base: &Option<Image>) -> Result<(), Stop>
+    ensures done { OnOk result (Appends (K.written sink.old) (K.written sink.new) (begun_text base.now)) }
+    ensures part { OnErr result (AppendsPart (K.written sink.old) (K.written sink.new) (begun_text base.now)) }
+    ensures counted { Counted (K.faults sink.old) (K.faults sink.new) (failed_writing result) }
+{
+    match base {
+        None => Ok(()),
+        Some(image) => {
+            let line = image_line(alloc, image.pos)?;
+            write_whole(sink, line.as_bytes())?;
+            Ok(())
+        }
+    }
+}
+
 /// Prints the log of an engine's history.
 fn print_log<K: Sink>(alloc: Global, sink: &mut K, engine: &Engine) -> Result<(), Stop>
     ensures done { OnOk result (Appends (K.written sink.old) (K.written sink.new)
-        (log_of (history_of engine.now.events))) }
+        (log_of (history_of engine.now.past))) }
     ensures part { OnErr result (AppendsPart (K.written sink.old) (K.written sink.new)
-        (log_of (history_of engine.now.events))) }
+        (log_of (history_of engine.now.past))) }
     ensures counted { Counted (K.faults sink.old) (K.faults sink.new) (failed_writing result) }
 {
     let shot = engine.shot()?;
-    for place in 0..engine.length() {
-        match engine.event(place + 1) {
-            Some(event) => print_event(alloc, sink, place + 1, event, shot.roster())?,
-            None => {}
-        }
-    }
+    let events = engine.events();
+    let after = engine.length() - events.len() as u64;
+    print_base(alloc, sink, engine.base())?;
+    print_events(alloc, sink, after, events, shot.roster())?;
     Ok(())
 }
 
@@ -121,7 +165,7 @@ fn put_all_waiting(refreshes: &[Waiting], names: &Roster, out: &mut Vec<u8>) -> 
 
 /// The position of an engine's history, and the refreshes that wait.
 fn check_text(alloc: Global, engine: &Engine) -> Result<Vec<u8>, NoMemory>
-    ensures text { IfOk result (λ text. text.items ≡ check_of (history_of engine.now.events)) }
+    ensures text { IfOk result (λ text. text.items ≡ check_of (history_of engine.now.past)) }
 {
     let mut text = Vec::new(alloc);
     put_history(engine.length(), &mut text)?;
@@ -133,9 +177,9 @@ fn check_text(alloc: Global, engine: &Engine) -> Result<Vec<u8>, NoMemory>
 /// Prints the position of an engine's history, and the refreshes that wait.
 fn print_check<K: Sink>(alloc: Global, sink: &mut K, engine: &Engine) -> Result<(), Stop>
     ensures done { OnOk result (Appends (K.written sink.old) (K.written sink.new)
-        (check_of (history_of engine.now.events))) }
+        (check_of (history_of engine.now.past))) }
     ensures part { OnErr result (AppendsPart (K.written sink.old) (K.written sink.new)
-        (check_of (history_of engine.now.events))) }
+        (check_of (history_of engine.now.past))) }
     ensures counted { Counted (K.faults sink.old) (K.faults sink.new) (failed_writing result) }
 {
     let text = check_text(alloc, engine)?;
@@ -146,9 +190,9 @@ fn print_check<K: Sink>(alloc: Global, sink: &mut K, engine: &Engine) -> Result<
 /// Prints a text of an engine's history.
 fn print_text<K: Sink>(alloc: Global, sink: &mut K, engine: &Engine, text: Text) -> Result<(), Stop>
     ensures done { OnOk result (Appends (K.written sink.old) (K.written sink.new)
-        (text_of text (history_of engine.now.events))) }
+        (text_of text (history_of engine.now.past))) }
     ensures part { OnErr result (AppendsPart (K.written sink.old) (K.written sink.new)
-        (text_of text (history_of engine.now.events))) }
+        (text_of text (history_of engine.now.past))) }
     ensures counted { Counted (K.faults sink.old) (K.faults sink.new) (failed_writing result) }
 {
     match text {

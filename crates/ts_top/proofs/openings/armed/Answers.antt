@@ -16,7 +16,7 @@ pub returns-in-Done-clause-begun : goal.returns-in-Done-clause-begun
 returns-in-Done-clause-begun g c = c.in-Done.ensures.begun
 
 pub returns-in-Done-clause-history : goal.returns-in-Done-clause-history
-returns-in-Done-clause-history g c = ap (λ e. history_of e.events) c.in-Done.ensures.engine
+returns-in-Done-clause-history g c = ap (λ e. history_of e.past) c.in-Done.ensures.engine
 
 pub returns-in-Done-clause-goes_on : goal.returns-in-Done-clause-goes_on
 returns-in-Done-clause-goes_on g c = c.in-Done.ensures.ends.1
@@ -27,9 +27,9 @@ returns-in-Done-clause-armed g c = c.in-Done.ensures.armed
 pub returns-in-Done-clause-whole : goal.returns-in-Done-clause-whole
 returns-in-Done-clause-whole g c =
     ap (λ n. prefix (seen c.arm.new.self) n) c.in-Done.ensures.opened
-    ∙ ap (λ e. prefix (history_of e.events) c.args.store.opened) c.in-Done.ensures.engine
+    ∙ ap (λ e. prefix (history_of e.past) c.args.store.opened) c.in-Done.ensures.engine
     ∙ c.requires.whole
-    ∙ sym (ap (λ e. history_of e.events) c.in-Done.ensures.engine)
+    ∙ sym (ap (λ e. history_of e.past) c.in-Done.ensures.engine)
 
 pub returns-in-Done-clause-counted : goal.returns-in-Done-clause-counted
 returns-in-Done-clause-counted g c = c.in-Done.ensures.counted

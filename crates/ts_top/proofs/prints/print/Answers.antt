@@ -26,5 +26,5 @@ returns-in-Ready-clause-outcome g c input rest =
     let stood : IfSome (D.bytes c.args.disk) (λ file. Stands file h) = if_known (D.bytes c.args.disk) (λ file. Stands file h) c.in-Ready.ensures.starts in
     subst (λ status. PrintedTo text status (c.print_text-printed.new.sink ≡ c.args.sink.now) o) (sym c.status_of_print.ensures)
     (printed_to printed text (c.print_text-printed.new.sink ≡ c.args.sink.now) o h stood
-    (subst (λ e. OnOk printed (Appends old new (text (history_of e.events)))) c.engine.ensures.engine c.print_text-printed.ensures.done)
-    (subst (λ e. OnErr printed (AppendsPart old new (text (history_of e.events)))) c.engine.ensures.engine c.print_text-printed.ensures.part))
+    (subst (λ e. OnOk printed (Appends old new (text (history_of e.past)))) c.engine.ensures.engine c.print_text-printed.ensures.done)
+    (subst (λ e. OnErr printed (AppendsPart old new (text (history_of e.past)))) c.engine.ensures.engine c.print_text-printed.ensures.part))
