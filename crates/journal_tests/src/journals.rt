@@ -369,7 +369,8 @@ fn a_base_takes_the_place_of_what_stands_before_it(rt: HostRuntime) -> Result<()
         places.push(payload.at)?;
     }
     assert_eq!(rt; places.as_slice(), [16, 29].as_slice());
-    let _armed = journal.arm();
+    let armed = journal.arm();
+    assert_eq!(rt; armed, Append::Done);
     let raised = journal.raise_version();
     assert_eq!(rt; raised, Append::Done);
     Ok(())
