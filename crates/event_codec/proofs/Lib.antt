@@ -12,3 +12,4 @@ pub mod Decodings
 pub mod BytesCounted
 pub mod SoundFormed
 pub mod GrowthLaws
+pub mod BlockLaws

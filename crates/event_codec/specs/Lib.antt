@@ -5,3 +5,4 @@ pub mod Growing
 pub mod Reading
 pub mod Decoding
 pub mod Laws
+pub mod Blocks

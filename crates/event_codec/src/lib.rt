@@ -1,6 +1,7 @@
 //! The bytes of events: each event has one spelling, and no event's bytes begin another's.
 #![tactic(auto)]
 
+mod blocks;
 mod codes;
 mod conditions;
 mod errors;

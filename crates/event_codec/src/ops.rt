@@ -41,7 +41,7 @@ impl Field for Op {
         match kind {
             OpKind::Insert => {
                 let table = reader.four()?;
-                let rows = reader.many()?;
+                let rows = reader.rows()?;
                 Ok(Op::Insert { table, rows })
             }
             OpKind::Delete => {

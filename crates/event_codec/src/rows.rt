@@ -8,8 +8,7 @@ use crate::errors::ReadError;
 use crate::fields::{Field, put_few_items};
 use crate::numbers::put_signed;
 use crate::reader::Reader;
-use ts_bucket::{MAX_TIME, MIN_TIME};
-use ts_schema::{NoMemory, Row, SharedSlice};
+use ts_schema::{NoMemory, Row, Seq, SharedSlice};
 
 impl Field for Option<i64> {
     ghost spelling = { value };
@@ -57,8 +56,9 @@ impl Field for Row {
 
     #[tactic(auto, unfolding(crate::specs::Reading::row_at))]
     fn read(reader: &mut Reader<'_>) -> Result<Row, ReadError> {
-        let at = reader.between(MIN_TIME, MAX_TIME)?;
-        let vals = SharedSlice::of(reader.alloc(), reader.few()?)?;
+        let mut vals = Vec::new(reader.alloc());
+        let at = reader.row_into(&mut vals)?;
+        let vals = SharedSlice::of(reader.alloc(), Seq::of(vals))?;
         Ok(Row { at, vals })
     }
 }
