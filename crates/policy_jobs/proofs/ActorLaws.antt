@@ -54,12 +54,12 @@ use Rattle.policy_jobs.proofs.RunLaws.{made_behind, or_false}
 
 -- ---- procedures with something else said of their end
 
-record EndedAs {A B : Type 0} (g : A → B) (alone failed : Bool) (old : State) (d : Procedure A) (new : State) (y : B) : Type 0 where
-  end : A
-  walks : Walks alone failed old d new end
-  is : y ≡ g end
+pub record EndedAs {A B : Type 0} (g : A → B) (alone failed : Bool) (old : State) (d : Procedure A) (new : State) (y : B) : Type 0 where
+  pub end : A
+  pub walks : Walks alone failed old d new end
+  pub is : y ≡ g end
 
-ended_as : {A B : Type 0} (g : A → B) (alone failed : Bool) (old : State) (d : Procedure A) (new : State) (y : B) → Walks alone failed old (ending_as g d) new y → EndedAs g alone failed old d new y
+pub ended_as : {A B : Type 0} (g : A → B) (alone failed : Bool) (old : State) (d : Procedure A) (new : State) (y : B) → Walks alone failed old (ending_as g d) new y → EndedAs g alone failed old d new y
 ended_as g alone failed old d new y w =
     let p = walks_parted alone failed old d (λ a. ends (g a)) new y w in
     let whole : failed ≡ p.failed_first = p.fell ∙ ap (λ t. p.failed_first || t) p.walks_then.0 ∙ or_false p.failed_first in

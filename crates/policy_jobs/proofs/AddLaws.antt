@@ -40,14 +40,20 @@ not_wrong : (at code : ℕ) (b : Bool) → refused at code (not b) ≡ None → 
 not_wrong at code true e = refl
 not_wrong at code false e = absurd cc
 
--- the offsets of a policy that passed are within bounds
-pub offsets_passed : (at : ℕ) (r : Roster) (many : ℕ) (job : Job) (every : ℤ) → adding_refusal at r many job every ≡ None → has_offsets job ≡ true
-offsets_passed at r many job every e =
+-- the numbers of a policy that passed are within bounds
+numbers_passed : (at : ℕ) (r : Roster) (many : ℕ) (job : Job) (every : ℤ) → adding_refusal at r many job every ≡ None → (has_offsets job ≡ true) × (is_interval every ≡ true)
+numbers_passed at r many job every e =
     let wrong = refused at BAD_POLICY (not (has_offsets job && is_interval every && fits_step r job)) in
     let full = marked at TOO_MANY_POLICIES (suc most_policies) (nat_le most_policies many) in
     let passed = first_none wrong full (second_none (relation_refusal at r job) (wrong ⊳ full) e) in
     let good = not_wrong at BAD_POLICY (has_offsets job && is_interval every && fits_step r job) passed in
-    (and_parts (has_offsets job) (is_interval every) (and_parts (has_offsets job && is_interval every) (fits_step r job) good).0).0
+    and_parts (has_offsets job) (is_interval every) (and_parts (has_offsets job && is_interval every) (fits_step r job) good).0
+
+pub offsets_passed : (at : ℕ) (r : Roster) (many : ℕ) (job : Job) (every : ℤ) → adding_refusal at r many job every ≡ None → has_offsets job ≡ true
+offsets_passed at r many job every e = (numbers_passed at r many job every e).0
+
+pub interval_passed : (at : ℕ) (r : Roster) (many : ℕ) (job : Job) (every : ℤ) → adding_refusal at r many job every ≡ None → is_interval every ≡ true
+interval_passed at r many job every e = (numbers_passed at r many job every e).1
 
 -- ---- policies that are kept
 

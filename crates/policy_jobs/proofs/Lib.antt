@@ -2,9 +2,13 @@ pub mod PolicyRules
 pub mod Judging
 mod WideNumbers
 pub mod TokenLaws
+pub mod CleanTexts
 pub mod DueTexts
 pub mod RunLaws
 pub mod TurnLaws
 pub mod AddLaws
 pub mod OtherLines
 pub mod ActorLaws
+pub mod DueLaws
+pub mod PlaceLaws
+pub mod TickLines

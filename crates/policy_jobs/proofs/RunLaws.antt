@@ -34,11 +34,11 @@ pub made_behind : (xs ys : List Said) → made_in (xs ++ ys) ≡ made_in xs ++ m
 made_behind [] ys = refl
 made_behind (x ∷ xs) ys = ap (λ m. made_by x ++ m) (made_behind xs ys) ∙ sym (append_assoc (made_by x) (made_in xs) (made_in ys))
 
-or_behind : (a b c : Bool) → (a || (b || c)) ≡ ((a || b) || c)
+pub or_behind : (a b c : Bool) → (a || (b || c)) ≡ ((a || b) || c)
 or_behind true b c = refl
 or_behind false b c = refl
 
-fault_behind : (xs ys : List Said) → has_fault (xs ++ ys) ≡ (has_fault xs || has_fault ys)
+pub fault_behind : (xs ys : List Said) → has_fault (xs ++ ys) ≡ (has_fault xs || has_fault ys)
 fault_behind [] ys = refl
 fault_behind (x ∷ xs) ys = ap (λ t. is_fault x || t) (fault_behind xs ys) ∙ or_behind (is_fault x) (has_fault xs) (has_fault ys)
 

@@ -106,7 +106,7 @@ return_not : (b : ℕ) (bytes : List ℕ) → eqb b 13 ≡ false → is_return (
 return_not b [] e = e
 return_not b (c ∷ bytes) e = refl
 
-not_blank : (b : ℕ) (bytes : List ℕ) → is_space b ≡ false → eqb b 13 ≡ false → blank_len (b ∷ bytes) ≡ 0
+pub not_blank : (b : ℕ) (bytes : List ℕ) → is_space b ≡ false → eqb b 13 ≡ false → blank_len (b ∷ bytes) ≡ 0
 not_blank b bytes no_space no_return =
     let none : prefix_len is_space (b ∷ bytes) ≡ 0 = rw no_space refl in
     ap (λ n. cond (is_return (drop n (b ∷ bytes))) (n + 1) n) none ∙ ap (λ t. cond t 1 0) (return_not b bytes no_return)

@@ -7,3 +7,4 @@ pub mod Adding
 pub mod Turns
 pub mod Runs
 pub mod Sessions
+pub mod Laws

@@ -9,11 +9,13 @@
 //! - `runs`: statements that an actor executes one after the other.
 //! - `sessions`: sessions with policies, and what they do with statements on them.
 //! - `actors`: sessions with policies execute the lines of a session.
+//! - `laws`: laws of policies and ticks, in clauses of functions that do nothing.
 #![tactic(auto)]
 
 mod actors;
 mod adding;
 mod jobs;
+mod laws;
 mod policies;
 mod reading;
 mod runs;
@@ -21,6 +23,10 @@ mod sessions;
 mod statements;
 
 pub use jobs::Job;
+pub use laws::{
+    due_texts_are_statements, lines_keep_policies, lines_see_their_own_places,
+    only_new_ones_are_due, second_ticks_are_idle, ticks_are_their_lines,
+};
 pub use policies::{Policy, due_texts, mark_due};
 pub use reading::{PolicyRead, policy_reading_law, read_policy};
 pub use sessions::PolicySession;

@@ -1,0 +1,39 @@
+//! Laws of policies and ticks. Each is the clause of a function that does nothing, at any types.
+ghost use Rattle.policy_jobs.specs.Laws.{DueTextsAreStatements, LinesKeepPolicies, LinesSeeTheirOwnPlaces, OnlyNewOnesAreDue, SecondTicksAreIdle, TicksAreTheirLines};
+
+use ts_model::Shown;
+use ts_sessions::{Actor, Session};
+
+/// The text that a policy runs is its statement, by the grammar of all statements.
+pub fn due_texts_are_statements()
+    ensures { DueTextsAreStatements }
+{}
+
+/// After a tick, whatever is added until the next at the same time is all that is due then.
+pub fn only_new_ones_are_due()
+    ensures { OnlyNewOnesAreDue }
+{}
+
+/// A line leaves the policies that stand, and may put new ones behind them; a tick marks those that were due.
+pub fn lines_keep_policies<P>()
+    ensures { LinesKeepPolicies P }
+{}
+
+/// After a tick, one at the same time is its line alone.
+pub fn second_ticks_are_idle<P>()
+    ensures { SecondTicksAreIdle P }
+{}
+
+/// A tick of a session is its line and then the lines of its due statements.
+pub fn ticks_are_their_lines<T: Shown + Drop>()
+where
+    T::Job: Drop,
+    ensures { TicksAreTheirLines }
+{
+    Session::<T>::stays_outside();
+}
+
+/// What lines of other sessions write is the same whatever a session carries, its policies among it.
+pub fn lines_see_their_own_places<P>()
+    ensures { LinesSeeTheirOwnPlaces P }
+{}
