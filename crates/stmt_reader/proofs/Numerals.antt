@@ -1,14 +1,18 @@
--- The digits that a number's token takes are a numeral.
-use Rattle.std.proofs.Common.{◌≡◌, ◌≢◌, ℕ, suc, ◌+◌, ◌<◌, true, false, eqb, List, [], ◌∷◌, take, drop, refl, sym, subst, ◌∙◌, arith, inl, inr}
-use Rattle.std.proofs.lemmas.Bool.{ne_eqb, cases_Bool, cond_both}
+-- The digits that a number's token takes are a numeral, and few of them write what is read digit by digit.
+use Rattle.std.proofs.Common.{◌≡◌, ◌≢◌, ℕ, suc, zero, ◌+◌, ◌*◌, ◌^◌, ◌<◌, ◌≤◌, true, false, cond, eqb, leb, List, [], ◌∷◌, length, take, drop, length-take-le, refl, sym, ap, subst, ◌∙◌, arith, inl, inr, get_or}
+use Rattle.std.specs.Prelude.{pos, neg_ℤ, nat_lt, Some}
+use Rattle.std.proofs.lemmas.Bool.{ne_eqb, cases_Bool, cond_both, le-leb, lt-ltb, ltb-true, ltb-false}
 use Rattle.std.proofs.lemmas.Bool.Decides.{nat_tests}
 use Rattle.std.proofs.lemmas.List.Folds.{length-prefix_len}
-use Rattle.std.proofs.lemmas.Str.Parse.{digit_at}
+use Rattle.std.proofs.lemmas.List.Sums.{prefix_len-drop_yes, prefix_len-drop_no, prefix_len-drop_all}
+use Rattle.std.proofs.lemmas.Str.Parse.{digit_at, digits_value_short, numerals_by_value, tells_digits}
+use Rattle.std.proofs.lemmas.Int.Digits.{digits_more, digits_value_more}
 use Rattle.std.specs.Char.{is_ascii_digit, digit_value}
 use Rattle.std.specs.List.{prefix_len}
-use Rattle.std.specs.Str.Parse.{AllDigits, IsNumeral, without_leading_sign}
+use Rattle.std.specs.Str.Parse.{AllDigits, IsNumeral, without_leading_sign, digits_value, signed_digits_value}
 use Rattle.std.proofs.Math.Numerals.{one-add}
-use Rattle.stmt_reader.specs.Tokens.{sign_len}
+use Rattle.stmt_reader.specs.Tokens.{sign_len, is_i64}
+use Rattle.stmt_reader.specs.Scan.{i64_of, signed_number}
 
 digit_is : (b : ℕ) → is_ascii_digit b ≡ true → digit_value b < 10
 digit_is b e = grind (arith, nat_tests)
@@ -29,6 +33,14 @@ without_minus b ds e = rw e refl
 without_sign : (ds : List ℕ) → IsNumeral 10 ds → without_leading_sign ds ≡ ds
 without_sign [] h = absurd (omega arith)
 without_sign (d ∷ ds) h =
+    let r = digit_at (d ∷ ds) 0 h.1 (omega arith) in
+    let not_minus : eqb d 45 ≡ false = ne_eqb d 45 (λ e. omega (arith, r)) in
+    let not_plus : eqb d 43 ≡ false = ne_eqb d 43 (λ e. omega (arith, r)) in
+    rw (not_minus, not_plus) refl
+
+numeral_value : (ds : List ℕ) → IsNumeral 10 ds → signed_digits_value 10 ds ≡ pos (digits_value 10 ds)
+numeral_value [] h = absurd (omega arith)
+numeral_value (d ∷ ds) h =
     let r = digit_at (d ∷ ds) 0 h.1 (omega arith) in
     let not_minus : eqb d 45 ≡ false = ne_eqb d 45 (λ e. omega (arith, r)) in
     let not_plus : eqb d 43 ≡ false = ne_eqb d 43 (λ e. omega (arith, r)) in
@@ -55,4 +67,90 @@ number_is_numeral (b ∷ bs) s n s-is n-is some =
     elim (cases_Bool (eqb b 45)) [
       | inl minus ↦ signed_with_minus b bs s n minus (s-is ∙ rw minus refl) n-is some
       | inr other ↦ signed_without (b ∷ bs) s n (s-is ∙ rw other refl) n-is some
+    ]
+
+-- ---- digits that stand in front, read one after the other
+
+-- so many digits stand in front at least, and this is the number that they write where they are few
+pub record IsFront (bs : List ℕ) (n v : ℕ) : Type 0 where
+  pub within : n ≤ length bs
+  pub len : prefix_len is_ascii_digit bs ≡ n + prefix_len is_ascii_digit (drop n bs)
+  pub digits : AllDigits 10 (take n bs)
+  pub value : n ≤ 18 → v ≡ digits_value 10 (take n bs)
+  pub small : v < 10 ^ 18
+
+pub front_none : (bs : List ℕ) → IsFront bs 0 0
+front_none bs = record { within = omega arith; len = omega arith; digits = tt; value = λ few. refl; small = omega arith }
+
+-- few digits write a number with room for one more
+front_below : (bs : List ℕ) (n k v : ℕ) → IsFront bs n v → n ≤ k → k ≤ 18 → v < 10 ^ k
+front_below bs n k v f few most =
+    subst (λ (w : ℕ). w < 10 ^ k) (sym (f.value (omega (arith, few, most))))
+    (digits_value_short (numerals_by_value (AllDigits 10) tells_digits) (take n bs) k f.digits (omega (arith, length-take-le n bs f.within, few)))
+
+pub front_room : (bs : List ℕ) (n v : ℕ) → IsFront bs n v → n < 18 → v < 10 ^ 17
+front_room bs n v f few = front_below bs n 17 v f (omega (arith, few)) (omega arith)
+
+-- the value with one more digit
+abbrev pub value_with : ℕ → ℕ → ℕ → ℕ
+value_with n v d = cond (nat_lt n 18) (v * 10 + digit_value d) v
+
+value_with-few : (n v d : ℕ) → n < 18 → value_with n v d ≡ v * 10 + digit_value d
+value_with-few n v d few = rw (lt-ltb n 18 few) refl
+
+pub front_more : (bs : List ℕ) (n v : ℕ) → IsFront bs n v → n < length bs → is_ascii_digit (get_or bs n 0) ≡ true → IsFront bs (n + 1) (value_with n v (get_or bs n 0))
+front_more bs n v f below e =
+    let d : ℕ = get_or bs n 0 in
+    let fit : digit_value d < 10 = digit_is d e in
+    let digits : AllDigits 10 (take (n + 1) bs) = digits_more 10 bs n below f.digits fit in
+    let value : n + 1 ≤ 18 → value_with n v d ≡ digits_value 10 (take (n + 1) bs) =
+    λ few. value_with-few n v d (omega (arith, few)) ∙ ap (λ w. w * 10 + digit_value d) (f.value (omega (arith, few))) ∙ sym (digits_value_more 10 bs n below) in
+    record {
+      within = omega (arith, below);
+      len = f.len ∙ ap (λ k. n + k) (prefix_len-drop_yes is_ascii_digit bs n 0 below e) ∙ omega arith;
+      digits = digits;
+      value = value;
+      small = elim (cases_Bool (nat_lt n 18)) [
+        | inl few ↦ rw few (omega (arith, front_room bs n v f (ltb-true n 18 few), fit))
+        | inr many ↦ rw many f.small
+      ];
+    }
+
+pub front_ends : (bs : List ℕ) (n v : ℕ) → IsFront bs n v → (n < length bs → is_ascii_digit (get_or bs n 0) ≡ false) → n ≡ prefix_len is_ascii_digit bs
+front_ends bs n v f stops =
+    elim (cases_Bool (nat_lt n (length bs))) [
+      | inl below ↦ omega (arith, f.len, prefix_len-drop_no is_ascii_digit bs n 0 (ltb-true n (length bs) below) (stops (ltb-true n (length bs) below)))
+      | inr past ↦ omega (arith, f.len, prefix_len-drop_all is_ascii_digit bs n (ltb-false n (length bs) past))
+    ]
+
+-- ---- the value of few digits behind a sign
+
+-- a number of 18 digits, and the one below zero
+fits_i64 : (v : ℕ) → v < 10 ^ 18 → (is_i64 (pos v) ≡ true) × (is_i64 (neg_ℤ (pos v)) ≡ true)
+fits_i64 zero small = (refl, refl)
+fits_i64 (suc k) small =
+    let above : leb (suc k) 9223372036854775807 ≡ true = le-leb (suc k) 9223372036854775807 (omega (arith, small)) in
+    let below : leb k 9223372036854775807 ≡ true = le-leb k 9223372036854775807 (omega (arith, small)) in
+    (rw above refl, rw below refl)
+
+-- few digits behind their sign write the number of that sign and of their value
+pub short_number : (bs : List ℕ) (s n v : ℕ) → s ≡ sign_len bs → n ≡ prefix_len is_ascii_digit (drop s bs) → n ≢ 0 → v ≡ digits_value 10 (take n (drop s bs)) → v < 10 ^ 18 → i64_of (signed_digits_value 10 (take (s + n) bs)) ≡ Some (signed_number s v)
+short_number [] s n v s-is n-is some v-is small = absurd (some (n-is ∙ rw s-is refl))
+short_number (b ∷ bs) s n v s-is n-is some v-is small =
+    elim (cases_Bool (eqb b 45)) [
+      | inl minus ↦
+          let one : s ≡ 1 = s-is ∙ rw minus refl in
+          let k : s + n ≡ suc n = omega (arith, one) in
+          let m : v ≡ digits_value 10 (take n bs) = v-is ∙ rw one refl in
+          let value : signed_digits_value 10 (take (s + n) (b ∷ bs)) ≡ neg_ℤ (pos v) =
+          rw (k, minus) (ap (λ (w : ℕ). neg_ℤ (pos w)) (sym m)) in
+          ap i64_of value ∙ rw (one, (fits_i64 v small).1) refl
+      | inr other ↦
+          let none : s ≡ 0 = s-is ∙ rw other refl in
+          let k : s + n ≡ n = omega (arith, none) in
+          let numeral : IsNumeral 10 (take n (b ∷ bs)) = subst (λ (i : ℕ). IsNumeral 10 (take i (b ∷ bs))) (sym (n-is ∙ rw none refl)) (numeral_in_front (b ∷ bs) (λ z. some (n-is ∙ rw none z))) in
+          let m : v ≡ digits_value 10 (take n (b ∷ bs)) = v-is ∙ rw none refl in
+          let value : signed_digits_value 10 (take (s + n) (b ∷ bs)) ≡ pos v =
+          ap (λ i. signed_digits_value 10 (take i (b ∷ bs))) k ∙ numeral_value (take n (b ∷ bs)) numeral ∙ ap pos (sym m) in
+          ap i64_of value ∙ rw (none, (fits_i64 v small).0) refl
     ]

@@ -1,4 +1,4 @@
-use Rattle.std.specs.Prelude.{ℕ, ◌+◌, ◌<◌, ◌≤◌, ℤ, if◌then◌else◌, List, length, Option, Some, None, IsTrue}
+use Rattle.std.specs.Prelude.{ℕ, ◌+◌, ◌<◌, ◌≤◌, ℤ, pos, neg_ℤ, ◌==◌, if◌then◌else◌, List, length, Option, Some, None, IsTrue}
 use Rattle.ts_schema.specs.Names.{is_name}
 use Rattle.stmt_reader.specs.Bytes.{lower}
 use Rattle.stmt_reader.specs.Tokens as spec
@@ -23,6 +23,10 @@ pub data Seen : Type 0 where
 -- a number where it is an i64
 abbrev pub i64_of : ℤ → Option ℤ
 i64_of z = if is_i64 z then Some z else None
+
+-- the number that a sign of so many bytes, a minus or none, and the value of the digits behind it mean
+abbrev pub signed_number : ℕ → ℕ → ℤ
+signed_number sign value = if sign == 0 then pos value else neg_ℤ (pos value)
 
 -- what the code keeps of a token
 abbrev pub seen : spec.Token → Seen

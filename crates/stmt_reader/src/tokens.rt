@@ -1,15 +1,15 @@
 //! Words, numbers, quoted names and marks.
-ghost use Rattle.std.specs.Prelude.{◌≡◌, ◌≤◌, ◌<◌, ◌+◌, ◌-◌, ◌^◌, length, Some, None, IsTrue, pos};
+ghost use Rattle.std.specs.Prelude.{◌≡◌, ◌≤◌, ◌<◌, ◌+◌, ◌-◌, ◌*◌, ◌^◌, if◌then◌else◌, nat_lt, length, take, true, Some, None, IsTrue, pos};
 ghost use Rattle.std.specs.List.{prefix_len};
-ghost use Rattle.std.specs.Char.{is_ascii_digit};
+ghost use Rattle.std.specs.Char.{is_ascii_digit, digit_value};
 ghost use Rattle.std.specs.Ordering.{int_eq};
 ghost use Rattle.std.specs.Str.{bytes_eq};
-ghost use Rattle.std.specs.Str.Parse.{IsNumeral, without_leading_sign, signed_digits_value};
+ghost use Rattle.std.specs.Str.Parse.{IsNumeral, without_leading_sign, digits_value, signed_digits_value};
 ghost use Rattle.stmt_reader.specs.Limits.{longest_line};
 ghost use Rattle.stmt_reader.specs.Bytes.{is_space, begins_word, continues_word, lower};
 ghost use Rattle.stmt_reader.specs.Tokens as spec;
 ghost use Rattle.stmt_reader.specs.Words.{mark_number, comparison_of_mark, is_keyword, is_mark, is_number, is_item, function_of, function_of_word, comparison_of, flag_of, is_spelled};
-ghost use Rattle.stmt_reader.specs.Scan.{view, view_lexeme, view_ahead, seen_lexeme, seen_next, SeenFits, i64_of, shown_token};
+ghost use Rattle.stmt_reader.specs.Scan.{view, view_lexeme, view_ahead, seen_lexeme, seen_next, SeenFits, i64_of, signed_number, shown_token};
 
 use crate::keywords::Keyword;
 use crate::names::WORD_BYTES;
@@ -373,29 +373,87 @@ fn word_at(text: &[u8]) -> Option<Lexeme<'_>>
     })
 }
 
+/// The most digits that surely write an i64.
+const SHORT_NUMBER: usize = 18;
+
+/// Digits that stand in front: how many, and the number that they write where they are at most `SHORT_NUMBER`.
+#[derive(Clone, Copy, Debug)]
+struct Digits {
+    len: usize,
+    value: u64,
+}
+
 /// As many digits as there are, after a minus where one stands in front.
 fn number_at(text: &[u8]) -> Option<Lexeme<'_>>
     ensures { view_lexeme result ≡ seen_lexeme (spec.number_at text.now) }
 {
     let sign = sign_len(text);
     let (_, unsigned) = text.split_at(sign);
-    let digits = digits_len(unsigned);
-    if digits == 0 {
+    let digits = digits_in_front(unsigned);
+    if digits.len == 0 {
         return None;
     }
-    let len = sign + digits;
+    let len = sign + digits.len;
     Some(Lexeme {
-        token: Token::Number(number_of(&text[..len])),
+        token: Token::Number(number_of(&text[..len], sign, digits)),
         len,
     })
 }
 
-/// The value of a numeral, where it is an i64.
-fn number_of(text: &[u8]) -> Option<i64>
-    requires { IsNumeral 10 (without_leading_sign text.now) }
+/// The value of a numeral, where it is an i64. Few digits were read already.
+fn number_of(text: &[u8], sign: usize, digits: Digits) -> Option<i64>
+    requires numeral { IsNumeral 10 (without_leading_sign text.now) }
+    requires small { digits.value < 10 ^ 18 }
+    requires read { digits.len ≤ 18
+        → i64_of (signed_digits_value 10 text.now) ≡ Some (signed_number sign digits.value) }
     ensures { result ≡ i64_of (signed_digits_value 10 text.now) }
 {
-    parse_i64(text).ok()
+    if digits.len <= SHORT_NUMBER {
+        Some(signed_number(sign, digits.value))
+    } else {
+        parse_i64(text).ok()
+    }
+}
+
+/// The digits that stand in front. They are read once, since most bytes of a statement are digits.
+fn digits_in_front(text: &[u8]) -> Digits
+    ensures len { result.len ≡ prefix_len is_ascii_digit text.now }
+    ensures within { result.len ≤ length text.now }
+    ensures value { result.len ≤ 18 → result.value ≡ digits_value 10 (take result.len text.now) }
+    ensures small { result.value < 10 ^ 18 }
+{
+    let mut len = 0;
+    let mut value = 0;
+    while len < text.len() && text[len].is_ascii_digit() {
+        value = value_with(len, value, text[len]);
+        len += 1;
+    }
+    Digits { len, value }
+}
+
+/// The value of so many digits with one more behind them, and that of the first ones where they are many.
+fn value_with(len: usize, value: u64, digit: u8) -> u64
+    requires small { len < 18 → value < 10 ^ 17 }
+    requires digit { is_ascii_digit digit ≡ true }
+    ensures { result ≡ (if nat_lt len 18 then value * 10 + digit_value digit else value) }
+{
+    if len < SHORT_NUMBER {
+        value * 10 + u64::from(digit - b'0')
+    } else {
+        value
+    }
+}
+
+/// The number that a sign of so many bytes and the value of the digits behind it mean.
+fn signed_number(sign: usize, value: u64) -> i64
+    requires { value < 10 ^ 18 }
+    ensures { result ≡ signed_number sign value }
+{
+    if sign == 0 {
+        value as i64
+    } else {
+        -(value as i64)
+    }
 }
 
 /// After the first quote: a word of 1 to 63 bytes and a second quote.
@@ -475,14 +533,6 @@ fn word_len(text: &[u8]) -> usize
     ensures within { result ≤ length text.now }
 {
     text.iter().take_while(|b| may_continue_word(**b)).count()
-}
-
-/// How many digits stand in front.
-fn digits_len(text: &[u8]) -> usize
-    ensures len { result ≡ prefix_len is_ascii_digit text.now }
-    ensures within { result ≤ length text.now }
-{
-    text.iter().take_while(|b| b.is_ascii_digit()).count()
 }
 
 /// 1 where a minus stands in front, else 0.
