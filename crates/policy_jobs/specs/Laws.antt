@@ -96,7 +96,8 @@ pub record LinesKeepPolicies (P : Type 0) : Type 0 where
   pub policies :
       (within : P → Block) (does : P → List ℕ → ℕ → Procedure (Turn P)) (alone failed : Bool) (old : State)
       (p : PolicyPlaces P) (text : List ℕ) (skip : ℕ) (new : State) (y : Turn (PolicyPlaces P))
-      → ArePolicies p.policies → skip ≤ length text → Walks alone failed old (policy_does does within p text skip) new y
+      → ArePolicies p.policies → skip ≤ length text
+      → Walks alone failed old (policy_does does within p text skip) new y
       → ArePolicies y.places.policies
   pub others :
       (within : P → Block) (does : P → List ℕ → ℕ → Procedure (Turn P)) (alone failed : Bool) (old : State)
