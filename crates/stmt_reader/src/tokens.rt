@@ -1,5 +1,5 @@
 //! Words, numbers, quoted names and marks.
-ghost use Rattle.std.specs.Prelude.{◌≡◌, ◌≤◌, ◌<◌, ◌+◌, ◌-◌, ◌*◌, ◌^◌, if◌then◌else◌, nat_lt, length, take, true, Some, None, IsTrue, pos};
+ghost use Rattle.std.specs.Prelude.{◌≡◌, ◌≤◌, ◌<◌, ◌+◌, ◌-◌, ◌*◌, ◌^◌, if◌then◌else◌, nat_lt, length, take, true, Some, None, IfSome, IsTrue, pos};
 ghost use Rattle.std.specs.List.{prefix_len};
 ghost use Rattle.std.specs.Char.{is_ascii_digit, digit_value};
 ghost use Rattle.std.specs.Ordering.{int_eq};
@@ -289,6 +289,40 @@ fn shown(token: Token<'_>, at: u32, end: u32) -> TokenAt
 
 /// What comes after the first `skip` bytes of a text.
 pub fn look(text: &[u8], skip: usize) -> Ahead<'_>
+    requires within { skip ≤ length text.now }
+    ensures next { view_ahead result ≡ seen_next (spec.next text.now skip) }
+    ensures fits { SeenFits skip (length text.now) (view_ahead result) }
+{
+    match lone_mark(text, skip) {
+        Some(mark) => Ahead::Token {
+            token: Token::Mark(mark),
+            begin: skip,
+            end: skip + 1,
+        },
+        None => look_behind_blanks(text, skip),
+    }
+}
+
+/// The mark that stands directly after the first `skip` bytes, where its byte begins no longer one. Most marks
+/// stand so, directly behind a word or a number.
+fn lone_mark(text: &[u8], skip: usize) -> Option<Mark>
+    ensures next { IfSome result (λ mark. spec.next text.now skip
+        ≡ spec.token (spec.mark mark) skip (skip + 1)) }
+    ensures within { IfSome result (λ mark. skip < length text.now) }
+{
+    match text.get(skip) {
+        Some(b',') => Some(Mark::Comma),
+        Some(b'(') => Some(Mark::Open),
+        Some(b')') => Some(Mark::Close),
+        Some(b';') => Some(Mark::Semicolon),
+        Some(b'.') => Some(Mark::Point),
+        Some(b'*') => Some(Mark::Star),
+        _ => None,
+    }
+}
+
+/// What comes after the blanks that stand there.
+fn look_behind_blanks(text: &[u8], skip: usize) -> Ahead<'_>
     requires within { skip ≤ length text.now }
     ensures next { view_ahead result ≡ seen_next (spec.next text.now skip) }
     ensures fits { SeenFits skip (length text.now) (view_ahead result) }

@@ -3,7 +3,7 @@ use Rattle.std.specs.Prelude.{None, Some}
 use Rattle.std.proofs.lemmas.Bool.{eqb-false}
 use Rattle.stmt_reader.specs.Scan.{view_lexeme}
 use Rattle.stmt_reader.proofs.Lexemes.{finds_lexeme}
-use Rattle.stmt_reader.proofs.tokens.look.Goals as goal
+use Rattle.stmt_reader.proofs.tokens.look_behind_blanks.Goals as goal
 
 pub overflow_add-result : goal.overflow_add-result
 overflow_add-result c =
