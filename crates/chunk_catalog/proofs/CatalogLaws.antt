@@ -60,19 +60,19 @@ module _ (interval : ℤ) (r : Reach) (wide : IsInterval interval) where
         let here = lies interval x wide placed in
         met x.start (start_low interval x wide here) ∙ ap (chunk_meets interval span) here.start_is
 
-    -- a row of the span is in a chunk that meets the span
-    out_of_span : (p : ℕ) (x : Placed) → is_placed interval x ≡ true → in_reach r x.start ≡ false → shown_at p span x.version ≡ false
-    out_of_span p x placed out =
+    -- a row of the span, or of a part of it, is in a chunk that meets the span
+    out_of_span : (part : SpanValue) → ((t : ℤ) → in_span part t ≡ true → in_span span t ≡ true) → (p : ℕ) (x : Placed) → is_placed interval x ≡ true → in_reach r x.start ≡ false → shown_at p part x.version ≡ false
+    out_of_span part within p x placed out =
         let here = lies interval x wide placed in
         let apart : chunk_meets interval span x.start ≡ false = sym (met x.start (start_low interval x wide here)) ∙ out in
         let after : x.start ≤ℤ x.version.row.at = here.at_or_after in
         let before = here.before_end in
-        false_from_ne_true (shown_at p span x.version) (λ shown.
-        let inside : in_span span x.version.row.at ≡ true = and_second (visible_at p x.version) (in_span span x.version.row.at) shown in
+        false_from_ne_true (shown_at p part x.version) (λ shown.
+        let inside : in_span span x.version.row.at ≡ true = within x.version.row.at (and_second (visible_at p x.version) (in_span part x.version.row.at) shown) in
         meets_at interval span x.start x.version.row.at after before inside apart)
 
-    pub shown_reached : (p : ℕ) (ps : List Placed) → ArePlaced interval ps → rows_at p span (reached r ps) ≡ rows_at p span (versions_of ps)
-    shown_reached p ps placed = ap rows_of (filter_reached interval (shown_at p span) r ps (out_of_span p) placed)
+    pub shown_reached : (part : SpanValue) → ((t : ℤ) → in_span part t ≡ true → in_span span t ≡ true) → (p : ℕ) (ps : List Placed) → ArePlaced interval ps → rows_at p part (reached r ps) ≡ rows_at p part (versions_of ps)
+    shown_reached part within p ps placed = ap rows_of (filter_reached interval (shown_at p part) r ps (out_of_span part within p) placed)
 
     pub near_reached : (ps : List Placed) → ArePlaced interval ps → reached r ps ≡ filter (is_near interval span) (versions_of ps)
     near_reached [] placed = refl

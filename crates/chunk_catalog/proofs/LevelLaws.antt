@@ -1,5 +1,5 @@
 -- Laws of levels: trees whose sides are even have few levels.
-use Rattle.std.proofs.Common.{◌≡◌, ℕ, suc, zero, ◌<◌, ◌≤◌, ◌+◌, ◌*◌, ◌^◌, max, Bool, true, false, List, ◌++◌, map, length, ℤ, Option, refl, sym, ◌∙◌, ap, arith}
+use Rattle.std.proofs.Common.{◌≡◌, ℕ, suc, zero, ◌<◌, ◌≤◌, ◌+◌, ◌*◌, ◌^◌, max, true, false, List, ◌++◌, map, length, ℤ, Option, refl, sym, ◌∙◌, ap, arith}
 use Rattle.std.specs.Prelude.{nat_le}
 use Rattle.std.proofs.Math.Nat.{pow-suc, lt_of_not-le}
 use Rattle.std.proofs.lemmas.Bool.{leb-true}
@@ -12,7 +12,6 @@ use Rattle.seg_rows.proofs.HullLaws.{hull_of-append, later_time-assoc, later_tim
 use Rattle.seg_rows.proofs.VersionLaws.{rows_of-killed}
 use Rattle.ts_schema.specs.declared.conditions.Test.{Test}
 use Rattle.std.proofs.lemmas.List.{length-map, map-append}
-use Rattle.std.specs.List.{count_by}
 use Rattle.chunk_catalog.proofs.PartLaws.{length_more}
 use Rattle.chunk_catalog.specs.Chunks.{AreLow}
 use Rattle.chunk_catalog.specs.Levels.{AreFew, Levels, AreLevel, FewLevels, TreeValue, tree_over}

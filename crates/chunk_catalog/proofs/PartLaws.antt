@@ -1,13 +1,14 @@
 -- Laws of new rows in the chunks that hold their times.
-use Rattle.std.proofs.Common.{◌≡◌, ℕ, ◌+◌, ◌-◌, ◌<◌, ◌&&◌, not, Bool, true, false, cond, List, [], ◌∷◌, ◌++◌, length, get_or, drop, map, ℤ, refl, sym, ◌∙◌, ap, arith}
+use Rattle.std.proofs.Common.{◌≡◌, ℕ, zero, suc, ◌+◌, ◌-◌, ◌<◌, ◌&&◌, not, Bool, true, false, cond, List, [], ◌∷◌, ◌++◌, length, get_or, take, drop, map, append_assoc, ℤ, refl, sym, ◌∙◌, ap, arith}
 use Rattle.std.specs.List.{list_all, count_by}
 use Rattle.std.specs.Ordering.{int_eq}
 use Rattle.std.proofs.lemmas.Bool.Decides.{Decides-int_eq}
-use Rattle.std.proofs.lemmas.List.{length-map, map-append, drop_more, drop_all}
+use Rattle.std.proofs.lemmas.Bool.{and_from}
+use Rattle.std.proofs.lemmas.List.{append-nil, length-map, map-append, drop_more, drop_all}
 use Rattle.std.proofs.lemmas.List.Sums.{sum_by-cons}
 use Rattle.ts_schema.specs.declared.rows.Row.{Row}
 use Rattle.ts_bucket.specs.Bucket.{is_time}
-use Rattle.seg_rows.specs.Versions.{AsOften, HasMore, newborn}
+use Rattle.seg_rows.specs.Versions.{AsOften, HasMore, Version, newborn}
 use Rattle.chunk_catalog.specs.Chunks.{HaveTimes}
 use Rattle.ts_bucket.specs.Chunks.{chunk_start}
 use Rattle.chunk_catalog.specs.Places.{Placed, in_chunk, place, versions_of, is_placed, ArePlaced}
@@ -121,3 +122,40 @@ halves_put s p old mid new rows first second is one two test =
     let parts : in_chunk s (map (newborn p) rows) ≡ in_chunk s (map (newborn p) first) ++ in_chunk s (map (newborn p) second) =
     ap (λ rs. in_chunk s (map (newborn p) rs)) is ∙ (ap (in_chunk s) (map-append (newborn p) first second) ∙ map-append (place s) (map (newborn p) first) (map (newborn p) second)) in
     omega (arith, one test, two test, ap (count_by test) parts, count-append test (in_chunk s (map (newborn p) first)) (in_chunk s (map (newborn p) second)))
+
+-- one piece of rows more
+pub piece_more : (p : ℕ) (start now new : List Version) (rows front left piece rest : List Row) (k : ℕ) → front ++ left ≡ rows → piece ≡ take k left → rest ≡ drop k left → AsOften now (start ++ map (newborn p) front)
+    → AsOften new (now ++ map (newborn p) piece) → (more : List Row) × (more ++ rest ≡ rows) × AsOften new (start ++ map (newborn p) more)
+piece_more p start now new rows front left piece rest k whole first others was put = (
+  front ++ piece,
+  append_assoc front piece rest ∙ ap (λ rs. front ++ rs) (ap (λ rs. rs ++ rest) first ∙ ap (λ rs. take k left ++ rs) others ∙ cut k left) ∙ whole,
+  λ test.
+      put test ∙ count-append test now (map (newborn p) piece) ∙ ap (λ n. n + count_by test (map (newborn p) piece)) (was test)
+      ∙ sym (count-append test (start ++ map (newborn p) front) (map (newborn p) piece))
+      ∙ ap (count_by test) (append_assoc start (map (newborn p) front) (map (newborn p) piece) ∙ ap (λ vs. start ++ vs) (sym (map-append (newborn p) front piece))),
+)
+  where
+    cut : (k : ℕ) (xs : List Row) → take k xs ++ drop k xs ≡ xs
+    cut zero xs = refl
+    cut (suc k) [] = refl
+    cut (suc k) (x ∷ xs) = ap (λ ys. x ∷ ys) (cut k xs)
+
+pub nothing_put : (p : ℕ) (start now : List Version) (rows : List Row) → now ≡ start → (front : List Row) × (front ++ rows ≡ rows) × AsOften now (start ++ map (newborn p) front)
+nothing_put p start now rows same = ([], refl, λ test. ap (count_by test) (same ∙ sym (append-nil start)))
+
+-- parts of rows of times are of times
+pub times_in_front : (rows : List Row) (k : ℕ) → HaveTimes rows → HaveTimes (take k rows)
+times_in_front rows zero e = refl
+times_in_front [] (suc k) e = refl
+times_in_front (row ∷ rows) (suc k) e = and_from (is_time row.at) _ (and_first (is_time row.at) (list_all (λ r. is_time r.at) rows) e) (times_in_front rows k (and_second (is_time row.at) (list_all (λ r. is_time r.at) rows) e))
+
+pub times_behind : (rows : List Row) (k : ℕ) → HaveTimes rows → HaveTimes (drop k rows)
+times_behind rows zero e = e
+times_behind [] (suc k) e = refl
+times_behind (row ∷ rows) (suc k) e = times_behind rows k (and_second (is_time row.at) (list_all (λ r. is_time r.at) rows) e)
+
+-- where nothing is left, all rows are there
+pub all_put : (p : ℕ) (start now : List Version) (rows front left : List Row) → front ++ left ≡ rows → left ≡ [] → AsOften now (start ++ map (newborn p) front) → AsOften now (start ++ map (newborn p) rows)
+all_put p start now rows front left whole none was =
+    let same : front ≡ rows = sym (append-nil front) ∙ ap (λ rs. front ++ rs) (sym none) ∙ whole in
+    λ test. was test ∙ ap (λ rs. count_by test (start ++ map (newborn p) rs)) same

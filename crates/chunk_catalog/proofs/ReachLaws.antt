@@ -2,7 +2,7 @@
 use Rattle.std.proofs.Common.{◌≡◌, ◌&&◌, Bool, true, false, ◌-◌, ◌^◌, ℤ, pos, negsuc, ◌+ℤ◌, ◌-ℤ◌, ◌≤ℤ◌, ◌<ℤ◌, ◌∙◌, arith}
 use Rattle.std.specs.Prelude.{int_le, int_lt, FitsSigned}
 use Rattle.std.specs.Int.{w64, int_rem_euclid, int_max, int_min}
-use Rattle.std.proofs.lemmas.Int.{ints}
+use Rattle.std.proofs.lemmas.Int.{clamps, ints}
 use Rattle.std.proofs.lemmas.Bool.Decides.{Decides-int_eq}
 use Rattle.std.proofs.lemmas.Bool.{and_from}
 use Rattle.ts_bucket.specs.Bucket.{is_time, min_time, max_time}
@@ -45,6 +45,10 @@ lies interval x h p =
 pub both_hold : (a b : Reach) (first last t : ℤ) → first ≡ int_max a.first b.first → last ≡ int_min a.last b.last → in_reach a t ≡ true → in_reach b t ≡ true
     → (int_le first t && int_le t last) ≡ true
 both_hold a b first last t f l p q = rw (f, l) (grind (arith, ints))
+
+-- a time from one on and below an end lies in the span of these times
+pub in_time_span : (first t lo end hi : ℤ) → lo ≡ int_max first min_time → end ≤ℤ hi → is_time t ≡ true → first ≤ℤ t → t <ℤ end → (int_le lo t && int_lt t hi) ≡ true
+in_time_span first t lo end hi l h time from below = rw l (grind (arith, ints, clamps))
 
 -- the start of a chunk that holds a time of a range
 pub start_reached : (interval first low last s t : ℤ) → s ≤ℤ t → t <ℤ (s +ℤ interval) → int_le first s ≡ int_le (low -ℤ (interval -ℤ pos 1)) s

@@ -1,6 +1,6 @@
 -- Versions from which a delete takes nothing: all have died, or none has a time that passes.
 use Rattle.std.proofs.Common.{◌≡◌, ℕ, ℤ, pos, negsuc, true, false, cond, Option, Some, None, List, [], ◌∷◌, ◌++◌, ◌≤ℤ◌, refl, sym, ◌∙◌, ap, arith}
-use Rattle.std.specs.Prelude.{FitsSigned, int_le, nat_le}
+use Rattle.std.specs.Prelude.{FitsSigned, nat_le}
 use Rattle.std.specs.Int.{w64}
 use Rattle.std.specs.List.{filter, list_all}
 use Rattle.std.proofs.lemmas.Int.{ints}

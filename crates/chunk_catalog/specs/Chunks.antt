@@ -3,8 +3,10 @@ use Rattle.std.specs.Prelude.{◌≡◌, ℕ, ◌+◌, ◌*◌, ◌^◌, ◌≤�
 use Rattle.std.specs.List.{list_all}
 use Rattle.ts_bucket.specs.Bucket.{is_time}
 use Rattle.ts_bucket.specs.Chunks.{chunk_start}
-use Rattle.ts_bucket.specs.Spans.{SpanValue}
+use Rattle.ts_bucket.specs.Spans.{SpanValue, in_span}
+use Rattle.ts_schema.specs.declared.conditions.Test.{Test}
 use Rattle.ts_schema.specs.declared.rows.Row.{Row}
+use Rattle.ts_schema.specs.Conditions.{passes_all}
 use Rattle.seg_rows.specs.Versions.{Version, visible_at, rows_of}
 
 -- what contracts see of `Chunks`: how long a chunk is, every version that was ever put there, and how many levels of
@@ -48,3 +50,7 @@ after_drop interval n p v = cond (is_dropped interval n p v) (record { row = v.r
 -- the times of these rows lie in the range of times
 abbrev pub HaveTimes : List Row → Type 0
 HaveTimes rows = list_all (λ row. is_time row.at) rows ≡ true
+
+-- the span holds the time of each row that has one and passes every test
+abbrev pub HoldsTimes : List Test → SpanValue → Type 0
+HoldsTimes tests span = (row : Row) → is_time row.at ≡ true → passes_all row tests ≡ true → in_span span row.at ≡ true

@@ -1,17 +1,20 @@
 //! Chunks of a table.
-ghost use Rattle.std.specs.Prelude.{◌≡◌, ◌++◌, [], length, map, IfOk, OnOk, OnErr};
+ghost use Rattle.std.specs.Prelude.{◌≡◌, ◌≤ℤ◌, ◌<ℤ◌, ◌++◌, [], length, map, true, ℤ, IfOk, OnOk, OnErr};
 ghost use Rattle.seg_rows.specs.Hulls.{hull_of};
 ghost use Rattle.seg_rows.specs.Versions.{AsOften, after_kill, latest_at, newborn, rows_at, taken_at};
 ghost use Rattle.ts_schema.specs.Counts.{raised_by, RaisedUpTo};
-ghost use Rattle.chunk_catalog.specs.Chunks.{AreLow, HaveTimes, after_drop, dropped_at, held_near};
+ghost use Rattle.chunk_catalog.specs.Chunks.{AreLow, HaveTimes, HoldsTimes, after_drop, dropped_at, held_near};
+ghost use Rattle.ts_bucket.specs.Bucket.{is_time};
 ghost use Rattle.ts_bucket.specs.Chunks.{IsInterval};
+ghost use Rattle.ts_bucket.specs.Spans.{in_span};
 
-use crate::parts::put_rows;
+use crate::parts::{MANY, put_rows};
 use crate::reach::{drop_reach, span_reach, start_reach, test_times};
 use crate::trees::Tree;
+use seg_rows::copied_rows;
 use std::alloc::Global;
 use std::marker::Model;
-use ts_bucket::{Hull, Span};
+use ts_bucket::{Hull, MAX_TIME, MIN_TIME, Span};
 use ts_schema::{NoMemory, Row, Seq, Steps, Test};
 
 /// No value holds more versions, which is far beyond any memory.
@@ -55,6 +58,36 @@ pub struct KilledChunks {
     pub hull: Option<Hull>,
 }
 
+/// A span of times among which are those of all rows that pass every test.
+pub fn passing_span(tests: &[Test]) -> Span
+    ensures every { HoldsTimes tests.now result }
+{
+    let times = test_times(tests);
+    time_span(times.first, times.last)
+}
+
+/// The times from one to another, both included.
+fn time_span(first: i64, last: i64) -> Span
+    ensures every { (t : ℤ) → is_time t ≡ true → first ≤ℤ t → t ≤ℤ last → in_span result t ≡ true }
+{
+    let lo = first.max(MIN_TIME);
+    Span {
+        lo,
+        hi: time_end(last).max(lo),
+    }
+}
+
+/// The end of the times up to this one, included.
+fn time_end(last: i64) -> i64
+    ensures after { (t : ℤ) → is_time t ≡ true → t ≤ℤ last → t <ℤ result }
+{
+    if last < MAX_TIME {
+        last + 1
+    } else {
+        MAX_TIME + 1
+    }
+}
+
 impl Chunks {
     /// No chunk yet. Each will hold `interval` times, from 1 to 2^50.
     pub fn new(alloc: Global, interval: i64) -> Chunks
@@ -92,7 +125,7 @@ impl Chunks {
 
     /// The chunks with rows that are born at a position, which is at least those of the earlier
     /// changes.
-    pub fn put(&self, rows: Seq<Row>, pos: u64) -> Result<Chunks, NoMemory>
+    fn put(&self, rows: Seq<Row>, pos: u64) -> Result<Chunks, NoMemory>
         requires times { HaveTimes rows }
         ensures interval { IfOk result (λ chunks. chunks.interval ≡ self.now.interval) }
         ensures versions { IfOk result (λ chunks.
@@ -108,6 +141,23 @@ impl Chunks {
             tree: put_rows(self.alloc, &self.tree, self.interval, rows, pos)?,
             count,
         })
+    }
+
+    /// The same of rows that stay where they are, of which no more than a piece is copied at a time.
+    pub fn put_copies(&self, rows: &[Row], pos: u64) -> Result<Chunks, NoMemory>
+        requires times { HaveTimes rows.now }
+        ensures interval { IfOk result (λ chunks. chunks.interval ≡ self.now.interval) }
+        ensures versions { IfOk result (λ chunks.
+            AsOften chunks.versions (self.now.versions ++ map (newborn pos) rows.now)) }
+    {
+        let mut chunks = self.copy()?;
+        let mut left = rows;
+        'pieces: while !left.is_empty() {
+            let (piece, rest) = left.split_at(left.len().min(MANY));
+            chunks = chunks.put(copied_rows(self.alloc, piece)?, pos)?;
+            left = rest;
+        }
+        Ok(chunks)
     }
 
     /// A delete at a position, which is at least those of the earlier changes: the versions that are
@@ -169,9 +219,28 @@ impl Chunks {
         ensures at_most { let near = held_near self.now.interval span self.now.versions in
             OnErr result (RaisedUpTo near steps.old steps.new) }
     {
+        self.scan_part(pos, span, span, steps)
+    }
+
+    /// The same of a part of the span. It looks at the same versions, and takes the rows of the part alone.
+    pub fn scan_part<L>(
+        &self,
+        pos: u64,
+        span: Span,
+        part: Span,
+        steps: &mut Steps<L>,
+    ) -> Result<Seq<Row>, NoMemory>
+        requires within { (t : ℤ) → in_span part t ≡ true → in_span span t ≡ true }
+        ensures rows { IfOk result (λ rows. rows ≡ rows_at pos part self.now.versions) }
+        ensures wide { IsInterval self.now.interval }
+        ensures ticks { let near = held_near self.now.interval span self.now.versions in
+            OnOk result (steps.new ≡ raised_by near steps.old) }
+        ensures at_most { let near = held_near self.now.interval span self.now.versions in
+            OnErr result (RaisedUpTo near steps.old steps.new) }
+    {
         let reach = span_reach(self.interval, span);
         let mut rows = Seq::new(self.alloc);
-        self.tree.scan(reach, pos, span, &mut rows, steps)?;
+        self.tree.scan(reach, pos, part, &mut rows, steps)?;
         Ok(rows)
     }
 

@@ -12,4 +12,4 @@ mod piles;
 mod reach;
 mod trees;
 
-pub use catalog::{Chunks, KilledChunks};
+pub use catalog::{Chunks, KilledChunks, passing_span};

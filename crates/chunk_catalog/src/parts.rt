@@ -14,7 +14,7 @@ use std::alloc::Global;
 use ts_schema::{NoMemory, Row, Seq};
 
 /// No segment of new rows has more of them.
-const MANY: usize = 1024;
+pub const MANY: usize = 1024;
 
 /// Rows of one chunk, with its start.
 #[derive(Drop)]

@@ -1,9 +1,10 @@
 //! Tables.
-ghost use Rattle.std.specs.Prelude.{◌≡◌, ℕ, [], ◌∷◌, IfOk};
+ghost use Rattle.std.specs.Prelude.{◌≡◌, ℕ, ℤ, [], ◌∷◌, true, IfOk};
 ghost use Rattle.ts_schema.specs.Counts.{Ticks};
 ghost use Rattle.seg_rows.specs.Versions.{latest_at, rows_of};
 ghost use Rattle.chunk_catalog.specs.Chunks.{HaveTimes};
 ghost use Rattle.ts_bucket.specs.Chunks.{IsInterval};
+ghost use Rattle.ts_bucket.specs.Spans.{in_span};
 ghost use Rattle.ts_model.specs.declared.events.Op.TheVariants.{Insert, Delete};
 ghost use Rattle.ts_model.specs.Effect.{all_appended};
 ghost use Rattle.ts_model.specs.Reads.{rows_near};
@@ -92,6 +93,22 @@ impl Table {
         self.chunks.scan(pos, span, steps)
     }
 
+    /// The same of a part of the span. It looks at the same rows, and takes those of the part alone.
+    pub fn scan_part<L>(
+        &self,
+        pos: u64,
+        span: Span,
+        part: Span,
+        steps: &mut Steps<L>,
+    ) -> Result<Seq<Row>, NoMemory>
+        requires within { (t : ℤ) → in_span part t ≡ true → in_span span t ≡ true }
+        ensures rows { IfOk result (λ rows. rows ≡ rows_of_span part (visible_rows pos self.now.versions)) }
+        ensures read { let near = rows_near self.now.interval (rows_of self.now.versions) (span ∷ []) in
+            Ticks result near steps.old steps.new }
+    {
+        self.chunks.scan_part(pos, span, part, steps)
+    }
+
     /// The greatest time that is visible at a position, and `None` exactly where no row is.
     pub fn last(&self, pos: u64) -> Option<i64>
         ensures last { result ≡ latest_at pos self.now.versions }
@@ -138,7 +155,7 @@ impl Applied {
             Counts t (Insert t rows.now ∷ []) (rows_seen pos self.table) self.effect a.effect) }
     {
         let effect = self.effect.and_inserted(rows.items())?;
-        let chunks = self.table.chunks.put(rows.copy()?, pos)?;
+        let chunks = self.table.chunks.put_copies(rows.items(), pos)?;
         Ok(Applied {
             table: Table { chunks },
             effect,

@@ -7,5 +7,5 @@ use Rattle.row_versions.proofs.tables.Applied.and_insert.Goals as goal
 pub returns-clause-table : goal.returns-clause-table
 returns-clause-table c =
     insert_follows c.args.rows.now c.args.pos c.self.inside.0.0.chunks c.args.self.table c.in_ok-chunks.chunks (ap (λ a. a.table) c.self.view_is) c.in_ok-chunks.ensures.interval
-    (subst (λ (rows : List Row). AsOften c.in_ok-chunks.chunks.versions (c.self.inside.0.0.chunks.versions ++ map (newborn c.args.pos) rows)) c.in_ok-copy.ensures.same c.in_ok-chunks.ensures.versions)
+    (subst (λ (rows : List Row). AsOften c.in_ok-chunks.chunks.versions (c.self.inside.0.0.chunks.versions ++ map (newborn c.args.pos) rows)) c.items-2.ensures.items c.in_ok-chunks.ensures.versions)
     c.requires.up_to

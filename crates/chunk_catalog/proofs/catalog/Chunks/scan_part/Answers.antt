@@ -10,7 +10,7 @@ use Rattle.ts_bucket.specs.Chunks.{IsInterval}
 use Rattle.chunk_catalog.specs.Places.{versions_of, reached}
 use Rattle.chunk_catalog.specs.Reach.{in_reach}
 use Rattle.chunk_catalog.proofs.CatalogLaws.{held_reached, shown_reached}
-use Rattle.chunk_catalog.proofs.catalog.Chunks.scan.Goals as goal
+use Rattle.chunk_catalog.proofs.catalog.Chunks.scan_part.Goals as goal
 
 pub returns-in_err-scan-clause-at_most : goal.returns-in_err-scan-clause-at_most
 returns-in_err-scan-clause-at_most g c =
@@ -34,9 +34,9 @@ returns-clause-rows g c =
     held_reached c.self.inside.interval c.span_reach-reach.result c.self.invariant.wide c.args.span met c.self.inside.tree.0 c.self.invariant.placed
     ∙ (ap (λ i. held_near i c.args.span (versions_of c.self.inside.tree.0)) interval_is ∙ ap (held_near c.args.self.now.interval c.args.span) versions_is) in
     c.in_ok-scan.ensures.rows
-    ∙ (ap (λ rows. rows ++ rows_at c.args.pos c.args.span (reached c.span_reach-reach.result c.self.inside.tree.0)) c.new-rows.ensures.items
-    ∙ (shown_reached c.self.inside.interval c.span_reach-reach.result c.self.invariant.wide c.args.span met c.args.pos c.self.inside.tree.0 c.self.invariant.placed
-    ∙ ap (rows_at c.args.pos c.args.span) versions_is))
+    ∙ (ap (λ rows. rows ++ rows_at c.args.pos c.args.part (reached c.span_reach-reach.result c.self.inside.tree.0)) c.new-rows.ensures.items
+    ∙ (shown_reached c.self.inside.interval c.span_reach-reach.result c.self.invariant.wide c.args.span met c.args.part c.requires.within c.args.pos c.self.inside.tree.0 c.self.invariant.placed
+    ∙ ap (rows_at c.args.pos c.args.part) versions_is))
 
 pub returns-clause-ticks : goal.returns-clause-ticks
 returns-clause-ticks g c =
