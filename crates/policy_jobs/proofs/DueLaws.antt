@@ -1,6 +1,8 @@
 -- What a tick leaves due, what lines leave of the policies, and the statements that policies run.
 use Rattle.std.proofs.Common.{◌≡◌, ◌∙◌, ℕ, ◌≤◌, ℤ, ◌-ℤ◌, Bool, true, false, cond, int_le, List, [], ◌∷◌, ◌++◌, append-nil, length, map, Option, Some, None, refl, sym, ap, subst, arith}
 use Rattle.std.specs.Prelude.{Result, Ok, Err}
+use Rattle.std.specs.List.{list_any}
+use Rattle.std.proofs.lemmas.Bool.{or_parts}
 use Rattle.std.proofs.lemmas.Int.{ints}
 use Rattle.ts_bucket.specs.Bucket.{is_time}
 use Rattle.ts_model.specs.declared.outcomes.Refusal.{Refusal}
@@ -76,6 +78,21 @@ all_due now (p ∷ new) never =
 
 pub only_new_ones_are_due : OnlyNewOnesAreDue
 only_new_ones_are_due now old new are never = none_due now old new are ∙ all_due now new never
+
+-- where none is due a tick runs nothing
+pub idle_due : (now : ℤ) (ps : List Policy) → list_any (is_due now) ps ≡ false → due now ps ≡ []
+idle_due now [] e = refl
+idle_due now (p ∷ ps) e =
+    let k = or_parts (is_due now p) (list_any (is_due now) ps) e in
+    ap (λ t. cond t (p ∷ due now ps) (due now ps)) k.0 ∙ idle_due now ps k.1
+
+-- and marks nothing
+pub idle_marked : (now : ℤ) (ps : List Policy) → list_any (is_due now) ps ≡ false → ticked now ps ≡ ps
+idle_marked now [] e = refl
+idle_marked now (p ∷ ps) e =
+    let k = or_parts (is_due now p) (list_any (is_due now) ps) e in
+    let one : ticked_one now p ≡ p = ap (λ t. record p { ran = cond t (Some now) p.ran }) k.0 in
+    (λ i. one i ∷ idle_marked now ps k.1 i)
 
 -- a second tick marks nothing
 pub marked_twice : (now : ℤ) (ps : List Policy) → ArePolicies ps → ticked now (ticked now ps) ≡ ticked now ps

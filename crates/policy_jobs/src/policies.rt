@@ -1,6 +1,6 @@
 //! Policies that a session keeps: which of them are due at a time, and the statements that they run.
-ghost use Rattle.std.specs.Prelude.{◌≡◌, ◌++◌, true, IfOk, OnOk, Some};
-ghost use Rattle.std.specs.List.{AllByRecursion};
+ghost use Rattle.std.specs.Prelude.{◌≡◌, ◌++◌, not, true, IfOk, OnOk, Some};
+ghost use Rattle.std.specs.List.{AllByRecursion, list_any};
 ghost use Rattle.ts_bucket.specs.Bucket.{is_time};
 ghost use Rattle.policy_jobs.specs.Policies.{due_text, due_texts as texts_due, end_of, end_text, is_due, refresh_text, retention_text, ticked, ticked_one};
 ghost use Rattle.policy_jobs.specs.Policies as spec;
@@ -82,6 +82,18 @@ pub fn due_texts(alloc: Global, policies: &[Policy], now: i64) -> Result<Seq<Seq
         }
     }
     Ok(texts)
+}
+
+/// Whether none is due at a time.
+pub(crate) fn is_idle(policies: &[Policy], now: i64) -> bool
+    ensures { result ≡ not (list_any (is_due now) policies.now) }
+{
+    for policy in policies {
+        if policy.is_due(now) {
+            return false;
+        }
+    }
+    true
 }
 
 /// Those that are due at a time have run then.

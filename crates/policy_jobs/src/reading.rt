@@ -1,13 +1,15 @@
 //! Reading a statement on policies.
-ghost use Rattle.std.specs.Prelude.{◌≡◌, ◌≤◌, length, Ok};
+ghost use Rattle.std.specs.Prelude.{◌≡◌, ◌≤◌, ◌&&◌, length, true, Ok};
 ghost use Rattle.stmt_reader.specs.Cursor.{ahead};
 ghost use Rattle.stmt_reader.specs.Limits.{longest_line};
 ghost use Rattle.stmt_reader.specs.Reading.{Gives, semicolon};
-ghost use Rattle.stmt_reader.specs.Streams.{stream};
+ghost use Rattle.stmt_reader.specs.Streams.{heads, stream, tail};
+ghost use Rattle.stmt_reader.specs.Words.{is_keyword};
+ghost use Rattle.stmt_reader.specs.declared.keywords.Keyword.TheVariants.{Select};
 ghost use Rattle.policy_jobs.specs.Answers.{Answers, Judges, ReadsByTheGrammar};
 ghost use Rattle.policy_jobs.specs.Reading as spec;
 ghost use Rattle.policy_jobs.specs.Reading.{statement};
-ghost use Rattle.policy_jobs.specs.Words.{begins};
+ghost use Rattle.policy_jobs.specs.Words.{adds, begins};
 
 use crate::jobs::Job;
 use crate::statements::PolicyStmt;
@@ -57,35 +59,39 @@ pub fn read_policy(alloc: Global, text: &[u8], skip: u32) -> PolicyRead
     answer(alloc, text, skip)
 }
 
+#[tactic(auto, unfolding(crate::specs::Words::begins))]
 fn answer(alloc: Global, text: &[u8], skip: u32) -> PolicyRead
     requires short { length text.now ≤ longest_line }
     requires within { skip ≤ length text.now }
     ensures exact { Answers result (begins (stream text.now skip)) (statement (stream text.now skip)) }
 {
-    if !begins_so(alloc, text, skip) {
+    let mut reader = Reader::new(alloc, text, skip as usize);
+    if reader.is_at_word(TICK) {
+        return statement_at(&mut reader);
+    }
+    if !takes_to_addition(&mut reader) {
         return PolicyRead::Other;
     }
-    let mut reader = Reader::new(alloc, text, skip as usize);
-    match read_statement(&mut reader) {
+    statement_at(&mut Reader::new(alloc, text, skip as usize))
+}
+
+/// Goes past `SELECT`, where it comes next, and looks whether the name of a call that adds a policy follows.
+fn takes_to_addition(reader: &mut Reader<'_>) -> bool
+    ensures { result ≡ (heads (is_keyword Select) (ahead reader.old) && heads adds (tail (ahead reader.old))) }
+{
+    reader.takes_keyword(Keyword::Select)
+        && (reader.is_at_word(ADD_REFRESH) || reader.is_at_word(ADD_RETENTION))
+}
+
+/// The statement that comes next, which begins as one on policies.
+fn statement_at(reader: &mut Reader<'_>) -> PolicyRead
+    ensures { Answers result true (statement (ahead reader.old)) }
+{
+    match read_statement(reader) {
         Ok(stmt) => PolicyRead::Stmt(stmt),
         Err(ReadError::Memory) => PolicyRead::NoMemory,
         Err(ReadError::Fault(fault)) => PolicyRead::Fault(fault),
     }
-}
-
-/// Whether a text begins with `TICK`, or with `SELECT` and the name of a call that adds a policy.
-#[tactic(auto, unfolding(crate::specs::Words::begins))]
-fn begins_so(alloc: Global, text: &[u8], skip: u32) -> bool
-    requires short { length text.now ≤ longest_line }
-    requires within { skip ≤ length text.now }
-    ensures { result ≡ begins (stream text.now skip) }
-{
-    let mut reader = Reader::new(alloc, text, skip as usize);
-    if reader.is_at_word(TICK) {
-        return true;
-    }
-    reader.takes_keyword(Keyword::Select)
-        && (reader.is_at_word(ADD_REFRESH) || reader.is_at_word(ADD_RETENTION))
 }
 
 /// A whole statement, with one `;` or none at its end.

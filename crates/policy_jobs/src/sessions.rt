@@ -15,7 +15,7 @@ ghost use Rattle.policy_jobs.specs.Turns.{adds_policy, lets_pass, misses_time, r
 
 use crate::adding::adding_refusal;
 use crate::jobs::Job;
-use crate::policies::{Policy, due_texts, mark_due};
+use crate::policies::{Policy, due_texts, is_idle, mark_due};
 use crate::reading::{PolicyRead, read_policy};
 use crate::runs::{Run, run_all};
 use crate::statements::PolicyStmt;
@@ -164,6 +164,9 @@ impl<A: Actor> PolicySession<A> {
         if !is_time(now) {
             return self.miss_time(alloc, backend);
         }
+        if is_idle(&self.policies, now) {
+            return say(alloc, self.actor.name(), Said::Tick { time: now, due: 0 });
+        }
         match self.run_due(rt, alloc, backend, gate, now, steps) {
             Ok(run) => {
                 self.mark(now);
@@ -287,7 +290,14 @@ pub(crate) fn misread(fault: Fault) -> Refusal
 pub(crate) fn refuse(alloc: Global, name: &Name, refusal: Refusal) -> StepEnd
     ensures { AnswersSo name.now (FaultLine refusal ∷ []) false result }
 {
-    match write_line(alloc, name, Said::Fault(refusal)) {
+    say(alloc, name, Said::Fault(refusal))
+}
+
+/// The answer of the session with a name that has this one line.
+fn say(alloc: Global, name: &Name, line: Said) -> StepEnd
+    ensures { AnswersSo name.now (line ∷ []) false result }
+{
+    match write_line(alloc, name, line) {
         Ok(reply) => StepEnd::Reply(reply),
         Err(NoMemory) => StepEnd::NoMemory,
     }

@@ -1,18 +1,22 @@
-use Rattle.std.proofs.Common.{◌≡◌, ◌∙◌, ◌<◌, ◌≤◌, ◌^◌, FitsSigned, ap, cond, false, of_z, rules, subst, sym, to_z, true, w64}
+use Rattle.std.proofs.Common.{◌≡◌, ◌∙◌, [], ◌∷◌, refl, ◌<◌, ◌≤◌, ◌^◌, FitsSigned, ap, cond, false, of_z, rules, subst, sym, to_z, true, w64}
 use Rattle.std.specs.Prelude.{Ok}
 use Rattle.std.proofs.Math.Facts.{to_z-of_z}
+use Rattle.std.specs.List.{list_any}
+use Rattle.std.proofs.lemmas.Bool.{not-true}
 use Rattle.ts_bucket.specs.Bucket.{is_time}
+use Rattle.result_text.specs.declared.replies.Said.TheVariants as said
 use Rattle.ts_sessions.specs.Procedures.{ending_as, ends}
-use Rattle.ts_sessions.specs.Sessions.{Stepped}
+use Rattle.ts_sessions.specs.Sessions.{AnswersSo, Stepped}
 use Rattle.ts_sessions.specs.Walks.{Breaks}
 use Rattle.ts_sessions.proofs.WalkLaws.{breaks_first}
 use Rattle.policy_jobs.specs.Adding.{AreKept}
-use Rattle.policy_jobs.specs.Policies.{ticked}
+use Rattle.policy_jobs.specs.Policies.{is_due, ticked}
 use Rattle.policy_jobs.specs.Runs.{RunsTo}
 use Rattle.policy_jobs.specs.Sessions.{HoldsOf, places_in}
 use Rattle.policy_jobs.specs.Turns.{beside, misses_time, runs_due}
 use Rattle.policy_jobs.proofs.AddLaws.{always, kept_ticked}
-use Rattle.policy_jobs.proofs.TurnLaws.{beside_stepped, run_stepped}
+use Rattle.policy_jobs.proofs.DueLaws.{idle, idle_due, idle_marked}
+use Rattle.policy_jobs.proofs.TurnLaws.{beside_stepped, line_stepped, run_stepped}
 use Rattle.policy_jobs.proofs.sessions.PolicySession.tick.Goals as goal
 
 pub returns-then-not-is_time-clause-stepped : goal.returns-then-not-is_time-clause-stepped
@@ -78,3 +82,23 @@ returns-in-Err-clause-stepped g c =
     let broke_here = subst (λ t. Breaks alone old (runs_due does t p.inner p.policies) new) here broke.0 in
     subst (λ t. Breaks alone old (cond t (ending_as (beside (ticked now p.policies)) d) (misses_time p)) new × (n ≤ m)) (sym in_time)
     (breaks_first alone old d (λ y. ends (beside (ticked now p.policies) y)) new broke_here, broke.1)
+
+pub returns-then-is_idle-clause-stepped : goal.returns-then-is_idle-clause-stepped
+returns-then-is_idle-clause-stepped g c =
+    let alone = g.B.Backend.alone in
+    let does = g.A.Actor.semantics.does in
+    let old = g.B.Backend.state c.args.backend.now in
+    let name = g.A.Actor.named c.args.self.now.actor in
+    let p = places_in g.A.Actor.places c.args.self.now in
+    let now = c.args.now in
+    let n = c.args.steps.now in
+    let short : n < 2 ^ 64 = search rules in
+    let fits : FitsSigned w64 now = c.ranges.now in
+    let here = to_z-of_z {w = w64} {z = now} fits in
+    let in_there : c.is_time.result ≡ true = c.if-not-is_time.false in
+    let in_time : is_time now ≡ true = subst (λ t. is_time t ≡ true) here (sym c.is_time.ensures ∙ in_there) in
+    let none : list_any (is_due now) p.policies ≡ false = not-true (list_any (is_due now) p.policies) (search rules) in
+    let line = said.Tick now 0 in
+    let said_so : AnswersSo name (line ∷ []) false c.say.result = search rules in
+    subst (λ d. Stepped alone old d name c.say.result old p n n) (sym (idle does p now in_time (idle_due now p.policies none) (idle_marked now p.policies none)))
+    (line_stepped alone old name p line c.say.result n short refl said_so)
