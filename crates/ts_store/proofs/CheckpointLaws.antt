@@ -74,6 +74,15 @@ written_from P DiskFault past failed most ends there = there ends.0
 written_from P (Stopped p) past failed most ends there = tt
 written_from P NoMemory past failed most ends there = tt
 
+-- what reads give stays where nothing was written
+pub untouched_shows : {D : Type 0} (bytes : D → Option (List ℕ)) (end : CheckEnd) (old new : D) (P : List ℕ → Type 0) → IfUntouched end (new ≡ old) → IsSomeAnd (bytes old) P → IfUntouched end (IsSomeAnd (bytes new) P)
+untouched_shows bytes (Done p n) old new P same_disk shown = tt
+untouched_shows bytes (Nothing p) old new P same_disk shown = subst (λ disk. IsSomeAnd (bytes disk) P) (sym same_disk) shown
+untouched_shows bytes (TooLong p n) old new P same_disk shown = subst (λ disk. IsSomeAnd (bytes disk) P) (sym same_disk) shown
+untouched_shows bytes DiskFault old new P same_disk shown = tt
+untouched_shows bytes (Stopped p) old new P same_disk shown = subst (λ disk. IsSomeAnd (bytes disk) P) (sym same_disk) shown
+untouched_shows bytes NoMemory old new P same_disk shown = subst (λ disk. IsSomeAnd (bytes disk) P) (sym same_disk) shown
+
 module _ {D : Type 0} (bytes : D → Option (List ℕ)) (may_leave : D → List ℕ → Type 0) (moment : D → ℕ) (left_since : D → ℕ → List ℕ → Type 0) where
   pub saves_run : (h : History) (frame : List ℕ) (old new : D) → IsSound h → IsImageOf h frame
       → LeavesOnly moment left_since old new (StandsForOne (content_of h) (based_on frame)) → LeavesOnly moment left_since old new (StandsSaved h)

@@ -150,6 +150,9 @@ impl<D: Disk> Store<D> {
         ensures images { IsDurable D.bytes D.may_leave self.begun
             → (c : List ℕ) → D.left_since result.disk (D.moment self.begun) c
             → IsBetween (opening self) (seen self) self.failed c ⊎ StandsForImage (seen self) c }
+        // Where nothing was written, what reads give begins with the header.
+        ensures header { self.failed ≡ None → IsDurable D.bytes D.may_leave self.begun
+            → IfUntouched result.end (IsSomeAnd (D.bytes result.disk) HasHeader) }
         ensures counted { CountsEnd result.end (D.faults self.journal.disk) (D.faults result.disk) }
     {
         checkpoint(self.alloc, self.recorder, most)

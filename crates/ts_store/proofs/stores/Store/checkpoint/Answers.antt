@@ -1,13 +1,15 @@
-use Rattle.std.proofs.Common.{◌⊎◌, ℕ, ◌≤◌, List, subst}
+use Rattle.std.proofs.Common.{◌≡◌, ◌⊎◌, ℕ, ◌≤◌, true, List, None, subst}
+use Rattle.std.specs.Prelude.{IsSomeAnd}
 use Rattle.ts_disk.specs.CrashImage.{LeavesOnly}
 use Rattle.ts_model.specs.History.{History, Begins}
 use Rattle.ts_model.proofs.HistoryLaws.{begins_prefix}
 use Rattle.engine_core.specs.Histories.{history_of}
-use Rattle.ts_store.specs.Checkpoints.{BeginsSaved, StandsForImage, StandsSaved}
-use Rattle.ts_store.specs.Images.{BeginSince, IsBetween, IsDurable}
+use Rattle.ts_store.specs.Checkpoints.{BeginsSaved, IfUntouched, StandsForImage, StandsSaved}
+use Rattle.ts_store.specs.Images.{BeginSince, HasHeader, IsBetween, IsDurable}
 use Rattle.ts_store.specs.Recorders.{store_of}
 use Rattle.ts_store.specs.Stores.{Rests, StoreValue, opening, seen}
-use Rattle.ts_store.proofs.CheckpointLaws.{begins_run, images_run, written_from}
+use Rattle.ts_store.proofs.CheckpointLaws.{begins_run, images_run, untouched_shows, written_from}
+use Rattle.ts_store.proofs.KeptLaws.{shows_header}
 use Rattle.ts_store.proofs.stores.Store.checkpoint.Goals as goal
 
 pub returns-clause-earlier : goal.returns-clause-earlier
@@ -32,3 +34,13 @@ returns-clause-images g c =
     (written_from (LeavesOnly g.D.Disk.moment g.D.Disk.left_since c.self.inside.recorder.journal.disk c.checkpoint.result.disk (StandsSaved h)) c.checkpoint.result.end c.self.inside.recorder.engine.past c.self.inside.recorder.failed c.args.most
     c.checkpoint.ensures.ends (λ going. (c.checkpoint.ensures.safe (c.self.invariant.rests durable going)).any_moment))
     c.checkpoint.ensures.untouched (begins_prefix (seen inside) c.self.inside.opened) (c.self.invariant.later durable) (c.self.invariant.images durable))
+
+pub returns-clause-header : goal.returns-clause-header
+returns-clause-header g c going durable =
+    let D = g.D.Disk in
+    let inside : StoreValue g.row.D.Denot = store_of c.self.inside.recorder c.self.inside.begun c.self.inside.opened c.self.inside.armed in
+    subst (λ (s : StoreValue g.row.D.Denot). s.armed ≡ true → s.failed ≡ None → IsDurable D.bytes D.may_leave s.begun → IfUntouched c.checkpoint.result.end (IsSomeAnd (D.bytes c.checkpoint.result.disk) HasHeader))
+    c.self.view_is
+    (λ armed goes_on whole. untouched_shows D.bytes c.checkpoint.result.end inside.journal.disk c.checkpoint.result.disk HasHeader c.checkpoint.ensures.untouched
+    (shows_header D.bytes D.may_leave D.moment D.left_since D.faults inside c.self.invariant armed goes_on whole))
+    c.requires.armed going durable

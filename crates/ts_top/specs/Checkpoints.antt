@@ -1,0 +1,136 @@
+-- What a call has done that puts the image of its journal's history behind the journal, by how it ended.
+use Rattle.std.specs.Prelude.{◌≡◌, ◌≢◌, ◌⊎◌, ℕ, ◌<◌, ◌≤◌, ◌^◌, List, [], ◌++◌, Option, IsSomeAnd, codes, decimal}
+use Rattle.std.specs.Io.KnownBytes.{Appends}
+use Rattle.ts_io.specs.Whole.{AppendsPart}
+use Rattle.ts_model.specs.History.{History, events_of, position}
+use Rattle.result_text.specs.Refusals.{refusal_text}
+use Rattle.result_text.specs.declared.codes.TheConstants.{IMAGE_LONG}
+use Rattle.ts_store.specs.Checkpoints.{HasImage, StandsForImage, StandsSaved}
+use Rattle.ts_store.specs.Stands.{Stands}
+use Rattle.ts_store.specs.declared.checkpoints.CheckEnd.{CheckEnd}
+use Rattle.ts_store.specs.declared.checkpoints.CheckEnd.TheVariants as ends
+use Rattle.ts_top.specs.Outcomes.{HeaderFailed, IsDamaged, Outside, Over}
+use Rattle.ts_top.specs.declared.endings.Status.{Status}
+use Rattle.ts_top.specs.declared.endings.Status.TheVariants.{Done, Refused, BadWords, ReadFault, WriteFault, DiskFault, Damaged, NoMemory, InputLong}
+
+-- ---- lines
+
+-- so many bytes an image may have
+abbrev pub longest_image : ℕ
+longest_image = 2 ^ 30
+
+abbrev pub saved_text : ℕ → ℕ → List ℕ
+saved_text pos bytes = codes "CHECKPOINT @" ++ decimal pos ++ codes " bytes " ++ decimal bytes ++ codes "\n"
+
+abbrev pub nothing_text : ℕ → List ℕ
+nothing_text pos = codes "NOTHING @" ++ decimal pos ++ codes "\n"
+
+abbrev pub too_long_text : ℕ → ℕ → List ℕ
+too_long_text pos bytes = refusal_text (record { code = IMAGE_LONG; pos = pos; mark = bytes })
+
+-- a line tells that the image of a history with events after its own image was saved
+pub record TellsSaved (h : History) (line : List ℕ) : Type 0 where
+  pub later : events_of h ≢ []
+  pub bytes : ℕ
+  pub image : HasImage h bytes
+  pub within : bytes ≤ longest_image
+  pub text : line ≡ saved_text (position h) bytes
+
+-- a line tells that no event stands after the image that a history begins with, or that there is no event at all
+pub record TellsNothing (h : History) (line : List ℕ) : Type 0 where
+  pub none : events_of h ≡ []
+  pub text : line ≡ nothing_text (position h)
+
+-- a line tells that the image of a history is too long
+pub record TellsTooLong (h : History) (line : List ℕ) : Type 0 where
+  pub later : events_of h ≢ []
+  pub bytes : ℕ
+  pub image : HasImage h bytes
+  pub beyond : longest_image < bytes
+  pub text : line ≡ too_long_text (position h) bytes
+
+-- ---- the journal
+
+-- where all of the file was on the disk at first: reads give a file that has the one, and what a crash at any moment
+-- of the call might have left has the other
+pub record JournalLeft (durable : Type 0) (left : List ℕ → Type 0) (Shown MaySee : List ℕ → Type 0)
+    (file : Option (List ℕ)) : Type 0 where
+  pub holds : durable → IsSomeAnd file Shown
+  pub images : durable → (c : List ℕ) → left c → MaySee c
+
+-- it stands for the history
+abbrev pub AsBefore : Type 0 → (List ℕ → Type 0) → History → Option (List ℕ) → Type 0
+AsBefore durable left h file = JournalLeft durable left (λ c. Stands c h) (λ c. Stands c h) file
+
+-- it stands for the image of the history, and on the way there for the one or the other
+abbrev pub AsImage : Type 0 → (List ℕ → Type 0) → History → Option (List ℕ) → Type 0
+AsImage durable left h file = JournalLeft durable left (StandsForImage h) (StandsSaved h) file
+
+-- it stands for the history, or for its image
+abbrev pub AsEither : Type 0 → (List ℕ → Type 0) → History → Option (List ℕ) → Type 0
+AsEither durable left h file = JournalLeft durable left (StandsSaved h) (StandsSaved h) file
+
+-- ---- the call
+
+-- a line was written that tells this, and so the journal stands
+pub record Told (Tells Wrote : List ℕ → Type 0) (Journal : Type 0) : Type 0 where
+  pub line : List ℕ
+  pub tells : Tells line
+  pub wrote : Wrote line
+  pub journal : Journal
+
+abbrev pub ToldSaved : Type 0 → (List ℕ → Type 0) → (List ℕ → Type 0) → Outside → History → Type 0
+ToldSaved durable left Wrote o h = Told (TellsSaved h) Wrote (AsImage durable left h o.file)
+
+abbrev pub ToldNothing : Type 0 → (List ℕ → Type 0) → (List ℕ → Type 0) → Outside → History → Type 0
+ToldNothing durable left Wrote o h = Told (TellsNothing h) Wrote (AsBefore durable left h o.file)
+
+abbrev pub ToldTooLong : Type 0 → (List ℕ → Type 0) → (List ℕ → Type 0) → Outside → History → Type 0
+ToldTooLong durable left Wrote o h = Told (TellsTooLong h) Wrote (AsBefore durable left h o.file)
+
+-- a history has events after its image, and so the journal stands
+abbrev pub Later : History → Type 0 → Type 0
+Later h Journal = (events_of h ≢ []) × Journal
+
+-- what a checkpoint that ended so has done. It prints one line, or nothing where the disk failed, the journal is
+-- damaged, or memory ran out
+abbrev pub CheckpointTo : Status → Type 0 → (List ℕ → Type 0) → Type 0 → Type 0 → Outside → Type 0
+CheckpointTo Done durable left unprinted kept o =
+    Over o
+    (λ h. ToldSaved durable left (Appends o.written_before o.written) o h
+    ⊎ ToldNothing durable left (Appends o.written_before o.written) o h)
+CheckpointTo Refused durable left unprinted kept o =
+    Over o (ToldTooLong durable left (Appends o.written_before o.written) o)
+CheckpointTo BadWords durable left unprinted kept o = ⊥
+CheckpointTo ReadFault durable left unprinted kept o = ⊥
+CheckpointTo WriteFault durable left unprinted kept o =
+    Over o
+    (λ h. ToldSaved durable left (AppendsPart o.written_before o.written) o h
+    ⊎ ToldNothing durable left (AppendsPart o.written_before o.written) o h
+    ⊎ ToldTooLong durable left (AppendsPart o.written_before o.written) o h)
+CheckpointTo DiskFault durable left unprinted kept o =
+    unprinted
+    × ((kept ⊎ HeaderFailed durable left o.file_before o.file)
+    ⊎ Over o (λ h. Later h (AsEither durable left h o.file)))
+CheckpointTo (Damaged at) durable left unprinted kept o = unprinted × kept × IsDamaged at o
+CheckpointTo NoMemory durable left unprinted kept o =
+    unprinted × (kept ⊎ Over o (λ h. Later h (AsBefore durable left h o.file)))
+CheckpointTo InputLong durable left unprinted kept o = ⊥
+
+-- ---- how the call ends, by the checkpoint's end
+
+-- a line was printed and the call ends so, or the sink failed and a part of it was printed
+abbrev pub Prints : Status → List ℕ → Status → Option (List ℕ) → Option (List ℕ) → Type 0
+Prints end line status before written =
+    ((status ≡ end) × Appends before written line) ⊎ ((status ≡ WriteFault) × AppendsPart before written line)
+
+-- its line was printed, where it has one
+abbrev pub TellsEnd : CheckEnd → Status → Type 0 → Option (List ℕ) → Option (List ℕ) → Type 0
+TellsEnd (ends.Done pos bytes) status unprinted before written =
+    Prints Done (saved_text pos bytes) status before written
+TellsEnd (ends.Nothing pos) status unprinted before written = Prints Done (nothing_text pos) status before written
+TellsEnd (ends.TooLong pos bytes) status unprinted before written =
+    Prints Refused (too_long_text pos bytes) status before written
+TellsEnd ends.DiskFault status unprinted before written = (status ≡ DiskFault) × unprinted
+TellsEnd (ends.Stopped pos) status unprinted before written = (status ≡ DiskFault) × unprinted
+TellsEnd ends.NoMemory status unprinted before written = (status ≡ NoMemory) × unprinted
