@@ -5,7 +5,6 @@ ghost use Rattle.ts_schema.specs.Names.{is_name};
 ghost use Rattle.ts_io.specs.declared.limits.TheConstants.{INPUT_LIMIT};
 ghost use Rattle.ts_model.specs.Roster.{same_name};
 ghost use Rattle.ts_sessions.specs.Script.{most_sessions};
-ghost use Rattle.ts_sessions.specs.Step.{bare as bare_refusal};
 ghost use Rattle.par_lines.specs.Sorted.{sorts, sorts_as, sorted};
 ghost use Rattle.par_lines.specs.Places.{line_at, sorted_of, IsLineWithin, IsWithin};
 
@@ -16,8 +15,8 @@ use result_text::{Said, codes, put_line_fault, put_reply};
 use std::alloc::Global;
 use stmt_reader::{LineKind, split_line};
 use ts_io::LINE_LIMIT;
-use ts_model::Refusal;
 use ts_schema::NoMemory;
+use ts_sessions::bare;
 
 /// How many sessions an input may have.
 const MOST_SESSIONS: usize = 64;
@@ -140,16 +139,5 @@ impl SortedLines {
             let refusal = Said::Fault(bare(codes::TOO_MANY_SESSIONS));
             put_reply(&name, &refusal, &mut self.refusals)
         }
-    }
-}
-
-/// A refusal without a position.
-fn bare(code: u8) -> Refusal
-    ensures { result ≡ bare_refusal code }
-{
-    Refusal {
-        code,
-        pos: 0,
-        mark: 0,
     }
 }
