@@ -1,10 +1,13 @@
 -- The row of a table is the row that its columns show.
 use Rattle.std.proofs.Common.{◌≡◌, ℕ, zero, suc, ◌≤◌, ◌<◌, List, [], ◌∷◌, map, take, drop, length, insert, sym, ap, subst, refl, ◌∙◌, arith, ℤ, Option, Some, None, IsTrue, true}
-use Rattle.std.specs.Prelude.{remove}
-use Rattle.std.proofs.lemmas.Bool.{and_parts}
+use Rattle.std.specs.Prelude.{int_le, remove}
+use Rattle.std.proofs.lemmas.Bool.{and_from, and_parts}
+use Rattle.std.proofs.lemmas.Int.{ints}
 use Rattle.std.proofs.lemmas.List.Edits.{length-remove}
 use Rattle.std.specs.List.{AllByRecursion, list_all}
-use Rattle.ts_bucket.specs.Bucket.{is_time}
+use Rattle.ts_bucket.specs.Bucket.{is_time, max_time, min_time}
+use Rattle.ts_bucket.specs.WholeSpans.{greatest, least}
+use Rattle.ts_schema.proofs.Cases.{int_le-true, le-int_le}
 use Rattle.ts_num.specs.declared.values.Datum.{Datum}
 use Rattle.ts_num.specs.Aggregates.{shown_or_null}
 use Rattle.ts_schema.specs.declared.columns.Column.{Column}
@@ -17,6 +20,8 @@ use Rattle.ts_model.specs.declared.tables.TableDef.{TableDef}
 use Rattle.cal_bucket.specs.Laws.{ColumnsShowRows, FittingRowsAreShown}
 use Rattle.cal_bucket.specs.Answers.{rows_of_plan}
 use Rattle.cal_bucket.specs.Rows.{number_of, row_shown, IsValue, ShowARow}
+use Rattle.cell_groups.specs.Cells.{value_of}
+use Rattle.cell_groups.specs.Room.{ShowWords}
 use Rattle.cal_bucket.specs.Cells.{ShowsAValue, BeginWithATime}
 
 number_of-shown : (v : Option ℤ) → number_of (shown_or_null v) ≡ v
@@ -49,6 +54,13 @@ columns_show_rows plan rows h = ap (rows_of_plan plan) (rows_shown plan.at rows 
 
 -- ---- what the cells of a row are
 
+time_is_word : (t : ℤ) → IsTrue (is_time t) → IsTrue (is_word t)
+time_is_word t h =
+    let parts = and_parts (int_le min_time t) (int_le t max_time) h in
+    let low = int_le-true min_time t parts.0 in
+    let high = int_le-true t max_time parts.1 in
+    and_from (int_le least t) (int_le t greatest) (le-int_le least t (omega (arith, ints, low))) (le-int_le t greatest (omega (arith, ints, high)))
+
 value_shown : (v : Option ℤ) → IsValue v → ShowsAValue (shown_or_null v)
 value_shown None h = tt
 value_shown (Some n) h = h
@@ -74,11 +86,27 @@ columns_fit t (v ∷ vals) (suc at) h time values =
 pub cells_fit : (at : ℕ) (cells : List Datum) → ShowARow at cells → CellsFit at cells
 cells_fit at cells h = subst (CellsFit at) (sym h.columns) (columns_fit h.row.at h.row.vals at h.place h.time h.values)
 
+words_of_row : (t : ℤ) (vals : List (Option ℤ)) (at : ℕ) → at ≤ length vals → IsTrue (is_time t) → AllByRecursion IsValue vals → AllByRecursion IsValue (insert vals at (Some t))
+words_of_row t vals zero h time values = (time_is_word t time, values)
+words_of_row t [] (suc at) h time values = absurd (omega (arith, h))
+words_of_row t (v ∷ vals) (suc at) h time values = (values.0, words_of_row t vals at (omega (arith, h)) time values.1)
+
+values_of_cells : (vals : List (Option ℤ)) → map value_of (map shown_or_null vals) ≡ vals
+values_of_cells [] = refl
+values_of_cells (None ∷ vals) = ap (λ vs. None ∷ vs) (values_of_cells vals)
+values_of_cells (Some n ∷ vals) = ap (λ vs. Some n ∷ vs) (values_of_cells vals)
+
+-- they show numbers of 64 bits
+pub words_shown : (at : ℕ) (cells : List Datum) → ShowARow at cells → ShowWords cells
+words_shown at cells h =
+    subst ShowWords (sym h.columns)
+    (subst (AllByRecursion IsValue) (sym (values_of_cells (insert h.row.vals at (Some h.row.at)))) (words_of_row h.row.at h.row.vals at h.place h.time h.values))
+
 -- ---- rows of a hypertable
 
-value_of : (c : Column) (v : Option ℤ) → value_fits c v ≡ true → IsValue v
-value_of c None e = tt
-value_of c (Some n) e = e
+fitting_value : (c : Column) (v : Option ℤ) → value_fits c v ≡ true → IsValue v
+fitting_value c None e = tt
+fitting_value c (Some n) e = e
 
 -- as many values as columns, and each has 64 bits
 values_of : (cols : List Column) (vals : List (Option ℤ)) → values_fit cols vals ≡ true → (length vals ≡ length cols) × AllByRecursion IsValue vals
@@ -88,7 +116,7 @@ values_of (c ∷ cs) [] e = absurd cc
 values_of (c ∷ cs) (v ∷ vs) e =
     let parts = and_parts (value_fits c v) (values_fit cs vs) e in
     let rest = values_of cs vs parts.1 in
-    (ap suc rest.0, (value_of c v parts.0, rest.1))
+    (ap suc rest.0, (fitting_value c v parts.0, rest.1))
 
 fitting_row : (def : TableDef) (hyper : Hyper) (row : Row) → hyper.at < length def.cols → row_fits def hyper row ≡ true → ShowARow hyper.at (all_columns hyper.at row)
 fitting_row def hyper row there e =

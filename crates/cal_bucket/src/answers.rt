@@ -10,14 +10,15 @@ ghost use Rattle.ts_model.specs.Limits.{most_columns};
 use crate::gathers::gather;
 use crate::plans::CalPlan;
 use crate::shapes::{shape_of, tests_among};
-use cell_groups::rows_of;
+use cell_groups::{Stop, rows_of};
 use cell_rows::CellRows;
 use std::alloc::Global;
 use ts_model::Answer;
 use ts_num::Datum;
 use ts_schema::{NoMemory, Seq};
 
-/// The rows of a table, which `lower` shows, grouped by buckets of the calendar.
+/// The rows of a table, which `lower` shows, grouped by buckets of the calendar. Its counts and sums are never too
+/// great, since the rows show numbers of 64 bits: it ends for want of memory alone.
 pub fn cal_answer(alloc: Global, plan: &CalPlan, lower: &Answer) -> Result<Answer, NoMemory>
     requires number { IsNumber plan.now.number }
     requires columns { IsTrue (columns_are_there most_columns plan.now.fold) }
@@ -44,5 +45,10 @@ fn answer_rows(
     let shape = shape_of(alloc, plan.at, &plan.fold)?;
     let tests = tests_among(alloc, plan.at, plan.fold.tests.items())?;
     let gathered = gather(alloc, plan, &shape, tests.as_slice(), lower)?;
-    rows_of(alloc, &shape, gathered)
+    let _rows = lower.len();
+    match rows_of(alloc, &shape, gathered) {
+        Ok(rows) => Ok(rows),
+        Err(Stop::NoMemory) => Err(NoMemory),
+        Err(Stop::TooGreat) => unreachable!(),
+    }
 }

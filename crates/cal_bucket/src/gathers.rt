@@ -1,9 +1,11 @@
 //! The groups of the rows that an answer shows.
-ghost use Rattle.std.specs.Prelude.{◌≡◌, [], IfOk, OnOk, IsTrue};
+ghost use Rattle.std.specs.Prelude.{◌≡◌, ◌+◌, ◌-◌, ◌^◌, ℕ, [], length, IfOk, OnOk, IsTrue};
 ghost use Rattle.std.specs.List.{AllByRecursion};
 ghost use Rattle.cell_groups.specs.Cells.{cells_pass};
-ghost use Rattle.cell_groups.specs.Groups.{HaveTallies, as_groups};
-ghost use Rattle.cell_groups.specs.Taken.{taken_in, with_rows};
+ghost use Rattle.cell_groups.specs.Groups.{as_groups, cells_at};
+ghost use Rattle.cell_groups.specs.Room.{AreOfRows, ShowWords};
+ghost use Rattle.cell_groups.specs.Taken.{AreGathered, taken_in, with_rows};
+ghost use Rattle.group_fold.specs.Merging.{with_group};
 ghost use Rattle.group_fold.specs.Gathering.{ordered};
 ghost use Rattle.cal_bucket.specs.Buckets.{IsNumber};
 ghost use Rattle.cal_bucket.specs.Named.{NamesItsTimes};
@@ -13,7 +15,7 @@ ghost use Rattle.cal_bucket.specs.Shapes.{named_group};
 use crate::buckets::{Bucket, bucket_with, no_bucket};
 use crate::plans::CalPlan;
 use crate::rows::time_of;
-use cell_groups::{CellGroups, Shape, passes};
+use cell_groups::{CellGroups, Shape, Stop, passes};
 use cell_rows::CellRows;
 use std::alloc::Global;
 use ts_num::Datum;
@@ -31,8 +33,10 @@ pub(crate) fn gather<'a>(
     requires shown { AllByRecursion (ShowARow plan.now.at) lower.now }
     ensures groups { IfOk result (λ gathered. ordered (as_groups shape.now gathered.groups.items)
         ≡ with_rows (cells_pass tests.now) (named_group plan.now shape.now) lower.now []) }
-    ensures tallies { IfOk result (λ gathered. HaveTallies shape.now.aggs gathered.groups.items) }
+    ensures gathered { IfOk result (λ gathered. AreGathered shape.now gathered) }
+    ensures few { IfOk result (λ gathered. AreOfRows (length lower.now) (as_groups shape.now gathered.groups.items)) }
 {
+    let _rows = lower.len();
     let mut gathered = CellGroups::new(alloc);
     let mut bucket = no_bucket();
     for cells in lower.iter() {
@@ -54,15 +58,40 @@ fn take_row<'a>(
     requires number { IsNumber plan.now.number }
     requires shown { ShowARow plan.now.at cells.now }
     requires names { NamesItsTimes plan.now.unit plan.now.number bucket.old }
-    requires tallies { HaveTallies shape.now.aggs gathered.old.groups.items }
+    requires gathered { AreGathered shape.now gathered.old }
+    requires room { AreOfRows (2 ^ 64 - 2) (as_groups shape.now gathered.old.groups.items) }
     ensures names { NamesItsTimes plan.now.unit plan.now.number bucket.new }
     ensures groups { OnOk result (ordered (as_groups shape.now gathered.new.groups.items)
         ≡ taken_in (cells_pass tests.now) (named_group plan.now shape.now) cells.now (ordered (as_groups shape.now gathered.old.groups.items))) }
-    ensures tallies { OnOk result (HaveTallies shape.now.aggs gathered.new.groups.items) }
+    ensures gathered { OnOk result (AreGathered shape.now gathered.new) }
+    ensures few { (n : ℕ) → AreOfRows n (as_groups shape.now gathered.old.groups.items) → OnOk result (AreOfRows (n + 1) (as_groups shape.now gathered.new.groups.items)) }
 {
     if !passes(cells, tests) {
         return Ok(());
     }
     *bucket = bucket_with(plan.unit, plan.number, *bucket, time_of(plan.at, cells));
-    gathered.take(alloc, shape, i128::from(bucket.start), cells)
+    take_words(alloc, shape, i128::from(bucket.start), cells, gathered)
+}
+
+/// Takes a row of 64-bit numbers in, of which fewer than `2^64` never make a number too great.
+fn take_words<'a>(
+    alloc: Global,
+    shape: &Shape,
+    start: i128,
+    cells: &'a [Datum],
+    gathered: &mut CellGroups<'a>,
+) -> Result<(), NoMemory>
+    requires words { ShowWords cells.now }
+    requires gathered { AreGathered shape.now gathered.old }
+    requires room { AreOfRows (2 ^ 64 - 2) (as_groups shape.now gathered.old.groups.items) }
+    ensures groups { OnOk result (ordered (as_groups shape.now gathered.new.groups.items)
+        ≡ with_group (cells_at shape.now start cells.now) (ordered (as_groups shape.now gathered.old.groups.items))) }
+    ensures gathered { OnOk result (AreGathered shape.now gathered.new) }
+    ensures few { (n : ℕ) → AreOfRows n (as_groups shape.now gathered.old.groups.items) → OnOk result (AreOfRows (n + 1) (as_groups shape.now gathered.new.groups.items)) }
+{
+    match gathered.take(alloc, shape, start, cells) {
+        Ok(()) => Ok(()),
+        Err(Stop::NoMemory) => Err(NoMemory),
+        Err(Stop::TooGreat) => unreachable!(),
+    }
 }

@@ -1,23 +1,29 @@
 -- Groups gathered one by one and put in order.
-use Rattle.std.proofs.Common.{◌≡◌, ℕ, zero, suc, ◌<◌, List, [], ◌∷◌, ◌++◌, map, filter, length, get_or, set, Option, None, unwrap_or, ℤ, sym, refl, ap, ◌∙◌, Bool, arith}
+use Rattle.std.proofs.Common.{◌≡◌, ℕ, zero, suc, ◌+◌, ◌<◌, ◌^◌, List, [], ◌∷◌, ◌++◌, map, filter, length, get_or, set, Option, None, unwrap_or, ℤ, sym, refl, ap, ◌∙◌, subst, Bool, arith}
+use Rattle.std.specs.List.{AllByRecursion}
 use Rattle.std.proofs.lemmas.List.{get_or-map, length-map, map-append, map-set}
 use Rattle.std.specs.declared.cmp.Ordering.TheVariants.{Equal}
 use Rattle.ts_schema.proofs.Cases.{by_test}
 use Rattle.ts_num.specs.declared.values.Datum.{Datum}
 use Rattle.partial_agg.specs.declared.groups.Group.{Group}
-use Rattle.partial_agg.specs.Groups.{group_cmp}
+use Rattle.partial_agg.specs.Groups.{AreInOrder, group_cmp}
 use Rattle.partial_agg.specs.Summaries.{Summary}
 use Rattle.partial_agg.proofs.GroupLaws.{group_cmp-place}
 use Rattle.group_fold.specs.Gathering.{IsAt, ordered}
 use Rattle.group_fold.specs.Merging.{joined_parts, merged, with_group, with_groups}
+use Rattle.group_fold.proofs.Gathers.{none_in_order}
 use Rattle.group_fold.proofs.Insertions.{equal_back, joined_parts_comm, with_group-commutes, with_group-twice}
+use Rattle.cell_groups.specs.declared.gathers.CellGroups.{CellGroups}
 use Rattle.cell_groups.specs.declared.groups.CellGroup.{CellGroup}
 use Rattle.cell_groups.specs.declared.shapes.Shape.{Shape}
 use Rattle.cell_groups.specs.declared.tallies.Tally.{Tally}
-use Rattle.cell_groups.specs.Groups.{as_group, as_groups, cells_at, keys_at, parts_of}
+use Rattle.cell_groups.specs.Groups.{HaveTallies, as_group, as_groups, cells_at, keys_at, parts_of}
 use Rattle.cell_groups.specs.Kept.{as_parts, row_needs, row_tallies}
-use Rattle.cell_groups.specs.Taken.{IsRowAt, taken_in, with_rows}
+use Rattle.cell_groups.specs.Room.{AreOfRows, CanBeKept, ShowWords}
+use Rattle.cell_groups.specs.Taken.{AreGathered, ComesLast, IsRowAt, taken_in, with_rows}
 use Rattle.cell_groups.proofs.Kept.{as_row}
+use Rattle.cell_groups.proofs.Room.{row_kept, row_taken, row_words, rows_pushed, rows_set}
+use Rattle.cell_groups.proofs.Sorting.{order_last, order_set}
 
 -- ---- one more group
 
@@ -83,6 +89,42 @@ module _ (shape : Shape) (b : ℤ) (cells : List Datum) (gs : List CellGroup) wh
       ∙ ordered-push (as_groups shape gs) (as_group shape g)
       ∙ ap (λ x. with_group x (ordered (as_groups shape gs))) is
 
+  -- groups that are in order stay so
+  pub order-row : (at : ℕ) (was now : CellGroup) → IsRowAt shape b cells gs at → was ≡ get_or gs at was → now.start ≡ was.start → now.first.now ≡ was.first.now
+      → AreInOrder (as_groups shape gs) → AreInOrder (as_groups shape (set gs at now))
+  order-row at was now place is start first up =
+      let before : as_group shape was ≡ get_or (as_groups shape gs) at (as_group shape was) = ap (as_group shape) is ∙ sym (get_or-map (as_group shape) gs at was (as_group shape was) place.within) in
+      subst AreInOrder (sym (map-set (as_group shape) gs at now))
+      (order_set (as_groups shape gs) at (as_group shape now) (as_group shape was) (place_kept at was place).within
+      (start ∙ ap (λ (g : Group). g.start) before) (ap (keys_at shape.keys) first ∙ ap (λ (g : Group). g.keys) before) up)
+
+  pub order-new : (g : CellGroup) → as_group shape g ≡ cells_at shape b cells → ComesLast shape b cells gs → AreInOrder (as_groups shape gs) → AreInOrder (as_groups shape (gs ++ g ∷ []))
+  order-new g is last up = subst AreInOrder (sym (map-append (as_group shape) gs (g ∷ []))) (order_last shape b cells gs g is last up)
+
+  -- groups of so many rows are of one row more
+  module _ (n : ℕ) (rows : AreOfRows n (as_groups shape gs)) (words : ShowWords cells) where
+    pub few-row : (at : ℕ) (was now : CellGroup) → IsRowAt shape b cells gs at → was ≡ get_or gs at was
+        → parts_of shape.aggs now ≡ joined_parts (parts_of shape.aggs was) (as_parts shape.aggs (row_tallies shape.aggs cells)) → AreOfRows (n + 1) (as_groups shape (set gs at now))
+    few-row at was now place is parts =
+        let before : as_group shape was ≡ get_or (as_groups shape gs) at (as_group shape was) = ap (as_group shape) is ∙ sym (get_or-map (as_group shape) gs at was (as_group shape was) place.within) in
+        subst (AreOfRows (n + 1)) (sym (map-set (as_group shape) gs at now))
+        (rows_set n (as_groups shape gs) at (as_group shape now) (as_group shape was) (row_needs shape.aggs cells) rows (place_kept at was place).within
+        (parts ∙ ap (joined_parts (parts_of shape.aggs was)) (as_row shape.aggs cells) ∙ ap (λ (g : Group). joined_parts g.parts (row_needs shape.aggs cells)) before)
+        (row_taken shape.aggs cells) (row_words shape.aggs cells words))
+
+    pub few-new : (g : CellGroup) → as_group shape g ≡ cells_at shape b cells → AreOfRows (n + 1) (as_groups shape (gs ++ g ∷ []))
+    few-new g is =
+        subst (AreOfRows (n + 1)) (sym (map-append (as_group shape) gs (g ∷ []) ∙ ap (λ x. as_groups shape gs ++ x ∷ []) is))
+        (rows_pushed n (as_groups shape gs) (cells_at shape b cells) rows (row_taken shape.aggs cells) (row_words shape.aggs cells words))
+
+    -- and the row can be kept
+    pub kept-row : (at : ℕ) (was : CellGroup) → IsRowAt shape b cells gs at → was ≡ get_or gs at was → n + 1 < 2 ^ 64
+        → AllByRecursion CanBeKept (joined_parts (parts_of shape.aggs was) (as_parts shape.aggs (row_tallies shape.aggs cells)))
+    kept-row at was place is few =
+        let before : as_group shape was ≡ get_or (as_groups shape gs) at (as_group shape was) = ap (as_group shape) is ∙ sym (get_or-map (as_group shape) gs at was (as_group shape was) place.within) in
+        subst (AllByRecursion CanBeKept) (ap (λ (g : Group). joined_parts g.parts (row_needs shape.aggs cells)) (sym before) ∙ ap (joined_parts (parts_of shape.aggs was)) (sym (as_row shape.aggs cells)))
+        (row_kept n (as_groups shape gs) at (as_group shape was) (row_needs shape.aggs cells) rows (place_kept at was place).within few (row_taken shape.aggs cells) (row_words shape.aggs cells words))
+
 -- the group of one row
 pub alone_is : (shape : Shape) (b : ℤ) (cells : List Datum) (g : CellGroup) → g.start ≡ b → g.first.now ≡ cells → g.tallies ≡ None → as_group shape g ≡ cells_at shape b cells
 alone_is shape b cells g start first none =
@@ -92,3 +134,13 @@ alone_is shape b cells g start first none =
     ap (λ s. made s (keys_at shape.keys g.first.now) (parts_of shape.aggs g)) start
     ∙ ap (made b (keys_at shape.keys g.first.now)) parts
     ∙ ap (λ cs. made b (keys_at shape.keys cs) (row_needs shape.aggs cs)) first
+
+-- no groups are gathered, of no rows
+pub none_gathered : (shape : Shape) (gathered : CellGroups) → gathered.groups.items ≡ [] → AreGathered shape gathered
+none_gathered shape gathered none = record {
+  tallies = subst (HaveTallies shape.aggs) (sym none) tt;
+  order = λ e. subst (λ gs. AreInOrder (as_groups shape gs)) (sym none) (none_in_order [] (omega arith));
+}
+
+pub none_of_rows : (n : ℕ) (shape : Shape) (gs : List CellGroup) → gs ≡ [] → AreOfRows n (as_groups shape gs)
+none_of_rows n shape gs none = subst (λ xs. AreOfRows n (as_groups shape xs)) (sym none) (record { few = omega arith; words = tt })

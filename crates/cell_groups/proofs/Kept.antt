@@ -102,7 +102,7 @@ length-as_parts [] ts e = refl
 length-as_parts (a ∷ aggs) [] e = absurd (omega (arith, e))
 length-as_parts (a ∷ aggs) (t ∷ ts) e = ap suc (length-as_parts aggs ts (omega (arith, e)))
 
-as_parts-at : (aggs : List Agg) (ts : List Tally) (i : ℕ) (a : Agg) (t : Tally) (d : Summary) → i < length aggs → length ts ≡ length aggs → get_or (as_parts aggs ts) i d ≡ as_part (get_or aggs i a).fun (get_or ts i t)
+pub as_parts-at : (aggs : List Agg) (ts : List Tally) (i : ℕ) (a : Agg) (t : Tally) (d : Summary) → i < length aggs → length ts ≡ length aggs → get_or (as_parts aggs ts) i d ≡ as_part (get_or aggs i a).fun (get_or ts i t)
 as_parts-at [] ts i a t d h e = absurd (omega (arith, h))
 as_parts-at (x ∷ aggs) [] i a t d h e = absurd (omega (arith, e))
 as_parts-at (x ∷ aggs) (y ∷ ts) zero a t d h e = refl

@@ -1,4 +1,5 @@
 pub mod Gathering
 pub mod Kept
+pub mod Room
 pub mod Shown
 pub mod Sorting

@@ -1,24 +1,26 @@
 -- Groups sorted and then merged from the back.
-use Rattle.std.proofs.Common.{◌≡◌, ℕ, zero, suc, ◌+◌, ◌<◌, ◌≤◌, true, false, List, [], ◌∷◌, ◌++◌, length, get_or, set, refl, sym, ap, ◌∙◌, subst, arith}
+use Rattle.std.proofs.Common.{◌≡◌, ℕ, zero, suc, ◌+◌, ◌-◌, ◌<◌, ℤ, true, false, List, [], ◌∷◌, ◌++◌, length, get_or, set, refl, sym, ap, ◌∙◌, subst, arith}
 use Rattle.std.specs.Bool.{⊤}
 use Rattle.std.specs.List.{AllByRecursion}
-use Rattle.std.specs.List.Sorted.{IsPermutation, IsSorted}
-use Rattle.std.specs.Ordering.{is_gt, is_lt}
+use Rattle.std.specs.List.Sorted.{IsPermutation, IsSorted, IsStrictlySortedBy}
+use Rattle.std.specs.Ordering.{int_cmp, is_gt, is_lt, ordering_then}
 use Rattle.std.specs.declared.cmp.Ordering.TheVariants.{Less}
 use Rattle.std.proofs.lemmas.List.{get_or-map, length-map}
 use Rattle.std.proofs.lemmas.List.Elements.{All-from_recursion, recursion_from_All}
 use Rattle.std.proofs.lemmas.List.Sorted.{All-permutation, ranks_by, sorted_far}
+use Rattle.ts_schema.specs.Rows.{values_cmp}
+use Rattle.ts_schema.proofs.Cases.{all_weaker}
+use Rattle.ts_num.specs.declared.values.Datum.{Datum}
 use Rattle.partial_agg.specs.declared.groups.Group.{Group}
 use Rattle.partial_agg.specs.Groups.{AreInOrder, group_cmp}
 use Rattle.partial_agg.proofs.GroupLaws.{group_cmp_total}
 use Rattle.group_fold.specs.Gathering.{ordered}
 use Rattle.group_fold.specs.Merging.{merged, with_group, with_groups}
-use Rattle.group_fold.proofs.Gathers.{before_none as none_behind, in_front, none_in_order}
-use Rattle.group_fold.proofs.Insertions.{by_order, greater_back}
+use Rattle.group_fold.proofs.Insertions.{by_order, greater_back, less_trans}
 use Rattle.cell_groups.specs.declared.groups.CellGroup.{CellGroup}
 use Rattle.cell_groups.specs.declared.shapes.Shape.{Shape}
-use Rattle.cell_groups.specs.Groups.{as_group, as_groups}
-use Rattle.cell_groups.specs.Taken.{IsNotAfter, place_cmp}
+use Rattle.cell_groups.specs.Groups.{as_group, as_groups, cells_at}
+use Rattle.cell_groups.specs.Taken.{ComesLast, IsNotAfter, place_cmp}
 
 -- ---- sorted groups
 
@@ -121,19 +123,6 @@ sorted_kept shape (g ∷ gs) up = λ k d low h.
     ∙ ap (λ y. is_lt (group_cmp (as_group shape (get_or (g ∷ gs) (k + 1) g)) y)) earlier
     ∙ up k g low (omega (arith, h, many))
 
--- a group before the first of others
-pub before_first : (shape : Shape) (g x : CellGroup) (gs : List CellGroup) → 1 ≤ length gs → x ≡ get_or gs 0 x → place_cmp shape g x ≡ Less → AreInOrder (as_groups shape gs) → AreInOrder (as_groups shape (g ∷ gs))
-before_first shape g x [] h is less sorted = absurd (omega (arith, h))
-before_first shape g x (y ∷ gs) h is less sorted = in_front (as_group shape g) (as_group shape y) (as_groups shape gs) (ap (place_cmp shape g) (sym is) ∙ less) sorted
-
-pub before_none : (shape : Shape) (g : CellGroup) (gs : List CellGroup) → length gs < 1 → AreInOrder (as_groups shape (g ∷ gs))
-before_none shape g [] h = none_behind (as_group shape g) [] (omega arith)
-before_none shape g (x ∷ gs) h = absurd (omega (arith, h))
-
-pub none_rise : (shape : Shape) (gs : List CellGroup) → length gs < 1 → AreInOrder (as_groups shape gs)
-none_rise shape [] h = none_in_order [] (omega arith)
-none_rise shape (x ∷ gs) h = absurd (omega (arith, h))
-
 -- ---- lists of which a fact holds throughout
 
 pub all_push : {X : Type 0} (P : X → Type 0) (xs : List X) (y : X) → AllByRecursion P xs → P y → AllByRecursion P (xs ++ y ∷ [])
@@ -147,3 +136,56 @@ all_set P (x ∷ xs) (suc k) y h p = (h.0, all_set P xs k y h.1 p)
 
 pub all_permuted : {X : Type 0} (P : X → Type 0) (xs ys : List X) → IsPermutation xs ys → AllByRecursion P xs → AllByRecursion P ys
 all_permuted P xs ys p h = recursion_from_All P ys (All-permutation P xs ys p (All-from_recursion P xs h))
+
+-- ---- groups in order
+
+-- what has the bucket and keys of a group stands where that stands
+before_alike : (x y g : Group) → x.start ≡ y.start → x.keys ≡ y.keys → group_cmp x g ≡ group_cmp y g
+before_alike x y g start keys =
+    ap (λ s. ordering_then (int_cmp s g.start) (values_cmp x.keys g.keys)) start
+    ∙ ap (λ ks. ordering_then (int_cmp y.start g.start) (values_cmp ks g.keys)) keys
+
+behind_alike : (g x y : Group) → x.start ≡ y.start → x.keys ≡ y.keys → group_cmp g x ≡ group_cmp g y
+behind_alike g x y start keys =
+    ap (λ s. ordering_then (int_cmp g.start s) (values_cmp g.keys x.keys)) start
+    ∙ ap (λ ks. ordering_then (int_cmp g.start y.start) (values_cmp g.keys ks)) keys
+
+-- so in its place the order stays
+pub order_set : (gs : List Group) (at : ℕ) (new d : Group) → at < length gs → new.start ≡ (get_or gs at d).start → new.keys ≡ (get_or gs at d).keys → AreInOrder gs → AreInOrder (set gs at new)
+unfolding IsStrictlySortedBy
+order_set [] at new d h start keys up = absurd (omega (arith, h))
+order_set (x ∷ gs) zero new d h start keys up =
+    (all_weaker (λ y. group_cmp x y ≡ Less) (λ y. group_cmp new y ≡ Less) (λ y e. before_alike new x y start keys ∙ e) gs up.0, up.1)
+order_set (x ∷ gs) (suc at) new d h start keys up = (
+  all_set (λ y. group_cmp x y ≡ Less) gs at new up.0 (behind_alike x new (get_or gs at d) start keys ∙ All-from_recursion (λ y. group_cmp x y ≡ Less) gs up.0 at d (omega (arith, h))),
+  order_set gs at new d (omega (arith, h)) start keys up.1,
+)
+
+-- and behind the last
+order_push : (gs : List Group) (last : ℕ) (g d : Group) → length gs ≡ suc last → group_cmp (get_or gs last d) g ≡ Less → AreInOrder gs → AreInOrder (gs ++ g ∷ [])
+unfolding IsStrictlySortedBy
+order_push [] last g d e before up = absurd (omega (arith, e))
+order_push (x ∷ []) zero g d e before up = ((before, tt), (tt, tt))
+order_push (x ∷ []) (suc last) g d e before up = absurd (omega (arith, e))
+order_push (x ∷ y ∷ gs) zero g d e before up = absurd (omega (arith, e))
+order_push (x ∷ y ∷ gs) (suc last) g d e before up = (
+  all_push (λ z. group_cmp x z ≡ Less) (y ∷ gs) g up.0
+      (less_trans x (get_or (y ∷ gs) last d) g (All-from_recursion (λ z. group_cmp x z ≡ Less) (y ∷ gs) up.0 last d (omega (arith, e))) before),
+  order_push (y ∷ gs) last g d (omega (arith, e)) before up.1,
+)
+
+order_one : (g : Group) → AreInOrder (g ∷ [])
+unfolding IsStrictlySortedBy
+order_one g = (tt, tt)
+
+pub order_last : (shape : Shape) (b : ℤ) (cells : List Datum) (gs : List CellGroup) (g : CellGroup) → as_group shape g ≡ cells_at shape b cells → ComesLast shape b cells gs → AreInOrder (as_groups shape gs) → AreInOrder (as_groups shape gs ++ as_group shape g ∷ [])
+order_last shape b cells [] g is last up = order_one (as_group shape g)
+order_last shape b cells (x ∷ gs) g is last up =
+    let after = last (omega arith) in
+    let many = length-map (x ∷ gs) (as_group shape) in
+    let e : length (x ∷ gs) - 1 ≡ length gs = omega arith in
+    let place : get_or (as_groups shape (x ∷ gs)) (length gs) (as_group shape x) ≡ as_group shape (get_or (x ∷ gs) (length gs) x) =
+    get_or-map (as_group shape) (x ∷ gs) (length gs) x (as_group shape x) (omega arith) in
+    order_push (as_groups shape (x ∷ gs)) (length gs) (as_group shape g) (as_group shape x) (omega (arith, many))
+    (ap (λ h. group_cmp h (as_group shape g)) place ∙ ap (group_cmp (as_group shape (get_or (x ∷ gs) (length gs) x))) is
+    ∙ subst (λ k. group_cmp (as_group shape (get_or (x ∷ gs) k x)) (cells_at shape b cells) ≡ Less) e (after.before x)) up

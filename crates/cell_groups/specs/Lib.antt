@@ -2,3 +2,4 @@ pub mod Cells
 pub mod Kept
 pub mod Groups
 pub mod Taken
+pub mod Room

@@ -1,31 +1,44 @@
 //! The groups of rows as they are taken in.
-ghost use Rattle.std.specs.Prelude.{◌≡◌, ◌++◌, ◌∷◌, [], true, IfSome, OnOk};
+ghost use Rattle.std.specs.Prelude.{◌≡◌, ◌++◌, ◌∷◌, ◌+◌, ◌<◌, ◌^◌, ℕ, [], Some, IsOkUnless, OnOk, false, true};
+ghost use Rattle.std.specs.declared.cmp.Ordering.TheVariants.{Equal, Less};
 ghost use Rattle.group_fold.specs.Gathering.{ordered};
 ghost use Rattle.group_fold.specs.Merging.{with_group};
-ghost use Rattle.cell_groups.specs.Groups.{HaveTallies, as_groups, cells_at};
-ghost use Rattle.cell_groups.specs.Taken.{IsRowAt};
+ghost use Rattle.cell_groups.specs.Groups.{as_groups, cells_at};
+ghost use Rattle.cell_groups.specs.Room.{AreOfRows, ShowWords};
+ghost use Rattle.cell_groups.specs.Taken.{AreGathered, ComesLast, IsAfter, IsPlace, IsRowAt};
 
 use crate::groups::{CellGroup, group_of, take_row};
 use crate::orders::order_beside;
 use crate::prints::print_of;
 use crate::shapes::Shape;
+use crate::stops::Stop;
 use std::alloc::Global;
 use std::cmp::Ordering;
 use std::collections::HashMap;
 use ts_num::Datum;
 use ts_schema::NoMemory;
 
+/// Where the group of a row stands.
+pub(crate) enum Place {
+    /// At this place.
+    At(usize),
+    /// Nowhere: it comes after all others, which are in order.
+    End,
+    /// It wasn't found.
+    Unknown,
+}
+
 /// Groups as rows are taken in, in order while each new one comes behind all others. Nothing rests on
-/// what stands here beside the groups but speed: what a place names is looked at before it is used, and
-/// a group may come up twice.
+/// `last` and `places` but speed: what a place names is looked at before it is used, and a group may
+/// come up twice.
 #[derive(Drop)]
 pub struct CellGroups<'a> {
-    /// The groups so far, in no order.
+    /// The groups so far.
     pub groups: Vec<CellGroup<'a>>,
+    /// Whether each group stands before the next. Where it doesn't say so, `places` has all of them.
+    pub in_order: bool,
     /// Where the group of the last row stands.
     last: usize,
-    /// Whether a group stands behind one that comes after it. From then on `places` has all of them.
-    is_mixed: bool,
     /// Where a group may stand, by the print of its bucket and keys.
     places: HashMap<u64, usize>,
 }
@@ -37,102 +50,116 @@ impl<'a> CellGroups<'a> {
     {
         CellGroups {
             groups: Vec::new(alloc),
+            in_order: true,
             last: 0,
-            is_mixed: false,
             places: HashMap::new(alloc),
         }
     }
 
     /// Takes a row in: into the group of its keys in the bucket that starts at `start`, or as a group of its
-    /// own. For sums that take more than 128 bits there is no room.
+    /// own. Of fewer than `2^64` rows of 64-bit numbers no count and no sum is too great.
     pub fn take(
         &mut self,
         alloc: Global,
         shape: &Shape,
         start: i128,
         cells: &'a [Datum],
-    ) -> Result<(), NoMemory>
-        requires { HaveTallies shape.now.aggs self.old.groups.items }
+    ) -> Result<(), Stop>
+        requires { AreGathered shape.now self.old }
         ensures groups { OnOk result (ordered (as_groups shape.now self.new.groups.items) ≡ with_group (cells_at shape.now start cells.now) (ordered (as_groups shape.now self.old.groups.items))) }
-        ensures tallies { OnOk result (HaveTallies shape.now.aggs self.new.groups.items) }
+        ensures gathered { OnOk result (AreGathered shape.now self.new) }
+        ensures few { (n : ℕ) → AreOfRows n (as_groups shape.now self.old.groups.items) → ShowWords cells.now → OnOk result (AreOfRows (n + 1) (as_groups shape.now self.new.groups.items)) }
+        ensures room { (n : ℕ) → AreOfRows n (as_groups shape.now self.old.groups.items) → ShowWords cells.now → n + 1 < 2 ^ 64 → IsOkUnless result (Stop.NoMemory) }
     {
         match self.find(shape, start, cells) {
-            Some(at) => {
+            Place::At(at) => {
                 self.last = at;
                 take_row(alloc, shape.aggs.items(), &mut self.groups[at], cells)
             }
-            None => self.put(shape, group_of(start, cells)),
+            Place::End => Ok(self.put_last(group_of(start, cells))?),
+            Place::Unknown => Ok(self.put(shape, group_of(start, cells))?),
         }
     }
 
     /// Where the group of a row stands. That of the row before and the one behind it are looked at first:
     /// in each bucket the same keys come up, mostly in the same order.
-    fn find(&self, shape: &Shape, start: i128, cells: &[Datum]) -> Option<usize>
-        ensures { IfSome result (IsRowAt shape.now start cells.now self.now.groups.items) }
+    fn find(&self, shape: &Shape, start: i128, cells: &[Datum]) -> Place
+        ensures { IsPlace shape.now start cells.now self.now.groups.items result }
     {
-        let groups = self.groups.as_slice();
-        if is_at(groups, self.last, shape, start, cells) {
-            return Some(self.last);
-        }
-        let next = self.last.saturating_add(1);
-        if is_at(groups, next, shape, start, cells) {
-            return Some(next);
-        }
-        let at = self.guess(shape, start, cells)?;
-        if is_at(groups, at, shape, start, cells) {
-            Some(at)
-        } else {
-            None
+        match order_at(self.groups.as_slice(), self.last, shape, start, cells) {
+            Some(Ordering::Less) => self.find_after(shape, start, cells),
+            Some(Ordering::Equal) => Place::At(self.last),
+            Some(Ordering::Greater) | None => self.find_away(shape, start, cells),
         }
     }
 
-    /// Where the group of a row stands, if there is one.
-    fn guess(&self, shape: &Shape, start: i128, cells: &[Datum]) -> Option<usize> {
-        if self.is_mixed {
-            return self
-                .places
-                .get(&print_of(shape.keys.items(), start, cells))
-                .copied();
+    /// The same of a row that comes after the group of the row before.
+    fn find_after(&self, shape: &Shape, start: i128, cells: &[Datum]) -> Place
+        requires { IsAfter shape.now start cells.now self.now.groups.items self.now.last }
+        ensures { IsPlace shape.now start cells.now self.now.groups.items result }
+    {
+        let next = self.last + 1;
+        if self.in_order && next == self.groups.len() {
+            return Place::End;
         }
+        match order_at(self.groups.as_slice(), next, shape, start, cells) {
+            Some(Ordering::Equal) => Place::At(next),
+            Some(Ordering::Less) | Some(Ordering::Greater) | None => {
+                self.find_away(shape, start, cells)
+            }
+        }
+    }
+
+    /// The same where neither that group nor the one behind it is the row's.
+    fn find_away(&self, shape: &Shape, start: i128, cells: &[Datum]) -> Place
+        ensures { IsPlace shape.now start cells.now self.now.groups.items result }
+    {
         let groups = self.groups.as_slice();
+        if !self.in_order {
+            let print = print_of(shape.keys.items(), start, cells);
+            return match self.places.get(&print) {
+                Some(at) => place_at(groups, *at, shape, start, cells),
+                None => Place::Unknown,
+            };
+        }
         if is_behind(groups, shape, start, cells) {
-            return None;
+            return Place::End;
         }
-        Some(groups.partition_point(|group: &CellGroup<'_>| {
+        let at = groups.partition_point(|group: &CellGroup<'_>| {
             order_beside(shape, group, start, cells) == Ordering::Less
-        }))
+        });
+        place_at(groups, at, shape, start, cells)
     }
 
-    /// Puts a group behind the others.
-    fn put(&mut self, shape: &Shape, group: CellGroup<'a>) -> Result<(), NoMemory>
-        ensures { OnOk result (self.new.groups.items ≡ self.old.groups.items ++ group.entry ∷ []) }
+    /// Puts a group behind the others, after which it comes.
+    fn put_last(&mut self, group: CellGroup<'a>) -> Result<(), NoMemory>
+        ensures groups { OnOk result (self.new.groups.items ≡ self.old.groups.items ++ group.entry ∷ []) }
+        ensures order { self.new.in_order ≡ self.old.in_order }
     {
-        self.note_if_mixed(shape, group.start, group.first)?;
-        let at = self.groups.len();
-        if self.is_mixed {
-            let print = print_of(shape.keys.items(), group.start, group.first);
-            self.places.insert(print, at)?;
-        }
-        self.last = at;
+        self.last = self.groups.len();
         self.groups.push(group)?;
         Ok(())
     }
 
-    /// Notes where the groups stand, once one is to stand behind one that comes after it.
-    fn note_if_mixed(&mut self, shape: &Shape, start: i128, cells: &[Datum]) -> Result<(), NoMemory>
-        ensures { OnOk result (self.new.groups.items ≡ self.old.groups.items) }
+    /// Puts a group that stands before some other behind the others.
+    fn put(&mut self, shape: &Shape, group: CellGroup<'a>) -> Result<(), NoMemory>
+        ensures groups { OnOk result (self.new.groups.items ≡ self.old.groups.items ++ group.entry ∷ []) }
+        ensures order { OnOk result (self.new.in_order ≡ false) }
     {
-        if self.is_mixed || is_behind(self.groups.as_slice(), shape, start, cells) {
-            return Ok(());
+        if self.in_order {
+            self.note_places(shape)?;
         }
-        self.note_places(shape)
+        let print = print_of(shape.keys.items(), group.start, group.first);
+        self.places.insert(print, self.groups.len())?;
+        self.put_last(group)
     }
 
-    /// Notes where the groups stand.
+    /// Notes where the groups stand, which aren't in order from here on.
     fn note_places(&mut self, shape: &Shape) -> Result<(), NoMemory>
-        ensures { OnOk result (self.new.groups.items ≡ self.old.groups.items) }
+        ensures groups { self.new.groups.items ≡ self.old.groups.items }
+        ensures order { self.new.in_order ≡ false }
     {
-        self.is_mixed = true;
+        self.in_order = false;
         self.places.reserve(self.groups.len())?;
         for at in 0..self.groups.len() {
             let group = &self.groups[at];
@@ -143,18 +170,41 @@ impl<'a> CellGroups<'a> {
     }
 }
 
-/// Whether the group at a place has the bucket and keys of a row.
-fn is_at(groups: &[CellGroup<'_>], at: usize, shape: &Shape, start: i128, cells: &[Datum]) -> bool
-    ensures { result ≡ true → IsRowAt shape.now start cells.now groups.now at }
+/// How the group at a place compares with that of a row, if one stands there.
+fn order_at(
+    groups: &[CellGroup<'_>],
+    at: usize,
+    shape: &Shape,
+    start: i128,
+    cells: &[Datum],
+) -> Option<Ordering>
+    ensures same { result ≡ Some Equal → IsRowAt shape.now start cells.now groups.now at }
+    ensures after { result ≡ Some Less → IsAfter shape.now start cells.now groups.now at }
 {
-    match groups.get(at) {
-        None => false,
-        Some(group) => order_beside(shape, group, start, cells) == Ordering::Equal,
+    let group = groups.get(at)?;
+    Some(order_beside(shape, group, start, cells))
+}
+
+/// This place, where the group of a row stands there.
+fn place_at(
+    groups: &[CellGroup<'_>],
+    at: usize,
+    shape: &Shape,
+    start: i128,
+    cells: &[Datum],
+) -> Place
+    ensures { IsPlace shape.now start cells.now groups.now result }
+{
+    match order_at(groups, at, shape, start, cells) {
+        Some(Ordering::Equal) => Place::At(at),
+        Some(Ordering::Less) | Some(Ordering::Greater) | None => Place::Unknown,
     }
 }
 
-/// Whether the group of a row comes behind all of these, which are in order.
-fn is_behind(groups: &[CellGroup<'_>], shape: &Shape, start: i128, cells: &[Datum]) -> bool {
+/// Whether the group of a row comes after the last of these, or there is none.
+fn is_behind(groups: &[CellGroup<'_>], shape: &Shape, start: i128, cells: &[Datum]) -> bool
+    ensures { result ≡ true → ComesLast shape.now start cells.now groups.now }
+{
     match groups {
         [] => true,
         [.., last] => order_beside(shape, last, start, cells) == Ordering::Less,

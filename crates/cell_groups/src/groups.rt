@@ -1,10 +1,13 @@
 //! One group of rows of an answer.
-ghost use Rattle.std.specs.Prelude.{◌≡◌, ◌++◌, IfOk, None, OnOk, length};
+ghost use Rattle.std.specs.Prelude.{◌≡◌, ◌++◌, IfOk, IsOkUnless, None, OnOk, length};
+ghost use Rattle.std.specs.List.{AllByRecursion};
 ghost use Rattle.group_fold.specs.Merging.{joined_parts};
 ghost use Rattle.cell_groups.specs.Groups.{HasTallies, parts_of, tallies_of};
 ghost use Rattle.cell_groups.specs.Kept.{as_parts, row_tallies};
+ghost use Rattle.cell_groups.specs.Room.{CanBeKept};
 
 use crate::cells::value_at;
+use crate::stops::Stop;
 use crate::tallies::{Tally, add_row, add_tallies, tally_of};
 use std::alloc::Global;
 use ts_model::Agg;
@@ -70,14 +73,18 @@ pub(crate) fn take_row(
     aggs: &[Agg],
     group: &mut CellGroup<'_>,
     cells: &[Datum],
-) -> Result<(), NoMemory>
+) -> Result<(), Stop>
     requires { HasTallies aggs.now group.old }
     ensures start { group.new.start ≡ group.old.start }
     ensures first { group.new.first.now ≡ group.old.first.now }
     ensures many { HasTallies aggs.now group.new }
     ensures parts { OnOk result (parts_of aggs.now group.new ≡ joined_parts (parts_of aggs.now group.old) (as_parts aggs.now (row_tallies aggs.now cells.now))) }
+    ensures room { AllByRecursion CanBeKept (joined_parts (parts_of aggs.now group.old) (as_parts aggs.now (row_tallies aggs.now cells.now))) → IsOkUnless result (Stop.NoMemory) }
 {
-    let mut tallies = take_tallies(alloc, aggs, group)?;
+    if let Some(tallies) = &mut group.tallies {
+        return add_row(aggs, tallies, cells);
+    }
+    let mut tallies = tallies_of_row(alloc, aggs, group.first)?;
     add_row(aggs, &mut tallies, cells)?;
     group.tallies = Some(tallies);
     Ok(())
@@ -89,13 +96,14 @@ pub(crate) fn take_group(
     aggs: &[Agg],
     group: &mut CellGroup<'_>,
     other: &mut CellGroup<'_>,
-) -> Result<(), NoMemory>
+) -> Result<(), Stop>
     requires mine { HasTallies aggs.now group.old }
     requires theirs { HasTallies aggs.now other.old }
     ensures start { group.new.start ≡ group.old.start }
     ensures first { group.new.first.now ≡ group.old.first.now }
     ensures many { HasTallies aggs.now group.new }
     ensures parts { OnOk result (parts_of aggs.now group.new ≡ joined_parts (parts_of aggs.now group.old) (parts_of aggs.now other.old)) }
+    ensures room { AllByRecursion CanBeKept (joined_parts (parts_of aggs.now group.old) (parts_of aggs.now other.old)) → IsOkUnless result (Stop.NoMemory) }
 {
     let mut tallies = take_tallies(alloc, aggs, group)?;
     let theirs = take_tallies(alloc, aggs, other)?;

@@ -8,6 +8,7 @@
 //! - `orders`: groups put in order.
 //! - `prints`: numbers by which groups are found.
 //! - `results`: what groups show.
+//! - `stops`: why rows can't be taken in or shown.
 #![tactic(auto)]
 
 mod cells;
@@ -17,6 +18,7 @@ mod orders;
 mod prints;
 mod results;
 mod shapes;
+mod stops;
 mod tallies;
 
 pub use cells::passes;
@@ -24,4 +26,5 @@ pub use gathers::CellGroups;
 pub use groups::CellGroup;
 pub use results::rows_of;
 pub use shapes::Shape;
+pub use stops::Stop;
 pub use tallies::Tally;

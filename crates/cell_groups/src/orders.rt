@@ -1,22 +1,22 @@
 //! Groups in order by bucket and keys.
-ghost use Rattle.std.specs.Prelude.{◌≡◌, ◌∷◌, true, IfOk, OnOk};
-ghost use Rattle.std.specs.declared.cmp.Ordering.TheVariants.{Less};
+ghost use Rattle.std.specs.Prelude.{◌≡◌, ◌∷◌, ◌<◌, ◌^◌, ℕ, IfOk, IsOkUnless, OnOk};
 ghost use Rattle.std.specs.List.Sorted.{IsSorted};
 ghost use Rattle.ts_schema.specs.Rows.{value_cmp, values_cmp};
-ghost use Rattle.partial_agg.specs.Groups.{AreInOrder};
 ghost use Rattle.group_fold.specs.Gathering.{ordered};
 ghost use Rattle.group_fold.specs.Merging.{with_group};
 ghost use Rattle.cell_groups.specs.Groups.{HasTallies, HaveTallies, as_group, as_groups, keys_at};
-ghost use Rattle.cell_groups.specs.Taken.{IsNotAfter, place_cmp, row_cmp};
+ghost use Rattle.cell_groups.specs.Room.{AreOfRows};
+ghost use Rattle.cell_groups.specs.Taken.{AreGathered, IsNotAfter, place_cmp, row_cmp};
 
 use crate::cells::value_at;
+use crate::gathers::CellGroups;
 use crate::groups::{CellGroup, take_group};
 use crate::shapes::Shape;
+use crate::stops::Stop;
 use std::alloc::Global;
 use std::cmp::Ordering;
 use std::collections::VecDeque;
 use ts_num::Datum;
-use ts_schema::NoMemory;
 
 /// How a group compares with that of a row in the bucket that starts at `start`: by bucket, and then by keys,
 /// where NULL is greater than every number.
@@ -72,46 +72,16 @@ fn order_of(shape: &Shape, a: &CellGroup<'_>, b: &CellGroup<'_>) -> Ordering
 pub(crate) fn in_order<'a>(
     alloc: Global,
     shape: &Shape,
-    groups: Vec<CellGroup<'a>>,
-) -> Result<Vec<CellGroup<'a>>, NoMemory>
-    requires { HaveTallies shape.now.aggs groups.items }
-    ensures { IfOk result (λ sorted. as_groups shape.now sorted.items ≡ ordered (as_groups shape.now groups.entry.items)) }
+    gathered: CellGroups<'a>,
+) -> Result<Vec<CellGroup<'a>>, Stop>
+    requires { AreGathered shape.now gathered }
+    ensures groups { IfOk result (λ sorted. as_groups shape.now sorted.items ≡ ordered (as_groups shape.now gathered.entry.groups.items)) }
+    ensures room { (n : ℕ) → AreOfRows n (as_groups shape.now gathered.entry.groups.items) → n < 2 ^ 64 → IsOkUnless result (Stop.NoMemory) }
 {
-    if rises(shape, groups.as_slice()) {
-        return Ok(groups);
+    if gathered.in_order {
+        return Ok(gathered.groups);
     }
-    sorted(alloc, shape, groups)
-}
-
-/// Whether each group stands before the next one, so that no two have the same bucket and keys.
-fn rises(shape: &Shape, groups: &[CellGroup<'_>]) -> bool
-    ensures { result ≡ true → AreInOrder (as_groups shape.now groups.now) }
-{
-    let mut left = groups;
-    while let [group, rest @ ..] = left {
-        if !is_before_all(shape, group, rest) {
-            return false;
-        }
-        left = rest;
-    }
-    true
-}
-
-/// Whether a group stands before the first of others, or there is none.
-fn is_before_all(shape: &Shape, group: &CellGroup<'_>, others: &[CellGroup<'_>]) -> bool
-    ensures { result ≡ true → AreInOrder (as_groups shape.now others.now) → AreInOrder (as_groups shape.now (group.now ∷ others.now)) }
-{
-    match others {
-        [] => true,
-        [next, ..] => is_before(shape, group, next),
-    }
-}
-
-/// Whether a group stands before another.
-fn is_before(shape: &Shape, group: &CellGroup<'_>, next: &CellGroup<'_>) -> bool
-    ensures { result ≡ true → place_cmp shape.now group.now next.now ≡ Less }
-{
-    order_of(shape, group, next) == Ordering::Less
+    sorted(alloc, shape, gathered.groups)
 }
 
 /// The same groups in order, however they stand.
@@ -119,9 +89,10 @@ fn sorted<'a>(
     alloc: Global,
     shape: &Shape,
     groups: Vec<CellGroup<'a>>,
-) -> Result<Vec<CellGroup<'a>>, NoMemory>
+) -> Result<Vec<CellGroup<'a>>, Stop>
     requires { HaveTallies shape.now.aggs groups.items }
-    ensures { IfOk result (λ sorted. as_groups shape.now sorted.items ≡ ordered (as_groups shape.now groups.entry.items)) }
+    ensures groups { IfOk result (λ sorted. as_groups shape.now sorted.items ≡ ordered (as_groups shape.now groups.entry.items)) }
+    ensures room { (n : ℕ) → AreOfRows n (as_groups shape.now groups.entry.items) → n < 2 ^ 64 → IsOkUnless result (Stop.NoMemory) }
 {
     let mut sorted = groups;
     sorted.sort_by(|a: &CellGroup<'_>, b: &CellGroup<'_>| order_of(shape, a, b))?;
@@ -133,10 +104,11 @@ fn merge_neighbours<'a>(
     alloc: Global,
     shape: &Shape,
     groups: Vec<CellGroup<'a>>,
-) -> Result<VecDeque<CellGroup<'a>>, NoMemory>
+) -> Result<VecDeque<CellGroup<'a>>, Stop>
     requires sorted { IsSorted (place_cmp shape.now) groups.items }
     requires alike { HaveTallies shape.now.aggs groups.items }
-    ensures { IfOk result (λ merged. as_groups shape.now merged.items ≡ ordered (as_groups shape.now groups.entry.items)) }
+    ensures groups { IfOk result (λ merged. as_groups shape.now merged.items ≡ ordered (as_groups shape.now groups.entry.items)) }
+    ensures room { (n : ℕ) → AreOfRows n (as_groups shape.now groups.entry.items) → n < 2 ^ 64 → IsOkUnless result (Stop.NoMemory) }
 {
     let mut left = groups;
     let mut merged = VecDeque::new(alloc);
@@ -152,12 +124,13 @@ fn put_first<'a>(
     shape: &Shape,
     merged: &mut VecDeque<CellGroup<'a>>,
     group: CellGroup<'a>,
-) -> Result<(), NoMemory>
+) -> Result<(), Stop>
     requires first { IsNotAfter (as_group shape.now group) (as_groups shape.now merged.old.items) }
     requires mine { HasTallies shape.now.aggs group }
     requires theirs { HaveTallies shape.now.aggs merged.old.items }
     ensures groups { OnOk result (as_groups shape.now merged.new.items ≡ with_group (as_group shape.now group.entry) (as_groups shape.now merged.old.items)) }
     ensures tallies { OnOk result (HaveTallies shape.now.aggs merged.new.items) }
+    ensures room { (n : ℕ) → AreOfRows n (as_group shape.now group.entry ∷ as_groups shape.now merged.old.items) → n < 2 ^ 64 → IsOkUnless result (Stop.NoMemory) }
 {
     match merged.pop_front() {
         None => merged.push_front(group)?,

@@ -1,15 +1,18 @@
 //! What groups show.
-ghost use Rattle.std.specs.Prelude.{◌≡◌, ◌++◌, ◌∷◌, [], map, IfOk, OnOk};
+ghost use Rattle.std.specs.Prelude.{◌≡◌, ◌++◌, ◌∷◌, ◌<◌, ◌^◌, ℕ, [], map, IfOk, IsOkUnless, OnOk};
 ghost use Rattle.ts_num.specs.Aggregates.{shown_or_null};
 ghost use Rattle.group_fold.specs.Gathering.{ordered};
-ghost use Rattle.cell_groups.specs.Groups.{HaveTallies, as_groups, group_shown, keys_at, rows_shown, tallies_of};
+ghost use Rattle.cell_groups.specs.Groups.{as_groups, group_shown, keys_at, rows_shown, tallies_of};
 ghost use Rattle.cell_groups.specs.Kept.{cell_shown, tallies_shown};
+ghost use Rattle.cell_groups.specs.Room.{AreOfRows};
+ghost use Rattle.cell_groups.specs.Taken.{AreGathered};
 
 use crate::cells::value_at;
 use crate::gathers::CellGroups;
 use crate::groups::CellGroup;
 use crate::orders::in_order;
 use crate::shapes::Shape;
+use crate::stops::Stop;
 use crate::tallies::{Tally, shown_of, tally_of};
 use cell_rows::CellRows;
 use std::alloc::Global;
@@ -23,12 +26,13 @@ pub fn rows_of(
     alloc: Global,
     shape: &Shape,
     gathered: CellGroups<'_>,
-) -> Result<CellRows<Datum>, NoMemory>
-    requires { HaveTallies shape.now.aggs gathered.groups.items }
+) -> Result<CellRows<Datum>, Stop>
+    requires { AreGathered shape.now gathered }
     ensures rows { IfOk result (λ rows. rows ≡ rows_shown shape.now (ordered (as_groups shape.now gathered.entry.groups.items))) }
+    ensures room { (n : ℕ) → AreOfRows n (as_groups shape.now gathered.entry.groups.items) → n < 2 ^ 64 → IsOkUnless result (Stop.NoMemory) }
 {
-    let groups = in_order(alloc, shape, gathered.groups)?;
-    shown_rows(alloc, shape, groups.as_slice())
+    let groups = in_order(alloc, shape, gathered)?;
+    Ok(shown_rows(alloc, shape, groups.as_slice())?)
 }
 
 /// What groups show, row by row.

@@ -1,15 +1,18 @@
 //! What the cells of a column add up to.
-ghost use Rattle.std.specs.Prelude.{◌≡◌, ◌+◌, ◌<◌, pos, IfOk, OnOk, length, unwrap_or};
+ghost use Rattle.std.specs.Prelude.{◌≡◌, ◌+◌, ◌<◌, pos, IfSome, IsOk, IsSome, OnOk, length, unwrap_or};
+ghost use Rattle.std.specs.List.{AllByRecursion};
 ghost use Rattle.ts_num.specs.Aggregates.{greater, lesser};
 ghost use Rattle.ts_num.specs.declared.values.Fun.TheVariants.{CountAll, Max, Min, Sum};
 ghost use Rattle.partial_agg.specs.Summaries.{joined, mean_shown, sum_shown};
 ghost use Rattle.group_fold.specs.Merging.{joined_parts};
 ghost use Rattle.cell_groups.specs.Kept.{as_part, as_parts, bound, cell_tally, row_tallies, tally_shown};
+ghost use Rattle.cell_groups.specs.Room.{CanBeKept};
 
 use crate::cells::value_at;
+use crate::stops::Stop;
 use ts_model::Agg;
 use ts_num::{Datum, Fun, lowest};
-use ts_schema::{NoMemory, Seq};
+use ts_schema::Seq;
 
 /// What the cells of a column add up to. How they add up rests on the function that is to be shown.
 #[derive(Clone, Copy, Debug)]
@@ -49,9 +52,10 @@ fn tally_of_value(value: Option<i128>) -> Tally
     }
 }
 
-/// The tally of the cells of both. For one that takes more than 64 and 128 bits there is no room.
-fn both(fun: Fun, a: &Tally, b: &Tally) -> Result<Tally, NoMemory>
-    ensures { IfOk result (λ t. as_part fun t ≡ joined (as_part fun a.now) (as_part fun b.now)) }
+/// The tally of the cells of both, where it can be kept.
+fn both(fun: Fun, a: &Tally, b: &Tally) -> Option<Tally>
+    ensures sum { IfSome result (λ t. as_part fun t ≡ joined (as_part fun a.now) (as_part fun b.now)) }
+    ensures room { CanBeKept (joined (as_part fun a.now) (as_part fun b.now)) → IsSome result }
 {
     match fun {
         Fun::CountAll => rows_of_both(a, b),
@@ -62,48 +66,40 @@ fn both(fun: Fun, a: &Tally, b: &Tally) -> Result<Tally, NoMemory>
 }
 
 /// The same where rows are counted.
-fn rows_of_both(a: &Tally, b: &Tally) -> Result<Tally, NoMemory>
-    ensures { IfOk result (λ t. as_part CountAll t ≡ joined (as_part CountAll a.now) (as_part CountAll b.now)) }
+fn rows_of_both(a: &Tally, b: &Tally) -> Option<Tally>
+    ensures sum { IfSome result (λ t. as_part CountAll t ≡ joined (as_part CountAll a.now) (as_part CountAll b.now)) }
+    ensures room { CanBeKept (joined (as_part CountAll a.now) (as_part CountAll b.now)) → IsSome result }
 {
-    let values = count_of_both(a.values, b.values)?;
-    Ok(Tally { values, number: 0 })
+    let values = a.values.checked_add(b.values)?;
+    Some(Tally { values, number: 0 })
 }
 
 /// The same where their sum is what counts.
-fn sum_of_both(a: &Tally, b: &Tally) -> Result<Tally, NoMemory>
-    ensures { IfOk result (λ t. as_part Sum t ≡ joined (as_part Sum a.now) (as_part Sum b.now)) }
+fn sum_of_both(a: &Tally, b: &Tally) -> Option<Tally>
+    ensures sum { IfSome result (λ t. as_part Sum t ≡ joined (as_part Sum a.now) (as_part Sum b.now)) }
+    ensures room { CanBeKept (joined (as_part Sum a.now) (as_part Sum b.now)) → IsSome result }
 {
-    let values = count_of_both(a.values, b.values)?;
-    match a.number.checked_add(b.number) {
-        Some(number) => Ok(Tally { values, number }),
-        None => Err(NoMemory),
-    }
+    let values = a.values.checked_add(b.values)?;
+    let number = a.number.checked_add(b.number)?;
+    Some(Tally { values, number })
 }
 
 /// The same where the least is what counts.
-fn least_of_both(a: &Tally, b: &Tally) -> Result<Tally, NoMemory>
-    ensures { IfOk result (λ t. as_part Min t ≡ joined (as_part Min a.now) (as_part Min b.now)) }
+fn least_of_both(a: &Tally, b: &Tally) -> Option<Tally>
+    ensures sum { IfSome result (λ t. as_part Min t ≡ joined (as_part Min a.now) (as_part Min b.now)) }
+    ensures room { CanBeKept (joined (as_part Min a.now) (as_part Min b.now)) → IsSome result }
 {
-    let values = count_of_both(a.values, b.values)?;
-    Ok(tally_with(values, lesser_of(bound_of(a), bound_of(b))))
+    let values = a.values.checked_add(b.values)?;
+    Some(tally_with(values, lesser_of(bound_of(a), bound_of(b))))
 }
 
 /// The same where the greatest is what counts.
-fn most_of_both(a: &Tally, b: &Tally) -> Result<Tally, NoMemory>
-    ensures { IfOk result (λ t. as_part Max t ≡ joined (as_part Max a.now) (as_part Max b.now)) }
+fn most_of_both(a: &Tally, b: &Tally) -> Option<Tally>
+    ensures sum { IfSome result (λ t. as_part Max t ≡ joined (as_part Max a.now) (as_part Max b.now)) }
+    ensures room { CanBeKept (joined (as_part Max a.now) (as_part Max b.now)) → IsSome result }
 {
-    let values = count_of_both(a.values, b.values)?;
-    Ok(tally_with(values, greater_of(bound_of(a), bound_of(b))))
-}
-
-/// The sum of two counts, where there is room for it.
-fn count_of_both(a: u64, b: u64) -> Result<u64, NoMemory>
-    ensures { IfOk result (λ sum. sum ≡ a + b) }
-{
-    match a.checked_add(b) {
-        Some(sum) => Ok(sum),
-        None => Err(NoMemory),
-    }
+    let values = a.values.checked_add(b.values)?;
+    Some(tally_with(values, greater_of(bound_of(a), bound_of(b))))
 }
 
 /// The number of a tally, where it has one.
@@ -150,19 +146,18 @@ fn greater_of(a: Option<i128>, b: Option<i128>) -> Option<i128>
 }
 
 /// Adds the cells of a row to tallies.
-pub(crate) fn add_row(
-    aggs: &[Agg],
-    tallies: &mut Seq<Tally>,
-    cells: &[Datum],
-) -> Result<(), NoMemory>
+pub(crate) fn add_row(aggs: &[Agg], tallies: &mut Seq<Tally>, cells: &[Datum]) -> Result<(), Stop>
     requires { length tallies.old ≡ length aggs.now }
     ensures many { length tallies.new ≡ length aggs.now }
     ensures parts { OnOk result (as_parts aggs.now tallies.new ≡ joined_parts (as_parts aggs.now tallies.old) (as_parts aggs.now (row_tallies aggs.now cells.now))) }
+    ensures room { AllByRecursion CanBeKept (joined_parts (as_parts aggs.now tallies.old) (as_parts aggs.now (row_tallies aggs.now cells.now))) → IsOk result }
 {
     for k in 0..aggs.len() {
         let agg = &aggs[k];
         let own = tally_of(agg.fun, value_at(cells, agg.col));
-        let tally = both(agg.fun, tallies.get(k), &own)?;
+        let Some(tally) = both(agg.fun, tallies.get(k), &own) else {
+            return Err(Stop::TooGreat);
+        };
         tallies.set(k, tally);
     }
     Ok(())
@@ -173,14 +168,17 @@ pub(crate) fn add_tallies(
     aggs: &[Agg],
     tallies: &mut Seq<Tally>,
     others: &[Tally],
-) -> Result<(), NoMemory>
+) -> Result<(), Stop>
     requires mine { length tallies.old ≡ length aggs.now }
     requires theirs { length others.now ≡ length aggs.now }
     ensures many { length tallies.new ≡ length aggs.now }
     ensures parts { OnOk result (as_parts aggs.now tallies.new ≡ joined_parts (as_parts aggs.now tallies.old) (as_parts aggs.now others.now)) }
+    ensures room { AllByRecursion CanBeKept (joined_parts (as_parts aggs.now tallies.old) (as_parts aggs.now others.now)) → IsOk result }
 {
     for k in 0..aggs.len() {
-        let tally = both(aggs[k].fun, tallies.get(k), &others[k])?;
+        let Some(tally) = both(aggs[k].fun, tallies.get(k), &others[k]) else {
+            return Err(Stop::TooGreat);
+        };
         tallies.set(k, tally);
     }
     Ok(())

@@ -8,7 +8,7 @@ use crate::gathers::gather;
 use crate::plans::UpperPlan;
 use crate::shapes::shape_of;
 use crate::stale::widen;
-use cell_groups::rows_of;
+use cell_groups::{Stop, rows_of};
 use cell_rows::CellRows;
 use std::alloc::Global;
 use ts_model::{Answer, Fold, ViewDef};
@@ -45,7 +45,10 @@ fn answer_rows(
     let _step = plan.width.step;
     let shape = shape_of(alloc, lower, plan)?;
     let gathered = gather(alloc, plan, &shape, rows)?;
-    rows_of(alloc, &shape, gathered)
+    match rows_of(alloc, &shape, gathered) {
+        Ok(upper) => Ok(upper),
+        Err(Stop::NoMemory) | Err(Stop::TooGreat) => Err(NoMemory),
+    }
 }
 
 /// The function that the lower fold has for a column behind its keys.

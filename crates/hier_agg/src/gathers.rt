@@ -1,7 +1,7 @@
 //! The groups of an answer's rows.
 ghost use Rattle.std.specs.Prelude.{◌≡◌, [], IfOk, OnOk};
-ghost use Rattle.cell_groups.specs.Groups.{HaveTallies, as_groups};
-ghost use Rattle.cell_groups.specs.Taken.{taken_in, with_rows};
+ghost use Rattle.cell_groups.specs.Groups.{as_groups};
+ghost use Rattle.cell_groups.specs.Taken.{AreGathered, taken_in, with_rows};
 ghost use Rattle.group_fold.specs.Gathering.{ordered};
 ghost use Rattle.hier_agg.specs.Taken.{columns_of, row_group_of, row_passes};
 ghost use Rattle.hier_agg.specs.Upper.{row_of};
@@ -9,7 +9,7 @@ ghost use Rattle.hier_agg.specs.Wides.{HoldsItsNumbers};
 
 use crate::plans::UpperPlan;
 use crate::wides::{WideBucket, bucket_with, no_bucket};
-use cell_groups::{CellGroups, Shape, passes};
+use cell_groups::{CellGroups, Shape, Stop, passes};
 use cell_rows::CellRows;
 use std::alloc::Global;
 use ts_num::Datum;
@@ -24,7 +24,7 @@ pub(crate) fn gather<'a>(
 ) -> Result<CellGroups<'a>, NoMemory>
     ensures groups { IfOk result (λ gathered. ordered (as_groups shape.now gathered.groups.items)
         ≡ with_rows (row_passes plan.now) (row_group_of plan.now shape.now) rows.now []) }
-    ensures tallies { IfOk result (λ gathered. HaveTallies shape.now.aggs gathered.groups.items) }
+    ensures gathered { IfOk result (λ gathered. AreGathered shape.now gathered) }
 {
     let mut gathered = CellGroups::new(alloc);
     let mut bucket = no_bucket();
@@ -34,7 +34,8 @@ pub(crate) fn gather<'a>(
     Ok(gathered)
 }
 
-/// Takes a row in, where its keys pass. `bucket` is that of a row before it, and then its own.
+/// Takes a row in, where its keys pass. `bucket` is that of a row before it, and then its own. For a sum that
+/// takes more than 128 bits there is no room.
 fn take_row<'a>(
     alloc: Global,
     plan: &UpperPlan,
@@ -44,18 +45,21 @@ fn take_row<'a>(
     gathered: &mut CellGroups<'a>,
 ) -> Result<(), NoMemory>
     requires numbers { HoldsItsNumbers plan.now.width bucket.old }
-    requires tallies { HaveTallies shape.now.aggs gathered.old.groups.items }
+    requires gathered { AreGathered shape.now gathered.old }
     ensures numbers { HoldsItsNumbers plan.now.width bucket.new }
     ensures groups { OnOk result (ordered (as_groups shape.now gathered.new.groups.items)
         ≡ taken_in (row_passes plan.now) (row_group_of plan.now shape.now) cells.now (ordered (as_groups shape.now gathered.old.groups.items))) }
-    ensures tallies { OnOk result (HaveTallies shape.now.aggs gathered.new.groups.items) }
+    ensures gathered { OnOk result (AreGathered shape.now gathered.new) }
 {
     let columns = columns_of(cells);
     if !passes(columns, plan.tests.items()) {
         return Ok(());
     }
     *bucket = bucket_with(&plan.width, *bucket, start_of(cells))?;
-    gathered.take(alloc, shape, bucket.start, columns)
+    match gathered.take(alloc, shape, bucket.start, columns) {
+        Ok(()) => Ok(()),
+        Err(Stop::NoMemory) | Err(Stop::TooGreat) => Err(NoMemory),
+    }
 }
 
 /// The cells of a row behind its bucket.

@@ -1,9 +1,10 @@
-use Rattle.std.proofs.Common.{◌≡◌, []}
+use Rattle.std.proofs.Common.{◌≡◌, ◌-◌, ◌≤◌, [], length}
 use Rattle.std.specs.List.{AllByRecursion}
 use Rattle.group_fold.specs.Gathering.{ordered}
 use Rattle.cell_groups.specs.Cells.{cells_pass}
-use Rattle.cell_groups.specs.Groups.{HaveTallies, as_groups}
-use Rattle.cell_groups.specs.Taken.{with_rows}
+use Rattle.cell_groups.specs.Groups.{as_groups}
+use Rattle.cell_groups.specs.Room.{AreOfRows}
+use Rattle.cell_groups.specs.Taken.{AreGathered, with_rows}
 use Rattle.cal_bucket.specs.Named.{NamesItsTimes}
 use Rattle.cal_bucket.specs.Rows.{ShowARow}
 use Rattle.cal_bucket.specs.Shapes.{named_group}
@@ -15,5 +16,7 @@ invariant-loop-cells l = record {
   left : AllByRecursion (ShowARow l.fn.plan.at) l.cells-iterator;
   names : NamesItsTimes l.fn.plan.unit l.fn.plan.number l.bucket;
   taken : with_rows (cells_pass l.tests) (named_group l.fn.plan l.shape) l.cells-iterator (ordered (as_groups l.shape l.gathered.groups.items)) ≡ with_rows (cells_pass l.tests) (named_group l.fn.plan l.shape) l.fn.lower [];
-  tallies : HaveTallies l.shape.aggs l.gathered.groups.items;
+  gathered : AreGathered l.shape l.gathered;
+  to_come : length l.cells-iterator ≤ length l.fn.lower;
+  few : AreOfRows (length l.fn.lower - length l.cells-iterator) (as_groups l.shape l.gathered.groups.items);
 }

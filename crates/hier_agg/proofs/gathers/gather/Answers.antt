@@ -1,8 +1,9 @@
-use Rattle.std.proofs.Common.{◌≡◌, ◌∷◌, sym, ap, ◌∙◌}
+use Rattle.std.proofs.Common.{◌≡◌, ◌∷◌, sym, ap, ◌∙◌, arith}
+use Rattle.std.proofs.lemmas.Int.{ints}
 use Rattle.group_fold.specs.Gathering.{ordered}
 use Rattle.cell_groups.specs.Groups.{as_groups}
 use Rattle.cell_groups.specs.Taken.{with_rows}
-use Rattle.cell_groups.proofs.Gathering.{rows_step}
+use Rattle.cell_groups.proofs.Gathering.{none_gathered, rows_step}
 use Rattle.hier_agg.specs.Taken.{row_group_of, row_passes}
 use Rattle.hier_agg.proofs.gathers.gather.Goals as goal
 
@@ -20,5 +21,20 @@ loop-cells-preserved c =
           ∙ sym (rows_step keep own c.in-Some.cells.now c.next.new.self before)
           ∙ ap (λ rows. with_rows keep own rows before) (sym first)
           ∙ c.loop-cells.invariant.taken;
-      tallies = c.in_ok-take_row.ensures.tallies;
+      gathered = c.in_ok-take_row.ensures.gathered;
+    }
+
+pub loop-cells-init : goal.loop-cells-init
+loop-cells-init c =
+    let shape = c.args.shape.now in
+    let keep = row_passes c.args.plan.now in
+    let own = row_group_of c.args.plan.now shape in
+    let none = c.new-gathered.ensures.none in
+    let whole : c.into_iter-cells-iterator.result ≡ c.args.rows.now = c.into_iter-cells-iterator.ensures.into_iter_gives ∙ c.iter-cells-items.ensures.rows in
+    record {
+      numbers = λ t low high. absurd (omega (arith, ints, low, high, c.no_bucket-bucket.ensures.start, c.no_bucket-bucket.ensures.end));
+      taken =
+          ap (λ rows. with_rows keep own rows (ordered (as_groups shape c.new-gathered.result.groups.items))) whole
+          ∙ ap (λ gs. with_rows keep own c.args.rows.now (ordered (as_groups shape gs))) none;
+      gathered = none_gathered shape c.new-gathered.result none;
     }

@@ -1,7 +1,7 @@
 use Rattle.std.proofs.Common.{◌≡◌, []}
 use Rattle.group_fold.specs.Gathering.{ordered}
-use Rattle.cell_groups.specs.Groups.{HaveTallies, as_groups}
-use Rattle.cell_groups.specs.Taken.{with_rows}
+use Rattle.cell_groups.specs.Groups.{as_groups}
+use Rattle.cell_groups.specs.Taken.{AreGathered, with_rows}
 use Rattle.hier_agg.specs.Taken.{row_group_of, row_passes}
 use Rattle.hier_agg.specs.Wides.{HoldsItsNumbers}
 use Rattle.hier_agg.proofs.gathers.gather.Given as goal
@@ -11,5 +11,5 @@ abbrev pub invariant-loop-cells : goal.invariant-loop-cells
 invariant-loop-cells l = record {
   numbers : HoldsItsNumbers l.plan.width l.bucket;
   taken : with_rows (row_passes l.plan) (row_group_of l.plan l.shape) l.cells-iterator (ordered (as_groups l.shape l.gathered.groups.items)) ≡ with_rows (row_passes l.plan) (row_group_of l.plan l.shape) l.rows [];
-  tallies : HaveTallies l.shape.aggs l.gathered.groups.items;
+  gathered : AreGathered l.shape l.gathered;
 }

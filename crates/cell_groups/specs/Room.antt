@@ -1,0 +1,44 @@
+-- Whether what groups add up to can be kept: counts in 64 bits, and sums in 128.
+use Rattle.std.specs.Prelude.{ℕ, ◌+◌, ◌*◌, ◌^◌, ◌<◌, ◌≤◌, max, List, [], ◌∷◌, map, ℤ, pos, neg_ℤ, ◌≤ℤ◌, Option, IfSome, IsTrue, FitsSigned}
+use Rattle.std.specs.Int.{w128}
+use Rattle.std.specs.List.{AllByRecursion, sum_by}
+use Rattle.ts_num.specs.declared.values.Datum.{Datum}
+use Rattle.ts_model.specs.Limits.{is_word}
+use Rattle.partial_agg.specs.declared.groups.Group.{Group}
+use Rattle.partial_agg.specs.Summaries.{Summary}
+use Rattle.cell_groups.specs.Cells.{value_of}
+
+-- the counts of a part take 64 bits, and its sum 128
+pub record CanBeKept (p : Summary) : Type 0 where
+  pub count : p.count < 2 ^ 64
+  pub values : p.values < 2 ^ 64
+  pub sum : FitsSigned w128 p.sum
+
+-- ---- rows of 64-bit numbers
+
+-- NULL, or a number of 64 bits
+abbrev pub IsWordOrNone : Option ℤ → Type 0
+IsWordOrNone v = IfSome v (λ n. IsTrue (is_word n))
+
+-- the cells show such numbers alone
+abbrev pub ShowWords : List Datum → Type 0
+ShowWords cells = AllByRecursion IsWordOrNone (map value_of cells)
+
+-- the sum of a part is one of so many such numbers
+pub record IsOfWords (p : Summary) : Type 0 where
+  pub low : neg_ℤ (pos (2 ^ 63 * p.values)) ≤ℤ p.sum
+  pub high : p.sum ≤ℤ pos (2 ^ 63 * p.values)
+
+-- how many rows a group has taken in at least: the greatest of its counts
+abbrev pub taken_by : List Summary → ℕ
+taken_by [] = 0
+taken_by (p ∷ ps) = max (p.count + p.values) (taken_by ps)
+
+-- how many groups have taken in at least, together
+abbrev pub taken_by_all : List Group → ℕ
+taken_by_all groups = sum_by (λ g. taken_by g.parts) groups
+
+-- groups of at most so many rows in all, whose cells show numbers of 64 bits
+pub record AreOfRows (n : ℕ) (groups : List Group) : Type 0 where
+  pub few : taken_by_all groups ≤ n
+  pub words : AllByRecursion (λ g. AllByRecursion IsOfWords g.parts) groups
