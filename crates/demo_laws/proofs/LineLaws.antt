@@ -2,7 +2,7 @@
 use lib.Signed.{mag}
 use Rattle.std.proofs.Common.{◌≡◌, ◌∙◌, refl, ap, inl, inr, ℕ, ◌+◌, ◌*◌, ◌<◌, ◌^◌, pos, ◌-ℤ◌, cond, List, length, None, arith}
 use Rattle.std.proofs.Math.Seq.{take-length}
-use Rattle.std.proofs.lemmas.Bool.{cond_both, le-ltb}
+use Rattle.std.proofs.lemmas.Bool.{le-ltb}
 use Rattle.ts_model.specs.declared.rosters.Roster.{Roster}
 use Rattle.ts_model.specs.History.{position}
 use Rattle.ts_model.specs.Roster.{roster}
@@ -14,9 +14,10 @@ use Rattle.hier_agg.specs.declared.reads.UpperRead.TheVariants.{NotUpper}
 use Rattle.hier_agg.specs.Reads.{upper_read}
 use Rattle.result_text.specs.declared.codes.TheConstants.{LINE_LONG}
 use Rattle.ts_sessions.specs.Places.{Places, Turn, none}
-use Rattle.ts_sessions.specs.Procedures.{Procedure}
+use Rattle.ts_sessions.specs.Procedures.{Procedure, looks}
 use Rattle.ts_sessions.specs.Script.{LineResult, ScriptState, executes, executes_as, executes_kind, line_limit, places_of, refused_line, session_semantics, takes_turn}
-use Rattle.ts_sessions.specs.Step.{acts, block_refusal, kind_of, let_pass, makes_event, named, named_as, named_first, named_here, passed, passed_first, performs_in, read_at, reads_as, refusal_outside, step}
+use Rattle.ts_sessions.specs.Step.{acts, block_refusal, kind_of, named, named_as, named_first, named_here, read_at, refusal_outside, step, as_read, passes_block, performs, unless}
+use Rattle.ts_sessions.proofs.NamedLaws.{performs_holds}
 use Rattle.demo_laws.specs.ActLaws.{HasPlaces, IsItsStatement, LinesAct, LinesAreStatements, demo_session}
 use Rattle.demo_laws.specs.Statements.{act_of, roster_before, stmt_of}
 use Rattle.demo_script.specs.Lines.{text_of}
@@ -44,24 +45,22 @@ record Asks (r : Roster) (stmt : Stmt) (action : Action) : Type 0 where
 module _ (s : ScriptState Places) (p : Places) (bytes : ℕ) (stmt : Stmt) (action : Action) (asks : Asks (roster s.history) stmt action) where
   first_turn : turn_of s (named_first p bytes stmt) ≡ turn_of s (acts p bytes s.history action)
   first_turn =
-      ap (λ r. turn_of s (passed_first p bytes s.history stmt r)) (asks.passes (position s.history))
+      ap (λ r. turn_of s (unless p r (looks (λ h. acts p bytes h (action_of (roster s.history) stmt))))) (asks.passes (position s.history))
       ∙ ap (λ a. turn_of s (acts p bytes s.history a)) asks.asks
 
   here_turn : p.block ≡ none → turn_of s (named_here p bytes stmt) ≡ turn_of s (acts p bytes s.history action)
   here_turn outside =
       ap (λ b. turn_of s (named p bytes stmt (read_at b s.history))) outside
       ∙ ap (λ u. turn_of s (named_as p bytes s.history stmt u)) (asks.checked (position s.history))
-      ∙ ap (λ r. turn_of s (passed p bytes s.history stmt r)) (asks.passes (position s.history))
+      ∙ ap (λ r. turn_of s (unless p r (acts p bytes s.history (action_of (roster s.history) stmt)))) (asks.passes (position s.history))
       ∙ ap (λ a. turn_of s (acts p bytes s.history a)) asks.asks
 
   -- outside a block
-  statement_turn : p.block ≡ none → refusal_outside (kind_of stmt) ≡ None → turn_of s (let_pass p bytes stmt (block_refusal p.block (kind_of stmt))) ≡ turn_of s (acts p bytes s.history action)
+  statement_turn : p.block ≡ none → refusal_outside (kind_of stmt) ≡ None → turn_of s (passes_block p bytes stmt) ≡ turn_of s (acts p bytes s.history action)
   statement_turn outside fits =
-      ap (λ b. turn_of s (let_pass p bytes stmt (block_refusal b (kind_of stmt)))) outside
-      ∙ ap (λ r. turn_of s (let_pass p bytes stmt r)) fits
-      ∙ ap (λ b. turn_of s (performs_in p bytes stmt b)) outside
-      ∙ cond_both (makes_event (kind_of stmt)) (named_first p bytes stmt) (named_here p bytes stmt) (λ procedure. turn_of s procedure ≡ turn_of s (acts p bytes s.history action))
-      (λ _. first_turn) (λ _. here_turn outside)
+      ap (λ b. turn_of s (unless p (block_refusal b (kind_of stmt)) (performs p bytes stmt))) outside
+      ∙ ap (λ r. turn_of s (unless p r (performs p bytes stmt))) fits
+      ∙ performs_holds (λ procedure. turn_of s procedure ≡ turn_of s (acts p bytes s.history action)) p bytes stmt (λ twice. first_turn) (λ once. here_turn outside)
 
 -- no line is a roll-up
 no_roll_up : (demo at : ℕ) (line : Line) → upper_read at (roster_before line) (stmt_of demo line) ≡ NotUpper
@@ -98,7 +97,7 @@ line_acts demo n line s p is finds here outside =
     ∙ ap (λ t. executes_as session_semantics s (session_name text 1 2) t 2 (places_of (session_name text 1 2) s.sessions)) (take-length text)
     ∙ ap (λ name. executes_as session_semantics s name text 2 (places_of name s.sessions)) is.session
     ∙ turn_taken s p text 2 here
-    ∙ ap (λ read. turn_of s (reads_as p (length text) read)) is.read
+    ∙ ap (λ read. turn_of s (as_read p (passes_block p (length text)) read)) is.read
     ∙ statement_turn s p (length text) (stmt_of demo line) (act_of demo line) asks outside is.outside
 
 -- ---- the lines

@@ -26,9 +26,10 @@ use Rattle.hier_agg.specs.declared.reads.UpperRead.TheVariants as uppers
 use Rattle.hier_agg.specs.Reads.{upper_read}
 use Rattle.result_text.specs.declared.replies.Said.TheVariants as said
 use Rattle.ts_sessions.specs.Places.{Block, none, writing, reading, Places, Turn, enters, refuses, turns}
-use Rattle.ts_sessions.specs.Procedures.{Procedure, ends}
+use Rattle.ts_sessions.specs.Procedures.{Procedure, ends, looks as looks_at}
 use Rattle.ts_sessions.specs.Sound.{AsksSoundly}
-use Rattle.ts_sessions.specs.Step.{acts, answers, block_refusal, calendar_plan, closes, given_up, kind_of, let_pass, makes_event, misread, named, named_as, named_first, named_here, passed, passed_first, performs_in, plan_of, read_at, reads_as, refusal_reading, roll_up_plan, step, unit_of}
+use Rattle.ts_sessions.specs.Step.{acts, answers, block_refusal, calendar_plan, closes, given_up, kind_of, misread, named, named_as, named_first, named_here, plan_of, read_at, refusal_reading, roll_up_plan, step, unit_of, as_read, passes_block, performs, unless}
+use Rattle.ts_sessions.proofs.NamedLaws.{performs_holds, unless_holds}
 use Rattle.ts_sessions.proofs.SoundLaws.{asks_soundly}
 use Rattle.image_runs.proofs.ActLaws.{acts_along}
 use Rattle.image_runs.proofs.AskLaws.{answers_along}
@@ -60,12 +61,12 @@ module _ (h : History) (i : Image) (ok : all_allowed h ≡ true) (is : IsImage h
     same_refusals : refusal_of (position l) (roster l) stmt ≡ refusal_of (position m) (roster m) stmt
     same_refusals = ap (λ q. refusal_of q (roster l) stmt) looks.places ∙ ap (λ r. refusal_of (position m) r stmt) looks.relations
 
-    passed_along : (r : Option Refusal) → refusal_of (position m) (roster m) stmt ≡ r → Along (passed p bytes l stmt r) (passed p bytes m stmt r)
+    passed_along : (r : Option Refusal) → refusal_of (position m) (roster m) stmt ≡ r → Along (unless p r (acts p bytes l (action_of (roster l) stmt))) (unless p r (acts p bytes m (action_of (roster m) stmt)))
     passed_along (Some r) e = refused r
     passed_along None e = checked e
 
-    checked_along : Along (passed p bytes l stmt (refusal_of (position l) (roster l) stmt)) (passed p bytes m stmt (refusal_of (position m) (roster m) stmt))
-    checked_along = subst (λ r. Along (passed p bytes l stmt r) (passed p bytes m stmt (refusal_of (position m) (roster m) stmt))) (sym same_refusals) (passed_along (refusal_of (position m) (roster m) stmt) refl)
+    checked_along : Along (unless p (refusal_of (position l) (roster l) stmt) (acts p bytes l (action_of (roster l) stmt))) (unless p (refusal_of (position m) (roster m) stmt) (acts p bytes m (action_of (roster m) stmt)))
+    checked_along = subst (λ r. Along (unless p r (acts p bytes l (action_of (roster l) stmt))) (unless p (refusal_of (position m) (roster m) stmt) (acts p bytes m (action_of (roster m) stmt)))) (sym same_refusals) (passed_along (refusal_of (position m) (roster m) stmt) refl)
 
     read_along : (u : UpperRead) → Along (named_as p bytes l stmt u) (named_as p bytes m stmt u)
     read_along (uppers.Plan plan) = quiet _ _ (answers_along i.pos (used + bytes) p (roll_up_plan plan) l m k looks (twins_allowed h i ok is l m there) there.allowed same_now)
@@ -87,14 +88,18 @@ module _ (h : History) (i : Image) (ok : all_allowed h ≡ true) (is : IsImage h
         subst (λ r. Along (acts p bytes g (action_of r stmt)) (acts p bytes k (action_of (roster k) stmt))) (sym (twins_alike h i ok is g k t).relations)
         (acts_along h i ok is used bytes few p g k t fit (action_of (roster k) stmt) (asks k t.allowed e))
 
-    first_as : (r : Option Refusal) → refusal_of (position k) (roster k) stmt ≡ r → Along (passed_first p bytes g stmt r) (passed_first p bytes k stmt r)
+    -- the event of the names of a history
+    abbrev event_at : History → Procedure (Turn Places)
+    event_at x = looks_at (λ y. acts p bytes y (action_of (roster x) stmt))
+
+    first_as : (r : Option Refusal) → refusal_of (position k) (roster k) stmt ≡ r → Along (unless p r (event_at g)) (unless p r (event_at k))
     first_as (Some r) e = refused r
     first_as None e = along_sees (SameTurn i.pos (used + bytes)) g k _ _ (λ x. acts p bytes x (action_of (roster g) stmt)) (λ x. acts p bytes x (action_of (roster k) stmt)) (acting e)
 
     first_along : Along (named_first p bytes stmt) (named_first p bytes stmt)
     first_along =
-        along_sees (SameTurn i.pos (used + bytes)) g k _ _ (λ x. passed_first p bytes x stmt (refusal_of (position x) (roster x) stmt)) (λ x. passed_first p bytes x stmt (refusal_of (position x) (roster x) stmt))
-        (subst (λ r. Along (passed_first p bytes g stmt r) (passed_first p bytes k stmt (refusal_of (position k) (roster k) stmt)))
+        along_sees (SameTurn i.pos (used + bytes)) g k _ _ (λ x. unless p (refusal_of (position x) (roster x) stmt) (event_at x)) (λ x. unless p (refusal_of (position x) (roster x) stmt) (event_at x))
+        (subst (λ r. Along (unless p r (event_at g)) (unless p (refusal_of (position k) (roster k) stmt) (event_at k)))
         (sym (same_refusals stmt g k t acting))
         (first_as (refusal_of (position k) (roster k) stmt) refl))
 
@@ -104,10 +109,6 @@ module _ (h : History) (i : Image) (ok : all_allowed h ≡ true) (is : IsImage h
 
     now_along : Along (named p bytes stmt g) (named p bytes stmt k)
     now_along = named_along stmt g k t acting
-
-    outside_along : (makes : Bool) → p.block ≡ none → Along (cond makes (named_first p bytes stmt) (named_here p bytes stmt)) (cond makes (named_first p bytes stmt) (named_here p bytes stmt))
-    outside_along true e = first_along
-    outside_along false e = here_along none e now_along
 
   -- ---- in a read block
 
@@ -159,20 +160,23 @@ module _ (h : History) (i : Image) (ok : all_allowed h ≡ true) (is : IsImage h
 
   -- ---- lines
 
-  performs_along : (stmt : Stmt) (b : Block) → AsksSoundly bytes stmt → p.block ≡ b → block_refusal b (kind_of stmt) ≡ None → Along (performs_in p bytes stmt b) (performs_in p bytes stmt b)
-  performs_along stmt none asks e pass = outside_along stmt asks (makes_event (kind_of stmt)) e
-  performs_along stmt (writing ops n) asks e pass = here_along stmt asks (writing ops n) e (now_along stmt asks)
-  performs_along stmt (reading at) asks e pass =
+  now_or_then : (stmt : Stmt) (b : Block) → AsksSoundly bytes stmt → p.block ≡ b → block_refusal b (kind_of stmt) ≡ None → Along (named p bytes stmt (read_at b g)) (named p bytes stmt (read_at b k))
+  now_or_then stmt none asks e pass = now_along stmt asks
+  now_or_then stmt (writing ops n) asks e pass = now_along stmt asks
+  now_or_then stmt (reading at) asks e pass =
       let began : IsFrom i.pos k at = subst (BlockFits i.pos used k) e fit.block in
       let there = twins_prefix h i ok is g k t at began.above in
-      here_along stmt asks (reading at) e (named_along stmt (prefix g at) (prefix k at) there (λ _. reads_along at e (prefix g at) (prefix k at) there stmt pass))
+      named_along stmt (prefix g at) (prefix k at) there (λ _. reads_along at e (prefix g at) (prefix k at) there stmt pass)
 
-  passes_along : (stmt : Stmt) (r : Option Refusal) → AsksSoundly bytes stmt → block_refusal p.block (kind_of stmt) ≡ r → Along (let_pass p bytes stmt r) (let_pass p bytes stmt r)
-  passes_along stmt (Some r) asks e = refused r
-  passes_along stmt None asks e = performs_along stmt p.block asks refl e
+  performs_along : (stmt : Stmt) → AsksSoundly bytes stmt → block_refusal p.block (kind_of stmt) ≡ None → Along (performs p bytes stmt) (performs p bytes stmt)
+  performs_along stmt asks pass =
+      performs_holds (λ d. Along d d) p bytes stmt (λ twice. first_along stmt asks) (λ once. here_along stmt asks p.block refl (now_or_then stmt p.block asks refl pass))
 
-  said_along : (r : Result (Stmt × Stream) Fault) → ((stmt : Stmt) (rest : Stream) → r ≡ Ok (stmt, rest) → AsksSoundly bytes stmt) → Along (reads_as p bytes r) (reads_as p bytes r)
-  said_along (Ok read) asks = passes_along read.0 (block_refusal p.block (kind_of read.0)) (asks read.0 read.1 refl) refl
+  passes_along : (stmt : Stmt) → AsksSoundly bytes stmt → Along (passes_block p bytes stmt) (passes_block p bytes stmt)
+  passes_along stmt asks = unless_holds (λ d. Along d d) p (block_refusal p.block (kind_of stmt)) (performs p bytes stmt) (λ r e. refused r) (λ pass. performs_along stmt asks pass)
+
+  said_along : (r : Result (Stmt × Stream) Fault) → ((stmt : Stmt) (rest : Stream) → r ≡ Ok (stmt, rest) → AsksSoundly bytes stmt) → Along (as_read p (passes_block p bytes) r) (as_read p (passes_block p bytes) r)
+  said_along (Ok read) asks = passes_along read.0 (asks read.0 read.1 refl)
   said_along (Err f) asks = refused (misread f)
 
 -- a line of a session, of at most 65,536 bytes

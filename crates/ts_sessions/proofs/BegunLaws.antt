@@ -1,18 +1,10 @@
 -- The block of a session after a line had begun by its end.
-use Rattle.std.proofs.Common.{ℕ, ◌≤◌, Bool, true, false, cond, List, [], ◌∷◌, length, Option, Some, None, inl, inr, subst, sym, arith}
-use Rattle.std.specs.Prelude.{Result, Ok, Err, ℤ}
-use Rattle.ts_bucket.specs.Bucket.{first_of}
-use Rattle.ts_bucket.specs.declared.spans.Span.{Span}
+use Rattle.std.proofs.Common.{ℕ, ◌≤◌, [], ◌∷◌, length, arith}
+use Rattle.std.specs.Prelude.{Result}
 use Rattle.ts_model.specs.declared.events.Op.{Op}
-use Rattle.ts_model.specs.declared.outcomes.Committed.{Committed}
-use Rattle.ts_model.specs.declared.outcomes.CutDone.{CutDone}
-use Rattle.ts_model.specs.declared.outcomes.CutDone.TheVariants.{Cut as CutMade, Nothing as NothingDone}
-use Rattle.ts_model.specs.declared.outcomes.Refusal.{Refusal}
-use Rattle.ts_model.specs.declared.views.ViewDef.{ViewDef}
-use Rattle.ts_model.specs.Calls.{Act, refuses as refuses_call, returns, makes, committing, cutting, finishing, making_hyper, making_table, making_view, setting_mode}
+use Rattle.ts_model.specs.Calls.{cutting, making_hyper, making_table, making_view, setting_mode}
 use Rattle.ts_model.specs.History.{History, position}
 use Rattle.ts_model.specs.Roster.{roster, view_of}
-use Rattle.ts_model.specs.States.{State}
 use Rattle.ts_model.proofs.HistoryLaws.{begins_prefix, position_begins}
 use Rattle.stmt_reader.specs.declared.faults.Fault.{Fault}
 use Rattle.stmt_reader.specs.declared.statements.Stmt.{Stmt}
@@ -21,15 +13,13 @@ use Rattle.stmt_reader.specs.Streams.{Stream, stream}
 use Rattle.stmt_check.specs.declared.actions.Action.{Action}
 use Rattle.stmt_check.specs.declared.actions.Action.TheVariants as actions
 use Rattle.stmt_check.specs.Check.{action_of, refusal_of}
-use Rattle.result_text.specs.declared.replies.Said.{Said}
 use Rattle.result_text.specs.declared.replies.Said.TheVariants as said
 use Rattle.ts_sessions.specs.Actors.{BlocksBegin}
 use Rattle.ts_sessions.specs.LineLaws.{ReadsWithin}
-use Rattle.ts_sessions.specs.Places.{Block, none, writing, reading, Places, Turn, enters, held_for}
-use Rattle.ts_sessions.specs.Procedures.{Procedure, sees, adds, ends, followed_by, ending_as, tries_at}
-use Rattle.ts_sessions.specs.Step.{Taken, acts, after_cut, after_line, after_snapshot, after_view, block_refusal, changes, closes, commits, committed, cut_turn, finish_turn, finishes, finishes_held, kind_of, least_start, let_pass, makes_event, named_first, named_here, passed, passed_first, performs_in, read_at, reads_as, refresh_meant, refreshed, refreshes, reported, snap_turn, snaps, step, taken, view_made}
-use Rattle.ts_sessions.specs.Walks.{Walks}
-use Rattle.ts_sessions.proofs.NamedLaws.{named_holds}
+use Rattle.ts_sessions.specs.Places.{Block, none, writing, reading, Places, Turn, enters}
+use Rattle.ts_sessions.specs.Procedures.{looks}
+use Rattle.ts_sessions.specs.Step.{acts, after_cut, after_view, block_refusal, changes, closes, cut_turn, kind_of, least_start, named_first, named_here, read_at, refresh_meant, reported, step, as_read, passes_block, performs}
+use Rattle.ts_sessions.proofs.NamedLaws.{named_holds, performs_holds, read_holds, unless_holds}
 use Rattle.ts_sessions.proofs.WalkLaws.{goes_walks}
 use Rattle.ts_sessions.proofs.TurnBlocks.{EndsBy, InTurn, by_commits, by_cut, by_cut_turn, by_finishes, by_reported, by_snaps, by_view, call_by, one_by, walks_by}
 
@@ -87,35 +77,22 @@ module _ (n : ℕ) where
     by_acts bytes h (actions.Calendar table number unit at fold) le = within
     by_acts bytes h (actions.Ask q) le = within
 
-    by_passed : (bytes : ℕ) (h : History) (stmt : Stmt) (o : Option Refusal) → position h ≤ n → EndsBy InBegun n (passed p bytes h stmt o)
-    by_passed bytes h stmt None le = by_acts bytes h (action_of (roster h) stmt) le
-    by_passed bytes h stmt (Some r) le = within
-
-    by_first : (bytes : ℕ) (g : History) (stmt : Stmt) (o : Option Refusal) → EndsBy InBegun n (passed_first p bytes g stmt o)
-    by_first bytes g stmt None = λ h le. by_acts bytes h (action_of (roster g) stmt) le
-    by_first bytes g stmt (Some r) = within
-
     by_here : (bytes : ℕ) (stmt : Stmt) → EndsBy InBegun n (named_here p bytes stmt)
     by_here bytes stmt = λ h le.
         let at = read_at p.block h in
-        named_holds (EndsBy InBegun n) p bytes at stmt (λ r e. within) (λ plan. within) (by_passed bytes at stmt (refusal_of (position at) (roster at) stmt) (read_within p.block h n le))
+        named_holds (EndsBy InBegun n) p bytes at stmt (λ r e. within) (λ plan. within) (λ r e. within) (λ e. by_acts bytes at (action_of (roster at) stmt) (read_within p.block h n le))
 
-    by_outside : (bytes : ℕ) (stmt : Stmt) (m : Bool) → EndsBy InBegun n (cond m (named_first p bytes stmt) (named_here p bytes stmt))
-    by_outside bytes stmt true = λ g le. by_first bytes g stmt (refusal_of (position g) (roster g) stmt)
-    by_outside bytes stmt false = by_here bytes stmt
+    by_first : (bytes : ℕ) (stmt : Stmt) → EndsBy InBegun n (named_first p bytes stmt)
+    by_first bytes stmt = λ g _.
+        unless_holds (EndsBy InBegun n) p (refusal_of (position g) (roster g) stmt) (looks (λ h. acts p bytes h (action_of (roster g) stmt))) (λ r e. within) (λ e h le. by_acts bytes h (action_of (roster g) stmt) le)
 
-    by_block : (bytes : ℕ) (stmt : Stmt) (b : Block) → EndsBy InBegun n (performs_in p bytes stmt b)
-    by_block bytes stmt none = by_outside bytes stmt (makes_event (kind_of stmt))
-    by_block bytes stmt (writing ops k) = by_here bytes stmt
-    by_block bytes stmt (reading at) = by_here bytes stmt
+    by_statement : (bytes : ℕ) (stmt : Stmt) → EndsBy InBegun n (passes_block p bytes stmt)
+    by_statement bytes stmt =
+        unless_holds (EndsBy InBegun n) p (block_refusal p.block (kind_of stmt)) (performs p bytes stmt) (λ r e. within)
+        (λ e. performs_holds (EndsBy InBegun n) p bytes stmt (λ twice. by_first bytes stmt) (λ once. by_here bytes stmt))
 
-    by_let : (bytes : ℕ) (stmt : Stmt) (o : Option Refusal) → EndsBy InBegun n (let_pass p bytes stmt o)
-    by_let bytes stmt None = by_block bytes stmt p.block
-    by_let bytes stmt (Some r) = within
-
-    by_read : (bytes : ℕ) (r : Result (Stmt × Stream) Fault) → EndsBy InBegun n (reads_as p bytes r)
-    by_read bytes (Ok read) = by_let bytes read.0 (block_refusal p.block (kind_of read.0))
-    by_read bytes (Err f) = within
+    by_read : (bytes : ℕ) (r : Result (Stmt × Stream) Fault) → EndsBy InBegun n (as_read p (passes_block p bytes) r)
+    by_read bytes r = read_holds (EndsBy InBegun n) p (passes_block p bytes) r (λ f. within) (by_statement bytes)
 
 pub blocks_begin : BlocksBegin (λ (p : Places). p.block) step
 blocks_begin alone failed old p text skip new y within w =

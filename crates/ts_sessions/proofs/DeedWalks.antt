@@ -15,6 +15,7 @@ use Rattle.result_text.specs.declared.replies.Said.{Said}
 use Rattle.ts_model.specs.declared.snapshots.Shown.{Ghosts as Shown}
 use Rattle.ts_model.specs.History.{History, Begins, position}
 use Rattle.ts_model.specs.States.{State, Found}
+use Rattle.ts_sessions.specs.declared.changes.Change.TheVariants as changes
 use Rattle.ts_sessions.specs.declared.changes.Completion.{Completion}
 use Rattle.ts_sessions.specs.declared.deeds.Advanced.{Advanced}
 use Rattle.ts_sessions.specs.declared.deeds.Deed.{Deed}
@@ -25,7 +26,7 @@ use Rattle.ts_sessions.specs.declared.deeds.Next.{Next}
 use Rattle.ts_sessions.specs.declared.deeds.Next.TheVariants as nexts
 use Rattle.ts_sessions.specs.declared.tries.Tried.{Tried}
 use Rattle.ts_sessions.specs.declared.tries.Tried.TheVariants as tried
-use Rattle.ts_sessions.specs.Deeds.{Advances, CarriesOut, CountsFrom, DeedFits, Goes, Leads, IsLostBy, IsLostNext, Joins, MadeFits, at_in, cut_in, led, led_lines, rest, rest_next, spent, spent_by, spent_next, view_leaves}
+use Rattle.ts_sessions.specs.Deeds.{Advances, CarriesOut, CountsFrom, DeedFits, Goes, Leads, IsLostBy, IsLostNext, Joins, MadeFits, NextFits, at_in, cut_in, led, led_lines, rest, rest_next, said_once, spent, spent_by, spent_next, view_leaves}
 use Rattle.ts_sessions.specs.Places.{Places, Turn}
 use Rattle.ts_sessions.specs.Procedures.{Procedure, ends, followed_by, looks, sees, tries_at}
 use Rattle.ts_sessions.specs.Sessions.{Brings, ChangeHolds, EndsAt, Tries, came, changed, has_failed, turn_of}
@@ -84,6 +85,10 @@ call_goes alone old p read read_then deed first k t r failed next new n e s w f 
   counted = λ from had. subst (λ m. n ≡ raised_by m from) s had;
   rose = omega arith;
 }
+
+-- a statement that says one line and changes nothing goes with each state
+pub said_fits : {T J : Type 0} (shown : Shown T J) (bytes : ℕ) (s : State) (next : Next T J) (line : Said) → next ≡ said_once line changes.Nothing → NextFits shown bytes next s
+said_fits shown bytes s next line e = subst (λ n. NextFits shown bytes n s) (sym e) (record { change = tt; stands = refl })
 
 -- ---- rows that were read
 

@@ -1,5 +1,5 @@
 -- A line of a session makes at most three events.
-use Rattle.std.proofs.Common.{◌≡◌, ℕ, zero, suc, ◌+◌, ◌≤◌, Bool, true, false, cond, List, [], ◌∷◌, length, Option, Some, None, inl, inr, refl, ap, ◌∙◌, subst, arith}
+use Rattle.std.proofs.Common.{◌≡◌, ℕ, zero, suc, ◌+◌, ◌≤◌, Bool, true, false, List, [], ◌∷◌, length, Option, Some, None, inl, inr, refl, ap, ◌∙◌, subst, arith}
 use Rattle.std.specs.Prelude.{Result, Ok, Err, ℤ}
 use Rattle.std.proofs.lemmas.List.{length-append}
 use Rattle.ts_bucket.specs.Bucket.{first_of}
@@ -25,12 +25,12 @@ use Rattle.result_text.specs.declared.replies.Said.TheVariants as said
 use Rattle.ts_sessions.specs.LineLaws.{AtMost, LinesMakeFewEvents, OnlyCommitsMakeEvents}
 use Rattle.ts_sessions.specs.Made.{made_in}
 use Rattle.ts_sessions.specs.Places.{Block, none, writing, reading, Places, Turn, enters, held_for}
-use Rattle.ts_sessions.specs.Procedures.{Procedure, sees, adds, ends, followed_by, ending_as, tries_at}
-use Rattle.ts_sessions.specs.Step.{Taken, acts, after_cut, after_line, after_snapshot, after_view, block_refusal, changes, closes, commits, committed, cut_turn, finish_turn, finishes, finishes_held, kind_of, least_start, let_pass, makes_event, named, named_first, named_here, passed, passed_first, performs_in, read_at, reads_as, refresh_meant, refreshed, refreshes, reported, step, taken, view_made}
+use Rattle.ts_sessions.specs.Procedures.{Procedure, sees, adds, ends, followed_by, ending_as, tries_at, looks}
+use Rattle.ts_sessions.specs.Step.{Taken, acts, after_cut, after_line, after_snapshot, after_view, block_refusal, changes, closes, commits, committed, cut_turn, finish_turn, finishes, finishes_held, kind_of, least_start, named, named_first, named_here, read_at, refresh_meant, refreshed, refreshes, reported, step, taken, view_made, as_read, passes_block, performs}
 use Rattle.ts_sessions.specs.Steady.{IsEnded}
 use Rattle.ts_sessions.specs.Walks.{Walks, Sees}
 use Rattle.ts_sessions.proofs.MadeLaws.{step_made}
-use Rattle.ts_sessions.proofs.NamedLaws.{named_holds}
+use Rattle.ts_sessions.proofs.NamedLaws.{named_holds, performs_holds, read_holds, unless_holds}
 use Rattle.ts_sessions.proofs.SteadyLaws.{ended_named}
 
 -- ---- what was made
@@ -146,33 +146,19 @@ few_acts p bytes h (actions.Ask q) = tt
 
 -- ---- statements
 
-few_passed : (p : Places) (bytes : ℕ) (h : History) (stmt : Stmt) (o : Option Refusal) → AtMost 3 (passed p bytes h stmt o)
-few_passed p bytes h stmt None = few_acts p bytes h (action_of (roster h) stmt)
-few_passed p bytes h stmt (Some r) = tt
-
-few_first : (p : Places) (bytes : ℕ) (g : History) (stmt : Stmt) (o : Option Refusal) → AtMost 3 (passed_first p bytes g stmt o)
-few_first p bytes g stmt None = λ h. few_acts p bytes h (action_of (roster g) stmt)
-few_first p bytes g stmt (Some r) = tt
-
 few_here : (p : Places) (bytes : ℕ) (stmt : Stmt) → AtMost 3 (named_here p bytes stmt)
-few_here p bytes stmt = λ h. let at = read_at p.block h in named_holds (AtMost 3) p bytes at stmt (λ r e. tt) (λ plan. tt) (few_passed p bytes at stmt (refusal_of (position at) (roster at) stmt))
+few_here p bytes stmt = λ h. let at = read_at p.block h in named_holds (AtMost 3) p bytes at stmt (λ r e. tt) (λ plan. tt) (λ r e. tt) (λ e. few_acts p bytes at (action_of (roster at) stmt))
 
-few_outside : (p : Places) (bytes : ℕ) (stmt : Stmt) (m : Bool) → AtMost 3 (cond m (named_first p bytes stmt) (named_here p bytes stmt))
-few_outside p bytes stmt true = λ g. few_first p bytes g stmt (refusal_of (position g) (roster g) stmt)
-few_outside p bytes stmt false = few_here p bytes stmt
+few_first : (p : Places) (bytes : ℕ) (stmt : Stmt) → AtMost 3 (named_first p bytes stmt)
+few_first p bytes stmt = λ g. unless_holds (AtMost 3) p (refusal_of (position g) (roster g) stmt) (looks (λ h. acts p bytes h (action_of (roster g) stmt))) (λ r e. tt) (λ e h. few_acts p bytes h (action_of (roster g) stmt))
 
-few_in : (p : Places) (bytes : ℕ) (stmt : Stmt) (b : Block) → AtMost 3 (performs_in p bytes stmt b)
-few_in p bytes stmt none = few_outside p bytes stmt (makes_event (kind_of stmt))
-few_in p bytes stmt (writing ops n) = few_here p bytes stmt
-few_in p bytes stmt (reading at) = few_here p bytes stmt
+few_statement : (p : Places) (bytes : ℕ) (stmt : Stmt) → AtMost 3 (passes_block p bytes stmt)
+few_statement p bytes stmt =
+    unless_holds (AtMost 3) p (block_refusal p.block (kind_of stmt)) (performs p bytes stmt) (λ r e. tt)
+    (λ e. performs_holds (AtMost 3) p bytes stmt (λ twice. few_first p bytes stmt) (λ once. few_here p bytes stmt))
 
-few_let : (p : Places) (bytes : ℕ) (stmt : Stmt) (o : Option Refusal) → AtMost 3 (let_pass p bytes stmt o)
-few_let p bytes stmt None = few_in p bytes stmt p.block
-few_let p bytes stmt (Some r) = tt
-
-few_read : (p : Places) (bytes : ℕ) (r : Result (Stmt × Stream) Fault) → AtMost 3 (reads_as p bytes r)
-few_read p bytes (Ok read) = few_let p bytes read.0 (block_refusal p.block (kind_of read.0))
-few_read p bytes (Err f) = tt
+few_read : (p : Places) (bytes : ℕ) (r : Result (Stmt × Stream) Fault) → AtMost 3 (as_read p (passes_block p bytes) r)
+few_read p bytes r = read_holds (AtMost 3) p (passes_block p bytes) r (λ f. tt) (few_statement p bytes)
 
 pub lines_make_few_events : LinesMakeFewEvents
 lines_make_few_events alone failed old p text skip new y w =
@@ -189,7 +175,7 @@ ended_few (ends a) i = tt
 
 -- a statement that waits, gives up, or asks only ends
 ended_here : (p : Places) (ops : List Op) (n bytes : ℕ) (stmt : Stmt) → ((h : History) → IsEnded (acts (enters (writing ops n) p) bytes h (action_of (roster h) stmt))) → AtMost 0 (named_here (enters (writing ops n) p) bytes stmt)
-ended_here p ops n bytes stmt i = λ h. let q = enters (writing ops n) p in ended_few (named q bytes stmt h) (ended_named q bytes stmt i h)
+ended_here p ops n bytes stmt i = λ h. let q = enters (writing ops n) p in ended_few (named q bytes stmt h) (ended_named q bytes stmt h (i h))
 
 pub only_commits_make_events : OnlyCommitsMakeEvents
 only_commits_make_events p ops n bytes (stmts.Table name cols) c = tt

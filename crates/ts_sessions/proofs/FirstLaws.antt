@@ -36,8 +36,9 @@ use Rattle.ts_sessions.specs.Places.{Block, none, writing, reading, Places, Turn
 use Rattle.ts_sessions.specs.Procedures.{Procedure, sees, looks, ends}
 use Rattle.ts_sessions.specs.Held.{HoldsBlock, block_of, most_queued}
 use Rattle.ts_sessions.specs.Sessions.{Counts, Ends, EndsAt, turn_of}
-use Rattle.ts_sessions.specs.Step.{answers, block_refusal, closes, commits, given_up, in_form, kind_of, makes_event, named, named_first, named_here, performs, performs_in, prints, read_at, refresh_meant, shown_in, snaps}
+use Rattle.ts_sessions.specs.Step.{answers, block_refusal, closes, commits, given_up, in_form, kind_of, makes_event, named, named_first, named_here, performs, prints, read_at, refresh_meant, shown_in, snaps}
 use Rattle.ts_sessions.specs.Walks.{Breaks, Sees}
+use Rattle.ts_sessions.proofs.NamedLaws.{looks_once}
 use Rattle.ts_sessions.proofs.BlockWalks.{begins_outside, snaps_outside}
 use Rattle.ts_sessions.proofs.DeedWalks.{looks_leads, unspent}
 use Rattle.ts_sessions.proofs.EndLaws.{raised_up}
@@ -65,20 +66,18 @@ saw_leads alone old mid shown f s = record {
 
 -- ---- statements that look at no names
 
-here_in : (p : Places) (bytes : ℕ) (stmt : Stmt) (b : Block) → makes_event (kind_of stmt) ≡ false → performs_in p bytes stmt b ≡ named_here p bytes stmt
-here_in p bytes stmt none e = ap (λ t. cond t (named_first p bytes stmt) (named_here p bytes stmt)) e
-here_in p bytes stmt (writing ops n) e = refl
-here_in p bytes stmt (reading at) e = refl
+here_in : (p : Places) (bytes : ℕ) (stmt : Stmt) → makes_event (kind_of stmt) ≡ false → performs p bytes stmt ≡ named_here p bytes stmt
+here_in p bytes stmt e = ap (λ t. cond t (named_first p bytes stmt) (named_here p bytes stmt)) (looks_once p.block (kind_of stmt) e)
 
 pub performs_looks : (alone : Bool) (s : State) (p : Places) (bytes : ℕ) (stmt : Stmt) (g : History → Procedure (Turn Places)) → makes_event (kind_of stmt) ≡ false → ((h : History) → Begins s.history h → named p bytes stmt (read_at p.block h) ≡ g h) → Leads alone false s (performs p bytes stmt) s (looks g)
 performs_looks alone s p bytes stmt g e same =
-    subst (λ d. Leads alone false s d s (looks g)) (sym (here_in p bytes stmt p.block e))
+    subst (λ d. Leads alone false s d s (looks g)) (sym (here_in p bytes stmt e))
     (looks_leads alone s (λ h. prints p.block (kind_of stmt) (refusal_of (position h) (roster h) stmt)) (λ h. named p bytes stmt (read_at p.block h)) g same)
 
 -- a statement that only ends
 pub performs_ends : (alone : Bool) (s : State) (p : Places) (bytes : ℕ) (stmt : Stmt) (y : Turn Places) → makes_event (kind_of stmt) ≡ false → named p bytes stmt (read_at p.block s.history) ≡ ends y → Leads alone false s (performs p bytes stmt) s (ends y)
 performs_ends alone s p bytes stmt y e i =
-    subst (λ d. Leads alone false s d s (ends y)) (sym (here_in p bytes stmt p.block e))
+    subst (λ d. Leads alone false s d s (ends y)) (sym (here_in p bytes stmt e))
     (subst (λ d. Leads alone false s (named_here p bytes stmt) s d) i
     (saw_leads alone s s (λ h. prints p.block (kind_of stmt) (refusal_of (position h) (roster h) stmt)) (λ h. named p bytes stmt (read_at p.block h)) (inl refl)))
 

@@ -35,13 +35,13 @@ use Rattle.stmt_check.specs.declared.actions.Action.TheVariants as actions
 use Rattle.stmt_check.specs.Check.{action_of, refusal_of}
 use Rattle.result_text.specs.declared.replies.Said.{Said}
 use Rattle.result_text.specs.declared.replies.Said.TheVariants as said
-use Rattle.ts_sessions.specs.Procedures.{Procedure, sees, adds, ends, ending_as, followed_by, tries_at}
+use Rattle.ts_sessions.specs.Procedures.{Procedure, sees, adds, ends, ending_as, followed_by, tries_at, looks}
 use Rattle.ts_sessions.specs.Made.{made_by, made_in}
 use Rattle.ts_sessions.specs.Places.{Block, none, writing, reading, Places, Turn, cuts, enters, held_for}
-use Rattle.ts_sessions.specs.Replies.{replies_as, replies_in, reply_to}
-use Rattle.ts_sessions.specs.Step.{Taken, acts, after_cut, after_line, after_snapshot, after_view, block_refusal, changes, closes, commits, committed, cut_turn, finish_turn, finishes, finishes_held, given_up, kind_of, least_start, let_pass, makes_event, named, named_first, named_here, passed, passed_first, performs_in, read_at, reads_as, refresh_meant, refreshed, refreshes, refusal_reading, snap_turn, snaps, step, taken, takes_snapshot, reported, view_made}
+use Rattle.ts_sessions.specs.Replies.{reply_to, replies}
+use Rattle.ts_sessions.specs.Step.{Taken, acts, after_cut, after_line, after_snapshot, after_view, block_refusal, changes, closes, commits, committed, cut_turn, finish_turn, finishes, finishes_held, given_up, kind_of, least_start, named, named_first, named_here, read_at, refresh_meant, refreshed, refreshes, refusal_reading, snap_turn, snaps, step, taken, takes_snapshot, reported, view_made, as_read, passes_block, performs}
 use Rattle.ts_sessions.specs.Walks.{Walks, Sees}
-use Rattle.ts_sessions.proofs.NamedLaws.{named_holds}
+use Rattle.ts_sessions.proofs.NamedLaws.{named_holds, performs_holds, read_holds, unless_holds}
 
 -- ---- procedures
 
@@ -269,10 +269,6 @@ acts_named p bytes h actions.Rollback = given_up_completes p.block
 acts_named p bytes h (actions.Calendar table number unit at fold) = refl
 acts_named p bytes h (actions.Ask q) = refl
 
-passed_named : (p : Places) (bytes : ℕ) (h : History) (stmt : Stmt) (o : Option Refusal) → Names (Lists []) [] h (passed p bytes h stmt o)
-passed_named p bytes h stmt (Some r) = refl
-passed_named p bytes h stmt None = acts_named p bytes h (action_of (roster h) stmt)
-
 -- a statement that a read block lets pass makes no event, whatever history is shown to it
 shown_named : (p : Places) (bytes : ℕ) (g h : History) (at : ℕ) (stmt : Stmt) → p.block ≡ reading at → refusal_reading (kind_of stmt) ≡ None → Names (Lists []) [] g (acts p bytes h (action_of (roster h) stmt))
 shown_named p bytes g h at (stmts.Table name cols) b e = absurd cc
@@ -294,40 +290,27 @@ shown_named p bytes g h at (stmts.Buckets fold) b e = refl
 shown_named p bytes g h at (stmts.Calendar number unit fold) b e = refl
 shown_named p bytes g h at (stmts.Rows table tests) b e = refl
 
-shown_passed : (p : Places) (bytes : ℕ) (g h : History) (at : ℕ) (stmt : Stmt) (o : Option Refusal) → p.block ≡ reading at → refusal_reading (kind_of stmt) ≡ None → Names (Lists []) [] g (passed p bytes h stmt o)
-shown_passed p bytes g h at stmt (Some r) b e = refl
-shown_passed p bytes g h at stmt None b e = shown_named p bytes g h at stmt b e
-
-first_named : (p : Places) (bytes : ℕ) (h : History) (stmt : Stmt) (o : Option Refusal) → Names (Lists []) [] h (passed_first p bytes h stmt o)
-first_named p bytes h stmt (Some r) = refl
-first_named p bytes h stmt None = λ g. acts_named p bytes g (action_of (roster h) stmt)
-
 here_named : (p : Places) (bytes : ℕ) (h : History) (stmt : Stmt) (b : Block) → p.block ≡ b → block_refusal b (kind_of stmt) ≡ None → Names (Lists []) [] h (named p bytes stmt (read_at b h))
-here_named p bytes h stmt none e pass = named_holds (Names (Lists []) [] h) p bytes h stmt (λ r e. refl) (λ plan. refl) (passed_named p bytes h stmt (refusal_of (position h) (roster h) stmt))
-here_named p bytes h stmt (writing ops n) e pass = named_holds (Names (Lists []) [] h) p bytes h stmt (λ r e. refl) (λ plan. refl) (passed_named p bytes h stmt (refusal_of (position h) (roster h) stmt))
-here_named p bytes h stmt (reading at) e pass = named_holds (Names (Lists []) [] h) p bytes (prefix h at) stmt (λ r e. refl) (λ plan. refl) (shown_passed p bytes h (prefix h at) at stmt (refusal_of (position (prefix h at)) (roster (prefix h at)) stmt) e pass)
+here_named p bytes h stmt none e pass = named_holds (Names (Lists []) [] h) p bytes h stmt (λ r e. refl) (λ plan. refl) (λ r e. refl) (λ e. acts_named p bytes h (action_of (roster h) stmt))
+here_named p bytes h stmt (writing ops n) e pass = named_holds (Names (Lists []) [] h) p bytes h stmt (λ r e. refl) (λ plan. refl) (λ r e. refl) (λ e. acts_named p bytes h (action_of (roster h) stmt))
+here_named p bytes h stmt (reading at) e pass = named_holds (Names (Lists []) [] h) p bytes (prefix h at) stmt (λ r e. refl) (λ plan. refl) (λ r e. refl) (λ _. shown_named p bytes h (prefix h at) at stmt e pass)
 
-one_look : (p : Places) (bytes : ℕ) (h : History) (stmt : Stmt) (b : Block) → p.block ≡ b → block_refusal b (kind_of stmt) ≡ None → Names (Lists []) [] h (named_here p bytes stmt)
-one_look p bytes h stmt b e pass = λ g. subst (λ x. Names (Lists []) [] g (named p bytes stmt (read_at x g))) (sym e) (here_named p bytes g stmt b e pass)
+one_look : (p : Places) (bytes : ℕ) (h : History) (stmt : Stmt) → block_refusal p.block (kind_of stmt) ≡ None → Names (Lists []) [] h (named_here p bytes stmt)
+one_look p bytes h stmt pass = λ g. here_named p bytes g stmt p.block refl pass
 
-performs_named : (p : Places) (bytes : ℕ) (h : History) (stmt : Stmt) (b : Block) → p.block ≡ b → block_refusal b (kind_of stmt) ≡ None → Names (Lists []) [] h (performs_in p bytes stmt b)
-performs_named p bytes h stmt none e pass =
-    elim (makes_event (kind_of stmt)) as (λ t. Names (Lists []) [] h (cond t (named_first p bytes stmt) (named_here p bytes stmt))) [
-      | true ↦ λ g. first_named p bytes g stmt (refusal_of (position g) (roster g) stmt)
-      | false ↦ one_look p bytes h stmt none e pass
-    ]
-performs_named p bytes h stmt (writing ops n) e pass = one_look p bytes h stmt (writing ops n) e pass
-performs_named p bytes h stmt (reading at) e pass = one_look p bytes h stmt (reading at) e pass
+two_looks : (p : Places) (bytes : ℕ) (h : History) (stmt : Stmt) → Names (Lists []) [] h (named_first p bytes stmt)
+two_looks p bytes h stmt = λ g.
+    unless_holds (Names (Lists []) [] g) p (refusal_of (position g) (roster g) stmt) (looks (λ k. acts p bytes k (action_of (roster g) stmt))) (λ r e. refl) (λ e k. acts_named p bytes k (action_of (roster g) stmt))
 
 -- ---- lines
 
-let_pass_named : (p : Places) (bytes : ℕ) (h : History) (stmt : Stmt) (o : Option Refusal) → block_refusal p.block (kind_of stmt) ≡ o → Names (Lists []) [] h (let_pass p bytes stmt o)
-let_pass_named p bytes h stmt (Some r) e = refl
-let_pass_named p bytes h stmt None e = performs_named p bytes h stmt p.block refl e
+statement_named : (p : Places) (bytes : ℕ) (h : History) (stmt : Stmt) → Names (Lists []) [] h (passes_block p bytes stmt)
+statement_named p bytes h stmt =
+    unless_holds (Names (Lists []) [] h) p (block_refusal p.block (kind_of stmt)) (performs p bytes stmt) (λ r e. refl)
+    (λ pass. performs_holds (Names (Lists []) [] h) p bytes stmt (λ twice. two_looks p bytes h stmt) (λ once. one_look p bytes h stmt pass))
 
-read_named : (p : Places) (bytes : ℕ) (h : History) (read : Result (Stmt × Stream) Fault) → Names (Lists []) [] h (reads_as p bytes read)
-read_named p bytes h (Ok read) = let_pass_named p bytes h read.0 (block_refusal p.block (kind_of read.0)) refl
-read_named p bytes h (Err f) = refl
+read_named : (p : Places) (bytes : ℕ) (h : History) (read : Result (Stmt × Stream) Fault) → Names (Lists []) [] h (as_read p (passes_block p bytes) read)
+read_named p bytes h read = read_holds (Names (Lists []) [] h) p (passes_block p bytes) read (λ f. refl) (statement_named p bytes h)
 
 -- a line made the events whose numbers its reply names, and no other
 pub step_made : (alone failed : Bool) (old : State) (p : Places) (text : List ℕ) (skip : ℕ) (new : State) (y : Turn Places) → Walks alone failed old (step p text skip) new y → new.made ≡ old.made ++ made_in y.said
@@ -338,13 +321,8 @@ step_made alone failed old p text skip new y w =
 -- ---- replies
 
 -- where a statement is looked at once, so does what its reply says
-reply_in_named : (p : Places) (bytes : ℕ) (h : History) (stmt : Stmt) (o : Option Refusal) → block_refusal p.block (kind_of stmt) ≡ o → Names (Lists []) [] h (replies_in p bytes stmt o)
-reply_in_named p bytes h stmt (Some r) e = refl
-reply_in_named p bytes h stmt None e = one_look p bytes h stmt p.block refl e
-
-reply_as_named : (p : Places) (bytes : ℕ) (h : History) (read : Result (Stmt × Stream) Fault) → Names (Lists []) [] h (replies_as p bytes read)
-reply_as_named p bytes h (Ok read) = reply_in_named p bytes h read.0 (block_refusal p.block (kind_of read.0)) refl
-reply_as_named p bytes h (Err f) = refl
+reply_in_named : (p : Places) (bytes : ℕ) (h : History) (stmt : Stmt) → Names (Lists []) [] h (replies p bytes stmt)
+reply_in_named p bytes h stmt = unless_holds (Names (Lists []) [] h) p (block_refusal p.block (kind_of stmt)) (named_here p bytes stmt) (λ r e. refl) (λ pass. one_look p bytes h stmt pass)
 
 pub reply_named : (p : Places) (text : List ℕ) (skip : ℕ) (h : History) → Names (Lists []) [] h (reply_to p text skip)
-reply_named p text skip h = reply_as_named p (length text) h (statement (stream text skip))
+reply_named p text skip h = read_holds (Names (Lists []) [] h) p (replies p (length text)) (statement (stream text skip)) (λ f. refl) (reply_in_named p (length text) h)

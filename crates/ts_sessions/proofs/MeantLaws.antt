@@ -1,5 +1,5 @@
 -- Statements whose names are looked at: what is left is what was meant, and it goes with what was seen.
-use Rattle.std.proofs.Common.{◌≡◌, ℕ, ◌+◌, ◌<◌, ◌^◌, ◌++◌, Bool, true, false, cond, ◌∷◌, [], Some, None, Option, sym, refl, ap, ◌∙◌, subst}
+use Rattle.std.proofs.Common.{◌≡◌, ℕ, ◌+◌, ◌<◌, ◌^◌, ◌++◌, Bool, true, false, ◌∷◌, [], Some, None, Option, sym, refl, ap, ◌∙◌, subst}
 use Rattle.std.specs.Prelude.{Result, IfOk, IsTrue, is_some}
 use Rattle.ts_schema.specs.declared.memory.NoMemory.{NoMemory}
 use Rattle.ts_model.specs.declared.events.Op.{Op}
@@ -32,17 +32,17 @@ use Rattle.ts_sessions.specs.declared.name_checks.Meant.TheVariants as meant
 use Rattle.ts_sessions.specs.declared.queries.Plan.{Plan}
 use Rattle.ts_sessions.specs.Deeds.{DeedFits, IsFormed, Leads, NextFits, Opens, OpensTo, rest, rest_next}
 use Rattle.ts_sessions.specs.Meant.{asked_by, change_left, change_next, checked_as, left_of, looks_at_names, meant_by, meant_left, read_as}
-use Rattle.ts_sessions.specs.Places.{Block, Places, enters, none, reading, turns, writing}
+use Rattle.ts_sessions.specs.Places.{Block, Places, enters, none, reading, turns, writing, refuses}
 use Rattle.ts_sessions.specs.Procedures.{ending_as, ends, followed_by, looks, tries_at}
 use Rattle.ts_sessions.specs.Sessions.{queued_on}
 use Rattle.ts_sessions.specs.Sound.{AsksSoundly, kind_of_action}
-use Rattle.ts_sessions.specs.Step.{acts, after_cut, block_refusal, changes, cut_turn, kind_of, makes_event, named, named_as, named_first, named_here, passed, passed_first, performs, performs_in, prints, read_at}
+use Rattle.ts_sessions.specs.Step.{acts, after_cut, block_refusal, changes, cut_turn, kind_of, makes_event, named, named_as, named_first, named_here, performs, prints, read_at, looks_twice, unless}
 use Rattle.ts_sessions.specs.Walks.{Breaks, Sees}
 use Rattle.ts_sessions.proofs.CalendarLaws.{calendar_asked, rows_asked}
 use Rattle.ts_sessions.proofs.DeedWalks.{looks_leads}
 use Rattle.ts_sessions.proofs.FirstLaws.{leads_then, opens_as, opens_here, opens_if, saw_leads}
 use Rattle.ts_sessions.proofs.HeldDeeds.{leads_same}
-use Rattle.ts_sessions.proofs.NamedLaws.{not_upper}
+use Rattle.ts_sessions.proofs.NamedLaws.{not_upper, once_outside, performs_holds, twice_outside}
 use Rattle.ts_sessions.proofs.NameWalks.{least_stays}
 use Rattle.ts_sessions.proofs.SoundLaws.{kinds_agree}
 use Rattle.ts_sessions.proofs.WalkLaws.{not_begun}
@@ -148,17 +148,20 @@ acts_left shown p bytes none h other look pass k = let e = k refl in absurd cc
 acts_left shown p bytes (writing ops n) h other look pass k = absurd cc
 acts_left shown p bytes (reading at) h other look pass k = absurd cc
 
-passed_left : {T J : Type 0} (shown : Shown T J) (p : Places) (bytes : ℕ) (b : Block) (h : History) (stmt : Stmt) (o : Option Refusal) → looks_at_names (kind_of stmt) ≡ true → block_refusal b (kind_of stmt) ≡ None → (b ≡ none → makes_event (kind_of stmt) ≡ false) → passed p bytes h stmt o ≡ meant_left {T = T} {J = J} p bytes b h (checked_as (roster h) stmt o)
-passed_left shown p bytes b h stmt (Some q) look pass k = refl
-passed_left shown p bytes b h stmt None look pass k =
-    let kind : kind_of stmt ≡ kind_of_action (action_of (roster h) stmt) = sym (kinds_agree (roster h) stmt) in
-    acts_left shown p bytes b h (action_of (roster h) stmt) (subst (λ x. looks_at_names x ≡ true) kind look) (subst (λ x. block_refusal b x ≡ None) kind pass) (λ e. subst (λ x. makes_event x ≡ false) kind (k e))
+named_left : {T J : Type 0} (shown : Shown T J) (p : Places) (bytes : ℕ) (b : Block) (h : History) (stmt : Stmt) → looks_at_names (kind_of stmt) ≡ true → block_refusal b (kind_of stmt) ≡ None → (b ≡ none → makes_event (kind_of stmt) ≡ false) → named p bytes stmt h ≡ meant_left {T = T} {J = J} p bytes b h (meant_by (position h) (roster h) stmt)
+named_left {T} {J} shown p bytes b h stmt look pass k = read_left (upper_read (position h) (roster h) stmt)
+  where
+    checked_left : (o : Option Refusal) → unless p o (acts p bytes h (action_of (roster h) stmt)) ≡ meant_left {T = T} {J = J} p bytes b h (checked_as (roster h) stmt o)
+    checked_left (Some q) = refl
+    checked_left None =
+        let kind : kind_of stmt ≡ kind_of_action (action_of (roster h) stmt) = sym (kinds_agree (roster h) stmt) in
+        acts_left shown p bytes b h (action_of (roster h) stmt) (subst (λ x. looks_at_names x ≡ true) kind look) (subst (λ x. block_refusal b x ≡ None) kind pass) (λ e. subst (λ x. makes_event x ≡ false) kind (k e))
 
-named_left : {T J : Type 0} (shown : Shown T J) (p : Places) (bytes : ℕ) (b : Block) (h : History) (stmt : Stmt) (u : UpperRead) → looks_at_names (kind_of stmt) ≡ true → block_refusal b (kind_of stmt) ≡ None → (b ≡ none → makes_event (kind_of stmt) ≡ false) → named_as p bytes h stmt u ≡ meant_left {T = T} {J = J} p bytes b h (read_as (position h) (roster h) stmt u)
-named_left shown p bytes b h stmt (uppers.Plan plan) look pass k = refl
-named_left shown p bytes b h stmt (uppers.Refused q) look pass k = refl
-named_left shown p bytes b h stmt uppers.NotUpper look pass k = passed_left shown p bytes b h stmt (refusal_of (position h) (roster h) stmt) look pass k
-named_left shown p bytes b h stmt uppers.NoMemory look pass k = passed_left shown p bytes b h stmt (refusal_of (position h) (roster h) stmt) look pass k
+    read_left : (u : UpperRead) → named_as p bytes h stmt u ≡ meant_left {T = T} {J = J} p bytes b h (read_as (position h) (roster h) stmt u)
+    read_left (uppers.Plan plan) = refl
+    read_left (uppers.Refused q) = refl
+    read_left uppers.NotUpper = checked_left (refusal_of (position h) (roster h) stmt)
+    read_left uppers.NoMemory = checked_left (refusal_of (position h) (roster h) stmt)
 
 -- an event outside a block, with a look of its own
 event_left : {T J : Type 0} (shown : Shown T J) (alone : Bool) (s : State) (p : Places) (bytes : ℕ) (a : Action) → makes_event (kind_of_action a) ≡ true → IsSound s.history bytes a → Leads alone false s (looks (λ h. acts p bytes h a)) s (meant_left {T = T} {J = J} p bytes none s.history (asked_by (roster s.history) a))
@@ -171,14 +174,14 @@ event_left shown alone s p bytes (actions.Refresh n lo hi) e k = looks_leads alo
 event_left shown alone s p bytes (actions.Cut n lo hi) e k = looks_leads alone s (λ h. true) (λ h. acts p bytes h (actions.Cut n lo hi)) _ (λ h on. ap (λ m. ending_as (cut_turn p m) (tries_at h (cutting n lo hi h))) (least_stays s.history h n on k.there))
 event_left shown alone s p bytes other e k = absurd cc
 
-first_left : {T J : Type 0} (shown : Shown T J) (alone : Bool) (s : State) (p : Places) (bytes : ℕ) (stmt : Stmt) (o : Option Refusal) → makes_event (kind_of stmt) ≡ true → AsksSoundly bytes stmt → IsTrue (all_allowed s.history) → refusal_of (position s.history) (roster s.history) stmt ≡ o → Leads alone false s (passed_first p bytes s.history stmt o) s (meant_left {T = T} {J = J} p bytes none s.history (checked_as (roster s.history) stmt o))
-first_left shown alone s p bytes stmt (Some q) e sound ok i = leads_same alone s (passed_first p bytes s.history stmt (Some q))
+first_left : {T J : Type 0} (shown : Shown T J) (alone : Bool) (s : State) (p : Places) (bytes : ℕ) (stmt : Stmt) (o : Option Refusal) → makes_event (kind_of stmt) ≡ true → AsksSoundly bytes stmt → IsTrue (all_allowed s.history) → refusal_of (position s.history) (roster s.history) stmt ≡ o → Leads alone false s (unless p o (looks (λ h. acts p bytes h (action_of (roster s.history) stmt)))) s (meant_left {T = T} {J = J} p bytes none s.history (checked_as (roster s.history) stmt o))
+first_left shown alone s p bytes stmt (Some q) e sound ok i = leads_same alone s (ends (refuses p q))
 first_left shown alone s p bytes stmt None e sound ok i = event_left shown alone s p bytes (action_of (roster s.history) stmt) (ap makes_event (kinds_agree (roster s.history) stmt) ∙ e) (sound s.history ok i)
 
 here_leads : {T J : Type 0} (shown : Shown T J) (alone : Bool) (old mid : State) (p : Places) (bytes : ℕ) (stmt : Stmt) → looks_at_names (kind_of stmt) ≡ true → block_refusal p.block (kind_of stmt) ≡ None → (p.block ≡ none → makes_event (kind_of stmt) ≡ false) → Sees alone old mid → Leads alone false old (named_here p bytes stmt) mid (left_of shown p bytes stmt (read_at p.block mid.history))
 here_leads {T} {J} shown alone old mid p bytes stmt look pass k s =
     let h = read_at p.block mid.history in
-    subst (λ d. Leads alone false old (named_here p bytes stmt) mid d) (named_left shown p bytes p.block h stmt (upper_read (position h) (roster h) stmt) look pass k)
+    subst (λ d. Leads alone false old (named_here p bytes stmt) mid d) (named_left shown p bytes p.block h stmt look pass k)
     (saw_leads alone old mid (λ g. prints p.block (kind_of stmt) (refusal_of (position g) (roster g) stmt)) (λ g. named p bytes stmt (read_at p.block g)) s)
 
 first_leads : {T J : Type 0} (shown : Shown T J) (alone : Bool) (old mid : State) (p : Places) (bytes : ℕ) (stmt : Stmt) → makes_event (kind_of stmt) ≡ true → AsksSoundly bytes stmt → IsTrue (all_allowed mid.history) → Sees alone old mid → Leads alone false old (named_first p bytes stmt) mid (meant_left {T = T} {J = J} p bytes none mid.history (meant_by (position mid.history) (roster mid.history) stmt))
@@ -186,39 +189,28 @@ first_leads {T} {J} shown alone old mid p bytes stmt e sound ok s =
     let h = mid.history in
     let r = refusal_of (position h) (roster h) stmt in
     subst (λ u. Leads alone false old (named_first p bytes stmt) mid (meant_left {T = T} {J = J} p bytes none h (read_as (position h) (roster h) stmt u))) (sym (not_upper (position h) (roster h) stmt e))
-    (leads_then alone false old (named_first p bytes stmt) mid (passed_first p bytes h stmt r) mid (meant_left {T = T} {J = J} p bytes none h (checked_as (roster h) stmt r))
-    (saw_leads alone old mid (λ g. is_some (refusal_of (position g) (roster g) stmt)) (λ g. passed_first p bytes g stmt (refusal_of (position g) (roster g) stmt)) s)
+    (leads_then alone false old (named_first p bytes stmt) mid (unless p r (looks (λ k. acts p bytes k (action_of (roster h) stmt)))) mid (meant_left {T = T} {J = J} p bytes none h (checked_as (roster h) stmt r))
+    (saw_leads alone old mid (λ g. is_some (refusal_of (position g) (roster g) stmt)) (λ g. unless p (refusal_of (position g) (roster g) stmt) (looks (λ k. acts p bytes k (action_of (roster g) stmt)))) s)
     (first_left shown alone mid p bytes stmt r e sound ok refl))
 
 -- a statement goes on from what its names were looked at in
 pub looked_leads : {T J : Type 0} (shown : Shown T J) (alone : Bool) (old mid : State) (p : Places) (bytes : ℕ) (stmt : Stmt) → IsTrue (looks_at_names (kind_of stmt)) → block_refusal p.block (kind_of stmt) ≡ None → AsksSoundly bytes stmt → IsTrue (all_allowed (read_at p.block mid.history)) → Sees alone old mid → Leads alone false old (performs p bytes stmt) mid (left_of shown p bytes stmt (read_at p.block mid.history))
-looked_leads {T} {J} shown alone old mid p bytes stmt look pass sound ok s = looked_in p.block (makes_event (kind_of stmt)) refl refl
+looked_leads {T} {J} shown alone old mid p bytes stmt look pass sound ok s =
+    performs_holds (λ d. Leads alone false old d mid (left_of shown p bytes stmt (read_at p.block mid.history))) p bytes stmt first
+    (λ once. here_leads shown alone old mid p bytes stmt look pass (once_outside p.block (kind_of stmt) once) s)
   where
-    looked_in : (b : Block) (m : Bool) → p.block ≡ b → makes_event (kind_of stmt) ≡ m → Leads alone false old (performs_in p bytes stmt b) mid (left_of shown p bytes stmt (read_at p.block mid.history))
-    looked_in none true i e =
-        subst (λ t. Leads alone false old (cond t (named_first p bytes stmt) (named_here p bytes stmt)) mid (left_of shown p bytes stmt (read_at p.block mid.history))) (sym e)
-        (subst (λ b. Leads alone false old (named_first p bytes stmt) mid (meant_left {T = T} {J = J} p bytes b (read_at b mid.history) (meant_by (position (read_at b mid.history)) (roster (read_at b mid.history)) stmt))) (sym i)
-        (first_leads shown alone old mid p bytes stmt e sound (subst (λ b. IsTrue (all_allowed (read_at b mid.history))) i ok) s))
-    looked_in none false i e =
-        subst (λ t. Leads alone false old (cond t (named_first p bytes stmt) (named_here p bytes stmt)) mid (left_of shown p bytes stmt (read_at p.block mid.history))) (sym e)
-        (here_leads shown alone old mid p bytes stmt look pass (λ _. e) s)
-    looked_in (writing ops n) m i e = here_leads shown alone old mid p bytes stmt look pass (λ x. let f = sym i ∙ x in absurd cc) s
-    looked_in (reading at) m i e = here_leads shown alone old mid p bytes stmt look pass (λ x. let f = sym i ∙ x in absurd cc) s
+    first : looks_twice p.block (kind_of stmt) ≡ true → Leads alone false old (named_first p bytes stmt) mid (left_of shown p bytes stmt (read_at p.block mid.history))
+    first twice =
+        let outside = twice_outside p.block (kind_of stmt) twice in
+        subst (λ b. Leads alone false old (named_first p bytes stmt) mid (meant_left {T = T} {J = J} p bytes b (read_at b mid.history) (meant_by (position (read_at b mid.history)) (roster (read_at b mid.history)) stmt))) (sym outside.0)
+        (first_leads shown alone old mid p bytes stmt outside.1 sound (subst (λ b. IsTrue (all_allowed (read_at b mid.history))) outside.0 ok) s)
 
 -- no memory for the snapshot
 pub looked_broken : (alone : Bool) (old mid : State) (p : Places) (bytes : ℕ) (stmt : Stmt) → Sees alone old mid → Breaks alone old (performs p bytes stmt) mid
-looked_broken alone old mid p bytes stmt s = in_block p.block
-  where
-    here : Breaks alone old (named_here p bytes stmt) mid
-    here = record { mid = mid; first = s; rest = not_begun alone mid (named p bytes stmt (read_at p.block mid.history)) }
-
-    in_block : (b : Block) → Breaks alone old (performs_in p bytes stmt b) mid
-    in_block none = elim (makes_event (kind_of stmt)) as (λ t. Breaks alone old (cond t (named_first p bytes stmt) (named_here p bytes stmt)) mid) [
-      | true ↦ record { mid = mid; first = s; rest = not_begun alone mid (passed_first p bytes mid.history stmt (refusal_of (position mid.history) (roster mid.history) stmt)) }
-      | false ↦ here
-    ]
-    in_block (writing ops n) = here
-    in_block (reading at) = here
+looked_broken alone old mid p bytes stmt s =
+    performs_holds (λ d. Breaks alone old d mid) p bytes stmt
+    (λ twice. record { mid = mid; first = s; rest = not_begun alone mid (unless p (refusal_of (position mid.history) (roster mid.history) stmt) (looks (λ h. acts p bytes h (action_of (roster mid.history) stmt)))) })
+    (λ once. record { mid = mid; first = s; rest = not_begun alone mid (named p bytes stmt (read_at p.block mid.history)) })
 
 -- ---- what comes next
 

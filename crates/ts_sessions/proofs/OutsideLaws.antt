@@ -1,9 +1,7 @@
 -- A statement that makes an event outside a block leaves its session there.
-use Rattle.std.proofs.Common.{◌≡◌, ℕ, ◌≤◌, Bool, true, false, List, [], ◌∷◌, length, Option, Some, None, sym, refl, ap, ◌∙◌, subst, arith}
+use Rattle.std.proofs.Common.{◌≡◌, ℕ, true, [], ◌∷◌, length, sym, ap, ◌∙◌, subst, arith}
 use Rattle.std.specs.Prelude.{Result, Ok, Err}
 use Rattle.std.proofs.lemmas.Bool.{true≢false}
-use Rattle.ts_model.specs.declared.events.Op.{Op}
-use Rattle.ts_model.specs.declared.outcomes.Refusal.{Refusal}
 use Rattle.ts_model.specs.Calls.{cutting, making_hyper, making_table, making_view, setting_mode}
 use Rattle.ts_model.specs.History.{History, position}
 use Rattle.ts_model.specs.Roster.{roster, view_of}
@@ -17,10 +15,10 @@ use Rattle.stmt_check.specs.Check.{action_of, refusal_of}
 use Rattle.result_text.specs.declared.replies.Said.TheVariants as said
 use Rattle.ts_sessions.specs.Actors.{ReadsEvent, StaysOutside}
 use Rattle.ts_sessions.specs.Places.{Block, none, Places, Turn}
-use Rattle.ts_sessions.specs.Procedures.{Procedure, sees}
+use Rattle.ts_sessions.specs.Procedures.{looks}
 use Rattle.ts_sessions.specs.Sound.{kind_of_action}
-use Rattle.ts_sessions.specs.Step.{acts, after_cut, after_view, block_refusal, changes, cut_turn, kind_of, least_start, let_pass, makes_event, named_first, named_here, passed_first, performs_in, reads_as, reported, step}
-use Rattle.ts_sessions.specs.Walks.{Walks}
+use Rattle.ts_sessions.specs.Step.{acts, after_cut, after_view, block_refusal, changes, cut_turn, kind_of, least_start, makes_event, named_first, reported, step, as_read, passes_block, performs}
+use Rattle.ts_sessions.proofs.NamedLaws.{once_outside, performs_holds, unless_holds}
 use Rattle.ts_sessions.proofs.SoundLaws.{kinds_agree}
 use Rattle.ts_sessions.proofs.TurnBlocks.{EndsBy, InTurn, by_commits, by_cut, by_cut_turn, by_reported, by_view, call_by, one_by, walks_by}
 
@@ -52,19 +50,17 @@ module _ (n : ℕ) where
     out_acts bytes h (actions.Calendar table number unit at fold) e = absurd (true≢false (sym e))
     out_acts bytes h (actions.Ask q) e = absurd (true≢false (sym e))
 
-    out_first : (bytes : ℕ) (g : History) (stmt : Stmt) (o : Option Refusal) → makes_event (kind_of stmt) ≡ true → EndsBy IsOut n (passed_first p bytes g stmt o)
-    out_first bytes g stmt None e = λ h le. out_acts bytes h (action_of (roster g) stmt) (ap makes_event (kinds_agree (roster g) stmt) ∙ e)
-    out_first bytes g stmt (Some r) e = out
+    out_first : (bytes : ℕ) (stmt : Stmt) → makes_event (kind_of stmt) ≡ true → EndsBy IsOut n (named_first p bytes stmt)
+    out_first bytes stmt e = λ g _.
+        unless_holds (EndsBy IsOut n) p (refusal_of (position g) (roster g) stmt) (looks (λ h. acts p bytes h (action_of (roster g) stmt))) (λ r f. out) (λ f h le. out_acts bytes h (action_of (roster g) stmt) (ap makes_event (kinds_agree (roster g) stmt) ∙ e))
 
-    out_performs : (bytes : ℕ) (stmt : Stmt) → makes_event (kind_of stmt) ≡ true → EndsBy IsOut n (performs_in p bytes stmt none)
-    out_performs bytes stmt e = rw e (λ g le. out_first bytes g stmt (refusal_of (position g) (roster g) stmt) e)
+    out_statement : (bytes : ℕ) (stmt : Stmt) → makes_event (kind_of stmt) ≡ true → EndsBy IsOut n (passes_block p bytes stmt)
+    out_statement bytes stmt e =
+        unless_holds (EndsBy IsOut n) p (block_refusal p.block (kind_of stmt)) (performs p bytes stmt) (λ r f. out)
+        (λ f. performs_holds (EndsBy IsOut n) p bytes stmt (λ twice. out_first bytes stmt e) (λ once. absurd (true≢false (sym e ∙ once_outside p.block (kind_of stmt) once out))))
 
-    out_let : (bytes : ℕ) (stmt : Stmt) (o : Option Refusal) → makes_event (kind_of stmt) ≡ true → EndsBy IsOut n (let_pass p bytes stmt o)
-    out_let bytes stmt None e = subst (λ b. EndsBy IsOut n (performs_in p bytes stmt b)) (sym out) (out_performs bytes stmt e)
-    out_let bytes stmt (Some r) e = out
-
-    out_read : (bytes : ℕ) (r : Result (Stmt × Stream) Fault) → ReadsEvent r → EndsBy IsOut n (reads_as p bytes r)
-    out_read bytes (Ok read) e = out_let bytes read.0 (block_refusal p.block (kind_of read.0)) e
+    out_read : (bytes : ℕ) (r : Result (Stmt × Stream) Fault) → ReadsEvent r → EndsBy IsOut n (as_read p (passes_block p bytes) r)
+    out_read bytes (Ok read) e = out_statement bytes read.0 e
     out_read bytes (Err f) e = absurd e
 
 pub stays_outside : StaysOutside (λ (p : Places). p.block) step

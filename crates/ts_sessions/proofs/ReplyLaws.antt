@@ -34,11 +34,11 @@ use Rattle.stmt_check.proofs.LaterLaws.{HyperLater, plain, hyper, Stays, aggrega
 use Rattle.stmt_check.proofs.StayLaws.{found_is_taken}
 use Rattle.ts_sessions.specs.Procedures.{Procedure, looks, ends, followed_by, ending_as, tries_at}
 use Rattle.ts_sessions.specs.LineLaws.{NamesStay, StepsAreReplies}
-use Rattle.ts_sessions.specs.Places.{Block, none, writing, reading, Places, Turn, refuses}
-use Rattle.ts_sessions.specs.Replies.{replies_as, replies_in}
-use Rattle.ts_sessions.specs.Step.{acts, after_view, block_refusal, kind_of, let_pass, makes_event, named, named_first, named_here, passed, passed_first, performs_in, read_at, reads_as, reported}
-use Rattle.ts_sessions.specs.Walks.{Walks, Sees, history_after, ending}
-use Rattle.ts_sessions.proofs.NamedLaws.{event_named}
+use Rattle.ts_sessions.specs.Places.{Places, Turn, refuses}
+use Rattle.ts_sessions.specs.Replies.{replies}
+use Rattle.ts_sessions.specs.Step.{acts, after_view, block_refusal, kind_of, makes_event, named, named_first, named_here, read_at, reported, as_read, looks_twice, passes_block, performs, unless}
+use Rattle.ts_sessions.specs.Walks.{Walks, history_after, ending}
+use Rattle.ts_sessions.proofs.NamedLaws.{event_named, performs_holds, twice_outside}
 use Rattle.ts_sessions.proofs.StateLaws.{goes_seen, sees_trans}
 use Rattle.ts_sessions.proofs.WalkLaws.{goes_walks}
 
@@ -46,10 +46,10 @@ use Rattle.ts_sessions.proofs.WalkLaws.{goes_walks}
 
 -- a statement that still passes and asks for the same
 pub stays_named : (p : Places) (bytes : ℕ) (stmt : Stmt) (g h : History) → makes_event (kind_of stmt) ≡ true → Stays g h stmt → acts p bytes h (action_of (roster g) stmt) ≡ named p bytes stmt h
-stays_named p bytes stmt g h makes s = ap (acts p bytes h) (sym s.action) ∙ ap (passed p bytes h stmt) (sym (s.passes (position h))) ∙ sym (event_named p bytes h stmt makes)
+stays_named p bytes stmt g h makes s = ap (acts p bytes h) (sym s.action) ∙ ap (λ o. unless p o (acts p bytes h (action_of (roster h) stmt))) (sym (s.passes (position h))) ∙ sym (event_named p bytes h stmt makes)
 
 -- a relation to be made whose name was taken meanwhile, or that is one too many now: its call and the check of its name refuse it alike
-new_or_refused : (p : Places) (bytes : ℕ) (h : History) (stmt : Stmt) (taken few : Bool) (there : Bool → Bool → Procedure (Turn Places)) → there taken few ≡ acts p bytes h (action_of (roster h) stmt) → ((b : Bool) → there true b ≡ ends (refuses p (refusal name_taken h 0))) → there false false ≡ ends (refuses p (refusal too_many h (suc most_relations))) → there taken few ≡ passed p bytes h stmt (refused (position h) name_taken taken ⊳ marked (position h) too_many (suc most_relations) (not few))
+new_or_refused : (p : Places) (bytes : ℕ) (h : History) (stmt : Stmt) (taken few : Bool) (there : Bool → Bool → Procedure (Turn Places)) → there taken few ≡ acts p bytes h (action_of (roster h) stmt) → ((b : Bool) → there true b ≡ ends (refuses p (refusal name_taken h 0))) → there false false ≡ ends (refuses p (refusal too_many h (suc most_relations))) → there taken few ≡ unless p (refused (position h) name_taken taken ⊳ marked (position h) too_many (suc most_relations) (not few)) (acts p bytes h (action_of (roster h) stmt))
 new_or_refused p bytes h stmt true few there here one many = one few
 new_or_refused p bytes h stmt false false there here one many = many
 new_or_refused p bytes h stmt false true there here one many = here
@@ -74,7 +74,7 @@ new_table p bytes g h name cols e =
     let many = length (roster h).tables in
     let there : Bool → Bool → Procedure (Turn Places) = λ taken few. ending_as (reported p said.Table) (tries_at h (cond taken (is_refused (refusal name_taken h 0)) (cond few (numbered h (events.Table (record { name = name; cols = cols }))) (is_refused (refusal too_many h (suc most_relations)))))) in
     new_or_refused p bytes h stmt (is_taken (roster h) name) (nat_lt many most_relations) there refl (λ b. refl) refl
-    ∙ ap (passed p bytes h stmt) (sym (or_none (name_refusal (position h) (roster h) name many) _ (table_later (position g) (position h) (roster g) name cols e) ∙ name_refused (position h) (roster h) name many))
+    ∙ ap (λ o. unless p o (acts p bytes h (action_of (roster h) stmt))) (sym (or_none (name_refusal (position h) (roster h) name many) _ (table_later (position g) (position h) (roster g) name cols e) ∙ name_refused (position h) (roster h) name many))
 
 new_aggregate : (p : Places) (bytes : ℕ) (g h : History) (name : List ℕ) (only filled : Bool) (fold : NamedFold) → Begins g h → refusal_of (position g) (roster g) (stmts.View name only filled fold) ≡ None → acts p bytes h (action_of (roster g) (stmts.View name only filled fold)) ≡ named p bytes (stmts.View name only filled fold) h
 new_aggregate p bytes g h name only filled fold b e =
@@ -85,7 +85,7 @@ new_aggregate p bytes g h name only filled fold b e =
     let there : Bool → Bool → Procedure (Turn Places) = λ taken few. followed_by (tries_at h (cond taken (is_refused (refusal name_taken h 0)) (cond few (numbered h (events.View def)) (is_refused (refusal too_many h (suc most_relations)))))) (after_view p many def filled) in
     ap (acts p bytes h) (sym later.action)
     ∙ new_or_refused p bytes h stmt (is_taken (roster h) name) (nat_lt many most_relations) there refl (λ b. refl) refl
-    ∙ ap (passed p bytes h stmt) (sym (or_none (name_refusal (position h) (roster h) name many) _ (later.passes (position h)) ∙ name_refused (position h) (roster h) name many))
+    ∙ ap (λ o. unless p o (acts p bytes h (action_of (roster h) stmt))) (sym (or_none (name_refusal (position h) (roster h) name many) _ (later.passes (position h)) ∙ name_refused (position h) (roster h) name many))
   where
     aggregate_of : Action → ViewDef
     aggregate_of (actions.View def filled) = def
@@ -101,7 +101,7 @@ new_hyper p bytes g h table col interval (hyper n now was) =
     let there : Bool → ℕ → Procedure (Turn Places) = λ taken k. ending_as (reported p said.Hypertable) (tries_at h (cond taken (is_refused (refusal name_taken h 0)) (numbered h (events.Hyper k (record { at = made; interval = interval }))))) in
     ap (λ k. acts p bytes h (actions.Hyper k (record { at = made; interval = interval }))) was
     ∙ ap (λ t. there t n) is
-    ∙ ap (λ f. passed p bytes h stmt (plain_refusal (position h) f ⊳ hyper_refusal (position h) (table_at (roster h) (found_in (roster h) table)).def.cols col interval)) (sym now)
+    ∙ ap (λ f. unless p (plain_refusal (position h) f ⊳ hyper_refusal (position h) (table_at (roster h) (found_in (roster h) table)).def.cols col interval) (acts p bytes h (action_of (roster h) stmt))) (sym now)
 
 pub names_stay : NamesStay
 names_stay p bytes (stmts.Table name cols) g h b ok makes e = new_table p bytes g h name cols e
@@ -130,33 +130,33 @@ allowed_before : {A : Type 0} (alone failed : Bool) (old : State) (procedure : P
 allowed_before alone failed old procedure new y ok w = allowed_begins (goes_walks alone failed old procedure new y w).begins ok
 
 -- names that passed at a first look, and what follows
-passed_walks : (alone failed : Bool) (old mid : State) (p : Places) (bytes : ℕ) (stmt : Stmt) (new : State) (y : Turn Places) (o : Option Refusal) → makes_event (kind_of stmt) ≡ true → all_allowed new.history ≡ true → Sees alone old mid → refusal_of (position mid.history) (roster mid.history) stmt ≡ o → Walks alone failed mid (passed_first p bytes mid.history stmt o) new y → Walks alone failed old (looks (named p bytes stmt)) new y
-passed_walks alone failed old mid p bytes stmt new y (Some r) makes ok s e w = record { mid = mid; first = s; rest = subst (λ d. Walks alone failed mid d new y) (sym (event_named p bytes mid.history stmt makes)) (subst (λ o. Walks alone failed mid (passed p bytes mid.history stmt o) new y) (sym e) w) }
-passed_walks alone failed old mid p bytes stmt new y None makes ok s e w =
-    let seen = (goes_seen alone mid w.mid w.first).begins in
-    let allowed = allowed_before alone failed w.mid (acts p bytes w.mid.history (action_of (roster mid.history) stmt)) new y ok w.rest in
-    record { mid = w.mid; first = sees_trans alone old mid w.mid s w.first; rest = subst (λ d. Walks alone failed w.mid d new y) (names_stay p bytes stmt mid.history w.mid.history seen allowed makes e) w.rest }
-
 first_walks : (alone failed : Bool) (old : State) (p : Places) (bytes : ℕ) (stmt : Stmt) (new : State) (y : Turn Places) → makes_event (kind_of stmt) ≡ true → all_allowed new.history ≡ true → Walks alone failed old (named_first p bytes stmt) new y → Walks alone failed old (looks (named p bytes stmt)) new y
-first_walks alone failed old p bytes stmt new y makes ok w = passed_walks alone failed old w.mid p bytes stmt new y (refusal_of (position w.mid.history) (roster w.mid.history) stmt) makes ok w.first refl w.rest
+first_walks alone failed old p bytes stmt new y makes ok w = by (refusal_of (position w.mid.history) (roster w.mid.history) stmt) refl w.rest
+  where
+    by : (o : Option Refusal) → refusal_of (position w.mid.history) (roster w.mid.history) stmt ≡ o → Walks alone failed w.mid (unless p o (looks (λ h. acts p bytes h (action_of (roster w.mid.history) stmt)))) new y → Walks alone failed old (looks (named p bytes stmt)) new y
+    by (Some r) e v =
+        let h = w.mid.history in
+        record { mid = w.mid; first = w.first; rest = subst (λ d. Walks alone failed w.mid d new y) (sym (event_named p bytes h stmt makes ∙ ap (λ o. unless p o (acts p bytes h (action_of (roster h) stmt))) e)) v }
+    by None e v =
+        let seen = (goes_seen alone w.mid v.mid v.first).begins in
+        let allowed = allowed_before alone failed v.mid (acts p bytes v.mid.history (action_of (roster w.mid.history) stmt)) new y ok v.rest in
+        record { mid = v.mid; first = sees_trans alone old w.mid v.mid w.first v.first; rest = subst (λ d. Walks alone failed v.mid d new y) (names_stay p bytes stmt w.mid.history v.mid.history seen allowed makes e) v.rest }
 
--- outside a block
-outside_walks : (alone failed : Bool) (old : State) (p : Places) (bytes : ℕ) (stmt : Stmt) (new : State) (y : Turn Places) (makes : Bool) → makes_event (kind_of stmt) ≡ makes → all_allowed new.history ≡ true → p.block ≡ none → Walks alone failed old (cond makes (named_first p bytes stmt) (named_here p bytes stmt)) new y → Walks alone failed old (named_here p bytes stmt) new y
-outside_walks alone failed old p bytes stmt new y false makes ok e w = w
-outside_walks alone failed old p bytes stmt new y true makes ok e w =
-    let one = first_walks alone failed old p bytes stmt new y makes ok w in
-    record { mid = one.mid; first = one.first; rest = subst (λ b. Walks alone failed one.mid (named p bytes stmt (read_at b one.mid.history)) new y) (sym e) one.rest }
+-- a statement that its session's block lets pass
+performs_walks : (alone failed : Bool) (old : State) (p : Places) (bytes : ℕ) (stmt : Stmt) (new : State) (y : Turn Places) → all_allowed new.history ≡ true → Walks alone failed old (performs p bytes stmt) new y → Walks alone failed old (named_here p bytes stmt) new y
+performs_walks alone failed old p bytes stmt new y ok = performs_holds (λ d. Walks alone failed old d new y → Walks alone failed old (named_here p bytes stmt) new y) p bytes stmt first (λ once w. w)
+  where
+    first : looks_twice p.block (kind_of stmt) ≡ true → Walks alone failed old (named_first p bytes stmt) new y → Walks alone failed old (named_here p bytes stmt) new y
+    first twice w =
+        let outside = twice_outside p.block (kind_of stmt) twice in
+        let one = first_walks alone failed old p bytes stmt new y outside.1 ok w in
+        record { mid = one.mid; first = one.first; rest = subst (λ b. Walks alone failed one.mid (named p bytes stmt (read_at b one.mid.history)) new y) (sym outside.0) one.rest }
 
-performs_walks : (alone failed : Bool) (old : State) (p : Places) (bytes : ℕ) (stmt : Stmt) (b : Block) (new : State) (y : Turn Places) → all_allowed new.history ≡ true → p.block ≡ b → Walks alone failed old (performs_in p bytes stmt b) new y → Walks alone failed old (named_here p bytes stmt) new y
-performs_walks alone failed old p bytes stmt none new y ok e w = outside_walks alone failed old p bytes stmt new y (makes_event (kind_of stmt)) refl ok e w
-performs_walks alone failed old p bytes stmt (writing ops n) new y ok e w = w
-performs_walks alone failed old p bytes stmt (reading at) new y ok e w = w
-
-pass_walks : (alone failed : Bool) (old : State) (p : Places) (bytes : ℕ) (stmt : Stmt) (o : Option Refusal) (new : State) (y : Turn Places) → all_allowed new.history ≡ true → Walks alone failed old (let_pass p bytes stmt o) new y → Walks alone failed old (replies_in p bytes stmt o) new y
+pass_walks : (alone failed : Bool) (old : State) (p : Places) (bytes : ℕ) (stmt : Stmt) (o : Option Refusal) (new : State) (y : Turn Places) → all_allowed new.history ≡ true → Walks alone failed old (unless p o (performs p bytes stmt)) new y → Walks alone failed old (unless p o (named_here p bytes stmt)) new y
 pass_walks alone failed old p bytes stmt (Some r) new y ok w = w
-pass_walks alone failed old p bytes stmt None new y ok w = performs_walks alone failed old p bytes stmt p.block new y ok refl w
+pass_walks alone failed old p bytes stmt None new y ok w = performs_walks alone failed old p bytes stmt new y ok w
 
-read_walks : (alone failed : Bool) (old : State) (p : Places) (bytes : ℕ) (r : Result (Stmt × Stream) Fault) (new : State) (y : Turn Places) → all_allowed new.history ≡ true → Walks alone failed old (reads_as p bytes r) new y → Walks alone failed old (replies_as p bytes r) new y
+read_walks : (alone failed : Bool) (old : State) (p : Places) (bytes : ℕ) (r : Result (Stmt × Stream) Fault) (new : State) (y : Turn Places) → all_allowed new.history ≡ true → Walks alone failed old (as_read p (passes_block p bytes) r) new y → Walks alone failed old (as_read p (replies p bytes) r) new y
 read_walks alone failed old p bytes (Ok read) new y ok w = pass_walks alone failed old p bytes read.0 (block_refusal p.block (kind_of read.0)) new y ok w
 read_walks alone failed old p bytes (Err f) new y ok w = w
 
@@ -170,27 +170,29 @@ record SameAlone {A : Type 0} (h : History) (d e : Procedure A) : Type 0 where
 alone_same : {A : Type 0} (h : History) (d e : Procedure A) → d ≡ e → SameAlone h d e
 alone_same h d e i = record { history = ap (λ x. history_after x h) i; end = ap (λ x. ending x h) i }
 
-passed_alone : (p : Places) (bytes : ℕ) (stmt : Stmt) (h : History) (o : Option Refusal) → SameAlone h (passed p bytes h stmt o) (passed_first p bytes h stmt o)
-passed_alone p bytes stmt h (Some r) = record { history = refl; end = refl }
-passed_alone p bytes stmt h None = record { history = refl; end = refl }
+same_alone : {A : Type 0} (h : History) (d : Procedure A) → SameAlone h d d
+same_alone h d = record { history = refl; end = refl }
 
-outside_alone : (p : Places) (bytes : ℕ) (stmt : Stmt) (h : History) (makes : Bool) → makes_event (kind_of stmt) ≡ makes → p.block ≡ none → SameAlone h (named_here p bytes stmt) (cond makes (named_first p bytes stmt) (named_here p bytes stmt))
-outside_alone p bytes stmt h false made e = record { history = refl; end = refl }
-outside_alone p bytes stmt h true made e =
-    let one = passed_alone p bytes stmt h (refusal_of (position h) (roster h) stmt) in
-    let here : named p bytes stmt (read_at p.block h) ≡ passed p bytes h stmt (refusal_of (position h) (roster h) stmt) = ap (λ b. named p bytes stmt (read_at b h)) e ∙ event_named p bytes h stmt made in
-    record { history = ap (λ d. history_after d h) here ∙ one.history; end = ap (λ d. ending d h) here ∙ one.end }
+-- names that are looked at first, and then the event, or both at once
+twice_alone : (p : Places) (bytes : ℕ) (stmt : Stmt) (h : History) (o : Option Refusal) → SameAlone h (unless p o (acts p bytes h (action_of (roster h) stmt))) (unless p o (looks (λ k. acts p bytes k (action_of (roster h) stmt))))
+twice_alone p bytes stmt h (Some r) = record { history = refl; end = refl }
+twice_alone p bytes stmt h None = record { history = refl; end = refl }
 
-performs_alone : (p : Places) (bytes : ℕ) (stmt : Stmt) (b : Block) (h : History) → p.block ≡ b → SameAlone h (named_here p bytes stmt) (performs_in p bytes stmt b)
-performs_alone p bytes stmt none h e = outside_alone p bytes stmt h (makes_event (kind_of stmt)) refl e
-performs_alone p bytes stmt (writing ops n) h e = record { history = refl; end = refl }
-performs_alone p bytes stmt (reading at) h e = record { history = refl; end = refl }
+performs_alone : (p : Places) (bytes : ℕ) (stmt : Stmt) (h : History) → SameAlone h (named_here p bytes stmt) (performs p bytes stmt)
+performs_alone p bytes stmt h = performs_holds (SameAlone h (named_here p bytes stmt)) p bytes stmt first (λ once. same_alone h (named_here p bytes stmt))
+  where
+    first : looks_twice p.block (kind_of stmt) ≡ true → SameAlone h (named_here p bytes stmt) (named_first p bytes stmt)
+    first twice =
+        let outside = twice_outside p.block (kind_of stmt) twice in
+        let one = twice_alone p bytes stmt h (refusal_of (position h) (roster h) stmt) in
+        let here : named p bytes stmt (read_at p.block h) ≡ unless p (refusal_of (position h) (roster h) stmt) (acts p bytes h (action_of (roster h) stmt)) = ap (λ b. named p bytes stmt (read_at b h)) outside.0 ∙ event_named p bytes h stmt outside.1 in
+        record { history = ap (λ d. history_after d h) here ∙ one.history; end = ap (λ d. ending d h) here ∙ one.end }
 
-pass_alone : (p : Places) (bytes : ℕ) (stmt : Stmt) (o : Option Refusal) (h : History) → SameAlone h (replies_in p bytes stmt o) (let_pass p bytes stmt o)
+pass_alone : (p : Places) (bytes : ℕ) (stmt : Stmt) (o : Option Refusal) (h : History) → SameAlone h (unless p o (named_here p bytes stmt)) (unless p o (performs p bytes stmt))
 pass_alone p bytes stmt (Some r) h = record { history = refl; end = refl }
-pass_alone p bytes stmt None h = performs_alone p bytes stmt p.block h refl
+pass_alone p bytes stmt None h = performs_alone p bytes stmt h
 
-read_alone : (p : Places) (bytes : ℕ) (r : Result (Stmt × Stream) Fault) (h : History) → SameAlone h (replies_as p bytes r) (reads_as p bytes r)
+read_alone : (p : Places) (bytes : ℕ) (r : Result (Stmt × Stream) Fault) (h : History) → SameAlone h (as_read p (replies p bytes) r) (as_read p (passes_block p bytes) r)
 read_alone p bytes (Ok read) h = pass_alone p bytes read.0 (block_refusal p.block (kind_of read.0)) h
 read_alone p bytes (Err f) h = record { history = refl; end = refl }
 

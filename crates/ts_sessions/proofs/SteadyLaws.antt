@@ -13,11 +13,10 @@ use Rattle.ts_model.specs.Calls.{Act, refuses as is_refused, returns, makes, com
 use Rattle.ts_model.specs.History.{History, position, prefix, Begins}
 use Rattle.ts_model.specs.Roster.{roster, view_of}
 use Rattle.ts_model.proofs.HistoryLaws.{position_begins, prefix_stays}
-use Rattle.stmt_reader.specs.declared.faults.Fault.{Fault}
 use Rattle.stmt_reader.specs.declared.statements.Stmt.{Stmt}
 use Rattle.stmt_reader.specs.declared.statements.Stmt.TheVariants as stmts
 use Rattle.stmt_reader.specs.Reading.{statement}
-use Rattle.stmt_reader.specs.Streams.{Stream, stream}
+use Rattle.stmt_reader.specs.Streams.{stream}
 use Rattle.stmt_check.specs.declared.actions.Action.{Action}
 use Rattle.stmt_check.specs.declared.actions.Action.TheVariants as actions
 use Rattle.stmt_check.specs.Check.{action_of, refusal_of}
@@ -27,11 +26,11 @@ use Rattle.ts_sessions.specs.declared.kinds.Kind.TheVariants as kinds
 use Rattle.ts_sessions.specs.Procedures.{Procedure, sees, adds, ends, followed_by, ending_as, tries, tries_at}
 use Rattle.ts_sessions.specs.LineLaws.{ReadsWithin, RepliesAreSteady}
 use Rattle.ts_sessions.specs.Places.{Block, none, writing, reading, Places, Turn, cuts, enters, held_for, turns}
-use Rattle.ts_sessions.specs.Replies.{replies_as, replies_in}
+use Rattle.ts_sessions.specs.Replies.{replies}
 use Rattle.ts_sessions.specs.Steady.{IsEnded, SameLater, Steady}
-use Rattle.ts_sessions.specs.Step.{Taken, acts, begins, committed, cut_turn, finish_turn, refreshed, reported, after_cut, after_line, after_snapshot, after_view, block_refusal, changes, closes, commits, finishes, finishes_held, kind_of, least_start, makes_event, named, named_here, passed, prints, prints_writing, read_at, refresh_meant, refreshes, taken, view_made}
+use Rattle.ts_sessions.specs.Step.{Taken, acts, begins, committed, cut_turn, finish_turn, refreshed, reported, after_cut, after_line, after_snapshot, after_view, block_refusal, changes, closes, commits, finishes, finishes_held, kind_of, least_start, makes_event, named, named_here, prints, prints_writing, read_at, refresh_meant, refreshes, taken, view_made, unless}
 use Rattle.ts_sessions.proofs.BlockWalks.{block_is}
-use Rattle.ts_sessions.proofs.NamedLaws.{event_named, named_holds}
+use Rattle.ts_sessions.proofs.NamedLaws.{event_named, named_holds, read_holds, unless_holds}
 use Rattle.ts_sessions.proofs.ReplyLaws.{stays_named}
 
 -- ---- procedures one after the other
@@ -126,12 +125,8 @@ steady_acts h l p bytes actions.Rollback = tt
 steady_acts h l p bytes (actions.Calendar table number unit at fold) = tt
 steady_acts h l p bytes (actions.Ask q) = tt
 
-steady_passed : (h l : History) (p : Places) (bytes : ℕ) (stmt : Stmt) (o : Option Refusal) → Steady true h (passed p bytes l stmt o)
-steady_passed h l p bytes stmt (Some r) = tt
-steady_passed h l p bytes stmt None = steady_acts h l p bytes (action_of (roster l) stmt)
-
 steady_named : (h l : History) (p : Places) (bytes : ℕ) (stmt : Stmt) → Steady true h (named p bytes stmt l)
-steady_named h l p bytes stmt = named_holds (λ d. Steady true h d) p bytes l stmt (λ r e. tt) (λ plan. tt) (steady_passed h l p bytes stmt (refusal_of (position l) (roster l) stmt))
+steady_named h l p bytes stmt = named_holds (λ d. Steady true h d) p bytes l stmt (λ r e. tt) (λ plan. tt) (λ r e. tt) (λ e. steady_acts h l p bytes (action_of (roster l) stmt))
 
 -- ---- looks
 
@@ -194,7 +189,7 @@ steady_queue base p bytes stmt ops n op kind is later =
     hidden base q bytes stmt (λ h on e.
     let none_now : refusal_of (position h) (roster h) stmt ≡ None = none_there _ (ap (λ k. prints_writing ops k (refusal_of (position h) (roster h) stmt)) (sym kind) ∙ e) in
     let makes : makes_event (kind_of stmt) ≡ true = ap makes_event kind in
-    let here : named q bytes stmt h ≡ ends (y (roster h)) = event_named q bytes h stmt makes ∙ ap (passed q bytes h stmt) none_now ∙ waits h (roster h) in (
+    let here : named q bytes stmt h ≡ ends (y (roster h)) = event_named q bytes h stmt makes ∙ ap (λ o. unless q o (acts q bytes h (action_of (roster h) stmt))) none_now ∙ waits h (roster h) in (
       λ l c.
           let s = later h l c none_now in
           (ap (λ k. prints_writing ops k (refusal_of (position l) (roster l) stmt)) kind ∙ ap is_some (s.passes (position l)), sym (stays_named q bytes stmt h l makes s) ∙ waits l (roster h) ∙ sym here),
@@ -237,12 +232,8 @@ steady_read base p bytes stmt at le ended =
     let q = enters (reading at) p in
     hidden base q bytes stmt (λ h on e. (λ l c. (refl, ap (named q bytes stmt) (prefix_stays at c (omega (arith, le, position_begins on)))), ended (prefix h at)))
 
-pub ended_passed : (p : Places) (bytes : ℕ) (stmt : Stmt) (h : History) (o : Option Refusal) → IsEnded (acts p bytes h (action_of (roster h) stmt)) → IsEnded (passed p bytes h stmt o)
-ended_passed p bytes stmt h (Some r) i = tt
-ended_passed p bytes stmt h None i = i
-
-pub ended_named : (p : Places) (bytes : ℕ) (stmt : Stmt) → ((h : History) → IsEnded (acts p bytes h (action_of (roster h) stmt))) → (h : History) → IsEnded (named p bytes stmt h)
-ended_named p bytes stmt i h = named_holds IsEnded p bytes h stmt (λ r e. tt) (λ plan. tt) (ended_passed p bytes stmt h (refusal_of (position h) (roster h) stmt) (i h))
+pub ended_named : (p : Places) (bytes : ℕ) (stmt : Stmt) (h : History) → IsEnded (acts p bytes h (action_of (roster h) stmt)) → IsEnded (named p bytes stmt h)
+ended_named p bytes stmt h i = named_holds IsEnded p bytes h stmt (λ r e. tt) (λ plan. tt) (λ r e. tt) (λ e. i)
 
 steady_reading : (base : History) (p : Places) (bytes : ℕ) (stmt : Stmt) (at : ℕ) → at ≤ position base → block_refusal (reading at) (kind_of stmt) ≡ None → Steady false base (named_here (enters (reading at) p) bytes stmt)
 steady_reading base p bytes (stmts.Table name cols) at le e = refused_here _ e
@@ -258,11 +249,11 @@ steady_reading base p bytes (stmts.Snap number) at le e = refused_here _ e
 steady_reading base p bytes (stmts.Finish number) at le e = refused_here _ e
 steady_reading base p bytes stmts.Begin at le e = refused_here _ e
 steady_reading base p bytes stmts.BeginRead at le e = refused_here _ e
-steady_reading base p bytes stmts.Commit at le e = steady_read base p bytes stmts.Commit at le (ended_named (enters (reading at) p) bytes stmts.Commit (λ h. tt))
-steady_reading base p bytes stmts.Rollback at le e = steady_read base p bytes stmts.Rollback at le (ended_named (enters (reading at) p) bytes stmts.Rollback (λ h. tt))
-steady_reading base p bytes (stmts.Buckets fold) at le e = steady_read base p bytes (stmts.Buckets fold) at le (ended_named (enters (reading at) p) bytes (stmts.Buckets fold) (λ h. tt))
-steady_reading base p bytes (stmts.Calendar number unit fold) at le e = steady_read base p bytes (stmts.Calendar number unit fold) at le (ended_named (enters (reading at) p) bytes (stmts.Calendar number unit fold) (λ h. tt))
-steady_reading base p bytes (stmts.Rows table tests) at le e = steady_read base p bytes (stmts.Rows table tests) at le (ended_named (enters (reading at) p) bytes (stmts.Rows table tests) (λ h. tt))
+steady_reading base p bytes stmts.Commit at le e = steady_read base p bytes stmts.Commit at le (λ h. ended_named (enters (reading at) p) bytes stmts.Commit h tt)
+steady_reading base p bytes stmts.Rollback at le e = steady_read base p bytes stmts.Rollback at le (λ h. ended_named (enters (reading at) p) bytes stmts.Rollback h tt)
+steady_reading base p bytes (stmts.Buckets fold) at le e = steady_read base p bytes (stmts.Buckets fold) at le (λ h. ended_named (enters (reading at) p) bytes (stmts.Buckets fold) h tt)
+steady_reading base p bytes (stmts.Calendar number unit fold) at le e = steady_read base p bytes (stmts.Calendar number unit fold) at le (λ h. ended_named (enters (reading at) p) bytes (stmts.Calendar number unit fold) h tt)
+steady_reading base p bytes (stmts.Rows table tests) at le e = steady_read base p bytes (stmts.Rows table tests) at le (λ h. ended_named (enters (reading at) p) bytes (stmts.Rows table tests) h tt)
 
 -- ---- lines
 
@@ -271,13 +262,10 @@ in_block base p bytes stmt none within e = steady_outside base p bytes stmt
 in_block base p bytes stmt (writing ops n) within e = steady_writing base p bytes stmt ops n e
 in_block base p bytes stmt (reading at) within e = steady_reading base p bytes stmt at within e
 
-let_in : (base : History) (p : Places) (bytes : ℕ) (stmt : Stmt) (o : Option Refusal) → ReadsWithin p.block (position base) → block_refusal p.block (kind_of stmt) ≡ o → Steady false base (replies_in p bytes stmt o)
-let_in base p bytes stmt (Some r) within e = tt
-let_in base p bytes stmt None within e = subst (λ q. Steady false base (named_here q bytes stmt)) (sym (block_is p p.block refl)) (in_block base p bytes stmt p.block within e)
-
-read_in : (base : History) (p : Places) (bytes : ℕ) (r : Result (Stmt × Stream) Fault) → ReadsWithin p.block (position base) → Steady false base (replies_as p bytes r)
-read_in base p bytes (Ok read) within = let_in base p bytes read.0 (block_refusal p.block (kind_of read.0)) within refl
-read_in base p bytes (Err f) within = tt
+reply_in : (base : History) (p : Places) (bytes : ℕ) (stmt : Stmt) → ReadsWithin p.block (position base) → Steady false base (replies p bytes stmt)
+reply_in base p bytes stmt within =
+    unless_holds (Steady false base) p (block_refusal p.block (kind_of stmt)) (named_here p bytes stmt) (λ r e. tt)
+    (λ e. subst (λ q. Steady false base (named_here q bytes stmt)) (sym (block_is p p.block refl)) (in_block base p bytes stmt p.block within e))
 
 pub replies_are_steady : RepliesAreSteady
-replies_are_steady p text skip base within = read_in base p (length text) (statement (stream text skip)) within
+replies_are_steady p text skip base within = read_holds (Steady false base) p (replies p (length text)) (statement (stream text skip)) (λ f. tt) (λ stmt. reply_in base p (length text) stmt within)

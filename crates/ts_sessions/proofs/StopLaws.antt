@@ -27,7 +27,7 @@ use Rattle.stmt_reader.specs.declared.faults.Fault.TheVariants as faults
 use Rattle.stmt_reader.specs.declared.statements.Stmt.{Stmt}
 use Rattle.stmt_reader.specs.declared.statements.Stmt.TheVariants as stmts
 use Rattle.stmt_reader.specs.Reading.{statement}
-use Rattle.stmt_reader.specs.Streams.{Stream, stream}
+use Rattle.stmt_reader.specs.Streams.{stream}
 use Rattle.stmt_check.specs.declared.actions.Action.{Action}
 use Rattle.stmt_check.specs.declared.actions.Action.TheVariants as actions
 use Rattle.stmt_check.specs.Check.{action_of, refusal_of}
@@ -38,15 +38,15 @@ use Rattle.ts_sessions.specs.declared.kinds.Kind.TheVariants as kinds
 use Rattle.ts_sessions.specs.Gives.{Gives}
 use Rattle.ts_sessions.specs.Places.{Block, none, writing, reading, Places, Turn, cuts, enters, held_for}
 use Rattle.ts_sessions.specs.Procedures.{Procedure, sees, adds, ends, followed_by, ending_as, tries_at}
-use Rattle.ts_sessions.specs.Replies.{replies_as, replies_in, reply_to}
-use Rattle.ts_sessions.specs.Step.{Taken, acts, after_cut, after_line, after_snapshot, after_view, begins, block_refusal, changes, closes, commits, committed, cut_turn, finish_turn, finishes, finishes_held, given_up, kind_of, least_start, misread, named, named_here, passed, prints, read_at, refresh_meant, refreshed, refreshes, reported, snap_turn, snaps, taken, taken_of, unfinished, view_made}
+use Rattle.ts_sessions.specs.Replies.{reply_to, replies}
+use Rattle.ts_sessions.specs.Step.{Taken, acts, after_cut, after_line, after_snapshot, after_view, begins, block_refusal, changes, closes, commits, committed, cut_turn, finish_turn, finishes, finishes_held, given_up, kind_of, least_start, misread, named, named_here, prints, read_at, refresh_meant, refreshed, refreshes, reported, snap_turn, snaps, taken, taken_of, unfinished, view_made}
 use Rattle.ts_sessions.specs.Steady.{IsEnded}
 use Rattle.ts_sessions.proofs.BlockWalks.{block_is}
 use Rattle.ts_sessions.specs.Stopped.{OnlyStopsAreReported, StopsAt, ReplyStopsAt}
 use Rattle.ts_sessions.proofs.RefusalCodes.{IsOther, Other, checks_other, below}
 use Rattle.ts_sessions.proofs.UpperCodes.{rolled_other}
-use Rattle.ts_sessions.proofs.NamedLaws.{named_holds}
-use Rattle.ts_sessions.proofs.SteadyLaws.{ended_passed, refused_here}
+use Rattle.ts_sessions.proofs.NamedLaws.{named_holds, read_holds, unless_holds}
+use Rattle.ts_sessions.proofs.SteadyLaws.{refused_here, ended_named}
 
 pub position_at : (h : History) (p : ℕ) → base_position h ≤ p → p ≤ position h → position (prefix h p) ≡ p
 position_at start p low le = omega (arith, le)
@@ -281,14 +281,11 @@ meets_acts h p bytes actions.Rollback = λ stop. (given_up_so stop p.block, tt)
 meets_acts h p bytes (actions.Calendar table number unit at fold) = λ stop. (tt, tt)
 meets_acts h p bytes (actions.Ask q) = λ stop. (tt, tt)
 
-meets_passed : (h : History) (p : Places) (bytes : ℕ) (stmt : Stmt) (o : Option Refusal) → Other o → Meets ReplyStopsAt (Some (position h)) (passed p bytes h stmt o)
-meets_passed h p bytes stmt (Some r) other = λ stop. (other_fault stop r other, tt)
-meets_passed h p bytes stmt None other = meets_acts h p bytes (action_of (roster h) stmt)
-
 meets_named : (h : History) (p : Places) (bytes : ℕ) (stmt : Stmt) → Meets ReplyStopsAt (Some (position h)) (named p bytes stmt h)
 meets_named h p bytes stmt =
     named_holds (λ d. Meets ReplyStopsAt (Some (position h)) d) p bytes h stmt (λ r e stop. (other_fault stop r (rolled_other (position h) (roster h) stmt r e), tt)) (λ plan stop. (tt, tt))
-    (meets_passed h p bytes stmt (refusal_of (position h) (roster h) stmt) (checks_other (position h) (roster h) stmt))
+    (λ r e stop. (other_fault stop r (subst Other e (checks_other (position h) (roster h) stmt)), tt))
+    (λ e. meets_acts h p bytes (action_of (roster h) stmt))
 
 -- ---- looks
 
@@ -304,9 +301,6 @@ ended last (ends a) i t = t
 
 hidden_so : (p : Places) (bytes : ℕ) (stmt : Stmt) (h : History) → IsEnded (named p bytes stmt h) → EndsSo (λ y. (stop : Option ℕ) → ReplyStopsAt stop y) (named p bytes stmt h)
 hidden_so p bytes stmt h i = ended (Some (position h)) (named p bytes stmt h) i (meets_named h p bytes stmt)
-
-ended_named : (p : Places) (bytes : ℕ) (stmt : Stmt) (h : History) → IsEnded (acts p bytes h (action_of (roster h) stmt)) → IsEnded (named p bytes stmt h)
-ended_named p bytes stmt h i = named_holds IsEnded p bytes h stmt (λ r e. tt) (λ plan. tt) (ended_passed p bytes stmt h (refusal_of (position h) (roster h) stmt) i)
 
 -- ---- outside a block
 
@@ -429,16 +423,14 @@ meets_block last p bytes stmt none e = meets_outside last p bytes stmt
 meets_block last p bytes stmt (writing ops n) e = meets_writing last p bytes stmt ops n e
 meets_block last p bytes stmt (reading at) e = meets_reading last p bytes stmt at e
 
-meets_let_in : (last : Option ℕ) (p : Places) (bytes : ℕ) (stmt : Stmt) (o : Option Refusal) → Other o → block_refusal p.block (kind_of stmt) ≡ o → Meets ReplyStopsAt last (replies_in p bytes stmt o)
-meets_let_in last p bytes stmt (Some r) other e = λ stop. (other_fault stop r other, tt)
-meets_let_in last p bytes stmt None other e = subst (λ q. Meets ReplyStopsAt last (named_here q bytes stmt)) (sym (block_is p p.block refl)) (meets_block last p bytes stmt p.block e)
-
-meets_text : (last : Option ℕ) (p : Places) (bytes : ℕ) (r : Result (Stmt × Stream) Fault) → Meets ReplyStopsAt last (replies_as p bytes r)
-meets_text last p bytes (Ok read) = meets_let_in last p bytes read.0 (block_refusal p.block (kind_of read.0)) (block_other p.block (kind_of read.0)) refl
-meets_text last p bytes (Err f) = λ stop. (other_fault stop (misread f) (misread_other f), tt)
+meets_statement : (last : Option ℕ) (p : Places) (bytes : ℕ) (stmt : Stmt) → Meets ReplyStopsAt last (replies p bytes stmt)
+meets_statement last p bytes stmt =
+    unless_holds (λ d. Meets ReplyStopsAt last d) p (block_refusal p.block (kind_of stmt)) (named_here p bytes stmt) (λ r e stop. (other_fault stop r (subst Other e (block_other p.block (kind_of stmt))), tt))
+    (λ e. subst (λ q. Meets ReplyStopsAt last (named_here q bytes stmt)) (sym (block_is p p.block refl)) (meets_block last p bytes stmt p.block e))
 
 pub meets_reply : (last : Option ℕ) (p : Places) (text : List ℕ) (skip : ℕ) → Meets ReplyStopsAt last (reply_to p text skip)
-meets_reply last p text skip = meets_text last p (length text) (statement (stream text skip))
+meets_reply last p text skip =
+    read_holds (λ d. Meets ReplyStopsAt last d) p (replies p (length text)) (statement (stream text skip)) (λ f stop. (other_fault stop (misread f) (misread_other f), tt)) (meets_statement last p (length text))
 
 pub reply_stops : OnlyStopsAreReported reply_to
 reply_stops all stop at p text skip looks last given y low g = gives_meets ReplyStopsAt all stop at [] (reply_to p text skip) looks last given y None low tt (meets_reply None p text skip) g

@@ -1,5 +1,5 @@
 -- What holds of the block of a session after what its statements come to.
-use Rattle.std.proofs.Common.{◌≡◌, ℕ, ◌≤◌, Bool, true, false, cond, List, [], ◌∷◌, length, Option, Some, None, inl, inr, refl, ap, subst, sym, arith}
+use Rattle.std.proofs.Common.{ℕ, ◌≤◌, Bool, true, false, List, Option, Some, None, inl, inr, subst, sym, arith}
 use Rattle.std.specs.Prelude.{Result, Ok, Err, ℤ}
 use Rattle.ts_bucket.specs.Bucket.{first_of}
 use Rattle.ts_bucket.specs.declared.spans.Span.{Span}
@@ -9,27 +9,16 @@ use Rattle.ts_model.specs.declared.outcomes.CutDone.{CutDone}
 use Rattle.ts_model.specs.declared.outcomes.CutDone.TheVariants.{Cut as CutMade, Nothing as NothingDone}
 use Rattle.ts_model.specs.declared.outcomes.Refusal.{Refusal}
 use Rattle.ts_model.specs.declared.views.ViewDef.{ViewDef}
-use Rattle.ts_model.specs.Calls.{Act, refuses as refuses_call, returns, makes, committing, cutting, finishing, making_hyper, making_table, making_view, setting_mode}
-use Rattle.ts_model.specs.History.{History, position, prefix}
-use Rattle.ts_model.specs.Roster.{roster, view_of}
+use Rattle.ts_model.specs.Calls.{Act, refuses as refuses_call, returns, makes, committing, cutting, finishing}
+use Rattle.ts_model.specs.History.{History, position}
 use Rattle.ts_model.specs.States.{State}
-use Rattle.ts_model.proofs.HistoryLaws.{begins_prefix, position_begins}
-use Rattle.stmt_reader.specs.declared.faults.Fault.{Fault}
-use Rattle.stmt_reader.specs.declared.statements.Stmt.{Stmt}
-use Rattle.stmt_reader.specs.Reading.{statement}
-use Rattle.stmt_reader.specs.Streams.{Stream, stream}
-use Rattle.stmt_check.specs.declared.actions.Action.{Action}
-use Rattle.stmt_check.specs.declared.actions.Action.TheVariants as actions
-use Rattle.stmt_check.specs.Check.{action_of, refusal_of}
+use Rattle.ts_model.proofs.HistoryLaws.{position_begins}
 use Rattle.result_text.specs.declared.replies.Said.{Said}
 use Rattle.result_text.specs.declared.replies.Said.TheVariants as said
-use Rattle.ts_sessions.specs.Actors.{BlocksBegin}
-use Rattle.ts_sessions.specs.LineLaws.{ReadsWithin}
-use Rattle.ts_sessions.specs.Places.{Block, none, writing, reading, Places, Turn, enters, held_for}
+use Rattle.ts_sessions.specs.Places.{Block, Places, Turn, held_for}
 use Rattle.ts_sessions.specs.Procedures.{Procedure, sees, adds, ends, followed_by, ending_as, tries_at}
-use Rattle.ts_sessions.specs.Step.{Taken, acts, after_cut, after_line, after_snapshot, after_view, block_refusal, changes, closes, commits, committed, cut_turn, finish_turn, finishes, finishes_held, kind_of, least_start, let_pass, makes_event, named, named_first, named_here, passed, passed_first, performs_in, read_at, reads_as, refresh_meant, refreshed, refreshes, reported, snap_turn, snaps, step, taken, view_made}
+use Rattle.ts_sessions.specs.Step.{Taken, after_cut, after_line, after_snapshot, after_view, commits, committed, cut_turn, finish_turn, finishes, finishes_held, refreshed, refreshes, reported, snap_turn, snaps, taken, view_made}
 use Rattle.ts_sessions.specs.Walks.{Walks}
-use Rattle.ts_sessions.proofs.NamedLaws.{named_holds}
 use Rattle.ts_sessions.proofs.WalkLaws.{goes_walks}
 
 -- ---- procedures

@@ -1,5 +1,5 @@
 -- What a statement is to do with its store next, and what is left of its procedure there.
-use Rattle.std.specs.Prelude.{◌≡◌, ℕ, ◌==◌, ◌≤◌, ℤ, Bool, true, false, cond, ◌||◌, List, [], ◌∷◌, length, Option, Some, None, option_map, Result, Ok, Err, IfSome, IsSome, IsTrue, ⊤}
+use Rattle.std.specs.Prelude.{◌≡◌, ℕ, ◌==◌, ◌≤◌, ◌<◌, ℤ, Bool, true, false, cond, ◌||◌, List, [], ◌∷◌, length, Option, Some, None, option_map, Result, Ok, Err, IfSome, IsSome, IsTrue, ⊤}
 use Rattle.std.specs.Option.{ForSome}
 use Rattle.std.specs.Map.{remove_entry}
 use Rattle.std.specs.Ordering.{nat_cmp}
@@ -241,6 +241,19 @@ pub record EndFits {T J : Type 0} (shown : Shown T J) (bytes : ℕ) (t : Complet
 abbrev pub NextFits : {T J : Type 0} → Shown T J → ℕ → Next T J → State → Type 0
 NextFits shown bytes (nexts.Deed d) s = DeedFits shown d s
 NextFits shown bytes (nexts.End t) s = EndFits shown bytes t s
+
+-- this comes next of a statement. It leaves what is left by the places and by the rows read so far, of which it counts
+-- those that it goes on from; it goes with a state that has what it needs; and it meets the store less often than before
+pub record FollowsReading {T J : Type 0} (shown : Shown T J) (next : Next T J) (before : ℕ) (needs : State → Type 0)
+    (rows : ℕ → ℕ) (left_then : Places → ℕ → History → Procedure (Turn Places)) : Type 0 where
+  pub rest : (p : Places) (read : ℕ) (h : History) → rest_next p (rows read) h next ≡ left_then p read h
+  pub fits : (s : State) (bytes : ℕ) → needs s → NextFits shown bytes next s
+  pub spent : (read : ℕ) → spent_next (rows read) next ≡ rows read
+  pub shorter : left_next next < before
+
+-- the same where no rows were read and nothing is needed
+abbrev pub Follows : {T J : Type 0} → Shown T J → Next T J → ℕ → (Places → Procedure (Turn Places)) → Type 0
+Follows shown next before left_then = FollowsReading shown next before (λ s. ⊤) (λ read. 0) (λ p read h. left_then p)
 
 -- the job of a snapshot that a session held was taken: its refresh can't be finished any more
 abbrev pub IsLostBy : {T J : Type 0} → Deed T J → State → Type 0

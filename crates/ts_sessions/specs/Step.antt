@@ -353,16 +353,17 @@ acts p bytes h (actions.Ask q) = ends (answers p h (plan_of (roster h) q))
 acts p bytes h (actions.Calendar t number unit at fold) =
     ends (answers p h (calendar_plan t (record { number = number; unit = unit_of unit; at = at; fold = fold })))
 
--- a statement whose names and values are refused in a history, or not
-abbrev pub passed : Places → ℕ → History → Stmt → Option Refusal → Procedure (Turn Places)
-passed p bytes h stmt (Some r) = ends (refuses p r)
-passed p bytes h stmt None = acts p bytes h (action_of (roster h) stmt)
+-- a procedure, unless this refuses it
+abbrev pub unless : Places → Option Refusal → Procedure (Turn Places) → Procedure (Turn Places)
+unless p (Some r) procedure = ends (refuses p r)
+unless p None procedure = procedure
 
 -- a statement by what it asks of an aggregate: a roll-up is refused or answered, and any other is checked
 abbrev pub named_as : Places → ℕ → History → Stmt → UpperRead → Procedure (Turn Places)
 named_as p bytes h stmt (uppers.Plan plan) = ends (answers p h (roll_up_plan plan))
 named_as p bytes h stmt (uppers.Refused r) = ends (refuses p r)
-named_as p bytes h stmt other = passed p bytes h stmt (refusal_of (position h) (roster h) stmt)
+named_as p bytes h stmt other =
+    unless p (refusal_of (position h) (roster h) stmt) (acts p bytes h (action_of (roster h) stmt))
 
 -- a statement whose names are looked at in a history
 abbrev pub named : Places → ℕ → Stmt → History → Procedure (Turn Places)
@@ -382,18 +383,18 @@ makes_event kinds.Defines = true
 makes_event kinds.Changes = true
 makes_event other = false
 
--- a statement that makes an event, whose names were looked at in a history, and refused or not: the event has a look
--- of its own
-abbrev pub passed_first : Places → ℕ → History → Stmt → Option Refusal → Procedure (Turn Places)
-passed_first p bytes g stmt (Some r) = ends (refuses p r)
-passed_first p bytes g stmt None = looks (λ h. acts p bytes h (action_of (roster g) stmt))
+-- outside a block their names are looked at first, and the event then has a look of its own
+abbrev pub looks_twice : Block → Kind → Bool
+looks_twice none kind = makes_event kind
+looks_twice (writing ops n) kind = false
+looks_twice (reading at) kind = false
 
--- a statement that makes an event, outside a block: its names are looked at first, and the reply prints where only if
--- they are refused
+-- such a statement. Its reply prints where its names were looked at only if they are refused
 abbrev pub named_first : Places → ℕ → Stmt → Procedure (Turn Places)
 named_first p bytes stmt =
-    sees (λ h. is_some (refusal_of (position h) (roster h) stmt))
-    (λ h. passed_first p bytes h stmt (refusal_of (position h) (roster h) stmt))
+    sees (λ g. is_some (refusal_of (position g) (roster g) stmt))
+    (λ g. unless p (refusal_of (position g) (roster g) stmt)
+    (looks (λ h. acts p bytes h (action_of (roster g) stmt))))
 
 -- the reply to any other statement outside a block prints its look, unless it only begins a block
 abbrev pub begins : Kind → Bool
@@ -420,31 +421,23 @@ named_here p bytes stmt =
     sees (λ h. prints p.block (kind_of stmt) (refusal_of (position h) (roster h) stmt))
     (λ h. named p bytes stmt (read_at p.block h))
 
+-- ---- lines: what is read of a line may pass its session's block or not, and then its names are looked at, and it acts
+
 -- a statement that its session's block lets pass, from a text of so many bytes
-abbrev pub performs_in : Places → ℕ → Stmt → Block → Procedure (Turn Places)
-performs_in p bytes stmt none = cond (makes_event (kind_of stmt)) (named_first p bytes stmt) (named_here p bytes stmt)
-performs_in p bytes stmt (writing ops n) = named_here p bytes stmt
-performs_in p bytes stmt (reading at) = named_here p bytes stmt
-
--- the same in the block of its session
 abbrev pub performs : Places → ℕ → Stmt → Procedure (Turn Places)
-performs p bytes stmt = performs_in p bytes stmt p.block
-
--- a statement that its session's block refuses, or lets pass
-abbrev pub let_pass : Places → ℕ → Stmt → Option Refusal → Procedure (Turn Places)
-let_pass p bytes stmt (Some r) = ends (refuses p r)
-let_pass p bytes stmt None = performs p bytes stmt
+performs p bytes stmt =
+    cond (looks_twice p.block (kind_of stmt)) (named_first p bytes stmt) (named_here p bytes stmt)
 
 -- a statement, by what its session's block says to its kind
 abbrev pub passes_block : Places → ℕ → Stmt → Procedure (Turn Places)
-passes_block p bytes stmt = let_pass p bytes stmt (block_refusal p.block (kind_of stmt))
+passes_block p bytes stmt = unless p (block_refusal p.block (kind_of stmt)) (performs p bytes stmt)
 
--- what was read of a text of so many bytes
-abbrev pub reads_as : Places → ℕ → Result (Stmt × Stream) Fault → Procedure (Turn Places)
-reads_as p bytes (Ok read) = passes_block p bytes read.0
-reads_as p bytes (Err f) = ends (refuses p (misread f))
+-- what was read, and what a statement then does
+abbrev pub as_read : Places → (Stmt → Procedure (Turn Places)) → Result (Stmt × Stream) Fault → Procedure (Turn Places)
+as_read p does (Ok read) = does read.0
+as_read p does (Err f) = ends (refuses p (misread f))
 
 -- a line of a session with these places: its text before the comment, in which a statement stands after the first
 -- `skip` bytes
 abbrev pub step : Places → List ℕ → ℕ → Procedure (Turn Places)
-step p text skip = reads_as p (length text) (statement (stream text skip))
+step p text skip = as_read p (passes_block p (length text)) (statement (stream text skip))

@@ -1,13 +1,12 @@
 //! What follows a deed, by what came of it: another deed, or the end of the statement. Nothing here meets a store.
-ghost use Rattle.std.specs.Prelude.{◌≡◌, ℕ, ◌<◌, [], ◌∷◌, false, IfOk};
+ghost use Rattle.std.specs.Prelude.{◌≡◌, [], ◌∷◌, false, IfOk, ⊤};
 ghost use Rattle.ts_bucket.specs.Bucket.{first_of};
 ghost use Rattle.ts_model.specs.History.{History, position as position_of};
-ghost use Rattle.ts_model.specs.States.{State};
 ghost use Rattle.result_text.specs.declared.replies.Said.TheVariants.{Cut, Fault};
 ghost use Rattle.ts_sessions.specs.declared.changes.Change.TheVariants.{Cuts};
 ghost use Rattle.ts_sessions.specs.declared.deeds.Next.TheVariants.{End};
-ghost use Rattle.ts_sessions.specs.Deeds.{MadeFits, NextFits, finished, lack_code, left_by, left_next, rest_next, said_once, says, spent_by, spent_next, view_leaves};
-ghost use Rattle.ts_sessions.specs.Places.{Places, cuts, refuses};
+ghost use Rattle.ts_sessions.specs.Deeds.{Follows, FollowsReading, MadeFits, finished, lack_code, left_by, said_once, says, spent_by, view_leaves};
+ghost use Rattle.ts_sessions.specs.Places.{cuts};
 ghost use Rattle.ts_sessions.specs.Procedures.{ends};
 ghost use Rattle.ts_sessions.specs.Sessions.{FitsSnapped, read_by, taken_as};
 ghost use Rattle.ts_sessions.specs.Sound.{number_at};
@@ -32,9 +31,7 @@ pub(crate) fn after_number<T: Shown + Drop>(
 ) -> Result<Next<T>, NoMemory>
 where
     T::Job: Drop,
-    ensures rest { IfOk result (λ n. (p : Places) (h : History) → rest_next p 0 h n ≡ ends (reported p (says line) came)) }
-    ensures fits { IfOk result (λ n. (s : State) (bytes : ℕ) → NextFits T.Shown bytes n s) }
-    ensures shorter { IfOk result (λ n. left_next n < 1) }
+    ensures { IfOk result (λ n. Follows T.Shown n 1 (λ p. ends (reported p (says line) came))) }
 {
     match came {
         Ok(number) => match line {
@@ -54,10 +51,7 @@ pub(crate) fn after_commit<T: Shown + Drop>(
 ) -> Result<Next<T>, NoMemory>
 where
     T::Job: Drop,
-    ensures rest { IfOk result (λ n. (p : Places) (h : History) →
-        rest_next p 0 h n ≡ ends (committed p (left_by leaves p) came)) }
-    ensures fits { IfOk result (λ n. (s : State) (bytes : ℕ) → NextFits T.Shown bytes n s) }
-    ensures shorter { IfOk result (λ n. left_next n < 1) }
+    ensures { IfOk result (λ n. Follows T.Shown n 1 (λ p. ends (committed p (left_by leaves p) came))) }
 {
     match came {
         Ok(done) => match leaves {
@@ -77,10 +71,8 @@ pub(crate) fn after_view<T: Shown + Drop>(
 ) -> Result<Next<T>, NoMemory>
 where
     T::Job: Drop,
-    ensures rest { IfOk result (λ n. (p : Places) (h : History) →
-        rest_next p 0 h n ≡ view_leaves p (number_at h new.name) (first_of new.width) filled came) }
-    ensures fits { IfOk result (λ n. (s : State) (bytes : ℕ) → MadeFits came s.history new.name → NextFits T.Shown bytes n s) }
-    ensures shorter { IfOk result (λ n. left_next n < 5) }
+    ensures { IfOk result (λ n. FollowsReading T.Shown n 5 (λ s. MadeFits came s.history new.name) (λ read. 0)
+        (λ p read h. view_leaves p (number_at h new.name) (first_of new.width) filled came)) }
 {
     match came {
         Ok(made) => match filled {
@@ -99,10 +91,7 @@ pub(crate) fn after_refresh_cut<T: Shown + Drop>(
 ) -> Result<Next<T>, NoMemory>
 where
     T::Job: Drop,
-    ensures rest { IfOk result (λ n. (p : Places) (h : History) →
-        rest_next p 0 h n ≡ cut_leaves p asked.now.min came) }
-    ensures fits { IfOk result (λ n. (s : State) (bytes : ℕ) → NextFits T.Shown bytes n s) }
-    ensures shorter { IfOk result (λ n. left_next n < 3) }
+    ensures { IfOk result (λ n. Follows T.Shown n 3 (λ p. cut_leaves p asked.now.min came)) }
 {
     match came {
         Ok(done) => match done {
@@ -125,10 +114,7 @@ pub(crate) fn after_cut<T: Shown + Drop>(
 ) -> Result<Next<T>, NoMemory>
 where
     T::Job: Drop,
-    ensures rest { IfOk result (λ n. (p : Places) (h : History) →
-        rest_next p 0 h n ≡ ends (cut_turn p asked.now.min came)) }
-    ensures fits { IfOk result (λ n. (s : State) (bytes : ℕ) → NextFits T.Shown bytes n s) }
-    ensures shorter { IfOk result (λ n. left_next n < 1) }
+    ensures { IfOk result (λ n. Follows T.Shown n 1 (λ p. ends (cut_turn p asked.now.min came))) }
 {
     match came {
         Ok(done) => match done {
@@ -154,13 +140,9 @@ pub(crate) fn after_snapshot<T: Shown + Drop>(
 ) -> Result<Next<T>, NoMemory>
 where
     T::Job: Drop,
-    ensures rest { IfOk result (λ n. (p : Places) (read : ℕ) (h : History) →
-        rest_next p (read_by read snapped) h n
-        ≡ snapshot_leaves (cuts begun.cut p) begun.cut begun.span begun.min (taken_as read snapped)) }
-    ensures fits { IfOk result (λ n. (s : State) (bytes : ℕ) → FitsSnapped T.Shown begun.cut s.history snapped
-        → NextFits T.Shown bytes n s) }
-    ensures spent { IfOk result (λ n. (read : ℕ) → spent_next (read_by read snapped) n ≡ read_by read snapped) }
-    ensures shorter { IfOk result (λ n. left_next n < 2) }
+    ensures { IfOk result (λ n. FollowsReading T.Shown n 2 (λ s. FitsSnapped T.Shown begun.cut s.history snapped)
+        (λ read. read_by read snapped)
+        (λ p read h. snapshot_leaves (cuts begun.cut p) begun.cut begun.span begun.min (taken_as read snapped))) }
 {
     match snapped {
         Snapped::Taken { at, job } => Ok(Next::Deed(Deed::Finish {
@@ -179,12 +161,8 @@ pub(crate) fn after_hold<T: Shown + Drop>(
 ) -> Result<Next<T>, NoMemory>
 where
     T::Job: Drop,
-    ensures rest { IfOk result (λ n. (p : Places) (read : ℕ) (h : History) →
-        rest_next p (read_by read snapped) h n ≡ ends (snap_turn p cut (taken_as read snapped))) }
-    ensures fits { IfOk result (λ n. (s : State) (bytes : ℕ) → FitsSnapped T.Shown cut s.history snapped
-        → NextFits T.Shown bytes n s) }
-    ensures spent { IfOk result (λ n. (read : ℕ) → spent_next (read_by read snapped) n ≡ read_by read snapped) }
-    ensures shorter { IfOk result (λ n. left_next n < 1) }
+    ensures { IfOk result (λ n. FollowsReading T.Shown n 1 (λ s. FitsSnapped T.Shown cut s.history snapped)
+        (λ read. read_by read snapped) (λ p read h. ends (snap_turn p cut (taken_as read snapped)))) }
 {
     match snapped {
         Snapped::Taken { at, job } => {
@@ -203,11 +181,8 @@ pub(crate) fn after_finish<T: Shown + Drop>(
 ) -> Result<Next<T>, NoMemory>
 where
     T::Job: Drop,
-    ensures rest { IfOk result (λ n. (p : Places) (read : ℕ) (h : History) →
-        rest_next p (spent_by read finishing.now) h n ≡ ends (finished p read finishing.now came)) }
-    ensures fits { IfOk result (λ n. (s : State) (bytes : ℕ) → NextFits T.Shown bytes n s) }
-    ensures spent { IfOk result (λ n. (read : ℕ) → spent_next read n ≡ read) }
-    ensures shorter { IfOk result (λ n. left_next n < 1) }
+    ensures { IfOk result (λ n. FollowsReading T.Shown n 1 (λ s. ⊤) (λ read. spent_by read finishing.now)
+        (λ p read h. ends (finished p read finishing.now came))) }
 {
     match finishing {
         Finishing::Begun { begun, at } => match came {
@@ -237,7 +212,7 @@ where
     }
 }
 
-/// Refuses to finish a refresh of which this became.
+/// Refuses to finish a refresh, of which this became at a position.
 pub(crate) fn refuse<T: Shown + Drop>(
     alloc: Global,
     pending: Pending,
@@ -246,10 +221,8 @@ pub(crate) fn refuse<T: Shown + Drop>(
 ) -> Result<Next<T>, NoMemory>
 where
     T::Job: Drop,
-    ensures rest { IfOk result (λ n. (p : Places) (h : History) (g : History) → position ≡ position_of g →
-        rest_next p 0 h n ≡ ends (refuses p (unfinished (lack_code lacks g) g pending))) }
-    ensures fits { IfOk result (λ n. (s : State) (bytes : ℕ) → NextFits T.Shown bytes n s) }
-    ensures shorter { IfOk result (λ n. left_next n < 1) }
+    ensures { (g : History) → position ≡ position_of g →
+        IfOk result (λ n. n ≡ said_once (Fault (unfinished (lack_code lacks g) g pending)) Change.Nothing) }
 {
     let refusal = match pending {
         Pending::Waiting(_) => at(lacks.code(position), position, 0),

@@ -23,7 +23,7 @@ use Rattle.ts_sessions.proofs.NameCheckWalks.{looked_only}
 use Rattle.ts_sessions.proofs.StateLaws.{looked_reports, sees_looked}
 use Rattle.ts_sessions.proofs.ViewWalks.{number_in, view_broken, view_stays}
 use Rattle.ts_sessions.proofs.WalkLaws.{not_begun}
-use Rattle.ts_sessions.proofs.DeedWalks.{broken_off, call_broken, call_goes, goes_by, job_tries, look_broken, look_goes, next_broken, seen_leads, unspent, view_fits, view_leads}
+use Rattle.ts_sessions.proofs.DeedWalks.{broken_off, call_broken, call_goes, goes_by, job_tries, look_broken, look_goes, next_broken, said_fits, seen_leads, unspent, view_fits, view_leads}
 use Rattle.ts_sessions.proofs.JobLaws.{finish_lost, known_job}
 use Rattle.ts_sessions.proofs.deeds.advance.Goals as goal
 
@@ -46,7 +46,7 @@ returns-in_ok-next-in-Refresh-clause-advances g c = λ p read.
     let old = g.B.Backend.state c.args.backend.now in
     let new = g.B.Backend.state c.cut.new.backend in
     let a = c.in-Refresh.asked in
-    call_goes g.B.Backend.alone old p read 0 c.args.deed (cuts_refresh a.view a.lo a.hi) (after_cut p a.min) c.in_ok-tried-in-Refresh.tried c.came-in-Refresh.result c.failed-failed-in-Refresh.result c.in_ok-next-in-Refresh.next new _ (ap (rest p read old.history) c.in-Refresh.is) (ap (spent read) c.in-Refresh.is) c.in_ok-tried-in-Refresh.ensures.tries c.failed-failed-in-Refresh.ensures c.came-in-Refresh.ensures (c.in_ok-next-in-Refresh.ensures.rest p new.history) (unspent c.in_ok-next-in-Refresh.next)
+    call_goes g.B.Backend.alone old p read 0 c.args.deed (cuts_refresh a.view a.lo a.hi) (after_cut p a.min) c.in_ok-tried-in-Refresh.tried c.came-in-Refresh.result c.failed-failed-in-Refresh.result c.in_ok-next-in-Refresh.next new _ (ap (rest p read old.history) c.in-Refresh.is) (ap (spent read) c.in-Refresh.is) c.in_ok-tried-in-Refresh.ensures.tries c.failed-failed-in-Refresh.ensures c.came-in-Refresh.ensures (c.in_ok-next-in-Refresh.ensures.rest p read new.history) (unspent c.in_ok-next-in-Refresh.next)
 
 -- ---- a cut alone
 
@@ -67,7 +67,7 @@ returns-in_ok-next-in-Cut-clause-advances g c = λ p read.
     let old = g.B.Backend.state c.args.backend.now in
     let new = g.B.Backend.state c.cut-in-Cut.new.backend in
     let a = c.in-Cut.asked in
-    call_goes g.B.Backend.alone old p read 0 c.args.deed (cuts_refresh a.view a.lo a.hi) (λ r. ends (cut_turn p a.min r)) c.in_ok-tried-in-Cut.tried c.came-in-Cut.result c.failed-failed-in-Cut.result c.in_ok-next-in-Cut.next new _ (ap (rest p read old.history) c.in-Cut.is) (ap (spent read) c.in-Cut.is) c.in_ok-tried-in-Cut.ensures.tries c.failed-failed-in-Cut.ensures c.came-in-Cut.ensures (c.in_ok-next-in-Cut.ensures.rest p new.history) (unspent c.in_ok-next-in-Cut.next)
+    call_goes g.B.Backend.alone old p read 0 c.args.deed (cuts_refresh a.view a.lo a.hi) (λ r. ends (cut_turn p a.min r)) c.in_ok-tried-in-Cut.tried c.came-in-Cut.result c.failed-failed-in-Cut.result c.in_ok-next-in-Cut.next new _ (ap (rest p read old.history) c.in-Cut.is) (ap (spent read) c.in-Cut.is) c.in_ok-tried-in-Cut.ensures.tries c.failed-failed-in-Cut.ensures c.came-in-Cut.ensures (c.in_ok-next-in-Cut.ensures.rest p read new.history) (unspent c.in_ok-next-in-Cut.next)
 
 -- ---- a finish
 
@@ -95,7 +95,7 @@ returns-in_ok-next-in-Finish-clause-advances g c = λ p read.
     let f = c.in-Finish.finishing in
     let t = c.in_ok-tried-in-Finish.tried in
     let w = job_tries g.B.Shot.Shown g.B.Backend.alone old c.args.deed c.in-Finish.job f (Ok t) new c.requires.fits c.in-Finish.is c.in_ok-tried-in-Finish.ensures.tries in
-    call_goes g.B.Backend.alone old p read (spent_by read f) c.args.deed (finishes_refresh (cut_in f) (at_in f)) (λ r. ends (finished p read f r)) t c.came-in-Finish.result c.failed-failed-in-Finish.result c.in_ok-next-in-Finish.next new _ (ap (rest p read old.history) c.in-Finish.is) (ap (spent read) c.in-Finish.is) w c.failed-failed-in-Finish.ensures c.came-in-Finish.ensures (c.in_ok-next-in-Finish.ensures.rest p read new.history) (c.in_ok-next-in-Finish.ensures.spent (spent_by read f))
+    call_goes g.B.Backend.alone old p read (spent_by read f) c.args.deed (finishes_refresh (cut_in f) (at_in f)) (λ r. ends (finished p read f r)) t c.came-in-Finish.result c.failed-failed-in-Finish.result c.in_ok-next-in-Finish.next new _ (ap (rest p read old.history) c.in-Finish.is) (ap (spent read) c.in-Finish.is) w c.failed-failed-in-Finish.ensures c.came-in-Finish.ensures (c.in_ok-next-in-Finish.ensures.rest p read new.history) (c.in_ok-next-in-Finish.ensures.spent read)
 
 -- the refresh can't be finished any more
 pub returns-in_ok-next-in-Finish-clause-lost : goal.returns-in_ok-next-in-Finish-clause-lost
@@ -120,7 +120,7 @@ returns-in_err-next-in-Make-clause-advances g c = λ p read.
 pub returns-in_ok-next-in-Make-clause-advances : goal.returns-in_ok-next-in-Make-clause-advances
 returns-in_ok-next-in-Make-clause-advances g c = λ p read.
     let new = g.B.Backend.state c.make_one.new.backend in
-    call_goes g.B.Backend.alone (g.B.Backend.state c.args.backend.now) p read 0 c.args.deed (tries (making_of c.in-Make.making)) (λ r. ends (reported p (says (line_of c.in-Make.making)) r)) c.in_ok-tried-in-Make.tried c.came.result c.failed-failed.result c.in_ok-next-in-Make.next new _ (ap (rest p read (g.B.Backend.state c.args.backend.now).history) c.in-Make.is) (ap (spent read) c.in-Make.is) c.in_ok-tried-in-Make.ensures.tries c.failed-failed.ensures c.came.ensures (subst (λ l. rest_next p 0 new.history c.in_ok-next-in-Make.next ≡ ends (reported p (says l) c.came.result)) c.line-line.ensures (c.in_ok-next-in-Make.ensures.rest p new.history)) (unspent c.in_ok-next-in-Make.next)
+    call_goes g.B.Backend.alone (g.B.Backend.state c.args.backend.now) p read 0 c.args.deed (tries (making_of c.in-Make.making)) (λ r. ends (reported p (says (line_of c.in-Make.making)) r)) c.in_ok-tried-in-Make.tried c.came.result c.failed-failed.result c.in_ok-next-in-Make.next new _ (ap (rest p read (g.B.Backend.state c.args.backend.now).history) c.in-Make.is) (ap (spent read) c.in-Make.is) c.in_ok-tried-in-Make.ensures.tries c.failed-failed.ensures c.came.ensures (subst (λ l. rest_next p 0 new.history c.in_ok-next-in-Make.next ≡ ends (reported p (says l) c.came.result)) c.line-line.ensures (c.in_ok-next-in-Make.ensures.rest p read new.history)) (unspent c.in_ok-next-in-Make.next)
 
 -- ---- operations
 
@@ -135,7 +135,7 @@ returns-in_err-next-in-Commit-clause-advances g c = λ p read.
 pub returns-in_ok-next-in-Commit-clause-advances : goal.returns-in_ok-next-in-Commit-clause-advances
 returns-in_ok-next-in-Commit-clause-advances g c = λ p read.
     let new = g.B.Backend.state c.commit.new.backend in
-    call_goes g.B.Backend.alone (g.B.Backend.state c.args.backend.now) p read 0 c.args.deed (tries (committing c.in-Commit.ops)) (λ r. ends (committed p (left_by c.in-Commit.leaves p) r)) c.in_ok-tried-in-Commit.tried c.came-in-Commit.result c.failed-failed-in-Commit.result c.in_ok-next-in-Commit.next new _ (ap (rest p read (g.B.Backend.state c.args.backend.now).history) c.in-Commit.is) (ap (spent read) c.in-Commit.is) c.in_ok-tried-in-Commit.ensures.tries c.failed-failed-in-Commit.ensures c.came-in-Commit.ensures (c.in_ok-next-in-Commit.ensures.rest p new.history) (unspent c.in_ok-next-in-Commit.next)
+    call_goes g.B.Backend.alone (g.B.Backend.state c.args.backend.now) p read 0 c.args.deed (tries (committing c.in-Commit.ops)) (λ r. ends (committed p (left_by c.in-Commit.leaves p) r)) c.in_ok-tried-in-Commit.tried c.came-in-Commit.result c.failed-failed-in-Commit.result c.in_ok-next-in-Commit.next new _ (ap (rest p read (g.B.Backend.state c.args.backend.now).history) c.in-Commit.is) (ap (spent read) c.in-Commit.is) c.in_ok-tried-in-Commit.ensures.tries c.failed-failed-in-Commit.ensures c.came-in-Commit.ensures (c.in_ok-next-in-Commit.ensures.rest p read new.history) (unspent c.in_ok-next-in-Commit.next)
 
 -- ---- an aggregate that is made
 
@@ -164,7 +164,7 @@ returns-in_ok-next-in-View-clause-advances g c = λ p read.
     let w = view_leads g.B.Backend.alone old c.in-View.def c.in-View.filled _ _ c.in_ok-tried-in-View.tried new made.name (first_of made.width) p c.make_view-outcome.ensures.called c.position.ensures c.in_ok-tried-in-View.ensures c.in_ok-new-in-View.ensures.name (ap first_of c.in_ok-new-in-View.ensures.width) in
     let v = subst (λ x. Leads g.B.Backend.alone x old procedure new (view_leaves p (number_at new.history made.name) (first_of made.width) c.in-View.filled c.came-in-View.result)) (sym c.failed-failed-in-View.ensures)
     (subst (λ x. Leads g.B.Backend.alone (has_failed c.in_ok-tried-in-View.tried) old procedure new (view_leaves p (number_at new.history made.name) (first_of made.width) c.in-View.filled x)) (sym c.came-in-View.ensures) w) in
-    goes_by g.B.Backend.alone old p read 0 c.args.deed procedure (record { said = None; next = c.in_ok-next-in-View.next; failed = c.failed-failed-in-View.result }) new _ _ (ap (rest p read old.history) c.in-View.is) (ap (spent read) c.in-View.is) v (c.in_ok-next-in-View.ensures.rest p new.history) (unspent c.in_ok-next-in-View.next)
+    goes_by g.B.Backend.alone old p read 0 c.args.deed procedure (record { said = None; next = c.in_ok-next-in-View.next; failed = c.failed-failed-in-View.result }) new _ _ (ap (rest p read old.history) c.in-View.is) (ap (spent read) c.in-View.is) v (c.in_ok-next-in-View.ensures.rest p read new.history) (unspent c.in_ok-next-in-View.next)
 
 pub returns-in_ok-next-in-View-clause-fits : goal.returns-in_ok-next-in-View-clause-fits
 returns-in_ok-next-in-View-clause-fits g c =
@@ -261,7 +261,13 @@ returns-in_ok-next-in-Refuse-clause-advances g c = λ p read.
     let looked = c.in_ok-shot-in-Refuse.ensures.looked in
     let tells = looked_reports g.B.Backend.alone old _ mid looked in
     look_goes g.B.Backend.alone old p read c.args.deed _ (λ h. ends (refuses p (unfinished (lack_code lacks h) h (pending h c.in-Refuse.cut)))) c.in_ok-next-in-Refuse.next mid _ (ap (rest p read old.history) c.in-Refuse.is) (ap (spent read) c.in-Refuse.is) looked
-    (c.in_ok-next-in-Refuse.ensures.rest p mid.history mid.history (c.position-in-Refuse.ensures mid.history tells.1) ∙ ap (λ q. ends (refuses p (unfinished (lack_code lacks mid.history) mid.history q))) (c.pending.ensures mid.history tells.1))
+    (ap (rest_next p 0 mid.history) (c.in_ok-next-in-Refuse.ensures mid.history (c.position-in-Refuse.ensures mid.history tells.1)) ∙ ap (λ q. ends (refuses p (unfinished (lack_code lacks mid.history) mid.history q))) (c.pending.ensures mid.history tells.1))
+
+pub returns-in_ok-next-in-Refuse-clause-fits : goal.returns-in_ok-next-in-Refuse-clause-fits
+returns-in_ok-next-in-Refuse-clause-fits g c = λ bytes.
+    let mid = g.B.Backend.state c.snap-in-Refuse.new.self in
+    let tells = looked_reports g.B.Backend.alone (g.B.Backend.state c.args.backend.now) _ mid c.in_ok-shot-in-Refuse.ensures.looked in
+    said_fits g.B.Shot.Shown bytes mid c.in_ok-next-in-Refuse.next _ (c.in_ok-next-in-Refuse.ensures mid.history (c.position-in-Refuse.ensures mid.history tells.1))
 
 pub returns-in_ok-next-in-Unknown-clause-advances : goal.returns-in_ok-next-in-Unknown-clause-advances
 returns-in_ok-next-in-Unknown-clause-advances g c = λ p read.
@@ -269,4 +275,10 @@ returns-in_ok-next-in-Unknown-clause-advances g c = λ p read.
     let mid = g.B.Backend.state c.snap-in-Unknown.new.self in
     let looked = c.in_ok-shot-in-Unknown.ensures.looked in
     look_goes g.B.Backend.alone old p read c.args.deed _ (λ h. ends (refuses p (refusal no_refresh h 0))) c.in_ok-next-in-Unknown.next mid _ (ap (rest p read old.history) c.in-Unknown.is) (ap (spent read) c.in-Unknown.is) looked
-    (c.in_ok-next-in-Unknown.ensures.rest p mid.history mid.history (c.position-in-Unknown.ensures mid.history (looked_reports g.B.Backend.alone old _ mid looked).1))
+    (ap (rest_next p 0 mid.history) (c.in_ok-next-in-Unknown.ensures mid.history (c.position-in-Unknown.ensures mid.history (looked_reports g.B.Backend.alone old _ mid looked).1)))
+
+pub returns-in_ok-next-in-Unknown-clause-fits : goal.returns-in_ok-next-in-Unknown-clause-fits
+returns-in_ok-next-in-Unknown-clause-fits g c = λ bytes.
+    let mid = g.B.Backend.state c.snap-in-Unknown.new.self in
+    let tells = looked_reports g.B.Backend.alone (g.B.Backend.state c.args.backend.now) _ mid c.in_ok-shot-in-Unknown.ensures.looked in
+    said_fits g.B.Shot.Shown bytes mid c.in_ok-next-in-Unknown.next _ (c.in_ok-next-in-Unknown.ensures mid.history (c.position-in-Unknown.ensures mid.history tells.1))
