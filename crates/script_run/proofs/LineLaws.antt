@@ -3,6 +3,8 @@ use Rattle.std.proofs.Common.{◌≡◌, ℕ, ◌<◌, ◌≤◌, Bool, true, fa
 use Rattle.std.specs.Prelude.{◌⊎◌}
 use Rattle.ts_schema.specs.Counts.{raised_by}
 use Rattle.ts_schema.specs.declared.memory.NoMemory.{NoMemory as NoMemoryLeft}
+use Rattle.std.specs.Global.{Vec}
+use Rattle.ts_model.specs.declared.backends.Backend.{Ghosts as Backend}
 use Rattle.ts_model.specs.History.{History, Begins, same}
 use Rattle.ts_model.specs.States.{State, stands_still}
 use Rattle.stmt_reader.specs.declared.lines.LineKind.{LineKind}
@@ -11,6 +13,7 @@ use Rattle.stmt_reader.specs.Lines.{line_kind, session_name}
 use Rattle.result_text.specs.declared.codes.TheConstants.{LINE_LONG, TOO_MANY_SESSIONS}
 use Rattle.result_text.specs.declared.replies.Said.TheVariants as said
 use Rattle.result_text.specs.Replies.{reply_text}
+use Rattle.ts_sessions.specs.declared.actors.Actor.{Ghosts as Actor}
 use Rattle.ts_sessions.specs.declared.replies.Reply.{Reply as ReplyMade}
 use Rattle.ts_sessions.specs.declared.replies.StepEnd.{StepEnd}
 use Rattle.ts_sessions.specs.declared.replies.StepEnd.TheVariants.{Reply, DiskFault, NoMemory}
@@ -21,6 +24,8 @@ use Rattle.ts_sessions.specs.Step.{bare}
 use Rattle.ts_sessions.specs.Script.{Semantics, LineResult, ScriptState, text_of, has_fault, takes_turn, with_places, places_of, executes, executes_kind, executes_as, refused, refused_line, line_limit, most_sessions}
 use Rattle.ts_sessions.specs.Sessions.{IfAnswered, Stepped}
 use Rattle.ts_sessions.proofs.WalkLaws.{goes_walks, goes_breaks}
+use Rattle.script_run.specs.Executing.{AreReady, HaveTaken}
+use Rattle.script_run.specs.Sessions.{AreSessions, script_over}
 use Rattle.script_run.specs.LineEnds.{RepliesWith, Replies, LineExecuted, LineAnswered, LineBroken, LineFailed, ends_with}
 use Rattle.script_run.proofs.Counting.{raised_some}
 use Rattle.script_run.proofs.WalkedAlone.{WalkedBroken, WalkedFailed, begins_after, breaks_alone, walks_failed, walks_whole, went_same}
@@ -122,6 +127,13 @@ module _ {P : Type 0} (end : StepEnd) (old new : State) (script_state : ScriptSt
       let full : nat_lt (length s.sessions) most_sessions ≡ false = le-ltb (length s.sessions) most_sessions many in
       subst (λ b. Comes (cond b (takes_turn s name (semantics.does (semantics.opening (length s.sessions)) text skip)) (refused s (reply_text name (said.Fault (bare TOO_MANY_SESSIONS)))))) (sym full) l
 
+  -- and where there is
+  pub as_few : (semantics : Semantics P) (s : ScriptState P) (name own text : List ℕ) (skip : ℕ) → own ≡ name → length s.sessions < most_sessions → Comes (takes_turn s own (semantics.does (semantics.opening (length s.sessions)) text skip)) → Comes (executes_as semantics s name text skip None)
+  as_few semantics s name own text skip named few l =
+      let room : nat_lt (length s.sessions) most_sessions ≡ true = lt-ltb (length s.sessions) most_sessions few in
+      subst (λ b. Comes (cond b (takes_turn s name (semantics.does (semantics.opening (length s.sessions)) text skip)) (refused s (reply_text name (said.Fault (bare TOO_MANY_SESSIONS)))))) (sym room)
+      (subst (λ n. Comes (takes_turn s n (semantics.does (semantics.opening (length s.sessions)) text skip))) named l)
+
   -- a line of a kind that has at most 65,536 bytes
   pub as_kind : (semantics : Semantics P) (s : ScriptState P) (n : ℕ) (line : List ℕ) (kind : LineKind) → length line ≤ line_limit → kind ≡ line_kind line → Comes (executes_kind semantics s n line kind) → Comes (executes semantics s n line)
   as_kind semantics s n line kind few e l =
@@ -159,3 +171,42 @@ kind_begins semantics s n line (Stmt len skip end) = session_begins semantics s 
 pub line_begins : {P : Type 0} (semantics : Semantics P) (s : ScriptState P) (n : ℕ) (line : List ℕ) → Begins s.history (executes semantics s n line).script_state.history
 line_begins semantics s n line =
     either_begins (nat_lt line_limit (length line)) s.history (refused_line s n LINE_LONG) (executes_kind semantics s n line (line_kind line)) same (kind_begins semantics s n line (line_kind line))
+
+-- ---- what a line leaves
+
+-- where it is answered or not
+pub always_so : (end : StepEnd) (Q : Type 0) → Q → IfAnswered end Q
+always_so (Reply r) Q q = q
+always_so (DiskFault r) Q q = q
+always_so NoMemory Q q = tt
+
+-- sessions that can take a line can take a shorter one
+pub ready_for : {A T J : Type 0} (actors : Actor A T J) (alone : Bool) (s : State) (entries : List (Vec ℕ × A)) (bytes few read : ℕ) → few ≤ bytes → AreReady actors alone s entries bytes read → AreReady actors alone s entries few read
+ready_for actors alone s entries bytes few read le k = record {
+  by_itself = k.by_itself;
+  going = k.going;
+  counts = k.counts;
+  short = omega (arith, le, k.short);
+  sessions = k.sessions;
+  room = omega (arith, le, k.room);
+}
+
+module _ {A T J B U K : Type 0} (actors : Actor A T J) (backend : Backend B U K) (old : B) (entries : List (Vec ℕ × A)) (bytes : ℕ) (line_result : LineResult actors.Places) (end : StepEnd) where
+  -- a line that left its store and its sessions as they were
+  pub unchanged : (alone : Bool) (count : ℕ) → AreReady actors alone (backend.state old) entries bytes count → LineExecuted end line_result (backend.state old) (backend.state old) (script_over actors.places (backend.state old) entries) count count → HaveTaken actors backend old entries bytes line_result end old entries count count
+  unchanged alone count ready l = record {
+    executed = l;
+    sessions = always_so end (AreSessions actors (backend.state old) entries) ready.sessions;
+    waiting = omega arith;
+    kin = refl;
+  }
+
+  -- a line that was taken as a shorter text
+  pub taken_as : (few : ℕ) (other : LineResult actors.Places) (new : B) (entries_then : List (Vec ℕ × A)) (before after : ℕ) → few ≤ bytes → (LineExecuted end other (backend.state old) (backend.state new) (script_over actors.places (backend.state new) entries_then) before after → LineExecuted end line_result (backend.state old) (backend.state new) (script_over actors.places (backend.state new) entries_then) before after)
+      → HaveTaken actors backend old entries few other end new entries_then before after → HaveTaken actors backend old entries bytes line_result end new entries_then before after
+  taken_as few other new entries_then before after le as_well k = record {
+    executed = as_well k.executed;
+    sessions = k.sessions;
+    waiting = omega (arith, le, k.waiting);
+    kin = k.kin;
+  }

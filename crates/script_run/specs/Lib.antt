@@ -4,3 +4,4 @@ pub mod LineEnds
 pub mod Runs
 pub mod Stops
 pub mod Stopped
+pub mod Executing

@@ -1,12 +1,9 @@
 //! What a line comes to.
-ghost use Rattle.std.specs.Prelude.{◌≡◌, ◌+◌, ◌<◌, ◌≤◌, ◌^◌, false, take, drop, length, IsTrue};
+ghost use Rattle.std.specs.Prelude.{◌≡◌, ◌+◌, ◌≤◌, take, drop, length};
 ghost use Rattle.std.specs.Thread.{IsSync};
-ghost use Rattle.ts_model.specs.States.{stands_still};
-ghost use Rattle.ts_sessions.specs.Held.{most_queued};
 ghost use Rattle.ts_sessions.specs.Script.{executes, executes_as, places_of};
-ghost use Rattle.ts_sessions.specs.Sessions.{IfAnswered};
-ghost use Rattle.script_run.specs.Sessions.{waiting_in, AreSessions, script_over};
-ghost use Rattle.script_run.specs.LineEnds.{LineExecuted};
+ghost use Rattle.script_run.specs.Executing.{AreReady, HaveTaken};
+ghost use Rattle.script_run.specs.Sessions.{script_over};
 ghost use Rattle.stmt_reader.specs.Lines.{session_name, IsStatementLine};
 
 use crate::replies::{ending, refuse_line, silence};
@@ -34,20 +31,10 @@ where
     R: Threads + Sync,
     B: Backend,
     requires sync { IsSync R.row }
-    requires alone { IsTrue B.alone }
-    requires going { stands_still (B.state backend.old) ≡ false }
-    requires counts { steps.old < 2 ^ 64 }
-    requires short { length line.now ≤ 65536 }
-    requires sessions { AreSessions A.Actor (B.state backend.old) sessions.old.entries }
-    requires room { waiting_in A.waiting sessions.old.entries + length line.now ≤ most_queued }
-    ensures executes { LineExecuted result
+    requires ready { AreReady A.Actor B.alone (B.state backend.old) sessions.old.entries (length line.now) steps.old }
+    ensures { HaveTaken A.Actor B.Backend backend.old sessions.old.entries (length line.now)
         (executes A.semantics (script_over A.places (B.state backend.old) sessions.old.entries) number line.now)
-        (B.state backend.old) (B.state backend.new)
-        (script_over A.places (B.state backend.new) sessions.new.entries) steps.old steps.new }
-    ensures sessions { IfAnswered result (AreSessions A.Actor (B.state backend.new) sessions.new.entries) }
-    ensures waiting { waiting_in A.waiting sessions.new.entries
-        ≤ waiting_in A.waiting sessions.old.entries + length line.now }
-    ensures kin { B.kin backend.new ≡ B.kin backend.old }
+        result backend.new sessions.new.entries steps.old steps.new }
 {
     match split_line(line) {
         LineKind::Blank => StepEnd::Reply(silence(alloc)),
@@ -81,23 +68,13 @@ where
     R: Threads + Sync,
     B: Backend,
     requires sync { IsSync R.row }
-    requires alone { IsTrue B.alone }
-    requires going { stands_still (B.state backend.old) ≡ false }
-    requires counts { steps.old < 2 ^ 64 }
-    requires short { length line.now ≤ 65536 }
     requires statement_line { IsStatementLine line.now name_len skip end }
-    requires sessions { AreSessions A.Actor (B.state backend.old) sessions.old.entries }
-    requires room { waiting_in A.waiting sessions.old.entries + length line.now ≤ most_queued }
-    ensures executes { let script_state = script_over A.places (B.state backend.old) sessions.old.entries in
+    requires ready { AreReady A.Actor B.alone (B.state backend.old) sessions.old.entries (length line.now) steps.old }
+    ensures { let script_state = script_over A.places (B.state backend.old) sessions.old.entries in
         let name = session_name line.now name_len skip in
-        LineExecuted result
+        HaveTaken A.Actor B.Backend backend.old sessions.old.entries (length line.now)
         (executes_as A.semantics script_state name (take end line.now) skip (places_of name script_state.sessions))
-        (B.state backend.old) (B.state backend.new)
-        (script_over A.places (B.state backend.new) sessions.new.entries) steps.old steps.new }
-    ensures sessions { IfAnswered result (AreSessions A.Actor (B.state backend.new) sessions.new.entries) }
-    ensures waiting { waiting_in A.waiting sessions.new.entries
-        ≤ waiting_in A.waiting sessions.old.entries + length line.now }
-    ensures kin { B.kin backend.new ≡ B.kin backend.old }
+        result backend.new sessions.new.entries steps.old steps.new }
 {
     let from = skip as usize - 1 - name_len as usize;
     let name = name_at(line, from, name_len as usize);

@@ -7,9 +7,8 @@ ghost use Rattle.script_run.specs.LineEnds.{RepliesWith, Replies, ends_with};
 
 use result_text::{Said, put_line_fault, put_reply};
 use std::alloc::Global;
-use ts_model::Refusal;
 use ts_schema::{Name, NoMemory, Seq};
-use ts_sessions::{Reply, StepEnd};
+use ts_sessions::{Reply, StepEnd, bare};
 
 /// The end of a line that has this reply, unless there was no memory for it.
 pub(crate) fn ending(reply: Result<Reply, NoMemory>) -> StepEnd
@@ -48,17 +47,6 @@ pub(crate) fn refuse_session(alloc: Global, session: &Name, code: u8) -> Result<
     let mut text = Vec::new(alloc);
     put_reply(session, &Said::Fault(bare(code)), &mut text)?;
     Ok(fault(alloc, text))
-}
-
-/// A refusal without a position.
-fn bare(code: u8) -> Refusal
-    ensures { result ≡ bare_refusal code }
-{
-    Refusal {
-        code,
-        pos: 0,
-        mark: 0,
-    }
 }
 
 /// A reply with this text, which is a FAULT.

@@ -1,5 +1,5 @@
 //! Where a script has come to.
-ghost use Rattle.std.specs.Prelude.{◌≡◌, ◌+◌, ◌<◌, ◌≤◌, ◌^◌, ◌||◌, [], false, true, is_err, length, IsTrue, IfErr, OnOk, OnErr};
+ghost use Rattle.std.specs.Prelude.{◌≡◌, ◌+◌, ◌<◌, ◌≤◌, ◌^◌, ◌||◌, [], false, true, is_err, length, IfErr, OnOk, OnErr};
 ghost use Rattle.std.specs.Thread.{IsSync};
 ghost use Rattle.std.specs.Io.KnownBytes.{Appends};
 ghost use Rattle.ts_io.specs.Faults.{Counted};
@@ -7,9 +7,9 @@ ghost use Rattle.ts_io.specs.Whole.{AppendsPart};
 ghost use Rattle.ts_model.specs.States.{stands_still};
 ghost use Rattle.result_text.specs.Replies.{line_fault_text};
 ghost use Rattle.result_text.specs.declared.codes.TheConstants.{LINE_LONG};
-ghost use Rattle.ts_sessions.specs.Held.{most_queued};
 ghost use Rattle.ts_sessions.specs.Script.{executes};
 ghost use Rattle.ts_sessions.specs.Step.{bare};
+ghost use Rattle.script_run.specs.Executing.{AreReady};
 ghost use Rattle.script_run.specs.Sessions.{waiting_in, AreSessions, script_over};
 ghost use Rattle.script_run.specs.Went.{WentOn};
 ghost use Rattle.script_run.specs.LineEnds.{LineWritten};
@@ -79,13 +79,9 @@ impl<A> Script<A> {
         B: Backend,
         K: Sink,
         requires sync { IsSync R.row }
-        requires alone { IsTrue B.alone }
-        requires going { stands_still (B.state backend.old) ≡ false }
-        requires counts { steps.old < 2 ^ 64 }
-        requires short { length line.now ≤ 65536 }
         requires room { self.old.line + 1 < 2 ^ 64 }
-        requires sessions { AreSessions A.Actor (B.state backend.old) self.old.sessions.entries }
-        requires queues { waiting_in A.waiting self.old.sessions.entries + length line.now ≤ most_queued }
+        requires ready { AreReady A.Actor B.alone (B.state backend.old) self.old.sessions.entries (length line.now)
+            steps.old }
         ensures written { OnOk result (LineWritten
             (executes A.semantics (script_over A.places (B.state backend.old) self.old.sessions.entries)
             self.old.line line.now)

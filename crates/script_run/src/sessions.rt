@@ -1,14 +1,13 @@
 //! The sessions of a script.
-ghost use Rattle.std.specs.Prelude.{◌≡◌, ◌+◌, ◌<◌, ◌≤◌, ◌^◌, false, None, length, IsTrue, IfOk, OnOk};
+ghost use Rattle.std.specs.Prelude.{◌≡◌, ◌+◌, ◌<◌, ◌≤◌, None, length, IsTrue, IfOk, OnOk};
 ghost use Rattle.std.specs.Thread.{IsSync};
 ghost use Rattle.indexmap.specs.IndexMap.{index_map_len, spare};
 ghost use Rattle.ts_schema.specs.Names.{is_name};
-ghost use Rattle.ts_model.specs.States.{stands_still};
 ghost use Rattle.ts_sessions.specs.Held.{most_queued};
 ghost use Rattle.ts_sessions.specs.Script.{executes_as, places_of, takes_turn};
 ghost use Rattle.ts_sessions.specs.Sessions.{IfAnswered, Stepped};
-ghost use Rattle.script_run.specs.Sessions.{sessions_of, waiting_in, AreSessions, script_over};
-ghost use Rattle.script_run.specs.LineEnds.{LineExecuted};
+ghost use Rattle.script_run.specs.Executing.{AreReady, HaveTaken};
+ghost use Rattle.script_run.specs.Sessions.{sessions_of, script_over};
 
 use crate::replies::{ending, refuse_session};
 use indexmap::IndexMap;
@@ -41,23 +40,13 @@ where
     R: Threads + Sync,
     B: Backend,
     requires sync { IsSync R.row }
-    requires alone { IsTrue B.alone }
-    requires going { stands_still (B.state backend.old) ≡ false }
-    requires counts { steps.old < 2 ^ 64 }
     requires name { IsTrue (is_name name.now) }
-    requires short { length text.now ≤ 65536 }
     requires within { skip ≤ length text.now }
-    requires sessions { AreSessions A.Actor (B.state backend.old) sessions.old.entries }
-    requires room { waiting_in A.waiting sessions.old.entries + length text.now ≤ most_queued }
-    ensures executes { let script_state = script_over A.places (B.state backend.old) sessions.old.entries in
-        LineExecuted result
+    requires ready { AreReady A.Actor B.alone (B.state backend.old) sessions.old.entries (length text.now) steps.old }
+    ensures { let script_state = script_over A.places (B.state backend.old) sessions.old.entries in
+        HaveTaken A.Actor B.Backend backend.old sessions.old.entries (length text.now)
         (executes_as A.semantics script_state name.now text.now skip (places_of name.now script_state.sessions))
-        (B.state backend.old) (B.state backend.new)
-        (script_over A.places (B.state backend.new) sessions.new.entries) steps.old steps.new }
-    ensures sessions { IfAnswered result (AreSessions A.Actor (B.state backend.new) sessions.new.entries) }
-    ensures waiting { waiting_in A.waiting sessions.new.entries
-        ≤ waiting_in A.waiting sessions.old.entries + length text.now }
-    ensures kin { B.kin backend.new ≡ B.kin backend.old }
+        result backend.new sessions.new.entries steps.old steps.new }
 {
     match sessions.get_index_of(name) {
         Some(place) => {
@@ -84,22 +73,14 @@ where
     R: Threads + Sync,
     B: Backend,
     requires sync { IsSync R.row }
-    requires alone { IsTrue B.alone }
-    requires going { stands_still (B.state backend.old) ≡ false }
-    requires counts { steps.old < 2 ^ 64 }
     requires name { IsTrue (is_name name.now) }
-    requires short { length text.now ≤ 65536 }
     requires within { skip ≤ length text.now }
-    requires sessions { AreSessions A.Actor (B.state backend.old) sessions.old.entries }
     requires absent { places_of name.now (sessions_of A.places sessions.old.entries) ≡ None }
-    ensures executes { let script_state = script_over A.places (B.state backend.old) sessions.old.entries in
-        LineExecuted result (executes_as A.semantics script_state name.now text.now skip None)
-        (B.state backend.old) (B.state backend.new)
-        (script_over A.places (B.state backend.new) sessions.new.entries) steps.old steps.new }
-    ensures sessions { IfAnswered result (AreSessions A.Actor (B.state backend.new) sessions.new.entries) }
-    ensures waiting { waiting_in A.waiting sessions.new.entries
-        ≤ waiting_in A.waiting sessions.old.entries + length text.now }
-    ensures kin { B.kin backend.new ≡ B.kin backend.old }
+    requires ready { AreReady A.Actor B.alone (B.state backend.old) sessions.old.entries (length text.now) steps.old }
+    ensures { let script_state = script_over A.places (B.state backend.old) sessions.old.entries in
+        HaveTaken A.Actor B.Backend backend.old sessions.old.entries (length text.now)
+        (executes_as A.semantics script_state name.now text.now skip None)
+        result backend.new sessions.new.entries steps.old steps.new }
 {
     let session = match session_name(alloc, name) {
         Ok(session) => session,
@@ -128,23 +109,15 @@ where
     R: Threads + Sync,
     B: Backend,
     requires sync { IsSync R.row }
-    requires alone { IsTrue B.alone }
-    requires going { stands_still (B.state backend.old) ≡ false }
-    requires counts { steps.old < 2 ^ 64 }
-    requires short { length text.now ≤ 65536 }
     requires within { skip ≤ length text.now }
     requires few { index_map_len sessions.old < 64 }
-    requires sessions { AreSessions A.Actor (B.state backend.old) sessions.old.entries }
     requires absent { places_of session (sessions_of A.places sessions.old.entries) ≡ None }
-    ensures executes { let script_state = script_over A.places (B.state backend.old) sessions.old.entries in
+    requires ready { AreReady A.Actor B.alone (B.state backend.old) sessions.old.entries (length text.now) steps.old }
+    ensures { let script_state = script_over A.places (B.state backend.old) sessions.old.entries in
         let opening = A.semantics.opening (length script_state.sessions) in
-        LineExecuted result (takes_turn script_state session (A.semantics.does opening text.now skip))
-        (B.state backend.old) (B.state backend.new)
-        (script_over A.places (B.state backend.new) sessions.new.entries) steps.old steps.new }
-    ensures sessions { IfAnswered result (AreSessions A.Actor (B.state backend.new) sessions.new.entries) }
-    ensures waiting { waiting_in A.waiting sessions.new.entries
-        ≤ waiting_in A.waiting sessions.old.entries + length text.now }
-    ensures kin { B.kin backend.new ≡ B.kin backend.old }
+        HaveTaken A.Actor B.Backend backend.old sessions.old.entries (length text.now)
+        (takes_turn script_state session (A.semantics.does opening text.now skip))
+        result backend.new sessions.new.entries steps.old steps.new }
 {
     let number = sessions.len() as u32;
     let key = match make_room(alloc, sessions, &session) {
