@@ -23,7 +23,7 @@ use Rattle.ts_sessions.specs.Actors.{ReadsEvent, StaysOutside}
 use Rattle.ts_sessions.specs.Places.{Places, Turn, none, turns}
 use Rattle.ts_sessions.specs.Procedures.{Procedure, sees, adds, ends, followed_by, ending_as}
 use Rattle.ts_sessions.specs.Script.{LineResult, ScriptState, executes, executes_as, executes_kind, final_script_state, has_fault, is_refused, line_limit, output, places_of, reads_in, refused_line, takes_turn, text_of, with_places}
-use Rattle.ts_sessions.specs.Step.{block_refusal, passed_first, step}
+use Rattle.ts_sessions.specs.Step.{block_refusal, step}
 use Rattle.ts_sessions.specs.Walks.{Walks, history_after, ending}
 use Rattle.policy_jobs.specs.Laws.{ArePolicies, bound_of, IsPolicy, IsTickLine, TicksAreTheirLines, due_lines, due_statement, line_of, policy_sessions, with_session}
 use Rattle.policy_jobs.specs.Policies.{due, due_text, due_texts, end_of, is_due, ticked}
@@ -118,28 +118,12 @@ record ComeTogether {A : Type 0} (d e : Procedure A) (h : History) : Type 0 wher
 abbrev outside : Option ℕ → List (ℕ × ℕ) → Places
 outside cut held = record { block = none; cut = cut; held = held }
 
--- a refresh and a drop of chunks take nothing of the bytes that they were read from
-refresh_passed : (m n : ℕ) (cut : Option ℕ) (held : List (ℕ × ℕ)) (h : History) (view : List ℕ) (lo hi : Option ℤ) (o : Option Refusal)
-    → ComeTogether (passed_first (outside cut held) m h (statements.Refresh view lo hi) o) (passed_first (outside cut held) n h (statements.Refresh view lo hi) o) h
-refresh_passed m n cut held h view lo hi None = record { history = refl; end = refl }
-refresh_passed m n cut held h view lo hi (Some r) = record { history = refl; end = refl }
-
-drop_passed : (m n : ℕ) (cut : Option ℕ) (held : List (ℕ × ℕ)) (h : History) (table : List ℕ) (below : ℤ) (o : Option Refusal)
-    → ComeTogether (passed_first (outside cut held) m h (statements.Drop table below) o) (passed_first (outside cut held) n h (statements.Drop table below) o) h
-drop_passed m n cut held h table below None = record { history = refl; end = refl }
-drop_passed m n cut held h table below (Some r) = record { history = refl; end = refl }
-
--- a statement that a policy runs does the same wherever it was read
+-- a statement that a policy runs does the same wherever it was read, since it takes nothing of the bytes that it was
+-- read from
 module _ (text other : List ℕ) (skip from : ℕ) (cut : Option ℕ) (held : List (ℕ × ℕ)) (h : History) where
   due_by : (now : ℤ) (job : Job) (l m : Stream) → any_statement (stream text skip) ≡ Ok (due_statement now job, l) → any_statement (stream other from) ≡ Ok (due_statement now job, m) → ComeTogether (step (outside cut held) text skip) (step (outside cut held) other from) h
-  due_by now (jobs.Refresh view lo hi) l m a b =
-      let s = due_statement now (jobs.Refresh view lo hi) in
-      let same = refresh_passed (length text) (length other) cut held h view (bound_of now lo) (bound_of now hi) (refusal_of (position h) (roster h) s) in
-      record { history = rw (a, b) same.history; end = rw (a, b) same.end }
-  due_by now (jobs.Drop table after) l m a b =
-      let s = due_statement now (jobs.Drop table after) in
-      let same = drop_passed (length text) (length other) cut held h table (end_of now after) (refusal_of (position h) (roster h) s) in
-      record { history = rw (a, b) same.history; end = rw (a, b) same.end }
+  due_by now (jobs.Refresh view lo hi) l m a b = record { history = rw (a, b) refl; end = rw (a, b) refl }
+  due_by now (jobs.Drop table after) l m a b = record { history = rw (a, b) refl; end = rw (a, b) refl }
 
 -- a text that a policy runs, and the line that says it
 record IsDueLine (name text : List ℕ) : Type 0 where
