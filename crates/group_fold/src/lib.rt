@@ -2,6 +2,7 @@
 //! in many.
 //!
 //! - `folds`: the groups of a list of rows.
+//! - `foldings`: the same of rows that come list after list.
 //! - `gathered`: groups as rows are taken in, in the order in which they came up.
 //! - `near_places`: where the group of a row stands, while rows come nearly in order.
 //! - `members`: one row beside the groups: which is its own, and what it adds to it.
@@ -12,6 +13,7 @@
 //! - `laws`: groups of some of the rows, and of some of the buckets.
 #![tactic(auto)]
 
+mod foldings;
 mod folds;
 mod gathered;
 mod joins;
@@ -22,6 +24,7 @@ mod orders;
 mod pieces;
 mod results;
 
+pub use foldings::Folding;
 pub use folds::fold;
 pub use joins::join_parts;
 pub use pieces::fold_pieces;

@@ -17,7 +17,7 @@ use ts_model::Fold;
 use ts_schema::{NoMemory, Row, Seq};
 
 /// More rows than any memory holds. A count of rows stays below it.
-const MOST_ROWS: u64 = 4_611_686_018_427_387_904;
+pub(crate) const MOST_ROWS: u64 = 4_611_686_018_427_387_904;
 
 /// Fewer rows than these are folded in one thread, for which the system isn't asked how many there are.
 const FEW_ROWS: u64 = 8_192;
