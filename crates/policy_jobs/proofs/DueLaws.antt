@@ -11,7 +11,7 @@ use Rattle.ts_model.specs.History.{History, position}
 use Rattle.ts_model.specs.Roster.{roster}
 use Rattle.ts_model.specs.States.{State}
 use Rattle.stmt_reader.specs.Grammar as base
-use Rattle.stmt_reader.specs.Grammar.{means, statement as any_statement}
+use Rattle.stmt_reader.specs.Grammar.{statement as any_statement}
 use Rattle.stmt_reader.specs.Proper.{IsName}
 use Rattle.stmt_reader.specs.Refusals.{IsSaid, Refuses, Verdict}
 use Rattle.stmt_reader.specs.Streams.{Stream, plain, stream}

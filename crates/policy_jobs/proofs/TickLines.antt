@@ -6,15 +6,11 @@ use Rattle.std.proofs.Math.Seq.{take-length}
 use Rattle.std.proofs.lemmas.Bool.{le-ltb}
 use Rattle.std.proofs.lemmas.List.{append_assoc}
 use Rattle.ts_bucket.specs.Bucket.{is_time}
-use Rattle.ts_model.specs.declared.outcomes.Refusal.{Refusal}
 use Rattle.ts_model.specs.History.{History, position, ◌▸◌}
-use Rattle.ts_model.specs.Roster.{roster}
 use Rattle.ts_model.specs.States.{State}
 use Rattle.stmt_reader.specs.Lines.{line_kind, session_name}
 use Rattle.stmt_reader.specs.Reading.{statement as any_statement}
 use Rattle.stmt_reader.specs.Streams.{Stream, stream}
-use Rattle.stmt_reader.specs.declared.statements.Stmt.TheVariants as statements
-use Rattle.stmt_check.specs.Check.{refusal_of}
 use Rattle.result_text.specs.declared.codes.TheConstants.{LINE_LONG}
 use Rattle.result_text.specs.declared.replies.Said.TheVariants as said
 use Rattle.result_text.specs.Replies.{reply_text}
@@ -25,8 +21,8 @@ use Rattle.ts_sessions.specs.Procedures.{Procedure, sees, adds, ends, followed_b
 use Rattle.ts_sessions.specs.Script.{LineResult, ScriptState, executes, executes_as, executes_kind, final_script_state, has_fault, is_refused, line_limit, output, places_of, reads_in, refused_line, takes_turn, text_of, with_places}
 use Rattle.ts_sessions.specs.Step.{block_refusal, step}
 use Rattle.ts_sessions.specs.Walks.{Walks, history_after, ending}
-use Rattle.policy_jobs.specs.Laws.{ArePolicies, bound_of, IsPolicy, IsTickLine, TicksAreTheirLines, due_lines, due_statement, line_of, policy_sessions, with_session}
-use Rattle.policy_jobs.specs.Policies.{due, due_text, due_texts, end_of, is_due, ticked}
+use Rattle.policy_jobs.specs.Laws.{ArePolicies, IsPolicy, IsTickLine, TicksAreTheirLines, due_lines, due_statement, line_of, policy_sessions, with_session}
+use Rattle.policy_jobs.specs.Policies.{due, due_text, due_texts, is_due, ticked}
 use Rattle.policy_jobs.specs.Reading.{statement}
 use Rattle.policy_jobs.specs.Turns.{PolicyPlaces, and_all, and_then, behind, beside, lets_pass, misses_time, policy_does, reads_as, runs_due}
 use Rattle.policy_jobs.specs.declared.jobs.Job.{Job}
