@@ -1,5 +1,4 @@
 pub mod EachLaws
-pub mod RosterSteps
 pub mod GroupSteps
 pub mod ViewSteps
 pub mod TableSteps
@@ -19,7 +18,9 @@ pub mod AnswerFacts
 pub mod ShownFacts
 pub mod UnnamedFacts
 pub mod StartFacts
+pub mod ScanFacts
 pub mod ImageFacts
+pub mod RefoldLaws
 pub mod ResumedTables
 pub mod ResumedViews
 pub mod ResumedStates

@@ -37,7 +37,7 @@ use Rattle.engine_state.specs.Tables.{TableStands, TableValue}
 
 -- ---- events that insert rows
 
-over_cons : (t : ℕ) (d : Event) (ds : List Event) → appended_over t (d ∷ ds) ≡ appended_over t (d ∷ []) ++ appended_over t ds
+pub over_cons : (t : ℕ) (d : Event) (ds : List Event) → appended_over t (d ∷ ds) ≡ appended_over t (d ∷ []) ++ appended_over t ds
 over_cons t (Table def) ds = refl
 over_cons t (Hyper u hyper) ds = refl
 over_cons t (View def) ds = refl

@@ -1,12 +1,12 @@
 -- Aggregates of a history that begins with an image.
-use Rattle.std.proofs.Common.{◌≡◌, ℕ, suc, Bool, true, false, ◌&&◌, ◌||◌, cond, nat_lt, List, [], ◌∷◌, map, filter, length, ℤ, ◌≤ℤ◌, ◌<ℤ◌, int_le, int_lt, Option, Some, None, sym, refl, ap, ◌∙◌, subst, arith}
-use Rattle.std.specs.Prelude.{is_none, is_some, IsSome, option_and_then, slice_get, unwrap_or}
+use Rattle.std.proofs.Common.{◌≡◌, ℕ, suc, Bool, true, false, ◌&&◌, ◌||◌, cond, nat_lt, not, List, [], ◌∷◌, map, filter, length, ℤ, ◌≤ℤ◌, ◌<ℤ◌, int_le, int_lt, Option, Some, None, sym, refl, ap, ◌∙◌, subst, arith}
+use Rattle.std.specs.Prelude.{◌==◌, is_none, is_some, IsSome, option_and_then, slice_get, unwrap_or}
 use Rattle.std.specs.List.{AllByRecursion, list_all}
 use Rattle.std.specs.List.Sorted.{IsStrictlySortedBy}
 use Rattle.std.specs.Ordering.{int_eq, is_lt}
 use Rattle.std.specs.declared.cmp.Ordering.{Ordering}
 use Rattle.std.specs.declared.cmp.Ordering.TheVariants.{Less, Equal, Greater}
-use Rattle.std.proofs.lemmas.Bool.{true≢false, and_parts, and_from}
+use Rattle.std.proofs.lemmas.Bool.{true≢false, and_parts, and_from, ne_eqb}
 use Rattle.std.proofs.lemmas.Bool.Decides.{Decides-int_eq}
 use Rattle.std.proofs.lemmas.Int.{ints}
 use Rattle.ts_bucket.specs.Bucket.{IsWidth, first_of, is_bucket, is_time}
@@ -39,33 +39,29 @@ use Rattle.ts_model.specs.Roster.{hyper_of, table_of, view_of}
 use Rattle.ts_model.specs.declared.tables.Hyper.{Hyper as HyperInfo}
 use Rattle.ts_model.specs.declared.tables.TableInfo.{TableInfo}
 use Rattle.ts_model.specs.Sound.{view_fits}
-use Rattle.ts_model.proofs.FitLaws.{rows_are_times}
-use Rattle.row_versions.specs.Histories.{Holds}
 use Rattle.engine_state.specs.Lists.{Each}
 use Rattle.engine_state.proofs.AnswerFacts.{asked_hyper}
 use Rattle.engine_state.proofs.EachLaws.{each_at}
 use Rattle.ts_model.specs.Rows.{in_order}
-use Rattle.ts_model.specs.Saved.{group_of, groups_among, is_dirty, nothing_saved, pos_in, saved}
+use Rattle.ts_model.specs.Saved.{appended_over, group_of, groups_among, is_dirty, nothing_saved, pos_in, saved}
 use Rattle.ts_model.specs.Answers.{buckets_in}
 use Rattle.ts_model.specs.Sound.{span_fits}
 use Rattle.ts_model.specs.Valid.{all_rise, views_kept, dirty_fits, group_fits, groups_fit, has_lasts, image_roster, lasts_fit, mark_fits, row_marked, spans_rise, sums_fit, valid, view_kept}
 use Rattle.ts_model.proofs.RangeLaws.{among, among-buckets_in}
 use Rattle.ts_model.proofs.RosterLaws.{is_of_itself}
-use Rattle.ts_model.proofs.RowLaws.{all-in_order, in_order-twice}
+use Rattle.ts_model.proofs.RowLaws.{in_order-twice}
 use Rattle.ts_model.proofs.SoundLaws.{rosters_are_sound, view_width}
 use Rattle.ts_model.proofs.ValidLaws.{KeptFacts, image_rows, kept_facts, kept_of, valid_is}
 use Rattle.group_fold.proofs.BucketGroups.{groups_of_one_bucket, order_plays_no_part}
-use Rattle.span_fold.specs.Spans.{HaveTimes, rows_in}
-use Rattle.realtime_union.specs.Live.{all_times}
-use Rattle.realtime_union.proofs.LiveLaws.{all_inside}
 use Rattle.coverage.specs.Notes.{notes_from, number_of}
 use Rattle.coverage.proofs.ImageLaws.{image_covered}
 use Rattle.coverage.proofs.StepLaws.{same_cover}
 use Rattle.engine_state.specs.Groups.{GroupsStand, groups_left, is_materialised}
+use Rattle.engine_state.proofs.GroupSteps.{all_starts}
 use Rattle.engine_state.specs.Images.{piece_of}
 use Rattle.engine_state.specs.Notes.{noted_in, notes_in}
-use Rattle.engine_state.specs.Resumed.{HasLog, IsSavedOf, ResumedAt}
-use Rattle.engine_state.specs.Scans.{seen_rows}
+use Rattle.engine_state.specs.Resumed.{HasLog, IsKeptOf, IsSavedOf, ResumedAt}
+use Rattle.engine_state.specs.Refolding.{IsRefolded, was_refreshed}
 use Rattle.engine_state.specs.Tables.{TableIs, TableValue, table_at}
 use Rattle.engine_state.specs.Views.{ViewStands, ViewValue}
 
@@ -300,15 +296,14 @@ below_by_buckets def mark (g ∷ gs) all none =
     rest_none : (b : ℤ) → of_bucket b (g ∷ gs) ≡ [] → of_bucket b gs ≡ []
     rest_none b e = by_test (int_eq g.start b) (λ here. absurd (not_none g (of_bucket b gs) (sym (ap (λ t. cond t (g ∷ of_bucket b gs) (of_bucket b gs)) here) ∙ e))) (λ other. sym (ap (λ t. cond t (g ∷ of_bucket b gs) (of_bucket b gs)) other) ∙ e)
 
--- the groups of all rows of a table, bucket by bucket
-pub folded_buckets : (fold : Fold) (xs : List Row) (b : ℤ) → IsWidth fold.width → HaveTimes xs → is_bucket fold.width b ≡ true → of_bucket b (groups_of fold (rows_in (all_times ∷ []) xs)) ≡ groups_in fold (in_order xs) b
-folded_buckets fold xs b wide times bucket =
-    ap (λ ys. of_bucket b (groups_of fold ys)) (all_inside xs times)
-    ∙ ap (of_bucket b) (order_plays_no_part fold xs (in_order xs) wide (sym (in_order-twice xs)))
+-- the groups of rows, bucket by bucket
+folded_buckets : (fold : Fold) (xs : List Row) (b : ℤ) → IsWidth fold.width → is_bucket fold.width b ≡ true → of_bucket b (groups_of fold xs) ≡ groups_in fold (in_order xs) b
+folded_buckets fold xs b wide bucket =
+    ap (of_bucket b) (order_plays_no_part fold xs (in_order xs) wide (sym (in_order-twice xs)))
     ∙ groups_of_one_bucket fold (in_order xs) b wide bucket
 
 -- what is made of the groups of an image, and of those made anew of its rows
-module _ (i : Image) (n : ℕ) (def : ViewDef) (v : SavedView) (table : TableValue) (of : IsSavedOf i n def v table) where
+module _ (i : Image) (n : ℕ) (def : ViewDef) (v : SavedView) (anew : List Group) (of : IsKeptOf i n def v anew) where
   parts : KeptParts i.pos def v
   parts = kept_parts i n def v of.ok of.there of.kept_is
 
@@ -318,20 +313,36 @@ module _ (i : Image) (n : ℕ) (def : ViewDef) (v : SavedView) (table : TableVal
   facts : KeptFacts def i v
   facts = subst (KeptFacts def i) of.kept_is (kept_facts n def i of.ok (is_of_itself def (view_of (image_roster i) n) of.there))
 
-  rows_are : in_order (seen_rows 0 table) ≡ image_rows i def.table
-  rows_are = of.rows.seen 0
+  -- a bucket with a last refresh has the groups of its rows
+  anew_at : (b : ℤ) → is_bucket def.fold.width b ≡ true → cond (lies_in (map (λ (l : SavedLast). l.span) v.lasts) b) (of_bucket b anew) [] ≡ cond (is_some (pos_in v.lasts b)) (groups_in def.fold (image_rows i def.table) b) []
+  anew_at b bucket = by_lasts v.lasts refl
+    where
+      by_lasts : (ls : List SavedLast) → v.lasts ≡ ls → cond (lies_in (map (λ (l : SavedLast). l.span) v.lasts) b) (of_bucket b anew) [] ≡ cond (is_some (pos_in v.lasts b)) (groups_in def.fold (image_rows i def.table) b) []
+      by_lasts [] e =
+          ap (λ (ls : List SavedLast). cond (lies_in (map (λ (l : SavedLast). l.span) ls) b) (of_bucket b anew) []) e
+          ∙ sym (ap (λ (ls : List SavedLast). cond (is_some (pos_in ls b)) (groups_in def.fold (image_rows i def.table) b) []) e)
+      by_lasts (l ∷ ls) e =
+          let refreshed : was_refreshed v ≡ true = ap (λ (ls : List SavedLast). not (length ls == 0)) e ∙ ap not (ne_eqb (suc (length ls)) 0 (λ none. absurd (omega (arith, none)))) in
+          let are : anew ≡ groups_of def.fold (appended_over def.table i.rows) = of.anew_are ∙ ap (λ t. cond t (groups_of def.fold (appended_over def.table i.rows)) []) refreshed in
+          ap (λ t. cond t (of_bucket b anew) []) (lies_where v.lasts b)
+          ∙ ap (λ gs. cond (is_some (pos_in v.lasts b)) gs []) (ap (of_bucket b) are ∙ folded_buckets def.fold (appended_over def.table i.rows) b wide bucket)
 
-  module _ (anew all : List Group) (order : AreInOrder all)
-      (buckets : (b : ℤ) → is_bucket def.fold.width b ≡ true → of_bucket b anew ≡ cond (lies_in (map (λ (l : SavedLast). l.span) v.lasts) b) (groups_in def.fold (in_order (seen_rows 0 table)) b) [])
-      (starts : list_all (λ g. is_bucket def.fold.width g.start) anew ≡ true)
-      (both : BucketsAreOfBoth v.dirty (map group_of v.groups) anew all) (pass : PassAsBoth (map group_of v.groups) anew all) where
+  anew_starts : list_all (λ g. is_bucket def.fold.width g.start) anew ≡ true
+  anew_starts =
+      ap (list_all (λ g. is_bucket def.fold.width g.start)) of.anew_are
+      ∙ by_test (was_refreshed v)
+      (λ yes. ap (λ t. list_all (λ g. is_bucket def.fold.width g.start) (cond t (groups_of def.fold (appended_over def.table i.rows)) [])) yes ∙ all_starts def.fold (appended_over def.table i.rows) wide)
+      (λ no. ap (λ t. list_all (λ g. is_bucket def.fold.width g.start) (cond t (groups_of def.fold (appended_over def.table i.rows)) [])) no)
+
+  module _ (clean all : List Group) (order : AreInOrder all)
+      (cleaned : BucketsAreOfBoth (map (λ (l : SavedLast). l.span) v.lasts) anew [] clean) (passed : PassAsBoth anew [] clean)
+      (both : BucketsAreOfBoth v.dirty (map group_of v.groups) clean all) (pass : PassAsBoth (map group_of v.groups) clean all) where
     dirty_at : (b : ℤ) → lies_in v.dirty b ≡ true → of_bucket b all ≡ groups_among v.groups b
-    dirty_at b lies = both b ∙ ap (λ t. cond t (of_bucket b (map group_of v.groups)) (of_bucket b anew)) lies ∙ among_is v.groups b
+    dirty_at b lies = both b ∙ ap (λ t. cond t (of_bucket b (map group_of v.groups)) (of_bucket b clean)) lies ∙ among_is v.groups b
 
     clean_at : (b : ℤ) → is_bucket def.fold.width b ≡ true → lies_in v.dirty b ≡ false → of_bucket b all ≡ cond (is_some (pos_in v.lasts b)) (groups_in def.fold (image_rows i def.table) b) []
-    clean_at b bucket clean =
-        both b ∙ ap (λ t. cond t (of_bucket b (map group_of v.groups)) (of_bucket b anew)) clean ∙ buckets b bucket
-        ∙ (λ k. cond (lies_where v.lasts b k) (groups_in def.fold (rows_are k) b) [])
+    clean_at b bucket none =
+        both b ∙ ap (λ t. cond t (of_bucket b (map group_of v.groups)) (of_bucket b clean)) none ∙ cleaned b ∙ anew_at b bucket
 
     last_is : (b : ℤ) → last n (resumed i) b ≡ pos_in v.lasts b
     last_is b = ap (λ (w : SavedView). pos_in w.lasts b) of.kept_is
@@ -369,22 +380,22 @@ module _ (i : Image) (n : ℕ) (def : ViewDef) (v : SavedView) (table : TableVal
     pub groups_resumed : GroupsStand n def (resumed i) v.mark all
     groups_resumed = record {
       in_order = order;
-      all = below_by_buckets def v.mark all (pass (λ g. is_bucket def.fold.width g.start) (kept_buckets def v.dirty v.groups parts.groups) starts) none_above;
+      all = below_by_buckets def v.mark all (pass (λ g. is_bucket def.fold.width g.start) (kept_buckets def v.dirty v.groups parts.groups) (passed (λ g. is_bucket def.fold.width g.start) anew_starts refl)) none_above;
       exact = λ b bucket. left_is b (pos_in v.lasts b) bucket refl ∙ sym (ap (groups_left n def (resumed i) b) (last_is b));
     }
 
   -- ---- the aggregate
 
-  pub view_resumed : (view : ViewValue) → view.table ≡ def.table → view.log.width ≡ def.fold.width → view.mark ≡ v.mark
+  pub view_resumed : (table : TableValue) → table.log.threshold ≡ number_of (threshold def.table (resumed i)) → table.log.entries ≡ [] → (view : ViewValue) → view.table ≡ def.table → view.log.width ≡ def.fold.width → view.mark ≡ v.mark
       → ((b : ℤ) → pending_at view.log b ≡ cond (lies_in v.dirty b) (Some i.pos) (cond (in_span (whole_span def.fold.width) b && is_none (piece_at (map piece_of v.lasts) b)) (Some 0) None))
       → ((b : ℤ) → last_at view.log b ≡ piece_at (map piece_of v.lasts) b) → GroupsStand n def (resumed i) v.mark view.groups → ViewStands (resumed i) n def table.log view
-  view_resumed view table_is width mark pending refreshed groups = record {
+  view_resumed table threshold_is entries_are view table_is width mark pending refreshed groups = record {
     table = table_is;
     width = width;
     covered = same_cover n def (resumed i) (notes_from n def i) (notes_in table.log view.log)
         (record {
-          threshold = of.threshold_is;
-          log = ap noted_in of.entries_are;
+          threshold = threshold_is;
+          log = ap noted_in entries_are;
           pending = λ b bucket.
               pending b ∙ ap (λ o. cond (lies_in v.dirty b) (Some i.pos) (cond (in_span (whole_span def.fold.width) b && is_none o) (Some 0) None)) (piece_is v.lasts b)
               ∙ sym (ap (λ (w : SavedView). cond (lies_in w.dirty b) (Some i.pos) (cond (in_span (whole_span def.fold.width) b && is_none (pos_in w.lasts b)) (Some 0) None)) of.kept_is);
@@ -397,15 +408,9 @@ module _ (i : Image) (n : ℕ) (def : ViewDef) (v : SavedView) (table : TableVal
 
 -- ---- the tables of an image
 
--- the rows that a table holds have times
-pub held_times : (i : Image) (t : ℕ) (table : TableValue) → valid i ≡ true → Holds t (resumed i) table.rows → HaveTimes (seen_rows 0 table)
-held_times i t table ok held =
-    sym (all-in_order (λ row. is_time row.at) (seen_rows 0 table)) ∙ ap (list_all (λ row. is_time row.at)) (held.seen 0) ∙ rows_are_times.rows t (resumed i) 0 ok
-
 -- a hypertable of an image has a state
 pub record HasState (i : Image) (t : ℕ) (tables : List (Option TableValue)) (table : TableValue) : Type 0 where
   pub at : table_at tables t ≡ Some table
-  pub rows : Holds t (resumed i) table.rows
   pub threshold_is : table.log.threshold ≡ number_of (threshold t (resumed i))
   pub entries_are : table.log.entries ≡ []
 
@@ -415,7 +420,7 @@ has_state i t tables each some = by_info (table_of (image_roster i) t) refl some
     by_state : (info : TableInfo) (hyper : Option HyperInfo) (o : Option TableValue) → info.hyper ≡ hyper → IsSome hyper → slice_get tables t ≡ Some o → TableIs (resumed i) t hyper o → HasLog (number_of (threshold t (resumed i))) o → (table : TableValue) × HasState i t tables table
     by_state info None o e some at is log = absurd (true≢false (sym some))
     by_state info (Some hyper) None e some at is log = absurd is
-    by_state info (Some hyper) (Some table) e some at is log = (table, record { at = ap (option_and_then (λ o. o)) at; rows = is.rows; threshold_is = log.0; entries_are = log.1 })
+    by_state info (Some hyper) (Some table) e some at is log = (table, record { at = ap (option_and_then (λ o. o)) at; threshold_is = log.0; entries_are = log.1 })
 
     by_info : (o : Option TableInfo) → table_of (image_roster i) t ≡ o → IsSome (option_and_then (λ (info : TableInfo). info.hyper) o) → (table : TableValue) × HasState i t tables table
     by_info None at some = absurd (true≢false (sym some))
@@ -438,12 +443,18 @@ as_many_kept i ok = many (image_roster i).views i.views (valid_is i ok).views
     many (def ∷ defs) (v ∷ vs) e = ap suc (many defs vs (and_parts (view_kept i.pos def (image_rows i def.table) v) _ e).1)
 
 -- what is kept of an aggregate, with the table that was found for it
-pub saved_of : (i : Image) (n : ℕ) (def : ViewDef) (v : SavedView) (tables : List (Option TableValue)) (table : TableValue) → valid i ≡ true → Each (ResumedAt i) (image_roster i).tables tables → view_of (image_roster i) n ≡ Some def → slice_get i.views n ≡ Some v → table_at tables def.table ≡ Some table → IsSavedOf i n def v table
-saved_of i n def v tables table ok each there kept at =
+pub saved_of : (i : Image) (n : ℕ) (def : ViewDef) (v : SavedView) (tables : List (Option TableValue)) (table : TableValue) (anew : List Group) → valid i ≡ true → Each (ResumedAt i) (image_roster i).tables tables → view_of (image_roster i) n ≡ Some def → slice_get i.views n ≡ Some v
+    → table_at tables def.table ≡ Some table → IsRefolded i def (saved n i) anew → IsSavedOf i n def v table anew
+saved_of i n def v tables table anew ok each there kept at are =
     let found = has_state i def.table tables each (view_table i n def ok there) in
     let same : found.0 ≡ table = one (sym found.1.at ∙ at) in
     let state : HasState i def.table tables table = subst (HasState i def.table tables) same found.1 in
-    record { ok = ok; there = there; kept_is = ap (λ (o : Option SavedView). unwrap_or o nothing_saved) kept; rows = state.rows; threshold_is = state.threshold_is; entries_are = state.entries_are }
+    let kept_is : saved n i ≡ v = ap (λ (o : Option SavedView). unwrap_or o nothing_saved) kept in
+    record {
+      is_kept = record { ok = ok; there = there; kept_is = kept_is; anew_are = subst (λ (w : SavedView). IsRefolded i def w anew) kept_is are };
+      threshold_is = state.threshold_is;
+      entries_are = state.entries_are;
+    }
   where
     one : {x y : TableValue} → Some x ≡ Some y → x ≡ y
     one e = cc

@@ -10,4 +10,5 @@ pub mod Afters
 pub mod Scans
 pub mod Nexts
 pub mod Shown
+pub mod Refolding
 pub mod Resumed

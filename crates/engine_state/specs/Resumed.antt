@@ -4,6 +4,7 @@ use Rattle.ts_schema.specs.declared.rows.Row.{Row}
 use Rattle.seg_rows.specs.Versions.{rows_of}
 use Rattle.chunk_catalog.specs.Chunks.{ChunksValue}
 use Rattle.coverage.specs.Notes.{number_of}
+use Rattle.partial_agg.specs.declared.groups.Group.{Group}
 use Rattle.ts_model.specs.declared.images.Image.{Image}
 use Rattle.ts_model.specs.declared.images.SavedView.{SavedView}
 use Rattle.ts_model.specs.declared.tables.TableInfo.{TableInfo}
@@ -16,6 +17,7 @@ use Rattle.ts_model.specs.Saved.{saved}
 use Rattle.ts_model.specs.Valid.{image_roster, valid}
 use Rattle.row_versions.specs.Histories.{Holds}
 use Rattle.row_versions.specs.Tables.{IsUpTo, rows_seen}
+use Rattle.engine_state.specs.Refolding.{IsRefolded}
 use Rattle.engine_state.specs.Stands.{TableAt}
 use Rattle.engine_state.specs.Tables.{TableValue}
 
@@ -38,11 +40,17 @@ ResumedAt i t info table = TableAt (resumed i) t info table × HasLog (number_of
 
 -- ---- aggregates
 
--- aggregate number n of a valid image, what is kept of it, and the state of its table
-pub record IsSavedOf (i : Image) (n : ℕ) (def : ViewDef) (kept : SavedView) (table : TableValue) : Type 0 where
+-- aggregate number n of a valid image, what is kept of it, and the groups of all rows of its table, where it was
+-- refreshed
+pub record IsKeptOf (i : Image) (n : ℕ) (def : ViewDef) (kept : SavedView) (anew : List Group) : Type 0 where
   pub ok : valid i ≡ true
   pub there : view_of (image_roster i) n ≡ Some def
   pub kept_is : saved n i ≡ kept
-  pub rows : Holds def.table (resumed i) table.rows
+  pub anew_are : IsRefolded i def kept anew
+
+-- the same with the state of its table
+pub record IsSavedOf (i : Image) (n : ℕ) (def : ViewDef) (kept : SavedView) (table : TableValue) (anew : List Group)
+    : Type 0 where
+  pub is_kept : IsKeptOf i n def kept anew
   pub threshold_is : table.log.threshold ≡ number_of (threshold def.table (resumed i))
   pub entries_are : table.log.entries ≡ []

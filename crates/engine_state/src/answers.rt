@@ -22,11 +22,12 @@ ghost use Rattle.engine_state.specs.Shown.{IsShown, view_reads};
 ghost use Rattle.engine_state.specs.Stands.{Stands, StandsFor};
 
 use crate::parts::Parts;
-use crate::scans::TableAt;
+use crate::scans::{TableAt, TimedRows};
 use crate::states::State;
 use crate::views::ViewState;
 use block_list::Iter;
 use cell_rows::CellRows;
+use chunk_catalog::passing_span;
 use partial_agg::Group;
 use realtime_union::{folded_rows, live_span, passing_rows, union_rows};
 use std::alloc::Global;
@@ -37,7 +38,7 @@ use ts_num::Datum;
 use ts_schema::{NoMemory, Seq, Steps, Test};
 
 /// The rows of a hypertable that pass every test, with all their columns, where the time column is at
-/// place `at`.
+/// place `at`. Those whose times show that they don't pass are looked at, and not taken.
 fn passing<L>(
     alloc: Global,
     rows: &TableAt<'_>,
@@ -53,7 +54,11 @@ fn passing<L>(
         ≡ passing at tests.now (seen_rows rows.now.position rows.now.table.now)) }
     ensures read { Ticks result (length (stored_rows rows.now.table.now)) steps.old steps.new }
 {
-    passing_rows(alloc, rows, table, at, tests, steps)
+    let timed = TimedRows {
+        rows: *rows,
+        times: passing_span(tests.items()),
+    };
+    passing_rows(alloc, &timed, table, at, tests, steps)
 }
 
 /// What a grouping over a hypertable shows.

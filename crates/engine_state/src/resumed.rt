@@ -1,22 +1,23 @@
 //! The state of a history that begins with an image.
 ghost use Rattle.std.specs.Prelude.{◌≡◌, IfOk, IsTrue, true};
-ghost use Rattle.std.specs.Thread.{IsSync};
+ghost use Rattle.ts_schema.specs.Counts.{Ticks};
 ghost use Rattle.ts_model.specs.History.{resumed};
 ghost use Rattle.ts_model.specs.Roster.{no_relations, roster_over};
 ghost use Rattle.ts_model.specs.Valid.{valid};
+ghost use Rattle.engine_state.specs.Refolding.{rows_refolded};
 ghost use Rattle.engine_state.specs.Stands.{StandsFor};
 
 use crate::parts::Parts;
+use crate::refolds::refolded;
 use crate::resumed_tables::resumed_tables;
 use crate::resumed_views::resumed_views;
-use crate::rosters::after_event;
+use event_check::after_event;
 use crate::states::State;
 use refresh_list::Refreshes;
 use std::alloc::Global;
 use std::sync::Arc;
-use std::thread::Threads;
 use ts_model::{Event, Image, Roster};
-use ts_schema::{NoMemory, Seq};
+use ts_schema::{NoMemory, Seq, Steps};
 
 /// The roster that these events make.
 fn made_roster(alloc: Global, events: &[Event]) -> Result<Roster, NoMemory>
@@ -34,16 +35,19 @@ fn made_roster(alloc: Global, events: &[Event]) -> Result<Roster, NoMemory>
 
 impl Parts {
     /// The parts of the state of the history that begins with an image.
-    fn from_image<R: Threads + Sync>(
-        rt: &R,
+    fn from_image<L>(
         alloc: Global,
         image: &Image,
+        steps: &mut Steps<L>,
     ) -> Result<Parts, NoMemory>
         requires valid { valid image.now ≡ true }
         ensures stands { IfOk result (StandsFor (resumed image.now)) }
+        ensures read { Ticks result (rows_refolded image.now) steps.old steps.new }
     {
+        let _so_far = steps.count();
         let roster = made_roster(alloc, image.roster.items())?;
         let tables = resumed_tables(alloc, &roster, image)?;
+        let anew = refolded(alloc, &roster, image, steps)?;
         let mut parts = Parts {
             position: image.pos,
             roster: Arc::new(alloc, roster)?,
@@ -51,25 +55,26 @@ impl Parts {
             views: Seq::new(alloc),
             refreshes: Refreshes::of(alloc, image.waiting.items(), image.done.items())?,
         };
-        parts.views = resumed_views(rt, alloc, &parts, image)?;
+        parts.views = resumed_views(alloc, &parts, image, &anew)?;
         Ok(parts)
     }
 }
 
 impl State {
-    /// The state of the history that begins with a valid image, without events.
-    pub fn from_image<R: Threads + Sync>(
-        rt: &R,
+    /// The state of the history that begins with a valid image, without events. It counts one step for each
+    /// row that the image holds of a table over which an aggregate was refreshed.
+    pub fn from_image<L>(
         alloc: Global,
         image: &Image,
+        steps: &mut Steps<L>,
     ) -> Result<State, NoMemory>
-        requires sync { IsSync R.row }
         requires valid { IsTrue (valid image.now) }
         ensures stands { IfOk result (StandsFor (resumed image.now)) }
+        ensures read { Ticks result (rows_refolded image.now) steps.old steps.new }
     {
         Ok(State {
             alloc,
-            parts: Parts::from_image(rt, alloc, image)?,
+            parts: Parts::from_image(alloc, image, steps)?,
         })
     }
 }

@@ -1,5 +1,5 @@
 //! The rows of a hypertable at one position.
-ghost use Rattle.std.specs.Prelude.{◌≡◌, ◌∷◌, [], filter, IfOk, IsSome, MatchResult, Some};
+ghost use Rattle.std.specs.Prelude.{◌≡◌, ◌&&◌, ◌∷◌, [], filter, ℤ, IfOk, IsSome, MatchResult, Some};
 ghost use Rattle.ts_bucket.specs.Spans.{in_span};
 ghost use Rattle.ts_schema.specs.Counts.{raised_by, RaisedUpTo};
 ghost use Rattle.ts_model.specs.Reads.{rows_near};
@@ -39,6 +39,46 @@ impl RowsAt for TableAt<'_> {
     fn scan<L>(&self, table: u32, span: Span, steps: &mut Steps<L>) -> Result<Seq<Row>, NoMemory> {
         let _named = table;
         self.table.rows().scan(self.position, span, steps)
+    }
+}
+
+/// The rows of a hypertable at a position whose times lie in a span. A scan looks at other rows, too, but
+/// takes none of them.
+#[derive(Clone, Copy)]
+pub(crate) struct TimedRows<'a> {
+    /// The hypertable.
+    pub rows: TableAt<'a>,
+    /// The span.
+    pub times: Span,
+}
+
+/// What two spans have in common.
+fn both(a: Span, b: Span) -> Span
+    ensures { (t : ℤ) → in_span result t ≡ (in_span a t && in_span b t) }
+{
+    let lo = a.lo.max(b.lo);
+    Span {
+        lo,
+        hi: a.hi.min(b.hi).max(lo),
+    }
+}
+
+impl RowsAt for TimedRows<'_> {
+    ghost use Rattle.engine_state.specs.Scans.{stored_rows, timed_rows};
+
+    ghost visible = { λ s t. timed_rows s.times s.rows.position s.rows.table.now };
+
+    ghost stored = { λ s t. stored_rows s.rows.table.now };
+
+    ghost interval = { λ s t. s.rows.table.now.rows.interval };
+
+    fn scan<L>(&self, table: u32, span: Span, steps: &mut Steps<L>) -> Result<Seq<Row>, NoMemory> {
+        let _named = table;
+        let part = both(span, self.times);
+        self.rows
+            .table
+            .rows()
+            .scan_part(self.rows.position, span, part, steps)
     }
 }
 

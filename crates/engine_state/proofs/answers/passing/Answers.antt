@@ -1,10 +1,28 @@
-use Rattle.std.proofs.Common.{◌≡◌, ◌∷◌, [], length, subst}
+use Rattle.std.proofs.Common.{◌≡◌, ◌∙◌, ◌∷◌, [], length, subst}
+use Rattle.std.proofs.lemmas.Result.{IfOk-weaker}
+use Rattle.ts_bucket.specs.Bucket.{is_time}
+use Rattle.ts_bucket.specs.Spans.{in_span}
 use Rattle.ts_schema.specs.Counts.{Ticks}
 use Rattle.ts_model.specs.Reads.{rows_near}
 use Rattle.realtime_union.specs.Live.{all_times}
+use Rattle.realtime_union.specs.Whole.{passing}
 use Rattle.realtime_union.proofs.NearLaws.{all_times_read_all}
-use Rattle.engine_state.specs.Scans.{stored_rows}
+use Rattle.span_fold.proofs.ScanLaws.{all-filter}
+use Rattle.engine_state.specs.Scans.{seen_rows, stored_rows, timed_rows}
+use Rattle.engine_state.proofs.ScanFacts.{passing_timed}
 use Rattle.engine_state.proofs.answers.passing.Goals as goal
+
+pub passing_rows-requires : goal.passing_rows-requires
+passing_rows-requires g c = record {
+  times = all-filter (λ row. is_time row.at) (λ row. in_span c.passing_span.result row.at) (seen_rows c.args.rows.now.position c.args.rows.now.table.now) c.requires.times;
+}
+
+pub returns-clause-rows : goal.returns-clause-rows
+returns-clause-rows g c =
+    let seen = seen_rows c.args.rows.now.position c.args.rows.now.table.now in
+    IfOk-weaker c.passing_rows.result (λ shown. shown ≡ passing c.args.at c.args.tests.now (timed_rows c.passing_span.result c.args.rows.now.position c.args.rows.now.table.now)) (λ shown. shown ≡ passing c.args.at c.args.tests.now seen)
+    (λ shown is. is ∙ passing_timed c.args.at c.args.tests.now c.passing_span.result seen (subst (λ tests. Rattle.chunk_catalog.specs.Chunks.HoldsTimes tests c.passing_span.result) c.items.ensures.items c.passing_span.ensures.every) c.requires.times)
+    c.passing_rows.ensures.rows
 
 pub returns-clause-read : goal.returns-clause-read
 returns-clause-read g c =

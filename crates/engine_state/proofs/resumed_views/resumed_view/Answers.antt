@@ -17,30 +17,30 @@ use Rattle.engine_state.proofs.ResumedViews.{dirty_whole, kept_parts, pieces_are
 use Rattle.engine_state.proofs.resumed_views.resumed_view.Goals as goal
 
 pub resumed-requires-clause-rise : goal.resumed-requires-clause-rise
-resumed-requires-clause-rise g c =
-    let of = c.requires.saved.3 in
+resumed-requires-clause-rise c =
+    let of = c.requires.saved.3.is_kept in
     let i = c.requires.saved.0 in
     let pieces : c.items-2.result.now ≡ map piece_of c.args.saved.now.lasts = c.items-2.ensures.items ∙ c.in_ok-pieces.ensures {u = tt} ∙ ap (map piece_of) c.items.ensures.items in
     let rise = pieces_are i c.args.def.now c.args.saved.now (kept_parts i c.requires.saved.1 c.args.def.now c.args.saved.now of.ok of.there of.kept_is) in
     (rise.0, rise.1, subst (λ (ps : List Piece). ArePieces rise.0 rise.1 ps) (sym pieces) rise.2)
 
 pub resumed-requires-clause-lasts : goal.resumed-requires-clause-lasts
-resumed-requires-clause-lasts g c =
-    let of = c.requires.saved.3 in
+resumed-requires-clause-lasts c =
+    let of = c.requires.saved.3.is_kept in
     let i = c.requires.saved.0 in
     let pieces : c.items-2.result.now ≡ map piece_of c.args.saved.now.lasts = c.items-2.ensures.items ∙ c.in_ok-pieces.ensures {u = tt} ∙ ap (map piece_of) c.items.ensures.items in
     subst (λ (ps : List Piece). AllByRecursion (λ (p : Piece). IsWholeRange c.args.def.now.fold.width p.span) ps) (sym pieces)
     (pieces_whole i.pos c.args.def.now c.args.saved.now (kept_parts i c.requires.saved.1 c.args.def.now c.args.saved.now of.ok of.there of.kept_is))
 
 pub resumed-requires-clause-dirty : goal.resumed-requires-clause-dirty
-resumed-requires-clause-dirty g c =
-    let of = c.requires.saved.3 in
+resumed-requires-clause-dirty c =
+    let of = c.requires.saved.3.is_kept in
     let i = c.requires.saved.0 in
     subst (λ (ss : List Span). AllByRecursion (IsWholeRange c.args.def.now.fold.width) ss) (sym c.items-3.ensures.items)
     (dirty_whole i.pos c.args.def.now c.args.saved.now (kept_parts i c.requires.saved.1 c.args.def.now c.args.saved.now of.ok of.there of.kept_is))
 
 pub returns : goal.returns
-returns g c = record {
+returns c = record {
   stands = λ i n at of.
       let def = c.args.def.now in
       let v = c.args.saved.now in
@@ -54,6 +54,6 @@ returns g c = record {
       ∙ (λ k. cond (lies_in (c.items-3.ensures.items k) b) (Some (back k)) (cond (in_span (whole_span def.fold.width) b && is_none (piece_at (pieces k) b)) (Some 0) None)) in
       let refreshed : (b : ℤ) → last_at c.in_ok-log.log b ≡ piece_at (map piece_of c.args.saved.now.lasts) b = λ b. c.in_ok-log.ensures.refreshed b ∙ ap (λ (ps : List Piece). piece_at ps b) pieces in
       let made : ViewValue = record { table = def.table; log = log; groups = c.in_ok-groups.groups; mark = v.mark } in
-      let stands : ViewStands (resumed i) n def table.log made = view_resumed i n def v table of made refl c.in_ok-log.ensures.width refl pending refreshed (c.in_ok-groups.ensures.groups i n of) in
+      let stands : ViewStands (resumed i) n def table.log made = view_resumed i n def v c.args.anew.now of.is_kept table of.threshold_is of.entries_are made refl c.in_ok-log.ensures.width refl pending refreshed (c.in_ok-groups.ensures.groups i n def of.is_kept) in
       IfOk-weaker c.of.result (λ x. x ≡ made) (ViewStands (resumed i) n def table.log) (λ x is. subst (ViewStands (resumed i) n def table.log) (sym is) stands) c.of.ensures.parts;
 }

@@ -5,4 +5,4 @@ use Rattle.engine_state.specs.Stands.{ViewAt}
 use Rattle.engine_state.proofs.resumed_views.resumed_views.Given as goal
 
 abbrev pub invariant-loop-view : goal.invariant-loop-view
-invariant-loop-view g l = Each (ViewAt (resumed l.image) l.parts.tables) (take l.view l.parts.roster.views) l.views
+invariant-loop-view l = Each (ViewAt (resumed l.image) l.parts.tables) (take l.view l.parts.roster.views) l.views
