@@ -1,5 +1,5 @@
 -- What a line of a session does to a history and to its image.
-use Rattle.std.proofs.Common.{◌≡◌, ℕ, ◌+◌, ◌≤◌, Bool, true, false, cond, List, length, Option, Some, None, sym, refl, ap, ◌∙◌, subst, arith}
+use Rattle.std.proofs.Common.{◌≡◌, ℕ, ◌+◌, ◌≤◌, true, false, List, length, Option, Some, None, sym, refl, ap, ◌∙◌, subst, arith}
 use Rattle.std.specs.Prelude.{Result, Ok, Err, is_some}
 use Rattle.std.proofs.lemmas.Bool.{true≢false}
 use Rattle.ts_model.specs.declared.images.Image.{Image}
