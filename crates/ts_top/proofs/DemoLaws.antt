@@ -5,6 +5,7 @@ use Rattle.ts_top.specs.declared.endings.Status.TheVariants.{Done, Refused, BadW
 use Rattle.ts_top.specs.Calls.{DemoTo}
 use Rattle.ts_top.specs.Endings.{is_disk_fault, is_read_fault}
 use Rattle.ts_top.specs.Outcomes.{Outside}
+use Rattle.ts_top.proofs.PrintLaws.{none_not_some}
 
 module _ (demo : ℕ) (unprinted : Type 0) (o : Outside) where
   pub no_read_fault : (status : Status) → DemoTo demo status unprinted o → is_read_fault status ≡ false
@@ -39,10 +40,6 @@ module _ (demo : ℕ) (unprinted : Type 0) (o : Outside) where
   good_words (Damaged at) shown bad = cc bad
   good_words NoMemory shown bad = cc bad
   good_words InputLong shown bad = cc bad
-
-  none_not_some : {T : Type 0} (x : T) (asked : Option T) → asked ≡ None → asked ≡ Some x → ⊥
-  none_not_some x None n s = cc s
-  none_not_some x (Some y) n s = cc n
 
   pub not_bad_words : {T : Type 0} (status : Status) (asked : Option T) (x : T) → DemoTo demo status unprinted o → asked ≡ Some x → ((status ≡ BadWords) ↔ (asked ≡ None))
   not_bad_words status asked x shown is = (λ bad. absurd (good_words status shown bad), λ none. absurd (none_not_some x asked none is))

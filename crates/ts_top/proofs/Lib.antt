@@ -4,3 +4,4 @@ mod OpeningLaws
 mod ParallelLaws
 mod DemoLaws
 mod PrintLaws
+mod CheckpointLaws

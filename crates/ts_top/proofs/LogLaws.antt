@@ -32,13 +32,15 @@ image_at_first : (base : Option Image) → base_text (begun_by base) ≡ begun_t
 image_at_first None = refl
 image_at_first (Some i) = refl
 
+pub events_of_past : (past : Past) → events_of (history_of past) ≡ past.events
+events_of_past past = events_followed (begun_by past.base) past.events ∙ ap (λ (es : List Event). es ++ past.events) (none_at_first past.base)
+
 -- the log of what an engine was told
 pub log_is : (past : Past) (names : Roster) (after : ℕ) → names ≡ roster (history_of past) → after ≡ position (begun_by past.base)
     → log_of (history_of past) ≡ begun_text past.base ++ lines_after names after past.events
 log_is past names after named is =
     let first : base_text (history_of past) ≡ begun_text past.base = base_followed (begun_by past.base) past.events ∙ image_at_first past.base in
-    let events : events_of (history_of past) ≡ past.events = events_followed (begun_by past.base) past.events ∙ ap (λ (es : List Event). es ++ past.events) (none_at_first past.base) in
-    (λ k. first k ++ lines_after (sym named k) ((sym (base_of past) ∙ sym is) k) (events k))
+    (λ k. first k ++ lines_after (sym named k) ((sym (base_of past) ∙ sym is) k) (events_of_past past k))
 
 -- ---- printing
 

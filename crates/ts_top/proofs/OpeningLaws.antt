@@ -4,7 +4,7 @@ use Rattle.ts_top.specs.declared.endings.Status.{Status}
 use Rattle.ts_top.specs.declared.endings.Status.TheVariants.{Done, Refused, BadWords, ReadFault, WriteFault, DiskFault, Damaged, NoMemory, InputLong}
 use Rattle.ts_top.specs.Endings.{is_read_fault, is_write_fault}
 use Rattle.ts_top.specs.Openings.{NotOpened}
-use Rattle.ts_top.specs.Outcomes.{IfReading, Outside, RanTo}
+use Rattle.ts_top.specs.Outcomes.{IfWentOn, Outside, RanTo}
 
 module _ (durable : Type 0) (left : List ℕ → Type 0) (before after : Option (List ℕ)) where
   -- where the header was reached the disk needn't be as it was
@@ -43,7 +43,7 @@ module _ (durable : Type 0) (left : List ℕ → Type 0) (before after : Option 
   not_opened_writes NoMemory kept n = refl
   not_opened_writes InputLong kept n = refl
 
-  pub not_opened_header : (status : Status) (kept P : Type 0) → NotOpened status durable left kept before after → IfReading status P
+  pub not_opened_header : (status : Status) (kept P : Type 0) → NotOpened status durable left kept before after → IfWentOn status P
   not_opened_header Done kept P n = absurd n
   not_opened_header Refused kept P n = absurd n
   not_opened_header BadWords kept P n = absurd n

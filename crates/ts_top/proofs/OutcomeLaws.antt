@@ -21,7 +21,7 @@ use Rattle.ts_top.specs.Endings.{status_of, is_read_fault, is_write_fault, is_di
 use Rattle.ts_top.specs.declared.endings.Status.{Status}
 use Rattle.ts_top.specs.declared.endings.Status.TheVariants.{Done, Refused, BadWords, ReadFault, WriteFault, DiskFault, Damaged, NoMemory, InputLong}
 use Rattle.ts_top.specs.Scripts.{history_after}
-use Rattle.ts_top.specs.Outcomes.{Outside, StandsBetween, Holds, ImagesUpTo, RanWhole, RanBefore, RanWithin, RanWriting, RanTo, IfReading}
+use Rattle.ts_top.specs.Outcomes.{Outside, StandsBetween, Holds, ImagesUpTo, RanWhole, RanBefore, RanWithin, RanWriting, RanTo, IfWentOn}
 use Rattle.ts_schema.proofs.Cases.{none_there}
 use Rattle.ts_store.proofs.ImageLaws.{some_also}
 
@@ -155,7 +155,7 @@ module _ (durable : Type 0) (left : List ℕ → Type 0) (unread unprinted kept 
       record { opening = h; stood = stood; ran = if_some o.input _ _ (λ input r. (r.0, ran_whole (executed input) (none_there s.failed still) r.1)) ran }
 
 -- a run that read its source went on from a header, where the disk didn't fail
-pub headed : (end : RunEnd) (P : Type 0) → (is_disk_fault_of end ≡ false → P) → IfReading (status_of end) P
+pub headed : (end : RunEnd) (P : Type 0) → (is_disk_fault_of end ≡ false → P) → IfWentOn (status_of end) P
 headed ends.Done P there = there refl
 headed ends.Refused P there = there refl
 headed ends.ReadFault P there = there refl

@@ -37,7 +37,7 @@ no_read_fault (Damaged at) text unprinted o outcome = refl
 no_read_fault NoMemory text unprinted o outcome = refl
 no_read_fault InputLong text unprinted o outcome = absurd outcome
 
-none_not_some : {T : Type 0} (x : T) (o : Option T) → o ≡ None → o ≡ Some x → ⊥
+pub none_not_some : {T : Type 0} (x : T) (o : Option T) → o ≡ None → o ≡ Some x → ⊥
 none_not_some x None n s = cc s
 none_not_some x (Some y) n s = cc n
 

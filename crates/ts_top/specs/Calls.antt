@@ -5,9 +5,10 @@ use Rattle.ts_io.specs.Faults.{Counted}
 use Rattle.ts_io.specs.Whole.{AppendsPart}
 use Rattle.demo_run.specs.Demos.{demo_summary, is_refused_demo, reads_of_demo}
 use Rattle.ts_top.specs.declared.commands.Command.{Command}
-use Rattle.ts_top.specs.declared.commands.Command.TheVariants.{Run, Par, Demo, Print}
+use Rattle.ts_top.specs.declared.commands.Command.TheVariants.{Run, Par, Demo, Print, Checkpoint}
 use Rattle.ts_top.specs.declared.endings.Status.{Status}
 use Rattle.ts_top.specs.declared.endings.Status.TheVariants.{Done, BadWords, WriteFault, DiskFault, NoMemory}
+use Rattle.ts_top.specs.Checkpoints.{CheckpointTo}
 use Rattle.ts_top.specs.Endings.{is_disk_fault, is_write_fault}
 use Rattle.ts_top.specs.Logs.{text_of}
 use Rattle.ts_top.specs.Outcomes.{Outside, PrintedTo, RanTo, Untouched}
@@ -29,7 +30,7 @@ DemoTo demo NoMemory unprinted o = unprinted
 DemoTo demo other unprinted o = ⊥
 
 -- what a call with this command has done. One that prints, and the demonstration, read no input and leave the disk as
--- it was
+-- it was; a checkpoint reads no input
 abbrev pub Outcome :
     Command → Status → Type 0 → (List ℕ → Type 0) → Type 0 → Type 0 → Type 0 → Type 0 → Outside → Type 0
 Outcome Run status durable left sink_failed unread unprinted kept o =
@@ -40,6 +41,8 @@ Outcome (Demo demo) status durable left sink_failed unread unprinted kept o =
     unread × kept × DemoTo demo status unprinted o
 Outcome (Print text) status durable left sink_failed unread unprinted kept o =
     unread × kept × PrintedTo (text_of text) status unprinted o
+Outcome Checkpoint status durable left sink_failed unread unprinted kept o =
+    unread × (o.reads ≡ 0) × CheckpointTo status durable left unprinted kept o
 
 -- what a call with these words has done: where they ask for nothing, that is all
 abbrev pub OutcomeOf :
@@ -49,13 +52,23 @@ OutcomeOf None status durable left sink_failed unread unprinted kept o =
 OutcomeOf (Some command) status durable left sink_failed unread unprinted kept o =
     Outcome command status durable left sink_failed unread unprinted kept o
 
--- P of a call that runs the lines of its input
-abbrev pub IfRuns : Option Command → Type 0 → Type 0
-IfRuns None P = ⊤
-IfRuns (Some Run) P = P
-IfRuns (Some Par) P = P
-IfRuns (Some (Demo demo)) P = ⊤
-IfRuns (Some (Print text)) P = ⊤
+-- P of a call that writes to the journal
+abbrev pub IfWrites : Option Command → Type 0 → Type 0
+IfWrites None P = ⊤
+IfWrites (Some Run) P = P
+IfWrites (Some Par) P = P
+IfWrites (Some (Demo demo)) P = ⊤
+IfWrites (Some (Print text)) P = ⊤
+IfWrites (Some Checkpoint) P = P
+
+-- P of a checkpoint
+abbrev pub IfCheckpoint : Option Command → Type 0 → Type 0
+IfCheckpoint None P = ⊤
+IfCheckpoint (Some Run) P = ⊤
+IfCheckpoint (Some Par) P = ⊤
+IfCheckpoint (Some (Demo demo)) P = ⊤
+IfCheckpoint (Some (Print text)) P = ⊤
+IfCheckpoint (Some Checkpoint) P = P
 
 -- P of a call that runs the demonstration
 abbrev pub IfDemo : Option Command → Type 0 → Type 0
@@ -64,6 +77,7 @@ IfDemo (Some Run) P = ⊤
 IfDemo (Some Par) P = ⊤
 IfDemo (Some (Demo demo)) P = P
 IfDemo (Some (Print text)) P = ⊤
+IfDemo (Some Checkpoint) P = ⊤
 
 -- the count of the sink's faults rises where the call tells of one, and else stays; but where the disk failed in a
 -- parallel run, its replies are printed all the same, and the sink may fail after that
@@ -78,6 +92,7 @@ SinkCounted (Some Run) status before now = Counted before now (is_write_fault st
 SinkCounted (Some Par) status before now = CountedAfterDisk status before now
 SinkCounted (Some (Demo demo)) status before now = Counted before now (is_write_fault status)
 SinkCounted (Some (Print text)) status before now = Counted before now (is_write_fault status)
+SinkCounted (Some Checkpoint) status before now = Counted before now (is_write_fault status)
 
 -- and so does the count of the disk's
 abbrev pub DiskCounted : Option Command → Status → ℕ → ℕ → Type 0
@@ -86,3 +101,4 @@ DiskCounted (Some Run) status before now = Counted before now (is_disk_fault sta
 DiskCounted (Some Par) status before now = CountedAfterWorkers status before now
 DiskCounted (Some (Demo demo)) status before now = Counted before now (is_disk_fault status)
 DiskCounted (Some (Print text)) status before now = Counted before now (is_disk_fault status)
+DiskCounted (Some Checkpoint) status before now = Counted before now (is_disk_fault status)

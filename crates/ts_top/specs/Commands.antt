@@ -1,7 +1,7 @@
 -- What the words of the command line ask for.
-use Rattle.std.specs.Prelude.{ℕ, Bool, ◌+◌, ◌*◌, ◌-◌, ◌&&◌, nat_eq, nat_lt, nat_le, List, [], ◌∷◌, Option, Some, None, option_map, codes, bytes_eq, if◌then◌else◌}
+use Rattle.std.specs.Prelude.{ℕ, Bool, true, false, ◌+◌, ◌*◌, ◌-◌, ◌&&◌, nat_eq, nat_lt, nat_le, List, [], ◌∷◌, Option, Some, None, option_map, codes, bytes_eq, if◌then◌else◌}
 use Rattle.ts_top.specs.declared.commands.Command.{Command}
-use Rattle.ts_top.specs.declared.commands.Command.TheVariants.{Run, Par, Demo, Print}
+use Rattle.ts_top.specs.declared.commands.Command.TheVariants.{Run, Par, Demo, Print, Checkpoint}
 use Rattle.ts_top.specs.declared.commands.Text.TheVariants.{Log, Check}
 
 -- the command that a word is
@@ -11,6 +11,7 @@ of_word word =
     else if bytes_eq word (codes "par") then Some Par
     else if bytes_eq word (codes "log") then Some (Print Log)
     else if bytes_eq word (codes "check") then Some (Print Check)
+    else if bytes_eq word (codes "checkpoint") then Some Checkpoint
     else None
 
 abbrev pub is_digit : ℕ → Bool
@@ -47,3 +48,11 @@ after_dashes (word ∷ words) = if bytes_eq word (codes "--") then words else wo
 -- what words ask for
 abbrev pub command_of : List (List ℕ) → Option Command
 command_of words = named (after_dashes words)
+
+-- whether a command writes to the journal
+abbrev pub writes : Command → Bool
+writes Run = true
+writes Par = true
+writes (Demo demo) = false
+writes (Print text) = false
+writes Checkpoint = true

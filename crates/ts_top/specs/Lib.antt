@@ -5,5 +5,6 @@ pub mod Logs
 pub mod Outcomes
 pub mod Openings
 pub mod Parallel
+pub mod Checkpoints
 pub mod Calls
 pub mod Stops

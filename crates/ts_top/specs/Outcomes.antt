@@ -143,17 +143,18 @@ RanTo NoMemory durable left unread unprinted kept o =
 RanTo InputLong durable left unread unprinted kept o =
     OverScript o (λ h input. (INPUT_LIMIT < length input) × RanWhole durable left h (executed input) o)
 
--- P where the source was read
-abbrev pub IfReading : Status → Type 0 → Type 0
-IfReading BadWords P = ⊤
-IfReading DiskFault P = ⊤
-IfReading (Damaged at) P = ⊤
-IfReading NoMemory P = ⊤
-IfReading other P = P
+-- P of a call that opened the journal, and that neither the disk nor want of memory ended
+abbrev pub IfWentOn : Status → Type 0 → Type 0
+IfWentOn BadWords P = ⊤
+IfWentOn DiskFault P = ⊤
+IfWentOn (Damaged at) P = ⊤
+IfWentOn NoMemory P = ⊤
+IfWentOn other P = P
 
--- the header is on the disk before the source is read, where all of the file was on the disk at first
+-- the header is on the disk before the source is read or an image is written, where all of the file was on the disk at
+-- first
 abbrev pub HeaderAfter : Status → Type 0 → Option (List ℕ) → Type 0
-HeaderAfter status durable file = IfReading status (durable → IsSomeAnd file HasHeader)
+HeaderAfter status durable file = IfWentOn status (durable → IsSomeAnd file HasHeader)
 
 -- the text of a history was printed, or a part of it
 abbrev pub Printed : (History → List ℕ) → Outside → Type 0

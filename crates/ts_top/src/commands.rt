@@ -1,6 +1,6 @@
 //! What the words of the command line ask for.
 ghost use Rattle.std.specs.Prelude.{◌≡◌, map, string_bytes};
-ghost use Rattle.ts_top.specs.Commands.{command_of, demo_number, is_digit, named, number_from, of_word, of_words};
+ghost use Rattle.ts_top.specs.Commands.{command_of, demo_number, is_digit, named, number_from, of_word, of_words, writes};
 
 /// What there is to ask for.
 #[derive(Clone, Copy, Debug, PartialEq, Eq)]
@@ -13,6 +13,23 @@ pub enum Command {
     Demo(u32),
     /// To print a text of the journal.
     Print(Text),
+    /// To put the image of the journal's history behind the journal.
+    Checkpoint,
+}
+
+impl Command {
+    /// Whether it writes to the journal.
+    pub fn writes(self) -> bool
+        ensures { result ≡ writes self }
+    {
+        match self {
+            Command::Run => true,
+            Command::Par => true,
+            Command::Demo(_) => false,
+            Command::Print(_) => false,
+            Command::Checkpoint => true,
+        }
+    }
 }
 
 /// What is printed of a journal.
@@ -36,6 +53,8 @@ fn of_word(word: &str) -> Option<Command>
         Some(Command::Print(Text::Log))
     } else if word == "check" {
         Some(Command::Print(Text::Check))
+    } else if word == "checkpoint" {
+        Some(Command::Checkpoint)
     } else {
         None
     }

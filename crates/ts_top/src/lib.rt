@@ -7,10 +7,12 @@
 //! - `scripts`: scripts over the history of a journal.
 //! - `prints`: what is printed of a journal.
 //! - `parallel`: inputs that are run by a worker for each session.
+//! - `checkpoints`: the image of a journal's history, put behind the journal.
 //! - `demos`: the demonstration.
 //! - `endings`: how a call ended.
 #![tactic(auto)]
 
+mod checkpoints;
 mod commands;
 mod demos;
 mod endings;

@@ -24,6 +24,12 @@ fn armed<D: Disk>(mut store: Store<D>) -> Result<Store<D>, Ended<D>>
     ensures goes_on { IfOk result (λ ready. ready.failed ≡ None) }
     ensures armed { IfOk result (λ ready. ready.armed ≡ true) }
     ensures whole { IfOk result (λ ready. opening ready ≡ seen ready) }
+    ensures rests { (IsDurable D.bytes D.may_leave store.begun → Rests D.bytes D.may_leave store)
+        → IfOk result (λ ready. IsDurable D.bytes D.may_leave store.begun → Rests D.bytes D.may_leave ready) }
+    ensures images { (IsDurable D.bytes D.may_leave store.begun → Rests D.bytes D.may_leave store)
+        → Keeps D.bytes D.may_leave D.moment D.left_since store.begun store.journal.disk
+        → IfOk result (λ ready. IsDurable D.bytes D.may_leave store.begun
+        → (c : List ℕ) → D.left_since ready.journal.disk (D.moment store.begun) c → Stands c (seen ready)) }
     ensures counted { IfOk result (λ ready. D.faults ready.journal.disk ≡ D.faults store.journal.disk) }
     ensures ended { IfErr result (λ end. (before : Option (List ℕ))
         → IfSome before (λ file. Stands file (seen store))
@@ -64,6 +70,10 @@ pub(crate) fn open<R: Threads + Sync, D: Disk>(
     ensures goes_on { IfOk result (λ store. store.failed ≡ None) }
     ensures armed { IfOk result (λ store. store.armed ≡ true) }
     ensures whole { IfOk result (λ store. opening store ≡ seen store) }
+    ensures rests { IfOk result (λ store.
+        IsDurable D.bytes D.may_leave disk → Rests D.bytes D.may_leave store) }
+    ensures images { IfOk result (λ store. IsDurable D.bytes D.may_leave disk
+        → (c : List ℕ) → D.left_since store.journal.disk (D.moment disk) c → Stands c (seen store)) }
     ensures counted { IfOk result (λ store. D.faults store.journal.disk ≡ D.faults disk) }
     ensures ended { IfErr result (λ end. NotOpened end.status
         (IsDurable D.bytes D.may_leave disk) (D.left_since end.disk (D.moment disk))

@@ -5,10 +5,11 @@ ghost use Rattle.ts_io.specs.Faults.{Counted};
 ghost use Rattle.ts_schema.specs.Faults.{Rose};
 ghost use Rattle.ts_store.specs.Images.{IsDurable};
 ghost use Rattle.ts_top.specs.Commands.{command_of};
-ghost use Rattle.ts_top.specs.Calls.{DiskCounted, IfDemo, IfRuns, OutcomeOf, SinkCounted};
+ghost use Rattle.ts_top.specs.Calls.{DiskCounted, IfCheckpoint, IfDemo, IfWrites, OutcomeOf, SinkCounted};
 ghost use Rattle.ts_top.specs.Endings.{is_read_fault};
-ghost use Rattle.ts_top.specs.Outcomes.{HeaderAfter};
+ghost use Rattle.ts_top.specs.Outcomes.{HeaderAfter, IfWentOn};
 
+use crate::checkpoints::checkpoint;
 use crate::commands::{Command, command_of};
 use crate::demos::print_demo;
 use crate::endings::{Ended, Status};
@@ -25,7 +26,8 @@ use ts_model::Gate;
 /// Does what the words ask for, with or without `--` before them: `run` runs the lines of the source in
 /// order over the history of the journal on the disk, and writes their replies to the sink; `par` reads
 /// them all, and runs them by a worker for each session; `demo` and a number runs a script of its own over
-/// a disk of its own, and writes a summary; `log` and `check` print what stands in the journal. The source
+/// a disk of its own, and writes a summary; `log` and `check` print what stands in the journal; `checkpoint`
+/// puts the image of the journal's history behind the journal, so that a later call begins there. The source
 /// is one that hasn't told its end. The gate is called by the workers of `par` alone, for which the call
 /// may wait.
 pub fn run_words<R, S, K, D, G>(
@@ -58,8 +60,11 @@ where
           file = D.bytes result.disk;
           reads = result.reads;
         }) }
-    ensures header { IfRuns (command_of (map string_bytes words.now))
+    ensures header { IfWrites (command_of (map string_bytes words.now))
         (HeaderAfter result.status (IsDurable D.bytes D.may_leave disk) (D.bytes result.disk)) }
+    // No later crash takes an image back.
+    ensures lasting { IfCheckpoint (command_of (map string_bytes words.now)) (IfWentOn result.status
+        (IsDurable D.bytes D.may_leave disk → IsDurable D.bytes D.may_leave result.disk)) }
     ensures untouched { IfDemo (command_of (map string_bytes words.now)) (result.disk ≡ disk) }
     ensures reads { Counted (S.faults source.old) (S.faults source.new) (is_read_fault result.status) }
     ensures writes { SinkCounted (command_of (map string_bytes words.now)) result.status
@@ -72,6 +77,7 @@ where
         Some(Command::Par) => par(rt, alloc, source, sink, disk, gate),
         Some(Command::Demo(number)) => print_demo(rt, alloc, sink, disk, number),
         Some(Command::Print(text)) => print(rt, alloc, sink, disk, text),
+        Some(Command::Checkpoint) => checkpoint(rt, alloc, sink, disk),
         None => Ended {
             status: Status::BadWords,
             disk,

@@ -14,25 +14,25 @@ use Rattle.ts_top.proofs.OpeningLaws.{not_opened_header, not_opened_reads, not_o
 use Rattle.ts_top.proofs.checkpoints.checkpoint.Goals as goal
 
 pub save-requires-clause-goes_on : goal.save-requires-clause-goes_on
-save-requires-clause-goes_on g c = λ _ _. c.in-Ok.ensures.goes_on
+save-requires-clause-goes_on g c = c.in-Ok.ensures.goes_on
 
 pub save-requires-clause-armed : goal.save-requires-clause-armed
-save-requires-clause-armed g c = λ _ _. c.in-Ok.ensures.armed
+save-requires-clause-armed g c = c.in-Ok.ensures.armed
 
 pub save-requires-clause-whole : goal.save-requires-clause-whole
-save-requires-clause-whole g c = λ _ _. c.in-Ok.ensures.whole
+save-requires-clause-whole g c = c.in-Ok.ensures.whole
 
 pub save-requires-clause-stands : goal.save-requires-clause-stands
-save-requires-clause-stands g c = λ _ _ file told. c.in-Ok.ensures.stands file (ap g.D.Disk.bytes (sym c.in-Ok.ensures.begun) ∙ told)
+save-requires-clause-stands g c = λ file told. c.in-Ok.ensures.stands file (ap g.D.Disk.bytes (sym c.in-Ok.ensures.begun) ∙ told)
 
 pub save-requires-clause-rests : goal.save-requires-clause-rests
-save-requires-clause-rests g c = λ _ _ d. c.in-Ok.ensures.rests (subst (λ b. IsDurable g.D.Disk.bytes g.D.Disk.may_leave b) c.in-Ok.ensures.begun d)
+save-requires-clause-rests g c = λ d. c.in-Ok.ensures.rests (subst (λ b. IsDurable g.D.Disk.bytes g.D.Disk.may_leave b) c.in-Ok.ensures.begun d)
 
 pub save-requires-clause-images : goal.save-requires-clause-images
 save-requires-clause-images g c =
     let D = g.D.Disk in
     let store = c.in-Ok.store in
-    λ _ _. subst (λ b. IsDurable D.bytes D.may_leave b → (x : List ℕ) → D.left_since store.journal.disk (D.moment b) x → Stands x (seen store)) (sym c.in-Ok.ensures.begun) c.in-Ok.ensures.images
+    subst (λ b. IsDurable D.bytes D.may_leave b → (x : List ℕ) → D.left_since store.journal.disk (D.moment b) x → Stands x (seen store)) (sym c.in-Ok.ensures.begun) c.in-Ok.ensures.images
 
 pub returns-in-Ok-clause-outcome : goal.returns-in-Ok-clause-outcome
 returns-in-Ok-clause-outcome g c input rest =

@@ -12,32 +12,32 @@ returns-clause-outcome g c input rest =
     let D = g.D.Disk in
     let K = g.K.Sink in
     let store = c.args.store in
-    let new = c.checkpoint.result.disk in
+    let new = c.checkpoint-disk.result.disk in
     let o : Outside = record { input = input; rest = rest; written_before = K.written c.args.sink.now; written = K.written c.tell_end.new.sink; file_before = D.bytes store.begun; file = D.bytes new; reads = 0 } in
     ended_to D.bytes D.may_leave D.moment D.left_since store.begun new store.journal (seen store) c.requires.stands c.requires.rests store.engine.past refl store.failed c.requires.goes_on o
     (if_known (D.bytes store.begun) (λ file. Stands file (seen store)) c.requires.stands) refl (c.tell_end.new.sink ≡ c.args.sink.now)
-    c.checkpoint.result.end c.tell_end.result c.checkpoint.ensures.ends (λ d. c.checkpoint.ensures.safe (c.requires.rests d)) c.checkpoint.ensures.untouched c.requires.images
-    (λ d x image. history_or_image (opening store) (seen store) store.failed x c.requires.whole c.requires.goes_on (c.checkpoint.ensures.images d x image))
+    c.checkpoint-disk.result.end c.tell_end.result c.checkpoint-disk.ensures.ends (λ d. c.checkpoint-disk.ensures.safe (c.requires.rests d)) c.checkpoint-disk.ensures.untouched c.requires.images
+    (λ d x image. history_or_image (opening store) (seen store) store.failed x c.requires.whole c.requires.goes_on (c.checkpoint-disk.ensures.images d x image))
     c.tell_end.ensures.tells
 
 pub returns-clause-unread : goal.returns-clause-unread
-returns-clause-unread g c = no_read_fault c.checkpoint.result.end c.tell_end.result _ _ _ c.tell_end.ensures.tells
+returns-clause-unread g c = no_read_fault c.checkpoint-disk.result.end c.tell_end.result _ _ _ c.tell_end.ensures.tells
 
 pub returns-clause-header : goal.returns-clause-header
 returns-clause-header g c =
     let D = g.D.Disk in
     let store = c.args.store in
-    went_on c.checkpoint.result.end c.tell_end.result _ _ _ _ c.tell_end.ensures.tells
-    (headed D.bytes D.may_leave D.moment D.left_since store.begun c.checkpoint.result.disk store.journal (seen store) c.checkpoint.result.end
-    (λ d. c.checkpoint.ensures.safe (c.requires.rests d)) (λ d. c.checkpoint.ensures.header c.requires.goes_on d))
+    went_on c.checkpoint-disk.result.end c.tell_end.result _ _ _ _ c.tell_end.ensures.tells
+    (headed D.bytes D.may_leave D.moment D.left_since store.begun c.checkpoint-disk.result.disk store.journal (seen store) c.checkpoint-disk.result.end
+    (λ d. c.checkpoint-disk.ensures.safe (c.requires.rests d)) (λ d. c.checkpoint-disk.ensures.header c.requires.goes_on d))
 
 pub returns-clause-lasting : goal.returns-clause-lasting
 returns-clause-lasting g c =
     let D = g.D.Disk in
     let store = c.args.store in
-    went_on c.checkpoint.result.end c.tell_end.result _ _ _ _ c.tell_end.ensures.tells
-    (lasts D.bytes D.may_leave D.moment D.left_since store.begun c.checkpoint.result.disk store.journal (seen store) c.requires.stands c.requires.rests c.checkpoint.result.end
-    (λ d. c.checkpoint.ensures.safe (c.requires.rests d)) c.checkpoint.ensures.untouched)
+    went_on c.checkpoint-disk.result.end c.tell_end.result _ _ _ _ c.tell_end.ensures.tells
+    (lasts D.bytes D.may_leave D.moment D.left_since store.begun c.checkpoint-disk.result.disk store.journal (seen store) c.requires.stands c.requires.rests c.checkpoint-disk.result.end
+    (λ d. c.checkpoint-disk.ensures.safe (c.requires.rests d)) c.checkpoint-disk.ensures.untouched)
 
 pub returns-clause-disk : goal.returns-clause-disk
-returns-clause-disk g c = counted_disk c.checkpoint.result.end c.tell_end.result _ _ _ _ _ _ _ _ c.requires.goes_on c.checkpoint.ensures.ends c.tell_end.ensures.tells c.checkpoint.ensures.counted
+returns-clause-disk g c = counted_disk c.checkpoint-disk.result.end c.tell_end.result _ _ _ _ _ _ _ _ c.requires.goes_on c.checkpoint-disk.ensures.ends c.tell_end.ensures.tells c.checkpoint-disk.ensures.counted

@@ -31,6 +31,15 @@ returns-in-Done-clause-whole g c =
     ∙ c.requires.whole
     ∙ sym (ap (λ e. history_of e.past) c.in-Done.ensures.engine)
 
+pub returns-in-Done-clause-rests : goal.returns-in-Done-clause-rests
+returns-in-Done-clause-rests g c rests d = c.in-Done.ensures.done (rests d)
+
+pub returns-in-Done-clause-images : goal.returns-in-Done-clause-images
+returns-in-Done-clause-images g c rests kept d x image =
+    let D = g.D.Disk in
+    subst (λ h. Stands x h) (sym (ap (λ e. history_of e.past) c.in-Done.ensures.engine))
+    ((c.in-Done.ensures.any_moment (rests d)).each x (subst (λ t. D.left_since c.arm.new.self.journal.disk t x) (sym kept.at_moment) image))
+
 pub returns-in-Done-clause-counted : goal.returns-in-Done-clause-counted
 returns-in-Done-clause-counted g c = c.in-Done.ensures.counted
 

@@ -1,5 +1,5 @@
 -- What the start of the store found decides whether there is a journal.
-use Rattle.std.proofs.Common.{◌≡◌, inl, IfSome, sym, ◌∙◌, subst}
+use Rattle.std.proofs.Common.{◌≡◌, inl, ℕ, List, IfSome, sym, ◌∙◌, subst}
 use Rattle.std.proofs.lemmas.Result.{IfOk-weaker, IfErr-weaker}
 use Rattle.ts_disk.specs.Disk.{Keeps}
 use Rattle.ts_io.specs.Faults.{Counted}
@@ -24,6 +24,24 @@ returns-in-Ready-clause-begun g c = IfOk-weaker c.armed.result _ _ (λ store is.
 pub returns-in-Ready-clause-stands : goal.returns-in-Ready-clause-stands
 returns-in-Ready-clause-stands g c =
     IfOk-weaker c.armed.result _ _ (λ store is file told. subst (λ h. Stands file h) (sym is) (c.in-Ready.ensures.starts file told)) c.armed.ensures.history
+
+pub returns-in-Ready-clause-rests : goal.returns-in-Ready-clause-rests
+returns-in-Ready-clause-rests g c =
+    let D = g.D.Disk in
+    let begun : c.in-Ready.store.begun ≡ c.args.disk = c.in-Ready.ensures.new.begun in
+    IfOk-weaker c.armed.result _ _ (λ ready rests d. rests (subst (λ b. IsDurable D.bytes D.may_leave b) (sym begun) d))
+    (c.armed.ensures.rests (λ d. let e : IsDurable D.bytes D.may_leave c.args.disk = subst (λ b. IsDurable D.bytes D.may_leave b) begun d in c.in-Ready.ensures.rests e.file e.told e.durable))
+
+pub returns-in-Ready-clause-images : goal.returns-in-Ready-clause-images
+returns-in-Ready-clause-images g c =
+    let D = g.D.Disk in
+    let store = c.in-Ready.store in
+    let begun : store.begun ≡ c.args.disk = c.in-Ready.ensures.new.begun in
+    IfOk-weaker c.armed.result _ _
+    (λ ready images. subst (λ b. IsDurable D.bytes D.may_leave b → (x : List ℕ) → D.left_since ready.journal.disk (D.moment b) x → Stands x (seen ready)) begun images)
+    (c.armed.ensures.images
+    (λ d. let e : IsDurable D.bytes D.may_leave c.args.disk = subst (λ b. IsDurable D.bytes D.may_leave b) begun d in c.in-Ready.ensures.rests e.file e.told e.durable)
+    (subst (λ b. Keeps D.bytes D.may_leave D.moment D.left_since b store.journal.disk) (sym begun) c.in-Ready.ensures.kept))
 
 pub returns-in-Ready-clause-counted : goal.returns-in-Ready-clause-counted
 returns-in-Ready-clause-counted g c = IfOk-weaker c.armed.result _ _ (λ store is. is ∙ c.in-Ready.ensures.counted) c.armed.ensures.counted

@@ -7,7 +7,7 @@ use Rattle.ts_schema.specs.Faults.{Rose}
 use Rattle.ts_store.specs.Images.{HasHeader, IsDurable}
 use Rattle.ts_store.specs.Stands.{Stands}
 use Rattle.ts_store.specs.Stores.{seen}
-use Rattle.ts_top.specs.Outcomes.{IfReading, Outside}
+use Rattle.ts_top.specs.Outcomes.{IfWentOn, Outside}
 use Rattle.ts_top.specs.Parallel.{CountedAfterWorkers, ParTo}
 use Rattle.ts_top.proofs.OutcomeLaws.{if_known}
 use Rattle.ts_top.proofs.OpeningLaws.{not_opened_header, not_opened_reads}
@@ -30,7 +30,7 @@ returns-in-Ok-clause-outcome g c =
 pub returns-in-Ok-clause-header : goal.returns-in-Ok-clause-header
 returns-in-Ok-clause-header g c =
     let D = g.D.Disk in
-    subst (λ b. IfReading c.run_all.result.status (IsDurable D.bytes D.may_leave b → IsSomeAnd (D.bytes c.run_all.result.disk) HasHeader)) c.in-Ok.ensures.begun c.run_all.ensures.header
+    subst (λ b. IfWentOn c.run_all.result.status (IsDurable D.bytes D.may_leave b → IsSomeAnd (D.bytes c.run_all.result.disk) HasHeader)) c.in-Ok.ensures.begun c.run_all.ensures.header
 
 pub returns-in-Ok-clause-disk : goal.returns-in-Ok-clause-disk
 returns-in-Ok-clause-disk g c = subst (λ n. CountedAfterWorkers c.run_all.result.status n (g.D.Disk.faults c.run_all.result.disk)) c.in-Ok.ensures.counted c.run_all.ensures.disk

@@ -7,7 +7,7 @@ use Rattle.ts_store.specs.Images.{HasHeader, IsDurable}
 use Rattle.ts_store.specs.Stands.{Stands}
 use Rattle.ts_store.specs.Stores.{seen}
 use Rattle.ts_top.specs.Endings.{is_disk_fault}
-use Rattle.ts_top.specs.Outcomes.{IfReading, Outside, RanTo}
+use Rattle.ts_top.specs.Outcomes.{IfWentOn, Outside, RanTo}
 use Rattle.ts_top.proofs.OutcomeLaws.{if_known, ran_or_not}
 use Rattle.ts_top.proofs.OpeningLaws.{not_opened_header, not_opened_reads, not_opened_run, not_opened_writes}
 use Rattle.ts_top.proofs.scripts.run.Goals as goal
@@ -37,7 +37,7 @@ returns-in-Ok-clause-outcome g c =
 pub returns-in-Ok-clause-header : goal.returns-in-Ok-clause-header
 returns-in-Ok-clause-header g c =
     let D = g.D.Disk in
-    subst (λ b. IfReading c.run_lines.result.status (IsDurable D.bytes D.may_leave b → IsSomeAnd (D.bytes c.run_lines.result.disk) HasHeader)) c.in-Ok.ensures.begun c.run_lines.ensures.header
+    subst (λ b. IfWentOn c.run_lines.result.status (IsDurable D.bytes D.may_leave b → IsSomeAnd (D.bytes c.run_lines.result.disk) HasHeader)) c.in-Ok.ensures.begun c.run_lines.ensures.header
 
 pub returns-in-Ok-clause-reads : goal.returns-in-Ok-clause-reads
 returns-in-Ok-clause-reads g c = c.run_lines.ensures.reads

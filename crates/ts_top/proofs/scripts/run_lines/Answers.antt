@@ -7,7 +7,7 @@ use Rattle.ts_store.specs.Images.{HasHeader, IsBetween, IsDurable}
 use Rattle.ts_store.specs.Stores.{known_of, opening, seen, state_of}
 use Rattle.script_run.specs.Runs.{Ran as RanScript}
 use Rattle.ts_top.specs.Endings.{is_disk_fault, is_read_fault, is_write_fault}
-use Rattle.ts_top.specs.Outcomes.{IfReading, Outside, RanTo}
+use Rattle.ts_top.specs.Outcomes.{IfWentOn, Outside, RanTo}
 use Rattle.ts_top.proofs.OutcomeLaws.{Closed, headed, same_disk_fault, same_read_fault, same_write_fault, told_run}
 use Rattle.ts_top.proofs.scripts.run_lines.Goals as goal
 use Rattle.ts_schema.proofs.Cases.{none_there}
@@ -44,7 +44,7 @@ returns-clause-header g c =
     let begun : new.begun ≡ old.begun = ap (λ k. k.disk) known in
     let armed : new.armed ≡ true = ap (λ k. k.armed) known ∙ c.requires.armed in
     let Header : Type 0 = IsDurable D.bytes D.may_leave old.begun → IsSomeAnd (D.bytes c.close.result) HasHeader in
-    subst (λ status. IfReading status Header) (sym c.status_of.ensures)
+    subst (λ status. IfWentOn status Header) (sym c.status_of.ensures)
     (headed c.run-end.result Header (λ going d. c.close.ensures.header armed (none_there new.failed (c.run-end.ensures.still ∙ going)) (subst (λ disk. IsDurable D.bytes D.may_leave disk) (sym begun) d)))
 
 pub returns-clause-reads : goal.returns-clause-reads
