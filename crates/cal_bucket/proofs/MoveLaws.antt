@@ -1,16 +1,12 @@
 -- Rows with the names of their buckets for their times, where the time is a column more: grouping them by buckets of
 -- one number is grouping the rows by name.
-use Rattle.std.proofs.Common.{◌≡◌, ℕ, zero, suc, ◌+◌, ◌&&◌, Bool, true, false, cond, List, [], ◌∷◌, ◌++◌, map, filter, flat_map, sym, ap, subst, refl, ◌∙◌, arith, ℤ, pos, Option, Some}
-use Rattle.std.proofs.lemmas.Int.{ints, by_lt_z}
-use Rattle.std.specs.Ordering.{int_cmp, int_eq, is_eq, match_ordering}
-use Rattle.std.specs.List.{AllByRecursion}
-use Rattle.std.specs.BTreeSet.{insert_key}
-use Rattle.std.specs.declared.cmp.Ordering.{Ordering}
-use Rattle.std.specs.declared.cmp.Ordering.TheVariants.{Less, Equal, Greater}
-use Rattle.jiff_core.proofs.SignedLemmas.{signed_arith, cmp_agrees}
+use Rattle.std.proofs.Common.{◌≡◌, ℕ, zero, suc, ◌+◌, ◌&&◌, Bool, true, false, cond, List, [], ◌∷◌, ◌++◌, map, filter, flat_map, sym, ap, refl, ◌∙◌, arith, ℤ, pos, Option, Some}
+use Rattle.std.proofs.lemmas.Int.{ints}
+use Rattle.std.specs.Ordering.{int_cmp, int_eq, is_eq}
+use Rattle.jiff_core.proofs.SignedLemmas.{signed_arith}
 use Rattle.ts_num.specs.declared.values.Datum.{Datum}
 use Rattle.ts_num.specs.Aggregates.{aggregate, shown_or_null}
-use Rattle.ts_num.specs.declared.values.Datum.TheVariants.{Null, Int, Ratio}
+use Rattle.ts_num.specs.declared.values.Datum.TheVariants.{Int}
 use Rattle.ts_bucket.specs.Bucket.{holds, bucket_of, WidthValue, IsWidth}
 use Rattle.ts_schema.specs.declared.rows.Row.{Row}
 use Rattle.ts_schema.specs.declared.conditions.Test.{Test}
@@ -20,14 +16,7 @@ use Rattle.ts_model.specs.declared.views.Agg.{Agg}
 use Rattle.ts_model.specs.declared.views.Fold.{Fold}
 use Rattle.ts_model.specs.Scratch.{once, keys_of, cell, key_lists, with_keys, result_row, group_rows, bucket_rows, scratch_of, occurring_buckets, fold_rows}
 use Rattle.cal_bucket.specs.Answers.{rows_named, occurring_names, named_rows}
-use Rattle.partial_agg.specs.declared.groups.Group.{Group}
-use Rattle.ts_model.specs.Groups.{cells_of, groups_of, shown_each}
-use Rattle.group_fold.specs.Grouping.{row_group}
-use Rattle.group_fold.proofs.RowGroups.{all-with_group}
-use Rattle.group_fold.proofs.RowGroups.{groups_of-more}
-use Rattle.cal_bucket.specs.Buckets.{HoldsATime}
 use Rattle.cal_bucket.specs.Rows.{row_shown}
-use Rattle.cal_bucket.proofs.BucketLaws.{Rises}
 
 -- ---- moved rows
 

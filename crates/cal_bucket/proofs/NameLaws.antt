@@ -2,12 +2,12 @@
 use Rattle.std.proofs.Common.{◌≡◌, ℕ, ◌<◌, sym, ap, subst, ◌∙◌, arith, ℤ, pos, ◌+ℤ◌, ◌≤ℤ◌, ◌<ℤ◌, IsTrue}
 use Rattle.std.proofs.lemmas.Int.{ints, by_lt_z}
 use Rattle.jiff_core.proofs.SignedLemmas.{signed_arith}
-use Rattle.ts_bucket.specs.Bucket.{is_time, max_time, min_time}
+use Rattle.ts_bucket.specs.Bucket.{is_time, max_time}
 use Rattle.cal_bucket.specs.declared.buckets.Bucket.{Bucket}
 use Rattle.cal_bucket.specs.declared.plans.CalUnit.{CalUnit}
 use Rattle.cal_bucket.specs.Buckets.{Holds, HoldsATime, start_at}
 use Rattle.cal_bucket.specs.Named.{NamesItsTimes}
-use Rattle.cal_bucket.specs.Places.{name_of, place_at}
+use Rattle.cal_bucket.specs.Places.{name_of}
 use Rattle.cal_bucket.proofs.BucketLaws.{Rises, start_at-rises}
 use Rattle.cal_bucket.proofs.MonthLaws.{time_bounds}
 use Rattle.cal_bucket.proofs.PlaceLaws.{place_is}

@@ -1,5 +1,5 @@
 -- The cells of a row stand for the moved row.
-use Rattle.std.proofs.Common.{◌≡◌, ℕ, zero, suc, ◌+◌, ◌-◌, ◌<◌, ◌≤◌, ◌&&◌, ◌==◌, Bool, true, false, cond, List, [], ◌∷◌, ◌++◌, map, take, drop, length, get_or, Option, Some, None, sym, ap, refl, ◌∙◌, subst, arith, ℤ}
+use Rattle.std.proofs.Common.{◌≡◌, ℕ, zero, suc, ◌+◌, ◌<◌, ◌≤◌, ◌&&◌, List, [], ◌∷◌, ◌++◌, map, take, drop, length, get_or, Option, Some, None, sym, ap, refl, ◌∙◌, arith, ℤ}
 use Rattle.std.specs.Prelude.{nat_lt}
 use Rattle.std.specs.List.{AllByRecursion}
 use Rattle.std.proofs.lemmas.Bool.{ltb-false, ltb-true}
@@ -9,27 +9,26 @@ use Rattle.ts_num.specs.declared.values.Datum.TheVariants.{Null, Int, Ratio}
 use Rattle.ts_schema.specs.declared.rows.Row.{Row}
 use Rattle.ts_schema.specs.declared.conditions.Test.{Test}
 use Rattle.ts_schema.specs.Rows.{field_of}
-use Rattle.ts_schema.specs.Conditions.{compares, passes_all, passes_one}
+use Rattle.ts_schema.specs.Conditions.{compares, passes_all}
 use Rattle.ts_schema.proofs.Cases.{by_test}
 use Rattle.ts_model.specs.declared.views.Agg.{Agg}
-use Rattle.ts_model.specs.declared.views.Fold.{Fold}
 use Rattle.ts_model.specs.Scratch.{fold_rows, keys_of}
 use Rattle.partial_agg.specs.declared.groups.Group.{Group}
 use Rattle.partial_agg.specs.Summaries.{Summary, summary}
 use Rattle.group_fold.specs.Grouping.{row_group, row_parts}
 use Rattle.cell_groups.specs.declared.shapes.Shape.{Shape}
-use Rattle.cell_groups.specs.Cells.{cell_at, cells_pass, passes_test, value_of}
-use Rattle.cell_groups.specs.Groups.{cells_at, keys_at, needed_group, rows_shown}
+use Rattle.cell_groups.specs.Cells.{cell_at, cells_pass, value_of}
+use Rattle.cell_groups.specs.Groups.{keys_at, rows_shown}
 use Rattle.cell_groups.specs.Kept.{needed, needed_parts, row_needs}
 use Rattle.cell_groups.specs.Taken.{with_rows}
 use Rattle.cell_groups.proofs.Shown.{StandFor, gathered_show}
 use Rattle.cal_bucket.specs.declared.plans.CalPlan.{CalPlan}
-use Rattle.cal_bucket.specs.Answers.{plan_rows, named_rows}
+use Rattle.cal_bucket.specs.Answers.{plan_rows}
 use Rattle.cal_bucket.specs.Cells.{BeginWithATime}
 use Rattle.cal_bucket.specs.Places.{name_of}
 use Rattle.cal_bucket.specs.Rows.{ShowARow, first_number, number_of, row_shown}
 use Rattle.cal_bucket.specs.Shapes.{agg_among, named_group, place_among, shape_of, test_among}
-use Rattle.cal_bucket.proofs.MoveLaws.{bucket_of-one_number, field-moved, keys-moved, map-by, map-map, moved, moved_each, moved_fold, moved_fold-wide, moved_rows_show, next_agg, next_test, tests-moved}
+use Rattle.cal_bucket.proofs.MoveLaws.{bucket_of-one_number, field-moved, map-by, map-map, moved, moved_each, moved_fold, moved_fold-wide, moved_rows_show, next_agg, next_test}
 use Rattle.cal_bucket.proofs.RowLaws.{cells_fit}
 
 -- ---- one cell
