@@ -71,6 +71,30 @@ fn days_are_those_of_jiff(rt: HostRuntime) -> Result<(), Fail> {
     Ok(())
 }
 
+/// How many days a month of a year has, by its place in the year: 0 is January.
+fn days_of(year: i64, place: i64) -> i64 {
+    let is_leap = year % 4 == 0 && (year % 100 != 0 || year % 400 == 0);
+    match place {
+        1 => if is_leap { 29 } else { 28 },
+        3 | 5 | 8 | 10 => 30,
+        _ => 31,
+    }
+}
+
+/// 4,801 months from January 2000 on: each begins where the one before it ends.
+#[test]
+fn months_begin_where_others_end(rt: HostRuntime) {
+    let mut start = 946_684_800i64;
+    for month in 0..4_801i64 {
+        let days = days_of(2_000 + month / 12, month % 12);
+        let end = start.saturating_add(days.saturating_mul(86_400));
+        assert_eq!(rt; name(1, CalUnit::Month, start), Some(start));
+        assert_eq!(rt; name(1, CalUnit::Month, end.saturating_sub(1)), Some(start));
+        start = end;
+    }
+    assert_eq!(rt; start, 946_684_800 + 12_622_780_800 + 31 * 86_400);
+}
+
 /// A value as a cell.
 fn shown(value: Option<i64>) -> Datum
     ensures cell { result ≡ shown_or_null value }
