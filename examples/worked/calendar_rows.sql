@@ -14,3 +14,8 @@ q: SELECT calendar_bucket(0, 'day', time), count(*) FROM m GROUP BY 1
 q: SELECT calendar_bucket(1201, 'day', time), count(*) FROM m GROUP BY 1
 q: SELECT calendar_bucket(1, 'day', v), count(*) FROM m GROUP BY 1
 q: SELECT calendar_bucket(1, 'hour', time), count(*) FROM m GROUP BY 1
+-- The relation is looked at first: an aggregate and a plain table are refused whatever the number and the unit are.
+a: CREATE MATERIALIZED VIEW c WITH (timescaledb.continuous) AS SELECT time_bucket(10, time) AS b, count(*) AS n FROM m GROUP BY b WITH NO DATA
+a: CREATE TABLE p (x BIGINT)
+q: SELECT calendar_bucket(0, 'hour', b), count(*) FROM c GROUP BY 1
+q: SELECT calendar_bucket(0, 'hour', x), count(*) FROM p GROUP BY 1
