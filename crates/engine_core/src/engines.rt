@@ -3,6 +3,7 @@ ghost use Rattle.std.specs.Prelude.{◌≡◌, ◌≤◌, ◌<◌, ◌+◌, suc,
 ghost use Rattle.std.specs.Option.{ForSome};
 ghost use Rattle.std.specs.Thread.{IsSync};
 ghost use Rattle.ts_bucket.specs.Bucket.{is_time};
+ghost use Rattle.ts_schema.specs.Counts.{Ticks};
 ghost use Rattle.ts_model.specs.declared.events.Event.TheVariants.{Built};
 ghost use Rattle.ts_model.specs.Allowed.{all_allowed, allowed};
 ghost use Rattle.ts_model.specs.History.{History, base_position, event_at, position};
@@ -11,6 +12,7 @@ ghost use Rattle.ts_model.specs.Roster.{roster, view_of};
 ghost use Rattle.ts_model.specs.Valid.{valid};
 ghost use Rattle.ts_model.specs.Windows.{window};
 ghost use Rattle.event_check.specs.Checks.{PendingIs, event_refusal};
+ghost use Rattle.engine_state.specs.Refolding.{rows_refolded};
 ghost use Rattle.engine_state.specs.Stands.{StandsFor};
 ghost use Rattle.engine_state.specs.Afters.{IsNext};
 ghost use Rattle.refresh_build.specs.Fitting.{IsJobOf, JobIsFor};
@@ -27,7 +29,7 @@ use std::marker::Model;
 use std::sync::Arc;
 use std::thread::Threads;
 use ts_model::{Event, Image, Pending, Refusal, Waiting, Window};
-use ts_schema::{NoMemory, Seq};
+use ts_schema::{NoMemory, Seq, Steps};
 
 /// The engine: the image that it was made from, where it was, the list of events after it, and the state
 /// that they make, of which each snapshot is one more owner. Contracts see the image and the events, the
@@ -130,17 +132,19 @@ impl Engine {
         })
     }
 
-    /// The engine of the history that begins with this valid image, without events.
-    pub fn from_image<R: Threads + Sync>(
-        rt: &R,
+    /// The engine of the history that begins with this valid image, without events. It counts one step for
+    /// each row that the image holds of a table over which an aggregate was refreshed.
+    pub fn from_image<L>(
         alloc: Global,
         image: Image,
+        steps: &mut Steps<L>,
     ) -> Result<Engine, NoMemory>
-        requires sync { IsSync R.row }
         requires valid { IsTrue (valid image) }
         ensures empty { IfOk result (λ engine. engine.past ≡ past_from (Some image)) }
+        ensures read { Ticks result (rows_refolded image) steps.old steps.new }
     {
-        let state = Arc::new(alloc, State::from_image(rt, alloc, &image)?)?;
+        let _so_far = steps.count();
+        let state = Arc::new(alloc, State::from_image(alloc, &image, steps)?)?;
         Ok(Engine {
             base: Some(image),
             events: Vec::new(alloc),
