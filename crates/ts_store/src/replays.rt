@@ -21,7 +21,7 @@ use std::alloc::Global;
 use std::thread::Threads;
 use ts_disk::Disk;
 use ts_model::Event;
-use ts_schema::NoMemory;
+use ts_schema::{NoMemory, Steps};
 use txn_journal::{Journal, Next, Reader};
 
 /// What reading the events of a journal found.
@@ -69,7 +69,7 @@ pub(crate) fn replay<R: Threads + Sync, D: Disk>(
     let mut engine = engine;
     'events: loop {
         match reader.next() {
-            Next::Base(at) => match take_base(rt, alloc, &mut engine, reader.payload()) {
+            Next::Base(at) => match take_base(alloc, &mut engine, reader.payload()) {
                 Taken::Done => {}
                 Taken::NoEvent => {
                     return Replayed::Damaged {
@@ -108,12 +108,11 @@ pub(crate) fn replay<R: Threads + Sync, D: Disk>(
 }
 
 /// Puts the engine of a base's image in the place of another.
-fn take_base<R: Threads + Sync>(rt: &R, alloc: Global, engine: &mut Engine, payload: &[u8]) -> Taken
-    requires sync { IsSync R.row }
+fn take_base(alloc: Global, engine: &mut Engine, payload: &[u8]) -> Taken
     ensures resumed { Resumes result payload.now engine.new.past }
 {
     match read(alloc, payload) {
-        ReadImage::Image(image) => match Engine::from_image(rt, alloc, image) {
+        ReadImage::Image(image) => match Engine::from_image(alloc, image, &mut Steps::new(())) {
             Ok(made) => {
                 *engine = made;
                 Taken::Done
