@@ -28,7 +28,9 @@ const KEPT_MEMORY: usize = 32_000_000;
 fn message(status: Status) -> Option<&'static str> {
     match status {
         Status::Done | Status::Refused => None,
-        Status::BadWords => Some("tsctl: usage: tsctl run | par | log | check | demo N"),
+        Status::BadWords => Some(
+            "tsctl: usage: tsctl run | par | log | check | checkpoint | demo N",
+        ),
         Status::ReadFault => Some("tsctl: read fault"),
         Status::WriteFault => Some("tsctl: write fault"),
         Status::DiskFault => Some("tsctl: disk fault"),
@@ -85,7 +87,7 @@ where
     let _input = File::open(rt, NOTHING);
     let _output = File::open(rt, NOTHING);
     let _error = File::open(rt, NOTHING);
-    let writes = matches!(command_of(words), Some(Command::Run | Command::Par));
+    let writes = command_of(words).is_some_and(Command::writes);
     match open(rt, writes) {
         Ok(file) => run_over(rt, words, FileDisk::new(file)),
         Err(e) if !writes && e.kind() == ErrorKind::NotFound => run_over(
@@ -138,7 +140,7 @@ mod tests {
             (Status::Refused, None),
             (
                 Status::BadWords,
-                Some("tsctl: usage: tsctl run | par | log | check | demo N"),
+                Some("tsctl: usage: tsctl run | par | log | check | checkpoint | demo N"),
             ),
             (Status::ReadFault, Some("tsctl: read fault")),
             (Status::WriteFault, Some("tsctl: write fault")),
