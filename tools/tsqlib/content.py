@@ -1,20 +1,7 @@
 """What a journal comes to: its tables and aggregates, the rows that are left, and what was refreshed."""
-import operator
-
 from .history import follow
+from .image import Image
 from .journal import Built, Commit, Insert
-
-COMPARE = {
-    "=": operator.eq, "<>": operator.ne, "<": operator.lt, "<=": operator.le, ">": operator.gt, ">=": operator.ge,
-}  # fmt: skip
-
-
-def passes(row, test):
-    """Whether a row passes a test. A comparison with NULL isn't true."""
-    value = row[test.column]
-    if "NULL" in test.comparison:
-        return (value is None) == (test.comparison == "IS NULL")
-    return value is not None and COMPARE[test.comparison](value, test.number)
 
 
 class Content:
@@ -26,12 +13,22 @@ class Content:
         self.rows = {}
         self.windows = {}
         self.has_removed = False
+        self.has_groups = False
         for self.history, event, _ in follow(file):
-            if isinstance(event, Commit):
+            if isinstance(event, Image):
+                self.resume(event)
+            elif isinstance(event, Commit):
                 self.commit(event)
             elif isinstance(event, Built):
                 cut = self.history.cuts[event.cut]
                 self.windows.setdefault(cut.view, []).append((cut.start, cut.end))
+
+    def resume(self, image):
+        """Begins with an image. The rows of its groups may have been removed."""
+        for commit in image.commits:
+            self.commit(commit)
+        self.windows = {view: [(last.start, last.end) for last in saved.lasts] for view, saved in enumerate(image.views)}
+        self.has_groups = any(saved.groups for saved in image.views)
 
     def commit(self, event):
         """Lets the operations of a commit take effect, one after the other."""
@@ -40,7 +37,7 @@ class Content:
             if isinstance(operation, Insert):
                 rows += operation.rows
                 continue
-            kept = [row for row in rows if not all(passes(row, test) for test in operation.tests)]
+            kept = [row for row in rows if not all(test.passed_by(row) for test in operation.tests)]
             self.has_removed |= len(kept) < len(rows)
             self.rows[operation.table] = kept
 

@@ -186,4 +186,6 @@ def export(options):
             print(line)
     elif content.has_removed and content.history.views:
         say("rows were removed: what an aggregate still shows of them is exported by `--stale` alone")
+    elif content.has_groups:
+        say("what an aggregate still shows of rows that were removed before the image is exported by `--stale` alone")
     return 0

@@ -1,14 +1,9 @@
 """Follows the events of a journal: which one may come next, what `tsctl log` prints of it, and what there is."""
-from .journal import Built, Commit, Cut, Damaged, Hyper, Insert, Mode, Table, View, Wrong, event, payloads
+from .image import LAST_POSITION, read_image, require, require_valid
+from .journal import Built, Commit, Cut, Damaged, Hyper, Insert, Mode, Table, View, Wrong, event, is_base, payloads
 
 MOST_RELATIONS, MOST_COLUMNS = 64, 16
 MOST_WIDTH, MOST_INTERVAL = 2**40, 2**50
-
-
-def require(holds):
-    """Ends as Wrong where something that must hold doesn't."""
-    if not holds:
-        raise Wrong
 
 
 def item(items, number):
@@ -40,6 +35,7 @@ class History:
     """Tables and aggregates by their numbers, and the refreshes that were cut and finished."""
 
     def __init__(self):
+        self.base = 0
         self.position = 0
         self.tables = []
         self.views = []
@@ -52,9 +48,18 @@ class History:
             Table: self.add_table, Hyper: self.add_hyper, View: self.add_view, Mode: self.add_mode,
             Commit: self.add_commit, Cut: self.add_cut, Built: self.add_built,
         }  # fmt: skip
+        require(self.position < LAST_POSITION)
         line = adders[type(new)](new)
         self.position += 1
         return f"@{self.position} {line}"
+
+    def resume(self, image):
+        """Begins with an image, and gives its line in the log."""
+        require_valid(self, image)
+        self.base = self.position = image.position
+        self.cuts = {it.cut: Cut(it.view, it.start, it.end) for it in image.waiting}
+        self.finished = {it.cut for it in image.finished}
+        return f"IMAGE @{image.position}"
 
     def hypertable(self, number):
         """The hypertable of this number, which must be there."""
@@ -129,18 +134,23 @@ class History:
 
     def add_built(self, new):
         require(new.cut in self.cuts and new.cut not in self.finished)
-        require(new.cut <= new.snapshot <= self.position)
+        require(max(new.cut, self.base) <= new.snapshot <= self.position)
         self.finished.add(new.cut)
         return f"BUILT {new.cut} snap {new.snapshot}"
 
 
 def follow(file):
-    """Each event of a file's bytes: the history with it, the event, and its line in the log."""
+    """The image that a file's bytes begin with, where there is one, and each event: the history with it, itself, and
+    its line in the log."""
     history = History()
     for gate, payload in payloads(file):
         try:
-            new = event(payload)
-            line = history.add(new)
+            if is_base(file, payload):
+                new = read_image(payload)
+                line = history.resume(new)
+            else:
+                new = event(payload)
+                line = history.add(new)
         except Wrong:
             raise Damaged(gate) from None
         yield history, new, line

@@ -1,4 +1,5 @@
 """Reads the bytes of a journal, by `docs/JOURNAL.md` alone: frames, and the event of each payload."""
+import operator
 import re
 import struct
 from typing import NamedTuple
@@ -6,7 +7,10 @@ from typing import NamedTuple
 MAGIC, VERSION_2, BASE = b"TSCTLJ0", b"2", b"\x08"
 LEAST_TIME, MOST_TIME = -(2**62), 2**62 - 1
 NAME = re.compile(rb"[a-z_][a-z0-9_]{0,62}")
-COMPARISONS = ["=", "<>", "<", "<=", ">", ">=", "IS NULL", "IS NOT NULL"]
+COMPARE = {
+    "=": operator.eq, "<>": operator.ne, "<": operator.lt, "<=": operator.le, ">": operator.gt, ">=": operator.ge,
+}  # fmt: skip
+COMPARISONS = [*COMPARE, "IS NULL", "IS NOT NULL"]
 FUNCTIONS = ["count(*)", "count", "sum", "min", "max", "avg"]
 TABLE, HYPER, VIEW, MODE, COMMIT, CUT, BUILT = range(1, 8)
 
@@ -27,6 +31,13 @@ class Test(NamedTuple):
     column: int
     comparison: str
     number: int
+
+    def passed_by(self, row):
+        """Whether a row passes. A comparison with NULL isn't true."""
+        value = row[self.column]
+        if "NULL" in self.comparison:
+            return (value is None) == (self.comparison == "IS NULL")
+        return value is not None and COMPARE[self.comparison](value, self.number)
 
 
 class Function(NamedTuple):
@@ -126,6 +137,11 @@ def last_base(file):
     except Damaged:
         pass
     return found
+
+
+def is_base(file, payload):
+    """Whether a payload of a file's bytes is a saved image."""
+    return file[7:8] == VERSION_2 and payload[:1] == BASE
 
 
 class Fields:

@@ -2,7 +2,8 @@
 from typing import NamedTuple
 
 from .history import History
-from .journal import HYPER, TABLE, VIEW, Damaged, Wrong, event, payloads
+from .image import roster_of
+from .journal import HYPER, TABLE, VIEW, Damaged, Wrong, event, is_base, payloads
 
 
 class Output(NamedTuple):
@@ -91,7 +92,10 @@ class Schema:
         history = History()
         try:
             for _, payload in payloads(file):
-                if payload[:1] and payload[0] in (TABLE, HYPER, VIEW):
+                if is_base(file, payload):
+                    for relation in roster_of(payload):
+                        history.add(relation)
+                elif payload[:1] and payload[0] in (TABLE, HYPER, VIEW):
                     history.add(event(payload))
         except (Damaged, Wrong):
             pass
