@@ -1,5 +1,5 @@
 -- Groups in the making, rs rows are taken in.
-use Rattle.std.proofs.Common.{◌≡◌, ℕ, zero, suc, ◌+◌, ◌-◌, ◌≤◌, ◌<◌, ◌^◌, Bool, true, false, ◌||◌, ◌&&◌, not, cond, List, [], ◌∷◌, ◌++◌, length, take, drop, get_or, Option, Some, None, Result, Ok, Err, sym, refl, ap, ◌∙◌, subst, arith, append_assoc}
+use Rattle.std.proofs.Common.{◌≡◌, ℕ, zero, suc, ◌+◌, ◌-◌, ◌≤◌, ◌<◌, ◌^◌, Bool, true, false, ◌||◌, ◌&&◌, cond, List, [], ◌∷◌, ◌++◌, length, take, drop, get_or, Option, Some, None, Result, Ok, Err, sym, refl, ap, ◌∙◌, subst, arith, append_assoc}
 use Rattle.std.specs.Prelude.{◌==◌, slice_get, unwrap_or}
 use Rattle.std.specs.List.{AllByRecursion, AllZip, list_all, list_any}
 use Rattle.std.proofs.lemmas.Bool.{true≢false, and_parts}
@@ -22,7 +22,7 @@ use Rattle.group_fold.specs.Grouping.{AreTimes}
 use Rattle.ts_schema.specs.Counts.{RaisedUpTo, Ticks, raised_by}
 use Rattle.engine_state.specs.Lists.{Each, EachFrom}
 use Rattle.engine_state.specs.declared.refolds.Refold.{Refold}
-use Rattle.engine_state.specs.Refolding.{AreRefolded, AreRefolds, CanTake, IsRefoldOf, IsRefolded, Makes, Refolds, TakesBy, TakesMore, events_read, feeds, is_over, rows_of, was_refreshed}
+use Rattle.engine_state.specs.Refolding.{AreRefolded, AreRefolds, CanTake, IsRefoldOf, IsRefolded, Makes, TakesBy, TakesMore, events_read, feeds, is_over, rows_of, was_refreshed}
 
 -- ---- one after the other
 
@@ -180,11 +180,14 @@ refold_after : (f g h : ℕ → List Row) (def : ViewDef) (kept : SavedView) (a 
 refold_after f g h def kept None None both p q = p
 refold_after f g h def kept None (Some b) both p q = absurd q
 refold_after f g h def kept (Some a) None both p q = absurd q
-refold_after f g h def kept (Some a) (Some b) both p q = (p.0, record {
-  table_is = q.table_is ∙ p.1.table_is;
-  plan_is = q.plan_is ∙ p.1.plan_is;
-  taken = subst (λ (rows : List Row). HasTaken b.plan rows b.folding) (ap (λ t. f def.table ++ g t) p.1.table_is ∙ sym (both def.table)) (q.taken (f def.table) p.1.taken);
-})
+refold_after f g h def kept (Some a) (Some b) both p q = (
+  p.0,
+  record {
+    table_is = q.table_is ∙ p.1.table_is;
+    plan_is = q.plan_is ∙ p.1.plan_is;
+    taken = subst (λ (rows : List Row). HasTaken b.plan rows b.folding) (ap (λ t. f def.table ++ g t) p.1.table_is ∙ sym (both def.table)) (q.taken (f def.table) p.1.taken);
+  },
+)
 
 pub refolds_after : (i : Image) (f g h : ℕ → List Row) (n : ℕ) (defs : List ViewDef) (rs bs : List (Option Refold)) → ((t : ℕ) → h t ≡ f t ++ g t) → EachFrom (AreRefolds i f) n defs rs → AllZip (TakesBy g) rs bs → EachFrom (AreRefolds i h) n defs bs
 refolds_after i f g h n [] [] [] both p q = tt
@@ -231,9 +234,6 @@ long (w ∷ ws) x = ap suc (long ws x)
 
 regroup : {A : Type 0} (ws : List A) (x : A) (xs : List A) → (ws ++ (x ∷ [])) ++ xs ≡ ws ++ (x ∷ xs)
 regroup ws x xs = append_assoc ws (x ∷ []) xs
-
-
-
 
 fed_from : (f : ℕ → List Row) (t : ℕ) (front vs : List SavedView) (defs : List ViewDef) (rs : List (Option Refold)) → length vs ≡ length defs
     → EachFrom (λ n def a. IsRefoldOf f def (unwrap_or (slice_get (front ++ vs) n) nothing_saved) a) (length front) defs rs → list_any (is_over t) rs ≡ feeds t defs vs

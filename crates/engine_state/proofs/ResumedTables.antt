@@ -30,7 +30,7 @@ use Rattle.ts_model.proofs.RowLaws.{in_order-append, in_order-append_swap, same_
 use Rattle.ts_model.proofs.ValidLaws.{valid_is}
 use Rattle.base_image.specs.Held.{is_timed}
 use Rattle.base_image.proofs.HeldLaws.{held_timed}
-use Rattle.row_versions.specs.Tables.{Follows, IsUpTo, is_up_to, died_by, rows_seen}
+use Rattle.row_versions.specs.Tables.{Follows, IsUpTo, is_up_to, died_by}
 use Rattle.engine_state.specs.Notes.{LogStands}
 use Rattle.engine_state.specs.Resumed.{IsHeld}
 use Rattle.engine_state.specs.Tables.{TableStands, TableValue}

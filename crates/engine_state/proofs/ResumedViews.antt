@@ -9,7 +9,7 @@ use Rattle.std.specs.declared.cmp.Ordering.TheVariants.{Less, Equal, Greater}
 use Rattle.std.proofs.lemmas.Bool.{true≢false, and_parts, and_from, ne_eqb}
 use Rattle.std.proofs.lemmas.Bool.Decides.{Decides-int_eq}
 use Rattle.std.proofs.lemmas.Int.{ints}
-use Rattle.ts_bucket.specs.Bucket.{IsWidth, first_of, is_bucket, is_time}
+use Rattle.ts_bucket.specs.Bucket.{IsWidth, first_of, is_bucket}
 use Rattle.ts_bucket.specs.Ranges.{IsWholeRange, lies_in}
 use Rattle.ts_bucket.specs.Spans.{in_span}
 use Rattle.ts_bucket.specs.WholeSpans.{greatest, is_below, least, whole_span}
@@ -30,7 +30,7 @@ use Rattle.ts_model.specs.declared.images.SavedLast.{SavedLast}
 use Rattle.ts_model.specs.declared.images.SavedView.{SavedView}
 use Rattle.ts_model.specs.declared.views.Fold.{Fold}
 use Rattle.ts_model.specs.declared.views.ViewDef.{ViewDef}
-use Rattle.ts_model.specs.Groups.{groups_in, groups_of, groups_at}
+use Rattle.ts_model.specs.Groups.{groups_in, groups_of}
 use Rattle.ts_model.specs.History.{resumed}
 use Rattle.ts_model.specs.Limits.{is_word}
 use Rattle.ts_model.specs.Refreshes.{last}

@@ -1,5 +1,5 @@
 -- Rows of a part of a span, and rows whose times are those of tests.
-use Rattle.std.proofs.Common.{◌≡◌, Bool, true, false, ◌&&◌, cond, List, [], ◌∷◌, map, ℕ, sym, refl, ap, ◌∙◌, subst, arith}
+use Rattle.std.proofs.Common.{◌≡◌, Bool, true, false, ◌&&◌, cond, List, [], ◌∷◌, map, ℕ, sym, refl, ap, ◌∙◌, arith}
 use Rattle.std.specs.List.{filter, list_all}
 use Rattle.std.specs.Prelude.{ℤ, int_le, int_lt}
 use Rattle.std.specs.Int.{int_max, int_min}

@@ -4,9 +4,9 @@ ghost use Rattle.std.specs.Arc.{arc_value};
 ghost use Rattle.ts_model.specs.Roster.{no_relations, roster_after};
 ghost use Rattle.engine_state.specs.Tables.{table_at};
 
-use event_check::after_event;
 use crate::tables::TableState;
 use crate::views::ViewState;
+use event_check::after_event;
 use refresh_list::Refreshes;
 use std::alloc::Global;
 use std::marker::Model;

@@ -11,8 +11,8 @@ use crate::parts::Parts;
 use crate::refolds::refolded;
 use crate::resumed_tables::resumed_tables;
 use crate::resumed_views::resumed_views;
-use event_check::after_event;
 use crate::states::State;
+use event_check::after_event;
 use refresh_list::Refreshes;
 use std::alloc::Global;
 use std::sync::Arc;
@@ -35,11 +35,7 @@ fn made_roster(alloc: Global, events: &[Event]) -> Result<Roster, NoMemory>
 
 impl Parts {
     /// The parts of the state of the history that begins with an image.
-    fn from_image<L>(
-        alloc: Global,
-        image: &Image,
-        steps: &mut Steps<L>,
-    ) -> Result<Parts, NoMemory>
+    fn from_image<L>(alloc: Global, image: &Image, steps: &mut Steps<L>) -> Result<Parts, NoMemory>
         requires valid { valid image.now ≡ true }
         ensures stands { IfOk result (StandsFor (resumed image.now)) }
         ensures read { Ticks result (rows_refolded image.now) steps.old steps.new }

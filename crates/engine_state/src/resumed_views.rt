@@ -95,11 +95,7 @@ fn spans_of(alloc: Global, lasts: &[SavedLast]) -> Result<Seq<Span>, NoMemory>
 
 /// The materialised groups of an aggregate: of a dirty bucket those that the image keeps, and of any other
 /// bucket with a last refresh those of its rows, among these.
-fn resumed_groups(
-    alloc: Global,
-    saved: &SavedView,
-    anew: &MatRows,
-) -> Result<MatRows, NoMemory>
+fn resumed_groups(alloc: Global, saved: &SavedView, anew: &MatRows) -> Result<MatRows, NoMemory>
     requires kept { (i : ImageValue) × (n : ℕ) × (def : ViewValue) × IsKeptOf i n def saved.now anew.now }
     ensures groups { (i : ImageValue) (n : ℕ) (def : ViewValue) → IsKeptOf i n def saved.now anew.now
         → IfOk result (GroupsStand n def (resumed i) saved.now.mark) }

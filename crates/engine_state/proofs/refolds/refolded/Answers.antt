@@ -1,10 +1,9 @@
 -- All rows of the image are taken in.
-use Rattle.std.proofs.Common.{◌≡◌, ℕ, ◌<◌, ◌^◌, ◌++◌, [], List, Option, length, take, drop, refl, sym, ap, ◌∙◌, subst, arith}
+use Rattle.std.proofs.Common.{◌≡◌, ℕ, ◌<◌, ◌^◌, ◌++◌, [], List, Option, length, take, drop, sym, ap, ◌∙◌, subst, arith}
 use Rattle.std.specs.List.{AllByRecursion, AllZip, list_all, list_any}
 use Rattle.std.proofs.lemmas.List.Elements.{length_all_zip}
 use Rattle.std.proofs.lemmas.Result.{IfOk-weaker, err_from_is_err_and}
 use Rattle.base_image.specs.Held.{is_timed}
-use Rattle.partial_agg.specs.declared.groups.Group.{Group}
 use Rattle.ts_schema.specs.Counts.{RaisedUpTo, raised_by}
 use Rattle.ts_model.specs.declared.rosters.Roster.{Roster}
 use Rattle.ts_model.specs.Saved.{appended_over}

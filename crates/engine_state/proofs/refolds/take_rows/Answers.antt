@@ -1,5 +1,5 @@
 -- A piece of rows more is taken in and counted.
-use Rattle.std.proofs.Common.{◌≡◌, ◌+◌, [], List, length, refl, sym, ap, ◌∙◌, subst, arith}
+use Rattle.std.proofs.Common.{◌≡◌, length, refl, sym, subst, arith}
 use Rattle.std.proofs.lemmas.List.{nil_from_length}
 use Rattle.std.proofs.lemmas.Result.{err_from_is_err_and}
 use Rattle.group_fold.specs.Grouping.{AreTimes}
