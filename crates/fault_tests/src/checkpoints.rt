@@ -30,10 +30,7 @@ fn journal<R: Threads + Wait + Sync + AllocGlobal>(rt: &R) -> Result<Vec<u8>, Fa
 }
 
 /// A checkpoint over a disk, with a statement as its input, which it doesn't read.
-fn checkpoint<R: Threads + Wait + Sync + AllocGlobal>(
-    rt: &R,
-    disk: FailDisk,
-) -> Result<Ran, Fail> {
+fn checkpoint<R: Threads + Wait + Sync + AllocGlobal>(rt: &R, disk: FailDisk) -> Result<Ran, Fail> {
     let input = lines(rt.alloc(), 3, 4)?;
     call(rt, "checkpoint", &input, ALL, (0, 0), disk)
 }
@@ -63,8 +60,8 @@ fn goes_on<R: Threads + Wait + Sync + AllocGlobal>(rt: &R, bytes: &[u8]) -> Resu
         sound_disk(rt.alloc(), bytes)?,
     )?;
     let again = checkpoint(rt, sound_disk(rt.alloc(), bytes)?)?;
-    let saved = again.text == SAVED || again.text == NOTHING;
-    Ok(check.text == CHECK && ran.text == want && saved)
+    let saved = again.text.as_slice() == SAVED || again.text.as_slice() == NOTHING;
+    Ok(check.text.as_slice() == CHECK && ran.text == want && saved)
 }
 
 /// How many calls of a kind a checkpoint makes: it asks for the length once, and raises the version, writes
@@ -78,7 +75,10 @@ fn each_call_of_the_disk_fails_in_turn(rt: HostRuntime) -> Result<(), Fail> {
         for nth in 1..=calls {
             let disk = FailDisk::new(rt.alloc(), journal.to_vec(rt.alloc())?, kind, nth);
             let ran = checkpoint(&rt, disk)?;
-            assert!(rt; ran.status == Status::DiskFault && ran.text.is_empty(), "{kind:?} {nth}");
+            assert!(rt;
+                ran.status == Status::DiskFault && ran.text.is_empty(),
+                "{kind:?} {nth}"
+            );
             assert!(rt; goes_on(&rt, ran.disk.inner().bytes())?, "{kind:?} {nth}");
         }
         let disk = FailDisk::new(
@@ -88,7 +88,10 @@ fn each_call_of_the_disk_fails_in_turn(rt: HostRuntime) -> Result<(), Fail> {
             calls.saturating_add(1),
         );
         let ran = checkpoint(&rt, disk)?;
-        assert!(rt; ran.status == Status::Done && ran.text == SAVED, "{kind:?}");
+        assert!(rt;
+            ran.status == Status::Done && ran.text.as_slice() == SAVED,
+            "{kind:?}"
+        );
     }
     Ok(())
 }
@@ -100,12 +103,15 @@ fn each_read_of_the_disk_fails_in_turn(rt: HostRuntime) -> Result<(), Fail> {
         let disk = FailDisk::new(rt.alloc(), journal.to_vec(rt.alloc())?, Kind::Read, nth);
         let ran = checkpoint(&rt, disk)?;
         if ran.disk.faults() == 0 {
-            assert!(rt; ran.status == Status::Done && ran.text == SAVED);
+            assert!(rt; ran.status == Status::Done && ran.text.as_slice() == SAVED);
             return Ok(());
         }
         // The journal is read before anything is written.
-        assert!(rt; ran.status == Status::DiskFault && ran.text.is_empty(), "{nth}");
-        assert!(rt; ran.disk.inner().bytes() == journal, "{nth}");
+        assert!(rt;
+            ran.status == Status::DiskFault && ran.text.is_empty(),
+            "{nth}"
+        );
+        assert!(rt; ran.disk.inner().bytes() == journal.as_slice(), "{nth}");
     }
     assert!(rt; false, "a hundred reads");
     Ok(())
@@ -123,10 +129,13 @@ fn the_disk_stops_after_each_number_of_calls(rt: HostRuntime) -> Result<(), Fail
             assert!(rt; goes_on(&rt, &image)?, "{calls}, image {pick}");
         }
         if ran.disk.faults() == 0 {
-            assert!(rt; ran.status == Status::Done && ran.text == SAVED);
+            assert!(rt; ran.status == Status::Done && ran.text.as_slice() == SAVED);
             return Ok(());
         }
-        assert!(rt; ran.status == Status::DiskFault && ran.text.is_empty(), "{calls}");
+        assert!(rt;
+            ran.status == Status::DiskFault && ran.text.is_empty(),
+            "{calls}"
+        );
     }
     assert!(rt; false, "a hundred calls");
     Ok(())
@@ -136,8 +145,8 @@ fn the_disk_stops_after_each_number_of_calls(rt: HostRuntime) -> Result<(), Fail
 fn a_line_that_is_not_written_leaves_the_image(rt: HostRuntime) -> Result<(), Fail> {
     let disk = sound_disk(rt.alloc(), &journal(&rt)?)?;
     let ran = call(&rt, "checkpoint", b"", 5, (0, 2), disk)?;
-    assert!(rt; ran.status == Status::WriteFault && ran.text == b"CHECK");
+    assert!(rt; ran.status == Status::WriteFault && ran.text.as_slice() == b"CHECK".as_slice());
     let again = checkpoint(&rt, sound_disk(rt.alloc(), ran.disk.inner().bytes())?)?;
-    assert!(rt; again.status == Status::Done && again.text == NOTHING);
+    assert!(rt; again.status == Status::Done && again.text.as_slice() == NOTHING);
     Ok(())
 }

@@ -8,11 +8,14 @@
 //! - `disks`: a call of the disk that fails, a disk that stops, and what a crash leaves of it.
 //! - `journals`: journals that are cut or changed.
 //! - `reads`: how many stored rows a run looks at, which no reply tells.
+//! - `checkpoints`: a checkpoint whose sink or disk fails.
 //! - `ticks`: a tick whose disk fails.
 #![tactic(auto)]
 
 #[cfg(test)]
 mod calls;
+#[cfg(test)]
+mod checkpoints;
 #[cfg(test)]
 mod disks;
 #[cfg(test)]
