@@ -11,7 +11,6 @@ use Rattle.ts_model.specs.States.{State}
 use Rattle.stmt_reader.specs.Lines.{line_kind, session_name}
 use Rattle.stmt_reader.specs.Reading.{statement as any_statement}
 use Rattle.stmt_reader.specs.Streams.{Stream, stream}
-use Rattle.stmt_reader.specs.declared.statements.Stmt.TheVariants as statements
 use Rattle.result_text.specs.declared.codes.TheConstants.{LINE_LONG}
 use Rattle.result_text.specs.declared.replies.Said.TheVariants as said
 use Rattle.result_text.specs.Replies.{reply_text}
