@@ -1,6 +1,7 @@
 -- Blanks and tokens: a token takes at least one byte, and none past the end.
-use Rattle.std.proofs.Common.{◌≡◌, ℕ, suc, ◌+◌, ◌<◌, ◌≤◌, Bool, true, false, cond, eqb, leb, ◌&&◌, List, [], ◌∷◌, length, drop, Option, Some, None, refl, sym, ap, subst, ◌∙◌, arith}
-use Rattle.std.proofs.lemmas.Bool.{eqb-false, cond_both, and_parts}
+use Rattle.std.proofs.Common.{◌≡◌, ℕ, suc, ◌+◌, ◌<◌, ◌≤◌, Bool, true, false, cond, eqb, leb, ◌&&◌, ◌||◌, List, [], ◌∷◌, length, drop, Option, Some, None, refl, sym, ap, subst, ◌∙◌, arith}
+use Rattle.std.proofs.lemmas.Bool.{eqb-false, cond_both, and_parts, or_parts}
+use Rattle.std.proofs.lemmas.Bool.Decides.{nat_tests}
 use Rattle.std.proofs.lemmas.List.Sums.{prefix_len-le-length}
 use Rattle.std.proofs.lemmas.List.{length-drop}
 use Rattle.std.specs.Char.{is_ascii_digit}
@@ -16,6 +17,18 @@ blanks_and_return bs n n-is = subst (λ k. is_return (drop k bs) ≡ true → k 
 
 pub blanks_alone : (bs : List ℕ) (n : ℕ) → n ≡ prefix_len is_space bs → is_return (drop n bs) ≡ false → n ≡ blank_len bs
 blanks_alone bs n n-is = subst (λ k. is_return (drop k bs) ≡ false → k ≡ blank_len bs) (sym n-is) (λ e. rw e refl)
+
+-- where neither a space nor a CR stands in front there is no blank
+pub no_blank : (b : ℕ) (bs : List ℕ) → (is_space b || eqb b 13) ≡ false → 0 ≡ blank_len (b ∷ bs)
+no_blank b [] e = let k = or_parts (is_space b) (eqb b 13) e in rw (k.0, k.1) refl
+no_blank b (c ∷ bs) e = let k = or_parts (is_space b) (eqb b 13) e in rw k.0 refl
+
+-- what begins a number begins no word
+number_is_no_word : (b : ℕ) → (is_ascii_digit b || eqb b 45) ≡ true → begins_word b ≡ false
+number_is_no_word b e = grind (arith, nat_tests)
+
+pub number_first : (b : ℕ) (bs : List ℕ) → (is_ascii_digit b || eqb b 45) ≡ true → lexeme_at (b ∷ bs) ≡ number_at (b ∷ bs)
+number_first b bs e = rw (number_is_no_word b e, e) refl
 
 return_is_one : (bs : List ℕ) → is_return bs ≡ true → length bs ≡ 1
 return_is_one [] e = absurd cc

@@ -11,6 +11,7 @@ pub mod PartRules
 pub mod Placed
 pub mod ProperForms
 pub mod ProperLaws
+pub mod RowBytes
 pub mod RuleLists
 pub mod RuleTokens
 pub mod Rules

@@ -1,7 +1,7 @@
 -- The digits that a number's token takes are a numeral, and few of them write what is read digit by digit.
-use Rattle.std.proofs.Common.{◌≡◌, ◌≢◌, ℕ, suc, zero, ◌+◌, ◌*◌, ◌^◌, ◌<◌, ◌≤◌, true, false, cond, eqb, leb, List, [], ◌∷◌, length, take, drop, length-take-le, refl, sym, ap, subst, ◌∙◌, arith, inl, inr, get_or}
+use Rattle.std.proofs.Common.{◌≡◌, ◌≢◌, ℕ, suc, zero, ◌+◌, ◌*◌, ◌^◌, ◌<◌, ◌≤◌, true, false, eqb, leb, List, [], ◌∷◌, length, take, drop, length-take-le, refl, sym, ap, subst, ◌∙◌, arith, inl, inr, get_or}
 use Rattle.std.specs.Prelude.{pos, neg_ℤ, nat_lt, Some}
-use Rattle.std.proofs.lemmas.Bool.{ne_eqb, cases_Bool, cond_both, le-leb, lt-ltb, ltb-true, ltb-false}
+use Rattle.std.proofs.lemmas.Bool.{ne_eqb, cases_Bool, cond_both, le-leb, ltb-true, ltb-false}
 use Rattle.std.proofs.lemmas.Bool.Decides.{nat_tests}
 use Rattle.std.proofs.lemmas.List.Folds.{length-prefix_len}
 use Rattle.std.proofs.lemmas.List.Sums.{prefix_len-drop_yes, prefix_len-drop_no, prefix_len-drop_all}
@@ -71,49 +71,38 @@ number_is_numeral (b ∷ bs) s n s-is n-is some =
 
 -- ---- digits that stand in front, read one after the other
 
--- so many digits stand in front at least, and this is the number that they write where they are few
+-- so many digits stand in front at least, 18 at most, and this is the number that they write
 pub record IsFront (bs : List ℕ) (n v : ℕ) : Type 0 where
   pub within : n ≤ length bs
+  pub few : n ≤ 18
   pub len : prefix_len is_ascii_digit bs ≡ n + prefix_len is_ascii_digit (drop n bs)
   pub digits : AllDigits 10 (take n bs)
-  pub value : n ≤ 18 → v ≡ digits_value 10 (take n bs)
-  pub small : v < 10 ^ 18
+  pub value : v ≡ digits_value 10 (take n bs)
 
 pub front_none : (bs : List ℕ) → IsFront bs 0 0
-front_none bs = record { within = omega arith; len = omega arith; digits = tt; value = λ few. refl; small = omega arith }
+front_none bs = record { within = omega arith; few = omega arith; len = omega arith; digits = tt; value = refl }
 
 -- few digits write a number with room for one more
-front_below : (bs : List ℕ) (n k v : ℕ) → IsFront bs n v → n ≤ k → k ≤ 18 → v < 10 ^ k
-front_below bs n k v f few most =
-    subst (λ (w : ℕ). w < 10 ^ k) (sym (f.value (omega (arith, few, most))))
+front_below : (bs : List ℕ) (n k v : ℕ) → IsFront bs n v → n ≤ k → v < 10 ^ k
+front_below bs n k v f few =
+    subst (λ (w : ℕ). w < 10 ^ k) (sym f.value)
     (digits_value_short (numerals_by_value (AllDigits 10) tells_digits) (take n bs) k f.digits (omega (arith, length-take-le n bs f.within, few)))
 
 pub front_room : (bs : List ℕ) (n v : ℕ) → IsFront bs n v → n < 18 → v < 10 ^ 17
-front_room bs n v f few = front_below bs n 17 v f (omega (arith, few)) (omega arith)
+front_room bs n v f few = front_below bs n 17 v f (omega (arith, few))
 
--- the value with one more digit
-abbrev pub value_with : ℕ → ℕ → ℕ → ℕ
-value_with n v d = cond (nat_lt n 18) (v * 10 + digit_value d) v
+pub front_small : (bs : List ℕ) (n v : ℕ) → IsFront bs n v → v < 10 ^ 18
+front_small bs n v f = front_below bs n 18 v f f.few
 
-value_with-few : (n v d : ℕ) → n < 18 → value_with n v d ≡ v * 10 + digit_value d
-value_with-few n v d few = rw (lt-ltb n 18 few) refl
-
-pub front_more : (bs : List ℕ) (n v : ℕ) → IsFront bs n v → n < length bs → is_ascii_digit (get_or bs n 0) ≡ true → IsFront bs (n + 1) (value_with n v (get_or bs n 0))
-front_more bs n v f below e =
+pub front_more : (bs : List ℕ) (n v : ℕ) → IsFront bs n v → n < length bs → n < 18 → is_ascii_digit (get_or bs n 0) ≡ true → IsFront bs (n + 1) (v * 10 + digit_value (get_or bs n 0))
+front_more bs n v f below few e =
     let d : ℕ = get_or bs n 0 in
-    let fit : digit_value d < 10 = digit_is d e in
-    let digits : AllDigits 10 (take (n + 1) bs) = digits_more 10 bs n below f.digits fit in
-    let value : n + 1 ≤ 18 → value_with n v d ≡ digits_value 10 (take (n + 1) bs) =
-    λ few. value_with-few n v d (omega (arith, few)) ∙ ap (λ w. w * 10 + digit_value d) (f.value (omega (arith, few))) ∙ sym (digits_value_more 10 bs n below) in
     record {
       within = omega (arith, below);
+      few = omega (arith, few);
       len = f.len ∙ ap (λ k. n + k) (prefix_len-drop_yes is_ascii_digit bs n 0 below e) ∙ omega arith;
-      digits = digits;
-      value = value;
-      small = elim (cases_Bool (nat_lt n 18)) [
-        | inl few ↦ rw few (omega (arith, front_room bs n v f (ltb-true n 18 few), fit))
-        | inr many ↦ rw many f.small
-      ];
+      digits = digits_more 10 bs n below f.digits (digit_is d e);
+      value = ap (λ w. w * 10 + digit_value d) f.value ∙ sym (digits_value_more 10 bs n below);
     }
 
 pub front_ends : (bs : List ℕ) (n v : ℕ) → IsFront bs n v → (n < length bs → is_ascii_digit (get_or bs n 0) ≡ false) → n ≡ prefix_len is_ascii_digit bs

@@ -119,6 +119,14 @@ abbrev pub number_of : Seen → Option (Option ℤ)
 number_of (number z) = Some z
 number_of other = None
 
+-- a value of a row: a number that is an i64, or NULL
+abbrev pub value_of : Seen → Option (Option ℤ)
+value_of (word w) = if bytes_eq w (keyword_text kw.Null) then Some None else None
+value_of (number None) = None
+value_of (number (Some z)) = Some (Some z)
+value_of (quoted w) = None
+value_of (mark m) = None
+
 -- true or false
 abbrev pub flag_of : Seen → Option Bool
 flag_of t = if is_keyword kw.True t then Some true else if is_keyword kw.False t then Some false else None

@@ -1,6 +1,7 @@
 //! Parts of statements: values, rows, columns, tests, and the name after AS.
-ghost use Rattle.std.specs.Prelude.{◌≡◌, ◌≤◌, Ok, Some, None};
+ghost use Rattle.std.specs.Prelude.{◌≡◌, ◌≤◌, Ok, Some, None, IfOk};
 ghost use Rattle.stmt_reader.specs.Cursor.{ahead};
+ghost use Rattle.stmt_reader.specs.Streams.{size};
 ghost use Rattle.stmt_reader.specs.Reading as spec;
 ghost use Rattle.stmt_reader.specs.Reading.{Gives};
 ghost use Rattle.stmt_reader.specs.declared.phrases.Separator.TheVariants as separators;
@@ -10,10 +11,11 @@ use crate::faults::ReadError;
 use crate::keywords::Keyword;
 use crate::phrases::{Phrase, Separator};
 use crate::reader::Reader;
+use crate::rows::{row_behind, rows_behind};
 use crate::statements::NamedTest;
 use crate::tokens::Mark;
 use cell_rows::CellRows;
-use ts_schema::{Cmp, Column, Name, Seq};
+use ts_schema::{Cmp, Column, Name, NoMemory, Seq};
 
 /// A name.
 impl Phrase for Name {
@@ -71,8 +73,22 @@ impl Reader<'_> {
     }
 
     /// The values of a row in parentheses, in the memory of a list of which no value stays.
-    #[tactic(auto, unfolding(crate::specs::Reading::row, crate::specs::Reading::bind))]
     fn row(&mut self, room: Seq<Option<i64>>) -> Result<Seq<Option<i64>>, ReadError>
+        ensures { Gives result (spec.row (ahead self.old)) (ahead self.new) }
+    {
+        let mut values = room.into_items();
+        match row_behind(self.text(), self.read_len(), &mut values)? {
+            Some(end) => {
+                self.go_on_behind(end);
+                Ok(Seq::of(values))
+            }
+            None => self.row_of_tokens(Seq::of(values)),
+        }
+    }
+
+    /// The same, token by token.
+    #[tactic(auto, unfolding(crate::specs::Reading::row, crate::specs::Reading::bind))]
+    fn row_of_tokens(&mut self, room: Seq<Option<i64>>) -> Result<Seq<Option<i64>>, ReadError>
         ensures { Gives result (spec.row (ahead self.old)) (ahead self.new) }
     {
         self.mark(Mark::Open)?;
@@ -104,11 +120,31 @@ impl Reader<'_> {
     {
         let mut rows = front;
         let mut values = room;
-        while self.takes_separator(Separator::Comma) {
-            values = self.row(values)?;
+        'rows: loop {
+            let room = self.rows_in_bytes(&mut rows, values)?;
+            if !self.takes_separator(Separator::Comma) {
+                return Ok(rows);
+            }
+            values = self.row_of_tokens(room)?;
             rows.push(values.items())?;
         }
-        Ok(rows)
+    }
+
+    /// Reads one more row each time a comma and a row come next.
+    fn rows_in_bytes(
+        &mut self,
+        rows: &mut CellRows<Option<i64>>,
+        room: Seq<Option<i64>>,
+    ) -> Result<Seq<Option<i64>>, NoMemory>
+        ensures read { IfOk result (λ _.
+            spec.more (spec.parts separators.Comma) spec.row rows.new (ahead self.new)
+            ≡ spec.more (spec.parts separators.Comma) spec.row rows.old (ahead self.old)) }
+        ensures forward { IfOk result (λ _. size (ahead self.new) ≤ size (ahead self.old)) }
+    {
+        let mut values = room.into_items();
+        let end = rows_behind(self.text(), self.read_len(), rows, &mut values)?;
+        self.go_on_behind(end);
+        Ok(Seq::of(values))
     }
 
     /// `[NOT NULL]`

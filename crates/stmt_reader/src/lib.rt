@@ -4,6 +4,7 @@
 //! - `tokens`: words, numbers, quoted names and marks.
 //! - `statements`: what is written in a statement.
 //! - `reading`: the statement of a line, by a reader of its tokens.
+//! - `rows`: the rows of an INSERT, read from their bytes.
 //! - `reader`, `phrases`, `clauses`, `folds`, `forms`: the reader, with a method for each rule of the
 //!   grammar, from one token to a whole statement.
 //!   They are public for crates with forms of their own.
@@ -21,6 +22,7 @@ mod names;
 mod phrases;
 mod reader;
 mod reading;
+mod rows;
 mod statements;
 mod tokens;
 

@@ -62,6 +62,30 @@ impl<'a> Reader<'a> {
         self.alloc
     }
 
+    /// The text.
+    pub(crate) fn text(&self) -> &'a [u8]
+        ensures text { result.now ≡ self.now.text }
+    {
+        self.text
+    }
+
+    /// How many of its bytes were read.
+    pub(crate) fn read_len(&self) -> usize
+        ensures len { result ≡ self.now.at }
+        ensures within { result ≤ length self.now.text }
+    {
+        self.at
+    }
+
+    /// Goes on behind this many bytes of the text.
+    pub(crate) fn go_on_behind(&mut self, read_len: usize)
+        requires within { read_len ≤ length self.old.text }
+        ensures goes { self.new ≡ record { text = self.old.text; at = read_len } }
+    {
+        self.at = read_len;
+        self.ahead = look(self.text, read_len);
+    }
+
     /// The token that comes next.
     fn token(&self) -> Option<Token<'a>>
         ensures seen { option_map view result ≡ seen_ahead (ahead self.now) }

@@ -1,5 +1,5 @@
 //! Words, numbers, quoted names and marks.
-ghost use Rattle.std.specs.Prelude.{◌≡◌, ◌≤◌, ◌<◌, ◌+◌, ◌-◌, ◌*◌, ◌^◌, if◌then◌else◌, nat_lt, length, take, true, Some, None, IfSome, IsTrue, pos};
+ghost use Rattle.std.specs.Prelude.{◌≡◌, ◌≤◌, ◌<◌, ◌+◌, ◌-◌, ◌*◌, ◌^◌, ◌==◌, ◌||◌, length, take, true, Some, None, IfSome, IsTrue, pos};
 ghost use Rattle.std.specs.List.{prefix_len};
 ghost use Rattle.std.specs.Char.{is_ascii_digit, digit_value};
 ghost use Rattle.std.specs.Ordering.{int_eq};
@@ -8,7 +8,7 @@ ghost use Rattle.std.specs.Str.Parse.{IsNumeral, without_leading_sign, digits_va
 ghost use Rattle.stmt_reader.specs.Limits.{longest_line};
 ghost use Rattle.stmt_reader.specs.Bytes.{is_space, begins_word, continues_word, lower};
 ghost use Rattle.stmt_reader.specs.Tokens as spec;
-ghost use Rattle.stmt_reader.specs.Words.{mark_number, comparison_of_mark, is_keyword, is_mark, is_number, is_item, function_of, function_of_word, comparison_of, flag_of, is_spelled};
+ghost use Rattle.stmt_reader.specs.Words.{mark_number, comparison_of_mark, is_keyword, is_mark, is_number, is_item, value_of, function_of, function_of_word, comparison_of, flag_of, is_spelled};
 ghost use Rattle.stmt_reader.specs.Scan.{view, view_lexeme, view_ahead, seen_lexeme, seen_next, SeenFits, i64_of, signed_number, shown_token};
 
 use crate::keywords::Keyword;
@@ -169,6 +169,24 @@ impl<'a> Token<'a> {
         }
     }
 
+    /// The value of a row that it is: a number that is an i64, or NULL.
+    #[inline]
+    pub fn value(self) -> Option<Option<i64>>
+        ensures { result ≡ value_of (view self.entry) }
+    {
+        match self {
+            Token::Number(Some(number)) => Some(Some(number)),
+            Token::Word(word) => {
+                if is_text(word, Keyword::Null.text()) {
+                    Some(None)
+                } else {
+                    None
+                }
+            }
+            Token::Number(None) | Token::Quoted(_) | Token::Mark(_) => None,
+        }
+    }
+
     /// The function that it names.
     pub fn function(self) -> Option<Fun>
         ensures { result ≡ function_of (view self.entry) }
@@ -288,6 +306,7 @@ fn shown(token: Token<'_>, at: u32, end: u32) -> TokenAt
 }
 
 /// What comes after the first `skip` bytes of a text.
+#[inline]
 pub fn look(text: &[u8], skip: usize) -> Ahead<'_>
     requires within { skip ≤ length text.now }
     ensures next { view_ahead result ≡ seen_next (spec.next text.now skip) }
@@ -305,6 +324,7 @@ pub fn look(text: &[u8], skip: usize) -> Ahead<'_>
 
 /// The mark that stands directly after the first `skip` bytes, where its byte begins no longer one. Most marks
 /// stand so, directly behind a word or a number.
+#[inline]
 fn lone_mark(text: &[u8], skip: usize) -> Option<Mark>
     ensures next { IfSome result (λ mark. spec.next text.now skip
         ≡ spec.token (spec.mark mark) skip (skip + 1)) }
@@ -322,7 +342,8 @@ fn lone_mark(text: &[u8], skip: usize) -> Option<Mark>
 }
 
 /// What comes after the blanks that stand there.
-fn look_behind_blanks(text: &[u8], skip: usize) -> Ahead<'_>
+#[inline]
+pub(crate) fn look_behind_blanks(text: &[u8], skip: usize) -> Ahead<'_>
     requires within { skip ≤ length text.now }
     ensures next { view_ahead result ≡ seen_next (spec.next text.now skip) }
     ensures fits { SeenFits skip (length text.now) (view_ahead result) }
@@ -343,8 +364,26 @@ fn look_behind_blanks(text: &[u8], skip: usize) -> Ahead<'_>
     }
 }
 
-/// How many blanks stand in front: spaces, tabs, and a CR at the end of the text.
+/// How many blanks stand in front: spaces, tabs, and a CR at the end of the text. Most often there is none.
+#[inline]
 pub fn blank_len(text: &[u8]) -> usize
+    ensures len { result ≡ spec.blank_len text.now }
+    ensures within { result ≤ length text.now }
+{
+    match text {
+        [first, ..] => {
+            if may_be_blank(*first) {
+                blanks_in_front(text)
+            } else {
+                0
+            }
+        }
+        [] => 0,
+    }
+}
+
+/// The same, where blanks stand in front.
+fn blanks_in_front(text: &[u8]) -> usize
     ensures len { result ≡ spec.blank_len text.now }
     ensures within { result ≤ length text.now }
 {
@@ -376,18 +415,21 @@ fn is_lone_return(text: &[u8]) -> bool
     }
 }
 
-/// The token that begins here.
+/// The token that begins here. Numbers are the most, and their first byte begins nothing else.
+#[inline]
 fn lexeme_at(text: &[u8]) -> Option<Lexeme<'_>>
     ensures lexeme { view_lexeme result ≡ seen_lexeme (spec.lexeme_at text.now) }
 {
     let [first, rest @ ..] = text else {
         return None;
     };
+    if may_begin_number(*first) {
+        return number_at(text);
+    }
     if may_begin_word(*first) {
         return word_at(text);
     }
     match *first {
-        b'0'..=b'9' | b'-' => number_at(text),
         b'\'' => quoted_at(rest),
         _ => mark_at(text),
     }
@@ -418,6 +460,7 @@ struct Digits {
 }
 
 /// As many digits as there are, after a minus where one stands in front.
+#[inline]
 fn number_at(text: &[u8]) -> Option<Lexeme<'_>>
     ensures { view_lexeme result ≡ seen_lexeme (spec.number_at text.now) }
 {
@@ -449,33 +492,60 @@ fn number_of(text: &[u8], sign: usize, digits: Digits) -> Option<i64>
     }
 }
 
-/// The digits that stand in front. They are read once, since most bytes of a statement are digits.
+/// The digits that stand in front. Few are read once, since most bytes of a statement are digits of short numbers.
+#[inline]
 fn digits_in_front(text: &[u8]) -> Digits
     ensures len { result.len ≡ prefix_len is_ascii_digit text.now }
     ensures within { result.len ≤ length text.now }
     ensures value { result.len ≤ 18 → result.value ≡ digits_value 10 (take result.len text.now) }
     ensures small { result.value < 10 ^ 18 }
 {
+    let few = few_digits(text);
+    if few.len < SHORT_NUMBER {
+        return few;
+    }
+    Digits {
+        len: digit_len(text),
+        value: few.value,
+    }
+}
+
+/// The first of the digits that stand in front, `SHORT_NUMBER` at most.
+#[inline]
+fn few_digits(text: &[u8]) -> Digits
+    ensures most { result.len ≤ 18 }
+    ensures front { result.len ≤ prefix_len is_ascii_digit text.now }
+    ensures all { result.len < 18 → result.len ≡ prefix_len is_ascii_digit text.now }
+    ensures within { result.len ≤ length text.now }
+    ensures value { result.value ≡ digits_value 10 (take result.len text.now) }
+    ensures small { result.value < 10 ^ 18 }
+{
+    let most = text.len().min(SHORT_NUMBER);
     let mut len = 0;
     let mut value = 0;
-    while len < text.len() && text[len].is_ascii_digit() {
-        value = value_with(len, value, text[len]);
+    while len < most && text[len].is_ascii_digit() {
+        value = value_with(value, text[len]);
         len += 1;
     }
     Digits { len, value }
 }
 
-/// The value of so many digits with one more behind them, and that of the first ones where they are many.
-fn value_with(len: usize, value: u64, digit: u8) -> u64
-    requires small { len < 18 → value < 10 ^ 17 }
+/// The value of digits with one more behind them.
+#[inline]
+fn value_with(value: u64, digit: u8) -> u64
+    requires small { value < 10 ^ 17 }
     requires digit { is_ascii_digit digit ≡ true }
-    ensures { result ≡ (if nat_lt len 18 then value * 10 + digit_value digit else value) }
+    ensures { result ≡ value * 10 + digit_value digit }
 {
-    if len < SHORT_NUMBER {
-        value * 10 + u64::from(digit - b'0')
-    } else {
-        value
-    }
+    value * 10 + u64::from(digit - b'0')
+}
+
+/// How many digits stand in front.
+fn digit_len(text: &[u8]) -> usize
+    ensures len { result ≡ prefix_len is_ascii_digit text.now }
+    ensures within { result ≤ length text.now }
+{
+    text.iter().take_while(|b| b.is_ascii_digit()).count()
 }
 
 /// The number that a sign of so many bytes and the value of the digits behind it mean.
@@ -584,6 +654,18 @@ fn is_space_byte(byte: u8) -> bool
     ensures { result ≡ is_space byte }
 {
     byte == b' ' || byte == b'\t'
+}
+
+fn may_be_blank(byte: u8) -> bool
+    ensures { result ≡ (is_space byte || byte == 13) }
+{
+    is_space_byte(byte) || byte == b'\r'
+}
+
+fn may_begin_number(byte: u8) -> bool
+    ensures { result ≡ (is_ascii_digit byte || byte == 45) }
+{
+    byte.is_ascii_digit() || byte == b'-'
 }
 
 fn may_begin_word(byte: u8) -> bool

@@ -1,7 +1,7 @@
 use Rattle.std.proofs.Common.{sym, ◌∙◌, ap}
 use Rattle.stmt_reader.specs.Tokens.{is_return}
 use Rattle.stmt_reader.proofs.Lexemes.{blanks_and_return, blanks_alone}
-use Rattle.stmt_reader.proofs.tokens.blank_len.Goals as goal
+use Rattle.stmt_reader.proofs.tokens.blanks_in_front.Goals as goal
 
 pub returns-then-is_lone_return-clause-len : goal.returns-then-is_lone_return-clause-len
 returns-then-is_lone_return-clause-len c = blanks_and_return c.args.text.now c.space_len-spaces.result c.space_len-spaces.ensures.len (ap is_return (sym c.split_at.ensures.back) ∙ sym c.is_lone_return.ensures.lone ∙ c.if-is_lone_return.true)

@@ -1,0 +1,12 @@
+use Rattle.std.proofs.Common.{sym}
+use Rattle.stmt_reader.specs.Scan as scan
+use Rattle.stmt_reader.specs.Scan.{view}
+use Rattle.stmt_reader.specs.Streams.{stream}
+use Rattle.stmt_reader.proofs.RowBytes.{comes, value_by}
+use Rattle.stmt_reader.proofs.rows.value_behind.Goals as goal
+
+pub returns-clause-read : goal.returns-clause-read
+returns-clause-read c =
+    let text = c.args.text.now in
+    let h = comes text c.args.skip (scan.token (view c.in-Token.token) c.in-Token.begin c.in-Token.end) c.requires.within c.in-Token.ensures.next in
+    value_by (stream text c.args.skip) (stream text c.in-Token.end) (view c.in-Token.token) c.in_ok-value.value h.seen h.tail (sym c.in_ok-value.ensures)
