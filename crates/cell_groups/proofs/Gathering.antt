@@ -37,7 +37,7 @@ ordered-set (x ∷ gs) zero g d h e = with_group-twice g x (ordered gs) (equal_b
 ordered-set (x ∷ gs) (suc at) g d h e = ap (with_group x) (ordered-set gs at g d (omega (arith, h)) e) ∙ with_group-commutes x g (ordered gs)
 
 -- a group that has taken in another of its place is that other merged with it
-added_is_merged : (g old new : Group) → group_cmp old g ≡ Equal → new.start ≡ old.start → new.keys ≡ old.keys → new.parts ≡ joined_parts old.parts g.parts → new ≡ merged g old
+pub added_is_merged : (g old new : Group) → group_cmp old g ≡ Equal → new.start ≡ old.start → new.keys ≡ old.keys → new.parts ≡ joined_parts old.parts g.parts → new ≡ merged g old
 added_is_merged g old new e start keys parts =
     let place = group_cmp-place old g e in
     let made : ℤ → List (Option ℤ) → List Summary → Group = λ s ks ps. record { start = s; keys = ks; parts = ps } in

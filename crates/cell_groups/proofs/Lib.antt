@@ -3,3 +3,4 @@ pub mod Kept
 pub mod Room
 pub mod Shown
 pub mod Sorting
+pub mod Writing

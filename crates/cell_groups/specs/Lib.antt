@@ -3,3 +3,4 @@ pub mod Kept
 pub mod Groups
 pub mod Taken
 pub mod Room
+pub mod Written

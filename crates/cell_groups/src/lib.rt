@@ -8,6 +8,7 @@
 //! - `orders`: groups put in order.
 //! - `prints`: numbers by which groups are found.
 //! - `results`: what groups show.
+//! - `written`: result rows of groups that come in order, each written as its group ends.
 //! - `stops`: why rows can't be taken in or shown.
 #![tactic(auto)]
 
@@ -20,6 +21,7 @@ mod results;
 mod shapes;
 mod stops;
 mod tallies;
+mod written;
 
 pub use cells::passes;
 pub use gathers::CellGroups;
@@ -28,3 +30,4 @@ pub use results::rows_of;
 pub use shapes::Shape;
 pub use stops::Stop;
 pub use tallies::Tally;
+pub use written::WrittenGroups;

@@ -13,7 +13,7 @@ use crate::groups::CellGroup;
 use crate::orders::in_order;
 use crate::shapes::Shape;
 use crate::stops::Stop;
-use crate::tallies::{Tally, shown_of, tally_of};
+use crate::tallies::{Tally, shown_alone, shown_of};
 use cell_rows::CellRows;
 use std::alloc::Global;
 use ts_model::Agg;
@@ -53,14 +53,14 @@ fn shown_rows(
 }
 
 /// How many cells a result row has.
-fn width_of(shape: &Shape) -> usize {
+pub(crate) fn width_of(shape: &Shape) -> usize {
     1usize
         .saturating_add(shape.keys.len())
         .saturating_add(shape.aggs.len())
 }
 
 /// Appends the result row of a group. It is made where there is room for cells, of which none stays.
-fn put_group(
+pub(crate) fn put_group(
     shape: &Shape,
     group: &CellGroup<'_>,
     cells: &mut Vec<Datum>,
@@ -110,8 +110,7 @@ fn put_row(aggs: &[Agg], row: &[Datum], cells: &mut Vec<Datum>) -> Result<(), No
     ensures { OnOk result (cells.new.items ≡ cells.old.items ++ map (cell_shown row.now) aggs.now) }
 {
     for agg in aggs {
-        let own = tally_of(agg.fun, value_at(row, agg.col));
-        cells.push(shown_of(agg.fun, &own))?;
+        cells.push(shown_alone(agg.fun, value_at(row, agg.col)))?;
     }
     Ok(())
 }

@@ -195,6 +195,27 @@ pub(crate) fn shown_of(fun: Fun, tally: &Tally) -> Datum
     }
 }
 
+/// What a function shows of one cell.
+pub(crate) fn shown_alone(fun: Fun, value: Option<i128>) -> Datum
+    ensures { result ≡ tally_shown fun (cell_tally fun value) }
+{
+    match fun {
+        Fun::CountAll => Datum::Int(1),
+        Fun::Sum | Fun::Min | Fun::Max => number_alone(value),
+        Fun::Count | Fun::Avg => shown_of(fun, &tally_of_value(value)),
+    }
+}
+
+/// The number of one cell, NULL where it has none.
+fn number_alone(value: Option<i128>) -> Datum
+    ensures { result ≡ tally_shown Sum (cell_tally Sum value) }
+{
+    match value {
+        None => Datum::Null,
+        Some(v) => Datum::Int(v),
+    }
+}
+
 /// The number of a tally, NULL where it has none.
 fn number_shown(tally: &Tally) -> Datum
     ensures { result ≡ sum_shown tally.now.values tally.now.number }

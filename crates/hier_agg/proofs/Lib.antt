@@ -7,3 +7,4 @@ pub mod Regrouping
 pub mod Showing
 pub mod Stands
 pub mod Widening
+pub mod Writing

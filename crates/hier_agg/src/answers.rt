@@ -1,14 +1,18 @@
 //! The upper answer of a lower one.
-ghost use Rattle.std.specs.Prelude.{◌≡◌, IfOk};
+ghost use Rattle.std.specs.Prelude.{◌≡◌, [], IfOk};
+ghost use Rattle.cell_groups.specs.Groups.{rows_shown};
+ghost use Rattle.cell_groups.specs.Taken.{with_rows};
 ghost use Rattle.hier_agg.specs.Plans.{agg_at};
 ghost use Rattle.hier_agg.specs.Stale.{AreUpperRanges, AreWholeRanges};
+ghost use Rattle.hier_agg.specs.Taken.{row_group_of, row_passes};
 ghost use Rattle.hier_agg.specs.Upper.{upper_answer, upper_rows};
 
 use crate::gathers::gather;
 use crate::plans::UpperPlan;
 use crate::shapes::shape_of;
 use crate::stale::widen;
-use cell_groups::{Stop, rows_of};
+use crate::writes::write_in_order;
+use cell_groups::{Shape, Stop, rows_of};
 use cell_rows::CellRows;
 use std::alloc::Global;
 use ts_model::{Answer, Fold, ViewDef};
@@ -44,8 +48,48 @@ fn answer_rows(
 {
     let _step = plan.width.step;
     let shape = shape_of(alloc, lower, plan)?;
-    let gathered = gather(alloc, plan, &shape, rows)?;
-    match rows_of(alloc, &shape, gathered) {
+    let upper = rolled_rows(alloc, plan, lower, &shape, rows)?;
+    Ok(upper)
+}
+
+/// The result rows of the rows whose keys pass, in one pass where their groups come in order.
+fn rolled_rows(
+    alloc: Global,
+    plan: &UpperPlan,
+    lower: &Fold,
+    shape: &Shape,
+    rows: &CellRows<Datum>,
+) -> Result<CellRows<Datum>, NoMemory>
+    ensures { IfOk result (λ upper. upper
+        ≡ rows_shown shape.now (with_rows (row_passes plan.now) (row_group_of plan.now shape.now) rows.now [])) }
+{
+    let written = write_in_order(alloc, plan, shape, room_for(plan, lower, rows), rows)?;
+    match written {
+        Some(upper) => Ok(upper),
+        None => gathered_rows(alloc, plan, shape, rows),
+    }
+}
+
+/// For how many result rows there is to be room at first: where the buckets stay as wide, each row may be one.
+fn room_for(plan: &UpperPlan, lower: &Fold, rows: &CellRows<Datum>) -> usize {
+    if plan.width.step == lower.width.step {
+        return rows.len();
+    }
+    0
+}
+
+/// The same, however the groups of the rows come.
+fn gathered_rows(
+    alloc: Global,
+    plan: &UpperPlan,
+    shape: &Shape,
+    rows: &CellRows<Datum>,
+) -> Result<CellRows<Datum>, NoMemory>
+    ensures { IfOk result (λ upper. upper
+        ≡ rows_shown shape.now (with_rows (row_passes plan.now) (row_group_of plan.now shape.now) rows.now [])) }
+{
+    let gathered = gather(alloc, plan, shape, rows)?;
+    match rows_of(alloc, shape, gathered) {
         Ok(upper) => Ok(upper),
         Err(Stop::NoMemory) | Err(Stop::TooGreat) => Err(NoMemory),
     }

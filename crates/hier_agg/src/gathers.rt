@@ -3,13 +3,13 @@ ghost use Rattle.std.specs.Prelude.{◌≡◌, [], IfOk, OnOk};
 ghost use Rattle.cell_groups.specs.Groups.{as_groups};
 ghost use Rattle.cell_groups.specs.Taken.{AreGathered, taken_in, with_rows};
 ghost use Rattle.group_fold.specs.Gathering.{ordered};
-ghost use Rattle.hier_agg.specs.Taken.{columns_of, row_group_of, row_passes};
-ghost use Rattle.hier_agg.specs.Upper.{row_of};
+ghost use Rattle.hier_agg.specs.Taken.{row_group_of, row_passes};
 ghost use Rattle.hier_agg.specs.Wides.{HoldsItsNumbers};
 
 use crate::plans::UpperPlan;
-use crate::wides::{WideBucket, bucket_with, no_bucket};
-use cell_groups::{CellGroups, Shape, Stop, passes};
+use crate::rows::{columns_of, passes_to};
+use crate::wides::{WideBucket, no_bucket};
+use cell_groups::{CellGroups, Shape, Stop};
 use cell_rows::CellRows;
 use std::alloc::Global;
 use ts_num::Datum;
@@ -51,33 +51,11 @@ fn take_row<'a>(
         ≡ taken_in (row_passes plan.now) (row_group_of plan.now shape.now) cells.now (ordered (as_groups shape.now gathered.old.groups.items))) }
     ensures gathered { OnOk result (AreGathered shape.now gathered.new) }
 {
-    let columns = columns_of(cells);
-    if !passes(columns, plan.tests.items()) {
+    if !passes_to(plan, cells, bucket)? {
         return Ok(());
     }
-    *bucket = bucket_with(&plan.width, *bucket, start_of(cells))?;
-    match gathered.take(alloc, shape, bucket.start, columns) {
+    match gathered.take(alloc, shape, bucket.start, columns_of(cells)) {
         Ok(()) => Ok(()),
         Err(Stop::NoMemory) | Err(Stop::TooGreat) => Err(NoMemory),
-    }
-}
-
-/// The cells of a row behind its bucket.
-fn columns_of(cells: &[Datum]) -> &[Datum]
-    ensures { result.now ≡ columns_of cells.now }
-{
-    match cells {
-        [] => &[],
-        [_, columns @ ..] => columns,
-    }
-}
-
-/// The start of a row's bucket.
-fn start_of(cells: &[Datum]) -> i128
-    ensures { result ≡ (row_of cells.now).at }
-{
-    match cells {
-        [Datum::Int(v), ..] => *v,
-        _ => 0,
     }
 }

@@ -8,7 +8,9 @@
 //! - `answers`: the upper answer and its rows.
 //! - `stale`: which wider buckets hold a stale one.
 //! - `shapes`: a roll-up, as a grouping of cells.
-//! - `gathers`: the groups of an answer's rows.
+//! - `rows`: a row of an answer: its keys, and its wider bucket.
+//! - `writes`: the result rows of an answer's rows, written in one pass where their groups come in order.
+//! - `gathers`: the groups of an answer's rows, in any order.
 //! - `wides`: the wider bucket of a row.
 //! - `laws`: what roll-ups show, at every history.
 #![tactic(auto)]
@@ -19,11 +21,13 @@ mod gathers;
 pub mod laws;
 mod plans;
 mod reads;
+mod rows;
 mod shapes;
 mod stale;
 mod stops;
 mod wides;
 mod widths;
+mod writes;
 
 pub use answers::answer_upper;
 pub use plans::{UpperPlan, lower_query};

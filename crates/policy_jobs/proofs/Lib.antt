@@ -1,6 +1,7 @@
 pub mod PolicyRules
 pub mod Judging
 mod WideNumbers
+mod FirstDue
 pub mod TokenLaws
 pub mod CleanTexts
 pub mod DueTexts

@@ -1,8 +1,9 @@
 -- Policies that a session keeps: which of them are due at a time, and the statements that they run.
-use Rattle.std.specs.Prelude.{ℕ, ℤ, ◌-ℤ◌, Bool, true, cond, int_le, List, ◌++◌, filter, map, Option, Some, None, codes}
+use Rattle.std.specs.Prelude.{ℕ, ℤ, ◌+ℤ◌, ◌-ℤ◌, Bool, true, cond, int_le, List, [], ◌∷◌, ◌++◌, filter, map, Option, Some, None, codes}
 use Rattle.std.specs.Fmt.{signed_decimal}
-use Rattle.std.specs.Int.{int_max}
+use Rattle.std.specs.Int.{int_max, int_min}
 use Rattle.ts_bucket.specs.Bucket.{min_time}
+use Rattle.ts_bucket.specs.WholeSpans.{greatest, least}
 use Rattle.policy_jobs.specs.declared.jobs.Job.{Job}
 use Rattle.policy_jobs.specs.declared.jobs.Job.TheVariants as jobs
 use Rattle.policy_jobs.specs.declared.policies.Policy.{Policy}
@@ -21,6 +22,18 @@ is_due now p = is_back now p.every p.ran
 -- those that are due, in the order of adding
 abbrev pub due : ℤ → List Policy → List Policy
 due now ps = filter (is_due now) ps
+
+-- ---- from when on one is due
+
+-- from when on one is due that ran then, or never, of the numbers of 64 bits
+abbrev pub due_after : ℤ → Option ℤ → ℤ
+due_after every None = least
+due_after every (Some last) = last +ℤ every
+
+-- from when on the first of these is due. Of none it is the greatest number of 64 bits
+abbrev pub first_due : List Policy → ℤ
+first_due [] = greatest
+first_due (p ∷ ps) = int_min (due_after p.every p.ran) (first_due ps)
 
 -- ---- the statement of one that is due
 

@@ -6,9 +6,9 @@ use Rattle.policy_jobs.specs.Turns.{PolicyPlaces}
 
 -- its places, by those of the actor in it
 abbrev pub places_in : {A P : Type 0} → (A → P) → PolicySession A → PolicyPlaces P
-places_in places s = record { inner = places s.actor; policies = s.policies.items }
+places_in places s = record { inner = places s.actor; policies = s.policies }
 
 -- what the actor in it holds goes with what its store has seen, and its policies passed when they were added
 pub record HoldsOf {A : Type 0} (Holds : A → State → Type 0) (session : PolicySession A) (s : State) : Type 0 where
   pub actor : Holds session.actor s
-  pub policies : AreKept session.policies.items
+  pub policies : AreKept session.policies

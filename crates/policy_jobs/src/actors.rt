@@ -1,4 +1,5 @@
 //! Sessions with policies execute the lines of a session wherever the actors in them do.
+use crate::kept::KeptPolicies;
 use crate::reading::{PolicyRead, read_policy};
 use crate::sessions::{PolicySession, misread, refuse};
 use std::alloc::Global;
@@ -43,7 +44,7 @@ impl<A: Actor> Actor for PolicySession<A> {
     fn begin(alloc: Global, name: Name, number: u32) -> PolicySession<A> {
         PolicySession {
             actor: A::begin(alloc, name, number),
-            policies: Vec::new(alloc),
+            policies: KeptPolicies::new(alloc),
         }
     }
 

@@ -1,5 +1,5 @@
 //! Policies that a session keeps: which of them are due at a time, and the statements that they run.
-ghost use Rattle.std.specs.Prelude.{◌≡◌, ◌++◌, not, true, IfOk, OnOk, Some};
+ghost use Rattle.std.specs.Prelude.{◌≡◌, ◌+ℤ◌, ◌++◌, int_lt, not, true, IfOk, OnOk, Some};
 ghost use Rattle.std.specs.List.{AllByRecursion, list_any};
 ghost use Rattle.ts_bucket.specs.Bucket.{is_time};
 ghost use Rattle.policy_jobs.specs.Policies.{due_text, due_texts as texts_due, end_of, end_text, is_due, refresh_text, retention_text, ticked, ticked_one};
@@ -94,6 +94,40 @@ pub(crate) fn is_idle(policies: &[Policy], now: i64) -> bool
         }
     }
     true
+}
+
+/// From when on the first of them is due. Of none it is the greatest number of 64 bits.
+pub(crate) fn first_due(policies: &[Policy]) -> i128
+    ensures { result ≡ spec.first_due policies.now }
+{
+    match policies {
+        [] => i64::MAX as i128,
+        [policy, rest @ ..] => due_after(policy.every, policy.ran).min(first_due(rest)),
+    }
+}
+
+/// From when on one is due that ran then, or never.
+fn due_after(every: i64, ran: Option<i64>) -> i128
+    ensures { result ≡ spec.due_after every ran }
+{
+    match ran {
+        None => i64::MIN as i128,
+        Some(last) => sum_of(last, every),
+    }
+}
+
+/// The sum of two numbers.
+fn sum_of(a: i64, b: i64) -> i128
+    ensures { result ≡ a +ℤ b }
+{
+    a as i128 + b as i128
+}
+
+/// Whether a time lies before a number.
+pub(crate) fn is_before(now: i64, from: i128) -> bool
+    ensures { result ≡ int_lt now from }
+{
+    (now as i128) < from
 }
 
 /// Those that are due at a time have run then.

@@ -15,7 +15,8 @@ ghost use Rattle.policy_jobs.specs.Turns.{adds_policy, lets_pass, misses_time, r
 
 use crate::adding::adding_refusal;
 use crate::jobs::Job;
-use crate::policies::{Policy, due_texts, is_idle, mark_due};
+use crate::kept::KeptPolicies;
+use crate::policies::{Policy, due_texts};
 use crate::reading::{PolicyRead, read_policy};
 use crate::runs::{Run, run_all};
 use crate::statements::PolicyStmt;
@@ -35,7 +36,7 @@ pub struct PolicySession<A> {
     /// The actor.
     pub actor: A,
     /// The policies.
-    pub policies: Vec<Policy>,
+    pub policies: KeptPolicies,
 }
 
 impl<A: Actor> PolicySession<A> {
@@ -109,9 +110,9 @@ impl<A: Actor> PolicySession<A> {
     /// Keeps a policy that was added at a position.
     fn keep(&mut self, alloc: Global, pos: u64, policy: Policy) -> StepEnd
         ensures says { AnswersSo (A.named self.old.actor)
-            (PolicyLine (suc (length self.old.policies.items)) pos ∷ []) false result }
+            (PolicyLine (suc (length self.old.policies)) pos ∷ []) false result }
         ensures policies { IfAnswered result
-            (self.new.policies.items ≡ self.old.policies.items ++ policy ∷ []) }
+            (self.new.policies ≡ self.old.policies ++ policy ∷ []) }
         ensures actor { self.new.actor ≡ self.old.actor }
     {
         match self.keep_with_reply(alloc, pos, policy) {
@@ -128,8 +129,8 @@ impl<A: Actor> PolicySession<A> {
         policy: Policy,
     ) -> Result<Reply, NoMemory>
         ensures reply { IfOk result (λ r. IsReply (A.named self.old.actor)
-            (PolicyLine (suc (length self.old.policies.items)) pos ∷ []) r) }
-        ensures policies { OnOk result (self.new.policies.items ≡ self.old.policies.items ++ policy ∷ []) }
+            (PolicyLine (suc (length self.old.policies)) pos ∷ []) r) }
+        ensures policies { OnOk result (self.new.policies ≡ self.old.policies ++ policy ∷ []) }
         ensures actor { self.new.actor ≡ self.old.actor }
     {
         let number = self.policies.len() as u64 + 1;
@@ -164,7 +165,7 @@ impl<A: Actor> PolicySession<A> {
         if !is_time(now) {
             return self.miss_time(alloc, backend);
         }
-        if is_idle(&self.policies, now) {
+        if self.policies.is_idle(now) {
             return say(alloc, self.actor.name(), Said::Tick { time: now, due: 0 });
         }
         match self.run_due(rt, alloc, backend, gate, now, steps) {
@@ -178,10 +179,10 @@ impl<A: Actor> PolicySession<A> {
 
     /// What is due at a time has run then.
     fn mark(&mut self, now: i64)
-        ensures policies { self.new.policies.items ≡ ticked now self.old.policies.items }
+        ensures policies { self.new.policies ≡ ticked now self.old.policies }
         ensures actor { self.new.actor ≡ self.old.actor }
     {
-        mark_due(&mut self.policies, now);
+        self.policies.mark(now);
     }
 
     /// A tick at a time out of range is refused where the store is found.
@@ -213,7 +214,7 @@ impl<A: Actor> PolicySession<A> {
         requires outside { A.within (A.places self.old.actor) ≡ none }
         requires holds { HoldsOf A.holds self.old (B.state backend.old) }
         ensures ran { RunsTo B.alone (B.state backend.old)
-            (runs_due A.semantics.does now (A.places self.old.actor) self.old.policies.items)
+            (runs_due A.semantics.does now (A.places self.old.actor) self.old.policies)
             (A.named self.old.actor) result (B.state backend.new) (A.places self.new.actor) steps.old steps.new }
         ensures policies { self.new.policies ≡ self.old.policies }
         ensures name { A.named self.new.actor ≡ A.named self.old.actor }
@@ -223,7 +224,7 @@ impl<A: Actor> PolicySession<A> {
         ensures kin { B.kin backend.new ≡ B.kin backend.old }
     {
         let _so_far = steps.count();
-        let texts = due_texts(alloc, &self.policies, now)?;
+        let texts = due_texts(alloc, self.policies.as_slice(), now)?;
         let line = Said::Tick {
             time: now,
             due: texts.len() as u64,

@@ -6,12 +6,11 @@ use Rattle.hier_agg.specs.Taken.{row_group_of, row_passes}
 use Rattle.hier_agg.proofs.Stands.{gathered_is_upper}
 use Rattle.hier_agg.proofs.answers.answer_rows.Goals as goal
 
-pub returns-in-Ok : goal.returns-in-Ok
-returns-in-Ok c =
+pub returns : goal.returns
+returns c =
     let lower = c.args.lower.now in
     let plan = c.args.plan.now in
     let wide : IsWidth plan.width = search rules in
-    let shape = c.in_ok-shape.shape in
-    c.in-Ok.ensures.rows ∙ ap (rows_shown shape) c.in_ok-gathered.ensures.groups
+    c.in_ok-upper.ensures
     ∙ ap (λ s. rows_shown s (with_rows (row_passes plan) (row_group_of plan s) c.args.rows.now [])) c.in_ok-shape.ensures
     ∙ gathered_is_upper lower plan wide c.args.rows.now

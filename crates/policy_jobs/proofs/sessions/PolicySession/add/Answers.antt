@@ -68,10 +68,10 @@ returns-in-None-clause-stepped g c = λ n short.
     let asked : None ≡ adding_refusal c.position-pos.result c.roster.result.now (length p.policies) job every = search rules in
     let passed_there = adding_at h c.position-pos.result c.roster.result.now (length p.policies) job every None (c.position-pos.ensures h t.1) (c.roster.ensures h t.1) asked in
     let policy : Policy = record { job = job; every = every; ran = None } in
-    let pushed : IfAnswered c.keep.result (c.keep.new.self.policies.items ≡ p.policies ++ policy ∷ []) = search rules in
+    let pushed : IfAnswered c.keep.result (c.keep.new.self.policies ≡ p.policies ++ policy ∷ []) = search rules in
     let there : IfAnswered c.keep.result (q ≡ record p { policies = p.policies ++ policy ∷ [] }) =
-    if_answered c.keep.result (c.keep.new.self.policies.items ≡ p.policies ++ policy ∷ []) (q ≡ record p { policies = p.policies ++ policy ∷ [] })
-    (λ e. ap (λ a. record { inner = g.A.Actor.places a; policies = c.keep.new.self.policies.items }) c.keep.ensures.actor ∙ ap (λ ps. record { inner = p.inner; policies = ps }) e) pushed
+    if_answered c.keep.result (c.keep.new.self.policies ≡ p.policies ++ policy ∷ []) (q ≡ record p { policies = p.policies ++ policy ∷ [] })
+    (λ e. ap (λ a. record { inner = g.A.Actor.places a; policies = c.keep.new.self.policies }) c.keep.ensures.actor ∙ ap (λ ps. record { inner = p.inner; policies = ps }) e) pushed
     in
     let at : c.position-pos.result ≡ position h = c.position-pos.ensures h t.1 in
     let says : AnswersSo name (said.Policy (suc (length p.policies)) (position h) ∷ []) false c.keep.result =
@@ -89,13 +89,13 @@ returns-in-None-clause-holds g c =
     let new = c.keep.new.self in
     let job = c.args.job in
     let every = c.args.every in
-    let many = length self.policies.items in
+    let many = length self.policies in
     let fits : FitsSigned w64 every = c.ranges.every in
     let asked : None ≡ adding_refusal c.position-pos.result c.roster.result.now many job every = search rules in
     let policy : Policy = record { job = job; every = every; ran = None } in
-    let pushed : IfAnswered c.keep.result (new.policies.items ≡ self.policies.items ++ policy ∷ []) = search rules in
+    let pushed : IfAnswered c.keep.result (new.policies ≡ self.policies ++ policy ∷ []) = search rules in
     let goes = goes_seen alone old mid (sees_looked alone old _ mid c.in-Ok.ensures.looked) in
     let inner = subst (λ a. g.A.Actor.holds a mid) (sym c.keep.ensures.actor) (g.met.A.Actor.holds_on self.actor old mid goes c.requires.holds.actor) in
-    let kept = kept_push self.policies.items policy c.requires.holds.policies (offsets_passed c.position-pos.result c.roster.result.now many job every (sym asked)) in
-    if_answered c.keep.result (new.policies.items ≡ self.policies.items ++ policy ∷ []) (HoldsOf g.A.Actor.holds new mid)
+    let kept = kept_push self.policies policy c.requires.holds.policies (offsets_passed c.position-pos.result c.roster.result.now many job every (sym asked)) in
+    if_answered c.keep.result (new.policies ≡ self.policies ++ policy ∷ []) (HoldsOf g.A.Actor.holds new mid)
     (λ e. record { actor = inner; policies = subst AreKept (sym e) kept }) pushed

@@ -17,7 +17,7 @@ returns-in_err-texts-clause-ran g c =
     let alone = g.B.Backend.alone in
     let old = g.B.Backend.state c.args.backend.now in
     let p = g.A.Actor.places c.args.self.now.actor in
-    let d = runs_due g.A.Actor.semantics.does c.args.now p c.args.self.now.policies.items in
+    let d = runs_due g.A.Actor.semantics.does c.args.now p c.args.self.now.policies in
     broken_run alone old d (g.A.Actor.named c.args.self.now.actor) c.from_residual.result old p c.args.steps.now c.args.steps.now c.from_residual.ensures.0 (not_begun alone old d) (omega arith)
 
 pub returns-in_err-reply-clause-ran : goal.returns-in_err-reply-clause-ran
@@ -25,7 +25,7 @@ returns-in_err-reply-clause-ran g c =
     let alone = g.B.Backend.alone in
     let old = g.B.Backend.state c.args.backend.now in
     let p = g.A.Actor.places c.args.self.now.actor in
-    let d = runs_due g.A.Actor.semantics.does c.args.now p c.args.self.now.policies.items in
+    let d = runs_due g.A.Actor.semantics.does c.args.now p c.args.self.now.policies in
     broken_run alone old d (g.A.Actor.named c.args.self.now.actor) c.from_residual-in_err-reply.result old p c.args.steps.now c.args.steps.now c.from_residual-in_err-reply.ensures.0 (not_begun alone old d) (omega arith)
 
 pub returns-clause-ran : goal.returns-clause-ran
@@ -38,7 +38,7 @@ returns-clause-ran g c =
     let q = g.A.Actor.places c.run_all.new.actor in
     let name = g.A.Actor.named c.args.self.now.actor in
     let now = c.args.now in
-    let policies = c.args.self.now.policies.items in
+    let policies = c.args.self.now.policies in
     let n = c.args.steps.now in
     let short : n < 2 ^ 64 = search rules in
     let texts : c.items.result.now ≡ due_texts now policies = search rules in

@@ -48,7 +48,7 @@ returns-in-Ok-clause-stepped g c =
     let in_time : is_time now ≡ true = subst (λ t. is_time t ≡ true) here (sym c.is_time.ensures ∙ in_there) in
     let ran : RunsTo alone old d name (Ok c.in-Ok.run') new (g.A.Actor.places c.run_due.new.self.actor) n m = subst (λ t. RunsTo alone old (runs_due does t p.inner p.policies) name (Ok c.in-Ok.run') new (g.A.Actor.places c.run_due.new.self.actor) n m) here c.in-Ok.ensures.ran in
     let whole = beside_stepped (ticked now p.policies) alone old d name c.replied.result new (g.A.Actor.places c.run_due.new.self.actor) n m (run_stepped alone old d name c.in-Ok.run' c.replied.result new (g.A.Actor.places c.run_due.new.self.actor) n m ran c.replied.ensures) in
-    let marked : c.mark.new.self.policies.items ≡ ticked now p.policies = subst (λ t. c.mark.new.self.policies.items ≡ ticked t p.policies) here (c.mark.ensures.policies ∙ ap (λ v. ticked (to_z w64 (of_z w64 now)) v.items) c.in-Ok.ensures.policies) in
+    let marked : c.mark.new.self.policies ≡ ticked now p.policies = subst (λ t. c.mark.new.self.policies ≡ ticked t p.policies) here (c.mark.ensures.policies ∙ ap (ticked (to_z w64 (of_z w64 now))) c.in-Ok.ensures.policies) in
     subst (λ t. Stepped alone old (cond t (ending_as (beside (ticked now p.policies)) d) (misses_time p)) name c.replied.result new q n m) (sym in_time)
     (subst (λ a. Stepped alone old (ending_as (beside (ticked now p.policies)) d) name c.replied.result new (record { inner = g.A.Actor.places a; policies = q.policies }) n m) (sym c.mark.ensures.actor)
     (subst (λ ps. Stepped alone old (ending_as (beside (ticked now p.policies)) d) name c.replied.result new (record { inner = g.A.Actor.places c.run_due.new.self.actor; policies = ps }) n m) (sym marked) whole))
@@ -56,9 +56,9 @@ returns-in-Ok-clause-stepped g c =
 pub returns-in-Ok-clause-holds : goal.returns-in-Ok-clause-holds
 returns-in-Ok-clause-holds g c =
     let new = g.B.Backend.state c.run_due.new.backend in
-    let policies = c.args.self.now.policies.items in
+    let policies = c.args.self.now.policies in
     let time = to_z w64 (of_z w64 c.args.now) in
-    let marked : c.mark.new.self.policies.items ≡ ticked time policies = c.mark.ensures.policies ∙ ap (λ v. ticked time v.items) c.in-Ok.ensures.policies in
+    let marked : c.mark.new.self.policies ≡ ticked time policies = c.mark.ensures.policies ∙ ap (ticked time) c.in-Ok.ensures.policies in
     let inner = subst (λ a. g.A.Actor.holds a new) (sym c.mark.ensures.actor) c.in-Ok.ensures.holds in
     always c.replied.result (HoldsOf g.A.Actor.holds c.mark.new.self new)
     (record { actor = inner; policies = subst AreKept (sym marked) (kept_ticked time policies c.requires.holds.policies) })

@@ -1,0 +1,43 @@
+-- Result rows of groups that come in order, each written as its group ends.
+use Rattle.std.specs.Prelude.{◌≡◌, ⊤, ℤ, List, [], ◌∷◌, ◌++◌, Option, Some, None}
+use Rattle.std.specs.declared.cmp.Ordering.{Ordering}
+use Rattle.std.specs.declared.cmp.Ordering.TheVariants.{Less}
+use Rattle.ts_num.specs.declared.values.Datum.{Datum}
+use Rattle.ts_model.specs.declared.views.Agg.{Agg}
+use Rattle.partial_agg.specs.declared.groups.Group.{Group}
+use Rattle.partial_agg.specs.Groups.{AreInOrder}
+use Rattle.group_fold.specs.Merging.{joined_parts}
+use Rattle.cell_groups.specs.declared.groups.CellGroup.{CellGroup}
+use Rattle.cell_groups.specs.declared.shapes.Shape.{Shape}
+use Rattle.cell_groups.specs.Groups.{as_group, parts_of, rows_shown}
+use Rattle.cell_groups.specs.Kept.{as_parts, row_tallies}
+use Rattle.cell_groups.specs.Taken.{row_cmp}
+
+-- groups are those that have ended, and then the last one, if there is one
+abbrev pub EndWith : Shape → List Group → Option CellGroup → List Group → Type 0
+EndWith shape ended None groups = (ended ≡ []) × (groups ≡ [])
+EndWith shape ended (Some g) groups = groups ≡ ended ++ as_group shape g ∷ []
+
+-- groups in order, of which all but the last have been written
+pub record AreWritten (shape : Shape) (groups : List Group) (rows : List (List Datum)) (last : Option CellGroup) : Type 0 where
+  pub ended : List Group
+  pub all : EndWith shape ended last groups
+  pub shown : rows ≡ rows_shown shape ended
+  pub order : AreInOrder groups
+
+-- the last group, if there is one, beside that of a row: none comes before it
+abbrev pub last_cmp : Shape → Option CellGroup → ℤ → List Datum → Ordering
+last_cmp shape None b cells = Less
+last_cmp shape (Some g) b cells = row_cmp shape g b cells
+
+-- a group has taken in a row
+pub record HasTaken (aggs : List Agg) (cells : List Datum) (old new : CellGroup) : Type 0 where
+  pub start : new.start ≡ old.start
+  pub first : new.first.now ≡ old.first.now
+  pub parts : parts_of aggs new ≡ joined_parts (parts_of aggs old) (as_parts aggs (row_tallies aggs cells))
+
+-- the last group has, if there is one
+abbrev pub TakesRow : List Agg → List Datum → Option CellGroup → Option CellGroup → Type 0
+TakesRow aggs cells None new = ⊤
+TakesRow aggs cells (Some old) None = ⊥
+TakesRow aggs cells (Some old) (Some new) = HasTaken aggs cells old new

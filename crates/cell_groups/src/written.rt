@@ -1,0 +1,133 @@
+//! Result rows of groups that come in order, each written as its group ends.
+ghost use Rattle.std.specs.Prelude.{◌≡◌, ◌++◌, ℕ, List, [], map, Some, false, true, IfOk, IfSome, OnOk};
+ghost use Rattle.std.specs.Option.{option_to_list};
+ghost use Rattle.std.specs.declared.cmp.Ordering.TheVariants.{Greater};
+ghost use Rattle.partial_agg.specs.declared.groups.Group.{Group};
+ghost use Rattle.group_fold.specs.Merging.{with_group};
+ghost use Rattle.cell_groups.specs.Groups.{HasTallies, cells_at, group_shown, rows_shown};
+ghost use Rattle.cell_groups.specs.Written.{AreWritten, TakesRow, last_cmp};
+
+use crate::groups::{CellGroup, group_of, take_row};
+use crate::orders::order_beside;
+use crate::results::{put_group, width_of};
+use crate::shapes::Shape;
+use crate::stops::Stop;
+use cell_rows::CellRows;
+use std::alloc::Global;
+use std::cmp::Ordering;
+use ts_model::Agg;
+use ts_num::Datum;
+use ts_schema::NoMemory;
+
+/// The result rows of groups that come in order: that of each is written as the next group begins.
+#[derive(Drop)]
+pub struct WrittenGroups<'a> {
+    /// The result rows of the groups before the last.
+    pub rows: CellRows<Datum>,
+    /// The last group, if there is one.
+    pub last: Option<CellGroup<'a>>,
+    /// Room for the cells of a result row.
+    cells: Vec<Datum>,
+}
+
+impl<'a> WrittenGroups<'a> {
+    /// No group, and room for so many result rows.
+    pub fn with_room(
+        alloc: Global,
+        shape: &Shape,
+        many: usize,
+    ) -> Result<WrittenGroups<'a>, NoMemory>
+        ensures none { IfOk result (λ written. AreWritten shape.now [] written.rows written.last) }
+    {
+        let mut rows = CellRows::new(alloc);
+        rows.reserve(many, many.saturating_mul(width_of(shape)))?;
+        Ok(WrittenGroups {
+            rows,
+            last: None,
+            cells: Vec::new(alloc),
+        })
+    }
+
+    /// Takes a row in, unless its group comes before the last one, and says whether it did: into the last group, or
+    /// as the next one, in the bucket that starts at `start`.
+    pub fn take(
+        &mut self,
+        alloc: Global,
+        shape: &Shape,
+        start: i128,
+        cells: &'a [Datum],
+    ) -> Result<bool, Stop>
+        requires { IfSome self.old.last (HasTallies shape.now.aggs) }
+        ensures tallies { OnOk result (IfSome self.new.last (HasTallies shape.now.aggs)) }
+        ensures taken { (groups : List Group) → AreWritten shape.now groups self.old.rows self.old.last
+            → IfOk result (λ taken. taken ≡ true
+            → AreWritten shape.now (with_group (cells_at shape.now start cells.now) groups) self.new.rows self.new.last) }
+        ensures left { IfOk result (λ taken. taken ≡ false → last_cmp shape.now self.old.last start cells.now ≡ Greater) }
+    {
+        match self.order(shape, start, cells) {
+            Ordering::Less => {
+                self.begin(shape, group_of(start, cells))?;
+                Ok(true)
+            }
+            Ordering::Equal => {
+                self.add(alloc, shape.aggs.items(), cells)?;
+                Ok(true)
+            }
+            Ordering::Greater => Ok(false),
+        }
+    }
+
+    /// How the last group compares with that of a row. Where there is none, the row's comes behind it.
+    fn order(&self, shape: &Shape, start: i128, cells: &[Datum]) -> Ordering
+        ensures { result ≡ last_cmp shape.now self.now.last start cells.now }
+    {
+        match &self.last {
+            None => Ordering::Less,
+            Some(group) => order_beside(shape, group, start, cells),
+        }
+    }
+
+    /// Takes a row into the last group.
+    fn add(&mut self, alloc: Global, aggs: &[Agg], cells: &[Datum]) -> Result<(), Stop>
+        requires { IfSome self.old.last (HasTallies aggs.now) }
+        ensures taken { OnOk result (TakesRow aggs.now cells.now self.old.last self.new.last) }
+        ensures tallies { IfSome self.new.last (HasTallies aggs.now) }
+        ensures rows { self.new.rows ≡ self.old.rows }
+    {
+        match &mut self.last {
+            None => Ok(()),
+            Some(group) => take_row(alloc, aggs, group, cells),
+        }
+    }
+
+    /// Goes on to the next group: the last one has ended.
+    fn begin(&mut self, shape: &Shape, next: CellGroup<'a>) -> Result<(), NoMemory>
+        ensures rows { OnOk result (self.new.rows ≡ self.old.rows ++ map (group_shown shape.now) (option_to_list self.old.last)) }
+        ensures last { OnOk result (self.new.last ≡ Some next.entry) }
+    {
+        self.end(shape)?;
+        self.last = Some(next);
+        Ok(())
+    }
+
+    /// Writes the result row of the last group.
+    fn end(&mut self, shape: &Shape) -> Result<(), NoMemory>
+        ensures rows { OnOk result (self.new.rows ≡ self.old.rows ++ map (group_shown shape.now) (option_to_list self.old.last)) }
+        ensures last { self.new.last ≡ self.old.last }
+    {
+        match &self.last {
+            None => Ok(()),
+            Some(group) => put_group(shape, group, &mut self.cells, &mut self.rows),
+        }
+    }
+
+    /// The result rows of all groups.
+    pub fn finish(self, shape: &Shape) -> Result<CellRows<Datum>, NoMemory>
+        ensures rows { (groups : List Group) → AreWritten shape.now groups self.entry.rows self.entry.last
+            → IfOk result (λ rows. rows ≡ rows_shown shape.now groups) }
+    {
+        let mut written = self;
+        written.end(shape)?;
+        Ok(written.rows)
+    }
+}

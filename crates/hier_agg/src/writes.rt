@@ -1,0 +1,66 @@
+//! The result rows of an answer's rows, written in one pass where their groups come in order.
+ghost use Rattle.std.specs.Prelude.{◌≡◌, List, [], true, IfOk, IfSome, OnOk};
+ghost use Rattle.partial_agg.specs.declared.groups.Group.{Group};
+ghost use Rattle.cell_groups.specs.Groups.{HasTallies, rows_shown};
+ghost use Rattle.cell_groups.specs.Taken.{taken_in, with_rows};
+ghost use Rattle.cell_groups.specs.Written.{AreWritten};
+ghost use Rattle.hier_agg.specs.Taken.{row_group_of, row_passes};
+ghost use Rattle.hier_agg.specs.Wides.{HoldsItsNumbers};
+
+use crate::plans::UpperPlan;
+use crate::rows::{columns_of, passes_to};
+use crate::wides::{WideBucket, no_bucket};
+use cell_groups::{Shape, Stop, WrittenGroups};
+use cell_rows::CellRows;
+use std::alloc::Global;
+use ts_num::Datum;
+use ts_schema::NoMemory;
+
+/// The result rows of the rows whose keys pass, unless a group comes before the one ahead of it. There is room for
+/// so many from the first on.
+pub(crate) fn write_in_order(
+    alloc: Global,
+    plan: &UpperPlan,
+    shape: &Shape,
+    many: usize,
+    rows: &CellRows<Datum>,
+) -> Result<Option<CellRows<Datum>>, NoMemory>
+    ensures { IfOk result (λ written. IfSome written (λ upper. upper
+        ≡ rows_shown shape.now (with_rows (row_passes plan.now) (row_group_of plan.now shape.now) rows.now []))) }
+{
+    let mut written = WrittenGroups::with_room(alloc, shape, many)?;
+    let mut bucket = no_bucket();
+    for cells in rows.iter() {
+        if !write_row(alloc, plan, shape, cells, &mut bucket, &mut written)? {
+            return Ok(None);
+        }
+    }
+    Ok(Some(written.finish(shape)?))
+}
+
+/// Takes a row in, where its keys pass, unless its group comes before the last one, and says whether it doesn't.
+/// `bucket` is that of a row before it, and then its own. For a sum that takes more than 128 bits there is no room.
+fn write_row<'a>(
+    alloc: Global,
+    plan: &UpperPlan,
+    shape: &Shape,
+    cells: &'a [Datum],
+    bucket: &mut WideBucket,
+    written: &mut WrittenGroups<'a>,
+) -> Result<bool, NoMemory>
+    requires numbers { HoldsItsNumbers plan.now.width bucket.old }
+    requires tallies { IfSome written.old.last (HasTallies shape.now.aggs) }
+    ensures numbers { HoldsItsNumbers plan.now.width bucket.new }
+    ensures tallies { OnOk result (IfSome written.new.last (HasTallies shape.now.aggs)) }
+    ensures written { (groups : List Group) → AreWritten shape.now groups written.old.rows written.old.last
+        → IfOk result (λ came. came ≡ true
+        → AreWritten shape.now (taken_in (row_passes plan.now) (row_group_of plan.now shape.now) cells.now groups) written.new.rows written.new.last) }
+{
+    if !passes_to(plan, cells, bucket)? {
+        return Ok(true);
+    }
+    match written.take(alloc, shape, bucket.start, columns_of(cells)) {
+        Ok(came) => Ok(came),
+        Err(Stop::NoMemory) | Err(Stop::TooGreat) => Err(NoMemory),
+    }
+}
