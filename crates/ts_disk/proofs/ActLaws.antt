@@ -1,5 +1,5 @@
 -- One act more, of a disk in memory.
-use Rattle.std.proofs.Common.{◌≡◌, ◌⊎◌, inl, inr, ⊎_elim, ℕ, ◌+◌, ◌≤◌, List, [], ◌∷◌, ◌++◌, length, Some, Result, Ok, Err, is_some, IfSome, OnOk, OnErr, refl, sym, ◌∙◌, ap, subst, arith, length-append}
+use Rattle.std.proofs.Common.{◌≡◌, ◌⊎◌, inl, inr, ⊎_elim, ℕ, ◌+◌, ◌≤◌, List, [], ◌∷◌, ◌++◌, length, Some, Result, Ok, Err, IsSomeAnd, IfSome, OnOk, OnErr, refl, sym, ◌∙◌, ap, subst, arith, length-append}
 use Rattle.std.proofs.lemmas.Bool.{cases_lt}
 use Rattle.std.proofs.lemmas.List.{ext_get_or, take_all, take-append-le}
 use Rattle.ts_schema.specs.Counts.{one_more}
@@ -82,7 +82,7 @@ module _ (disk : Recorded) where
 
   pub did_write : {T E : Type 0} (piece : Piece) (result : Result T E) (new : Recorded) → Does (Write piece) disk result new → Writes (known disk) piece.at piece.bytes result (known new)
   did_write piece (Ok v) new does = ap (λ (r : Recorded). known r) does ∙ ap (λ (file : List ℕ). Some file) (content_more (Write piece))
-  did_write piece (Err e) new does = ap (λ (r : Recorded). is_some (known r)) does
+  did_write piece (Err e) new does = subst (λ (r : Recorded). IsSomeAnd (known r) (Torn piece.at (length piece.bytes) (content disk))) (sym does) (torn_refl piece.at (length piece.bytes) (content disk))
 
   pub did_tear : {T E : Type 0} (piece : Piece) (result : Result T E) (new : Recorded) → Does (Write piece) disk result new → piece.at ≤ length (content disk) → Follows (Torn piece.at (length piece.bytes)) (leaves disk) (leaves new)
   did_tear piece result new does begins c image = ⊎_elim (λ here. torn_image (state_of disk) piece c begins grown here) (λ old. (c, old, torn_refl piece.at (length piece.bytes) c)) (did_leave (Write piece) result new does c image)

@@ -1,12 +1,12 @@
 -- What torn writes leave.
-use Rattle.std.proofs.Common.{◌≡◌, inl, inr, ℕ, ◌+◌, ◌<◌, ◌≤◌, Bool, true, false, ◌||◌, cond, min, max, List, [], ◌∷◌, ◌++◌, length, map, take, drop, get_or, refl, sym, ◌∙◌, ap, arith, length-take, length-drop}
+use Rattle.std.proofs.Common.{◌≡◌, inl, inr, ℕ, ◌+◌, ◌<◌, ◌≤◌, Bool, true, false, ◌||◌, cond, min, max, List, [], ◌∷◌, ◌++◌, length, map, take, drop, get_or, refl, sym, ◌∙◌, ap, arith, append_assoc, length-append, length-take, length-drop}
 use Rattle.std.proofs.lemmas.Bool.{cases_Bool}
 use Rattle.std.proofs.lemmas.Bool.Decides.{nat_tests}
-use Rattle.std.proofs.lemmas.List.{ext_get_or, get_or-take, get_or-drop}
+use Rattle.std.proofs.lemmas.List.{ext_get_or, get_or-take, get_or-drop, take_at, drop_at}
 use Rattle.std.proofs.lemmas.List.Folds.{list_any-append}
 use Rattle.std.proofs.lemmas.List.FromFn.{length-map-range_with_len, get_or-map-range_with_len}
 use Rattle.std.specs.List.{list_any, range_with_len}
-use Rattle.ts_disk.specs.CrashImage.{State, IsImage, Torn, covers}
+use Rattle.ts_disk.specs.CrashImage.{State, IsImage, Torn, covers, written}
 use Rattle.ts_disk.specs.ImageLaws.{length-written}
 use Rattle.ts_disk.specs.MemDisk.{after}
 use Rattle.ts_disk.specs.declared.acts.Act.TheVariants.{Write}
@@ -15,6 +15,19 @@ use Rattle.ts_disk.specs.declared.acts.Piece.{Piece}
 -- a crash may leave all as it was
 pub torn_refl : (at n : ℕ) (c : List ℕ) → Torn at n c c
 torn_refl at n c = record { before = refl; after = refl; no_shorter = omega arith; no_longer = omega arith }
+
+-- or the whole write
+pub torn_written : (file : List ℕ) (at : ℕ) (piece : List ℕ) → at ≤ length file → Torn at (length piece) file (written file at piece)
+torn_written file at piece le =
+    let front = take at file in
+    let rest = drop (at + length piece) file in
+    let size : length front ≡ at = omega (arith, length-take at file) in
+    record {
+      before = ap (take at) (append_assoc front piece rest) ∙ take_at front (piece ++ rest) at size;
+      after = drop_at (front ++ piece) rest (at + length piece) (omega (arith, size, length-append front piece));
+      no_shorter = omega (arith, length-written file at piece);
+      no_longer = omega (arith, length-written file at piece);
+    }
 
 covered_any : (i : ℕ) (pieces : List Piece) (piece : Piece) → list_any (covers i) pieces ≡ false → covers i piece ≡ false → list_any (covers i) (pieces ++ piece ∷ []) ≡ false
 covered_any i pieces piece none not_here = list_any-append (covers i) pieces (piece ∷ []) ∙ ap (λ (b : Bool). b || (covers i piece || false)) none ∙ ap (λ (b : Bool). b || false) not_here

@@ -2,3 +2,4 @@ pub mod ActLaws
 pub mod Images
 pub mod PickLaws
 pub mod Replays
+pub mod Told

@@ -14,7 +14,8 @@ pub struct Failed;
 ///
 /// Between two syncs each written range, and the part past the old end, may hold any bytes after a
 /// crash, and the length may be any number from the old to the new one. Bytes outside stay. After a
-/// sync that succeeds a crash leaves what a read gives.
+/// sync that succeeds a crash leaves what a read gives. After a write that failed a read, too, may give
+/// any bytes in its range and past the old end.
 pub trait Disk {
     /// The bytes that reads give, where they are told.
     ghost bytes: { Self → Option (List ℕ) };

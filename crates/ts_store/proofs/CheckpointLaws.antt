@@ -1,6 +1,7 @@
 -- What a checkpoint leaves on the disk.
 use Rattle.std.proofs.Common.{◌≡◌, ◌⊎◌, inl, inr, ⊎_elim, ℕ, ◌≤◌, true, false, List, ◌∷◌, [], Option, None, IsSomeAnd, refl, sym, ◌∙◌, ap, subst}
 use Rattle.ts_disk.specs.CrashImage.{LeavesOnly}
+use Rattle.ts_disk.proofs.Told.{some_also}
 use Rattle.ts_model.specs.History.{History, start, resumed, ◌▸◌, Begins, same}
 use Rattle.ts_model.specs.declared.events.Event.{Event}
 use Rattle.event_codec.specs.Spelling as spelling
@@ -14,13 +15,12 @@ use Rattle.txn_journal.proofs.ContentLaws.{base_counts, none_of_both, none_of_on
 use Rattle.txn_journal.proofs.JournalLaws.{lies_stands}
 use Rattle.txn_journal.proofs.Moments.{follows, weaker}
 use Rattle.engine_core.specs.Values.{Past}
-use Rattle.ts_store.specs.Checkpoints.{BeginsSaved, EndsAs, HoldsImage, IfUntouched, IfWritten, IsImageOf, SavesSafely, StandsForImage, StandsSaved}
+use Rattle.ts_store.specs.Checkpoints.{BeginsSaved, EndsAs, HoldsImage, IfUntouched, IfWritten, IsImageOf, StandsForImage, StandsSaved}
 use Rattle.ts_store.specs.Images.{BeginSince, IsBetween, StandsForMore}
 use Rattle.ts_store.specs.declared.checkpoints.CheckEnd.{CheckEnd}
 use Rattle.ts_store.specs.declared.checkpoints.CheckEnd.TheVariants.{Done, Nothing, TooLong, DiskFault, Stopped, NoMemory}
 use Rattle.ts_store.specs.Stands.{IsSound, content_of, payloads_of}
 use Rattle.ts_store.proofs.HistoryLaws.{no_event_is_base, sound_resumed}
-use Rattle.ts_store.proofs.ImageLaws.{some_also}
 
 -- ---- a base behind a journal
 
@@ -94,10 +94,10 @@ module _ {D : Type 0} (bytes : D → Option (List ℕ)) (may_leave : D → List 
 
   pub saves_done : (h : History) (frame : List ℕ) (journal : Logged D) → IsImageOf h frame → IsAtRest bytes may_leave journal (based_on frame) → HoldsImage bytes may_leave journal.disk h
   saves_done h frame journal image rest = record {
-    file = rest.file;
-    told = rest.told;
+    file = rest.tells.file;
+    told = rest.tells.told;
     durable = rest.durable;
-    stands = image_stands h frame rest.file image (lies_stands journal.standing journal.version rest.file journal.end (based_on frame) rest.lies);
+    stands = image_stands h frame rest.tells.file image (lies_stands journal.standing journal.version rest.tells.file journal.end (based_on frame) rest.tells.lies);
   }
 
   -- since an earlier moment each image begins with a history, or is that of one that does

@@ -1,11 +1,12 @@
 -- Images of a store's disk.
-use Rattle.std.proofs.Common.{◌≡◌, inl, inr, ⊎_elim, ℕ, ◌≤◌, List, [], ◌∷◌, ◌++◌, Option, Some, None, IsSomeAnd, refl, sym, ◌∙◌, ap, subst}
+use Rattle.std.proofs.Common.{◌≡◌, inl, inr, ⊎_elim, ℕ, ◌≤◌, List, [], ◌∷◌, ◌++◌, Option, Some, None, IsSomeAnd, refl, ◌∙◌, ap, sym, subst}
 use Rattle.ts_model.specs.declared.events.Event.{Event}
 use Rattle.ts_model.specs.History.{History, ◌▸◌, Begins, same, further}
 use Rattle.ts_model.proofs.HistoryLaws.{begins_trans}
 use Rattle.event_codec.specs.Spelling as spelling
 use Rattle.ts_disk.specs.CrashImage.{LeavesOnly}
-use Rattle.txn_journal.specs.Calls.{Logged, IsAtRest}
+use Rattle.ts_disk.proofs.Told.{some_is}
+use Rattle.txn_journal.specs.Calls.{Logged, IsTold}
 use Rattle.txn_journal.specs.Contents.{Content, with_payload}
 use Rattle.txn_journal.specs.Frames.{Holds, StandsFor, WithOrWithout, body, frames, front}
 use Rattle.txn_journal.specs.declared.versions.Version.{Version}
@@ -13,13 +14,6 @@ use Rattle.txn_journal.proofs.JournalLaws.{lies_stands}
 use Rattle.ts_store.specs.Images.{BeginSince, HasHeader, IsBetween, StandsForEither, StandsForMore, latest}
 use Rattle.ts_store.specs.Stands.{Stands, IsSound, content_of}
 use Rattle.ts_store.proofs.HistoryLaws.{event_counts}
-
-pub some_also : {A : Type 0} (o : Option A) (P Q : A → Type 0) → ((a : A) → P a → Q a) → IsSomeAnd o P → IsSomeAnd o Q
-some_also None P Q from p = p
-some_also (Some a) P Q from p = from a p
-
-pub some_is : {A : Type 0} (o : Option A) (a : A) (P : A → Type 0) → o ≡ Some a → P a → IsSomeAnd o P
-some_is {A = A} o a P is p = subst (λ (x : Option A). IsSomeAnd x P) (sym is) p
 
 -- a file that holds payloads has a header
 header_before : (file : List ℕ) (mark : ℕ) (payloads : List (List ℕ)) (gate : ℕ) (rest : List ℕ) → file ≡ front mark payloads ++ gate ∷ rest → HasHeader file
@@ -68,6 +62,6 @@ module _ {D : Type 0} (bytes : D → Option (List ℕ)) (may_leave : D → List 
   pub begin_on : (old new : D) (P : List ℕ → Type 0) (t : ℕ) (h : History) → LeavesOnly moment left_since old new P → ((c : List ℕ) → P c → StandsForMore h c) → t ≤ moment old → BeginSince left_since old t h → BeginSince left_since new t h
   begin_on old new P t h run more le begin c left = ⊎_elim (begin c) (more c) (run.before t c le left)
 
-  -- what reads give of a journal at rest
-  pub shown_at_rest : (journal : Logged D) (h : History) → IsSound h → IsAtRest bytes may_leave journal (content_of h) → IsSomeAnd (bytes journal.disk) (λ file. Stands file h)
-  shown_at_rest journal h sound rest = some_is (bytes journal.disk) rest.file (λ file. Stands file h) rest.told (record { holds = lies_stands journal.standing journal.version rest.file journal.end (content_of h) rest.lies; sound = sound })
+-- what reads give of a journal that didn't stop
+pub shown_told : {D : Type 0} (bytes : D → Option (List ℕ)) (journal : Logged D) (h : History) → IsSound h → IsTold bytes journal (content_of h) → IsSomeAnd (bytes journal.disk) (λ file. Stands file h)
+shown_told bytes journal h sound tells = some_is (bytes journal.disk) tells.file (λ file. Stands file h) tells.told (record { holds = lies_stands journal.standing journal.version tells.file journal.end (content_of h) tells.lies; sound = sound })

@@ -1,6 +1,6 @@
 -- What is true of a store stays so.
 use Rattle.std.proofs.Common.{◌≡◌, Bool, ◌≢◌, inl, ⊎_elim, ℕ, ◌+◌, ◌-◌, ◌^◌, ◌≤◌, ◌<◌, true, false, min, List, length, Option, Some, None, IsSomeAnd, refl, sym, ◌∙◌, ap, subst, arith}
-use Rattle.std.specs.Prelude.{IsTrue, is_some}
+use Rattle.std.specs.Prelude.{IsSome, IsTrue, is_some}
 use Rattle.std.proofs.lemmas.Bool.{true≢false}
 use Rattle.std.proofs.Math.Nat.{min-le_left, min-le_right, le-min}
 use Rattle.ts_schema.specs.Faults.{Rose}
@@ -11,15 +11,16 @@ use Rattle.engine_core.specs.Histories.{history_of}
 use Rattle.engine_core.specs.Values.{EngineValue, Past}
 use Rattle.ts_disk.specs.CrashImage.{LeavesOnly, Only}
 use Rattle.ts_disk.specs.Disk.{Keeps}
-use Rattle.txn_journal.specs.Calls.{Logged, IsAtRest}
+use Rattle.ts_disk.proofs.Told.{some_also, some_is, the_told}
+use Rattle.txn_journal.specs.Calls.{Logged, IsAtRest, IsTold}
 use Rattle.txn_journal.specs.declared.journals.Standing.{Standing}
 use Rattle.txn_journal.specs.declared.journals.Standing.TheVariants.{Bare, Ready, Still}
 use Rattle.txn_journal.proofs.JournalLaws.{lies_ready, lies_stands}
 use Rattle.ts_store.specs.Images.{HasHeader, IsBetween, IsDurable, StandsForEither, latest}
 use Rattle.ts_store.specs.Safe.{IsSafe}
 use Rattle.ts_store.specs.Stands.{Stands, IsSound, content_of}
-use Rattle.ts_store.specs.Stores.{StoreValue, IsKept, Rests, is_still, opening, seen}
-use Rattle.ts_store.proofs.ImageLaws.{begin_on, begins_latest, between_either, between_on, either_more, holds_header, shown_at_rest, some_also, some_is}
+use Rattle.ts_store.specs.Stores.{StoreValue, IsKept, Rests, Tells, is_still, opening, seen}
+use Rattle.ts_store.proofs.ImageLaws.{begin_on, begins_latest, between_either, between_on, either_more, holds_header, shown_told}
 
 -- ---- counts of faults
 
@@ -82,14 +83,15 @@ module _ {D : Type 0} (bytes : D → Option (List ℕ)) (may_leave : D → List 
 
   -- a call is safe whose images are those of the history at entry, or of the one with its event
   pub safe_of : (old new : StoreValue D) → (Rests bytes may_leave old → LeavesOnly moment left_since old.journal.disk new.journal.disk (StandsForEither (seen old) (latest (seen new) new.failed)))
-      → Begins (seen old) (seen new) → (Rests bytes may_leave old → new.failed ≡ None → Rests bytes may_leave new)
+      → Begins (seen old) (seen new) → (Tells bytes old → new.failed ≡ None → Tells bytes new) → (Rests bytes may_leave old → new.failed ≡ None → Rests bytes may_leave new)
       → (seen new ≡ seen old → new.failed ≡ old.failed → new.journal ≡ old.journal) → Safe old new
-  safe_of old new run goes rests untouched = record {
+  safe_of old new run goes tells rests untouched = record {
     any_moment = run;
     earlier = λ t h rest begins le begin.
         begin_on bytes may_leave moment left_since old.journal.disk new.journal.disk (StandsForEither (seen old) (latest (seen new) new.failed)) t h (run rest)
         (λ c either. either_more h (seen old) (latest (seen new) new.failed) c begins (begins_trans begins (begins_trans goes (begins_latest (seen new) new.failed))) either)
         le begin;
+    tells = tells;
     rests = rests;
     untouched = untouched;
   }
@@ -109,24 +111,28 @@ module _ {D : Type 0} (bytes : D → Option (List ℕ)) (may_leave : D → List 
       safe_of old new
       (λ rest. subst (λ (j : Logged D). LeavesOnly moment left_since old.journal.disk j.disk (StandsForEither (seen old) (latest (seen new) new.failed))) (sym journal) (run rest))
       (subst (λ (h : History). Begins (seen old) h) (sym same_history) same)
+      (λ tells none. subst (λ (h : History). IsTold bytes new.journal (content_of h)) (sym same_history) (subst (λ (j : Logged D). IsTold bytes j (content_of (seen old))) (sym journal) tells))
       (λ rest none. subst (λ (h : History). IsAtRest bytes may_leave new.journal (content_of h)) (sym same_history) (subst (λ (j : Logged D). IsAtRest bytes may_leave j (content_of (seen old))) (sym journal) rest))
       (λ _ _. journal)
     where
-      stands_at_rest : (s : StoreValue D) (sound : IsSound (seen s)) (rest : Rests bytes may_leave s) → Stands rest.file (seen s)
-      stands_at_rest s sound rest = record { holds = lies_stands s.journal.standing s.journal.version rest.file s.journal.end (content_of (seen s)) rest.lies; sound = sound }
+      stands_at_rest : (s : StoreValue D) (sound : IsSound (seen s)) (rest : Rests bytes may_leave s) → Stands rest.tells.file (seen s)
+      stands_at_rest s sound rest = record { holds = lies_stands s.journal.standing s.journal.version rest.tells.file s.journal.end (content_of (seen s)) rest.tells.lies; sound = sound }
 
   -- ---- what is true of a store stays so over a call whose images are those of the history at entry, or of the one with its event
 
   pub kept_after : (old new : StoreValue D) → Kept old → old.failed ≡ None
       → (Rests bytes may_leave old → LeavesOnly moment left_since old.journal.disk new.journal.disk (StandsForEither (seen old) (latest (seen new) new.failed)))
+      → (Tells bytes old → new.failed ≡ None → Tells bytes new)
       → (Rests bytes may_leave old → new.failed ≡ None → Rests bytes may_leave new) → new.begun ≡ old.begun → new.opened ≡ old.opened
       → Begins (seen old) (seen new) → IsSound (seen new) → position (seen old) ≤ position (seen new)
       → faults old.begun ≤ faults new.journal.disk → (IsTrue (is_some new.failed) → Rose (faults old.begun) (faults new.journal.disk))
       → is_some new.failed ≡ is_still new.journal.standing → (new.armed ≡ true → old.armed ≡ true) → (old.journal.standing ≢ Bare → new.journal.standing ≢ Bare)
-      → (Rests bytes may_leave old → IsSomeAnd (bytes new.journal.disk) (StandsForEither (seen new) (latest (seen new) new.failed)))
+      → (Tells bytes old → IsSomeAnd (bytes new.journal.disk) (StandsForEither (seen new) (latest (seen new) new.failed)))
       → Kept new
-  kept_after old new kept going runs rested_on begun opened goes sound longer counted fell still armed headed shown =
+  kept_after old new kept going runs told_on rested_on begun opened goes sound longer counted fell still armed headed shown =
       let durable : IsDurable bytes may_leave new.begun → IsDurable bytes may_leave old.begun = subst (λ (d : D). IsDurable bytes may_leave d) begun in
+      let known : IsSome (bytes new.begun) → IsSome (bytes old.begun) = subst (λ (d : D). IsSome (bytes d)) begun in
+      let told : IsSome (bytes new.begun) → Tells bytes old = λ some. kept.tells (known some) going in
       let rested : IsDurable bytes may_leave new.begun → Rests bytes may_leave old = λ d. kept.rests (durable d) going in
       let within : old.opened ≤ position (seen old) = kept.from in
       let same_opening : opening new ≡ opening old = ap (λ (n : ℕ). prefix (seen new) n) opened ∙ opening_stays (seen old) (seen new) old.opened goes within in
@@ -139,8 +145,9 @@ module _ {D : Type 0} (bytes : D → Option (List ℕ)) (may_leave : D → List 
         still = still;
         headed = λ is. headed (kept.headed (armed is));
         later = λ d. subst (λ (b : D). moment b ≤ moment new.journal.disk) (sym begun) (omega (arith, kept.later (durable d), (runs (rested d)).later));
+        tells = λ some none. told_on (told some) none;
         rests = λ d none. rested_on (rested d) none;
-        shown = λ d. shown (rested d);
+        shown = λ some. shown (told some);
         images = λ d c left.
             let run = runs (rested d) in
             let since : left_since new.journal.disk (moment old.begun) c = subst (λ (b : D). left_since new.journal.disk (moment b) c) begun left in
@@ -164,6 +171,7 @@ module _ {D : Type 0} (bytes : D → Option (List ℕ)) (may_leave : D → List 
         still = kept.still;
         headed = kept.headed;
         later = kept.later;
+        tells = kept.tells;
         rests = kept.rests;
         shown = kept.shown;
         images = kept.images;
@@ -180,25 +188,27 @@ module _ {D : Type 0} (bytes : D → Option (List ℕ)) (may_leave : D → List 
     still = kept.still;
     headed = headed;
     later = kept.later;
+    tells = kept.tells;
     rests = kept.rests;
     shown = kept.shown;
     images = kept.images;
   }
 
   -- what reads give of a journal with a header
-  pub shows_header : (s : StoreValue D) → Kept s → s.armed ≡ true → s.failed ≡ None → IsDurable bytes may_leave s.begun → IsSomeAnd (bytes s.journal.disk) HasHeader
-  shows_header s kept armed going durable =
-      let rest = kept.rests durable going in
-      some_is (bytes s.journal.disk) rest.file HasHeader rest.told (holds_header rest.file (content_of (seen s)) (lies_ready s.journal.standing s.journal.version rest.file s.journal.end (content_of (seen s)) (kept.headed armed) rest.lies).holds)
+  pub shows_header : (s : StoreValue D) → Kept s → s.armed ≡ true → s.failed ≡ None → IsSome (bytes s.begun) → IsSomeAnd (bytes s.journal.disk) HasHeader
+  shows_header s kept armed going some =
+      let tells = kept.tells some going in
+      some_is (bytes s.journal.disk) tells.file HasHeader tells.told (holds_header tells.file (content_of (seen s)) (lies_ready s.journal.standing s.journal.version tells.file s.journal.end (content_of (seen s)) (kept.headed armed) tells.lies).holds)
 
   -- ---- the start
 
   pub kept_at_start : ((disk : D) (c : List ℕ) → left_since disk (moment disk) c → may_leave disk c) → (begun : D) (journal : Logged D) (engine : EngineValue)
       → faults begun < 2 ^ 64 → Keeps bytes may_leave moment left_since begun journal.disk → faults journal.disk ≡ faults begun → IsSound (history_of engine.past) → journal.standing ≢ Still
       → ((file : List ℕ) → bytes begun ≡ Some file → Stands file (history_of engine.past))
+      → ((file : List ℕ) → bytes begun ≡ Some file → IsTold bytes journal (content_of (history_of engine.past)))
       → ((file : List ℕ) → bytes begun ≡ Some file → Only file (may_leave begun) → IsAtRest bytes may_leave journal (content_of (history_of engine.past)))
       → Kept (record { engine = engine; journal = journal; failed = None; begun = begun; opened = position (history_of engine.past); armed = false })
-  kept_at_start only_now begun journal engine few keeps count sound goes_on stands at_rest =
+  kept_at_start only_now begun journal engine few keeps count sound goes_on stands told at_rest =
       let h = history_of engine.past in
       let opened_is : prefix (history_of engine.past) (position (history_of engine.past)) ≡ history_of engine.past = prefix_end (history_of engine.past) (position (history_of engine.past)) (omega arith) in
       record {
@@ -210,9 +220,10 @@ module _ {D : Type 0} (bytes : D → Option (List ℕ)) (may_leave : D → List 
         still = not_still journal.standing goes_on;
         headed = λ is. absurd (true≢false (sym is));
         later = λ d. omega (arith, keeps.at_moment);
+        tells = λ some none. let known = the_told (bytes begun) some in told known.0 known.1;
         rests = λ d none. at_rest d.file d.told d.durable;
-        shown = λ d. some_also (bytes journal.disk) (λ file. Stands file (history_of engine.past)) (StandsForEither (history_of engine.past) (history_of engine.past)) (λ file is. inl is)
-            (shown_at_rest bytes may_leave moment left_since journal (history_of engine.past) sound (at_rest d.file d.told d.durable));
+        shown = λ some. let known = the_told (bytes begun) some in some_also (bytes journal.disk) (λ file. Stands file (history_of engine.past)) (StandsForEither (history_of engine.past) (history_of engine.past)) (λ file is. inl is)
+            (shown_told bytes journal (history_of engine.past) sound (told known.0 known.1));
         images = λ d c left.
             let was : left_since begun (moment begun) c = keeps.past (moment begun) c left in
             let is : c ≡ d.file = d.durable c (only_now begun c was) in

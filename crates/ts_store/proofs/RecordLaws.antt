@@ -17,7 +17,8 @@ use Rattle.engine_core.specs.Effects.{effect_of}
 use Rattle.engine_core.specs.Histories.{history_of, with_event}
 use Rattle.engine_core.specs.Values.{EngineValue, Past}
 use Rattle.ts_disk.specs.CrashImage.{LeavesOnly}
-use Rattle.txn_journal.specs.Calls.{IfDone, IfStopped, IsAtRest}
+use Rattle.ts_disk.proofs.Told.{some_also}
+use Rattle.txn_journal.specs.Calls.{IfDone, IfStopped, IsAtRest, IsTold}
 use Rattle.txn_journal.specs.declared.journals.Append.{Append}
 use Rattle.txn_journal.specs.declared.journals.Append.TheVariants.{Done, DiskFault, Stopped}
 use Rattle.ts_store.specs.Arming.{armed_after}
@@ -27,7 +28,7 @@ use Rattle.txn_journal.specs.declared.journals.Standing.TheVariants.{Bare, Ready
 use Rattle.txn_journal.proofs.Moments.{weaker}
 use Rattle.ts_store.specs.Drafts.{IsDraft}
 use Rattle.ts_store.specs.Images.{StandsForEither, latest}
-use Rattle.ts_store.specs.Recorders.{store_of, ArmsSafely, DoesIn, IsKeptIn, IsSafeIn, RestsIn}
+use Rattle.ts_store.specs.Recorders.{store_of, ArmsSafely, DoesIn, IsKeptIn, IsSafeIn, RestsIn, TellsIn}
 use Rattle.ts_store.specs.Safe.{IsSafe}
 use Rattle.ts_store.specs.Stands.{Stands, IsSound, content_of}
 use Rattle.ts_store.specs.Stores.{is_still}
@@ -35,7 +36,7 @@ use Rattle.ts_store.specs.declared.drafts.Draft.{Draft}
 use Rattle.ts_store.specs.declared.recorders.Recorder.{Recorder}
 use Rattle.ts_store.proofs.CallLaws.{does_failed, does_made, fails_state, makes_state}
 use Rattle.ts_store.proofs.HistoryLaws.{event_counts, sound_push}
-use Rattle.ts_store.proofs.ImageLaws.{begin_on, either_stands, shown_at_rest, some_also}
+use Rattle.ts_store.proofs.ImageLaws.{begin_on, either_stands, shown_told}
 use Rattle.ts_store.proofs.KeptLaws.{kept_after, ready_headed, still_headed, rose_above, rose_from, rose_none, safe_of}
 use Rattle.engine_core.proofs.StoreLaws.{history_push}
 
@@ -56,17 +57,17 @@ module _ {D : Type 0} (bytes : D → Option (List ℕ)) (may_leave : D → List 
     -- ---- the event is on the disk
 
     module _ (with : new.engine.past ≡ with_event old.engine.past e) (goes : new.failed ≡ None) (ready : new.journal.standing ≡ Ready) (count : faults new.journal.disk ≡ faults old.journal.disk)
-        (done : (content : Content) → IsAtRest bytes may_leave old.journal content → IsAtRest bytes may_leave new.journal (with_payload old.journal.version content frame)) where
+        (done : (content : Content) → IsTold bytes old.journal content → IsAtRest bytes may_leave new.journal (with_payload old.journal.version content frame)) where
       now : history_of new.engine.past ≡ (before ▸ e)
       now = ap history_of with ∙ history_push old.engine.past e
 
       latest_now : latest (history_of new.engine.past) new.failed ≡ (before ▸ e)
       latest_now = ap (λ (o : Option Event). latest (history_of new.engine.past) o) goes ∙ now
 
-      rests_now : RestsIn bytes may_leave old → RestsIn bytes may_leave new
-      rests_now rest =
+      rests_now : TellsIn bytes old → RestsIn bytes may_leave new
+      rests_now tells =
           let counts : with_payload old.journal.version (content_of before) frame ≡ content_of (before ▸ e) = ap (with_payload old.journal.version (content_of before)) framed ∙ event_counts old.journal.version before e in
-          subst (λ (h : History). IsAtRest bytes may_leave new.journal (content_of h)) (sym now) (subst (IsAtRest bytes may_leave new.journal) counts (done (content_of before) rest))
+          subst (λ (h : History). IsAtRest bytes may_leave new.journal (content_of h)) (sym now) (subst (IsAtRest bytes may_leave new.journal) counts (done (content_of before) tells))
 
       goes_on : Begins before (history_of new.engine.past)
       goes_on = subst (λ (h : History). Begins before h) (sym now) (further same)
@@ -81,21 +82,22 @@ module _ {D : Type 0} (bytes : D → Option (List ℕ)) (may_leave : D → List 
       safe_done begun opened armed = safe_of bytes may_leave moment left_since faults (store_of old begun opened armed) (store_of new begun opened armed)
           (run_of (latest (history_of new.engine.past) new.failed) latest_now)
           goes_on
-          (λ rest none. rests_now rest)
+          (λ tells none. (rests_now tells).tells)
+          (λ rest none. rests_now rest.tells)
           (λ kept _. absurd (one_more before (sym (sym now ∙ kept))))
 
       pub kept_done : (begun : D) (opened : ℕ) (armed : Bool) → IsKeptIn bytes may_leave moment left_since faults old begun opened armed → IsKeptIn bytes may_leave moment left_since faults new begun opened armed
       kept_done begun opened armed kept =
           let sound_now : IsSound (history_of new.engine.past) = subst IsSound (sym now) sound_after in
-          kept_after bytes may_leave moment left_since faults (store_of old begun opened armed) (store_of new begun opened armed) kept going (safe_done begun opened armed).any_moment (safe_done begun opened armed).rests refl refl
+          kept_after bytes may_leave moment left_since faults (store_of old begun opened armed) (store_of new begun opened armed) kept going (safe_done begun opened armed).any_moment (safe_done begun opened armed).tells (safe_done begun opened armed).rests refl refl
           goes_on sound_now
           (omega (arith, longer))
           (omega (arith, kept.counted, count))
           (rose_none new.failed (faults begun) (faults new.journal.disk) goes)
           (ap is_some goes ∙ ap is_still (sym ready))
           (λ is. is) (λ _. ready_headed new.journal.standing ready)
-          (λ rest. some_also (bytes new.journal.disk) (λ file. Stands file (history_of new.engine.past)) (StandsForEither (history_of new.engine.past) (latest (history_of new.engine.past) new.failed)) (λ file is. inl is)
-          (shown_at_rest bytes may_leave moment left_since new.journal (history_of new.engine.past) sound_now (rests_now rest)))
+          (λ tells. some_also (bytes new.journal.disk) (λ file. Stands file (history_of new.engine.past)) (StandsForEither (history_of new.engine.past) (latest (history_of new.engine.past) new.failed)) (λ file is. inl is)
+          (shown_told bytes new.journal (history_of new.engine.past) sound_now (rests_now tells).tells))
 
       pub does_done : (effect : Committed) → effect ≡ effect_of before e → (begun : D) (opened : ℕ) (armed : Bool) → IsKeptIn bytes may_leave moment left_since faults old begun opened armed → DoesIn faults moment (making_event e) begun opened armed old (DoneCall effect) new
       does_done effect told begun opened armed kept = does_made bytes may_leave moment left_since faults (store_of old begun opened armed) (store_of new begun opened armed) e effect kept fits told
@@ -104,7 +106,7 @@ module _ {D : Type 0} (bytes : D → Option (List ℕ)) (may_leave : D → List 
     -- ---- the disk failed
 
     module _ (events : new.engine.past ≡ old.engine.past) (failed : new.failed ≡ Some e) (still : new.journal.standing ≡ Still) (rose : Rose (faults old.journal.disk) (faults new.journal.disk))
-        (shown : (content : Content) → IsAtRest bytes may_leave old.journal content → IsSomeAnd (bytes new.journal.disk) (WithOrWithout old.journal.version content frame)) where
+        (shown : (content : Content) → IsTold bytes old.journal content → IsSomeAnd (bytes new.journal.disk) (WithOrWithout old.journal.version content frame)) where
       same_history : history_of new.engine.past ≡ before
       same_history = ap history_of events
 
@@ -121,22 +123,23 @@ module _ {D : Type 0} (bytes : D → Option (List ℕ)) (may_leave : D → List 
       safe_failed begun opened armed = safe_of bytes may_leave moment left_since faults (store_of old begun opened armed) (store_of new begun opened armed)
           (run_of (latest (history_of new.engine.past) new.failed) latest_failed)
           stays
+          (λ tells none. absurd (not_none none))
           (λ rest none. absurd (not_none none))
           (λ _ kept. absurd (not_none (kept ∙ going)))
 
       pub kept_failed : (begun : D) (opened : ℕ) (armed : Bool) → IsKeptIn bytes may_leave moment left_since faults old begun opened armed → IsKeptIn bytes may_leave moment left_since faults new begun opened armed
       kept_failed begun opened armed kept =
           let risen : Rose (faults begun) (faults new.journal.disk) = rose_from (faults begun) (faults old.journal.disk) (faults new.journal.disk) kept.counted rose in
-          kept_after bytes may_leave moment left_since faults (store_of old begun opened armed) (store_of new begun opened armed) kept going (safe_failed begun opened armed).any_moment (safe_failed begun opened armed).rests refl refl
+          kept_after bytes may_leave moment left_since faults (store_of old begun opened armed) (store_of new begun opened armed) kept going (safe_failed begun opened armed).any_moment (safe_failed begun opened armed).tells (safe_failed begun opened armed).rests refl refl
           stays (subst IsSound (sym same_history) sound)
           (omega (arith, ap position same_history))
           (rose_above (faults begun) (faults new.journal.disk) kept.bounded risen)
           (λ _. risen)
           (ap is_some failed ∙ ap is_still (sym still))
           (λ is. is) (λ _. still_headed new.journal.standing still)
-          (λ rest. some_also (bytes new.journal.disk) (WithOrWithout old.journal.version (content_of before) frame) (StandsForEither (history_of new.engine.past) (latest (history_of new.engine.past) new.failed))
+          (λ tells. some_also (bytes new.journal.disk) (WithOrWithout old.journal.version (content_of before) frame) (StandsForEither (history_of new.engine.past) (latest (history_of new.engine.past) new.failed))
           (λ file either. subst (λ (h : History). StandsForEither h (latest (history_of new.engine.past) new.failed) file) (sym same_history) (subst (λ (h : History). StandsForEither before h file) (sym latest_failed) (either_stands old.journal.version before e frame file sound sound_after framed either)))
-          (shown (content_of before) rest))
+          (shown (content_of before) tells))
 
       pub does_fail : (begun : D) (opened : ℕ) (armed : Bool) → IsKeptIn bytes may_leave moment left_since faults old begun opened armed → DoesIn faults moment (making_event e) begun opened armed old FailedCall new
       does_fail begun opened armed kept = does_failed bytes may_leave moment left_since faults (store_of old begun opened armed) (store_of new begun opened armed) e kept fits
@@ -161,7 +164,7 @@ module _ {D : Type 0} (bytes : D → Option (List ℕ)) (may_leave : D → List 
   safe_room old new engine events safe begun opened armed =
       let moved : IsSafe bytes may_leave moment left_since (store_of (record { engine = record { past = old.engine.past; room = engine.room }; journal = old.journal; failed = old.failed }) begun opened armed) (store_of new begun opened armed) =
       subst (λ (past : Past). IsSafe bytes may_leave moment left_since (store_of (record { engine = record { past = past; room = engine.room }; journal = old.journal; failed = old.failed }) begun opened armed) (store_of new begun opened armed)) events (safe begun opened armed) in
-      record { any_moment = moved.any_moment; earlier = moved.earlier; rests = moved.rests; untouched = moved.untouched }
+      record { any_moment = moved.any_moment; earlier = moved.earlier; tells = moved.tells; rests = moved.rests; untouched = moved.untouched }
 
   -- ---- a header was written
 
@@ -176,32 +179,35 @@ module _ {D : Type 0} (bytes : D → Option (List ℕ)) (may_leave : D → List 
     pub armed_run : RestsIn bytes may_leave old → LeavesOnly moment left_since old.journal.disk new.journal.disk (λ file. Stands file there)
     armed_run rest = weaker moment left_since old.journal.disk new.journal.disk (λ file. StandsFor file (content_of there)) (λ file. Stands file there) (run (content_of there) rest) (λ c stands. record { holds = stands; sound = sound })
 
-    pub arms_safely : (answer : Append) → (RestsIn bytes may_leave old → IfDone answer (RestsIn bytes may_leave new)) → ArmsSafely bytes may_leave moment left_since answer old new
-    arms_safely answer done = record {
+    pub arms_safely : (answer : Append) → (TellsIn bytes old → IfDone answer (TellsIn bytes new)) → (RestsIn bytes may_leave old → IfDone answer (RestsIn bytes may_leave new))
+        → ((content : Content) → IsTold bytes old.journal content → IsSomeAnd (bytes new.journal.disk) (λ file. StandsFor file content)) → ArmsSafely bytes may_leave moment left_since answer old new
+    arms_safely answer tells done shown = record {
+      tells = tells;
       done = done;
       any_moment = armed_run;
+      shown = λ told. some_also (bytes new.journal.disk) (λ file. StandsFor file (content_of there)) (λ file. Stands file there) (λ file stands. record { holds = stands; sound = sound }) (shown (content_of there) told);
       earlier = λ t h rest begins le begin. begin_on bytes may_leave moment left_since old.journal.disk new.journal.disk (λ file. Stands file there) t h (armed_run rest) (λ c stands. record { all = there; stands = stands; begins = begins }) le begin;
     }
 
-    pub kept_armed : old.failed ≡ None → (RestsIn bytes may_leave old → new.failed ≡ None → RestsIn bytes may_leave new)
+    pub kept_armed : old.failed ≡ None → (TellsIn bytes old → new.failed ≡ None → TellsIn bytes new) → (RestsIn bytes may_leave old → new.failed ≡ None → RestsIn bytes may_leave new)
         → ((begun : D) → faults begun < 2 ^ 64 → faults begun ≤ faults old.journal.disk → faults begun ≤ faults new.journal.disk)
         → ((begun : D) → faults begun ≤ faults old.journal.disk → IsTrue (is_some new.failed) → Rose (faults begun) (faults new.journal.disk))
         → is_some new.failed ≡ is_still new.journal.standing → new.journal.standing ≢ Bare
-        → ((content : Content) → IsAtRest bytes may_leave old.journal content → IsSomeAnd (bytes new.journal.disk) (λ file. StandsFor file content))
+        → ((content : Content) → IsTold bytes old.journal content → IsSomeAnd (bytes new.journal.disk) (λ file. StandsFor file content))
         → (begun : D) (opened : ℕ) (armed : Bool) → IsKeptIn bytes may_leave moment left_since faults old begun opened armed → IsKeptIn bytes may_leave moment left_since faults new begun opened armed
-    kept_armed going rests counted fell still headed shown begun opened armed kept =
+    kept_armed going tells rests counted fell still headed shown begun opened armed kept =
         let last : History = latest (history_of new.engine.past) new.failed in
         kept_after bytes may_leave moment left_since faults (store_of old begun opened armed) (store_of new begun opened armed) kept going
         (λ rest. weaker moment left_since old.journal.disk new.journal.disk (λ file. Stands file there) (StandsForEither there (latest (history_of new.engine.past) new.failed)) (armed_run rest) (λ c stands. inl stands))
-        rests refl refl
+        tells rests refl refl
         (subst (λ (h : History). Begins there h) (sym same_there) same)
         (subst IsSound (sym same_there) sound)
         (omega (arith, ap position same_there))
         (counted begun kept.bounded kept.counted)
         (fell begun kept.counted)
         still (λ is. is) (λ _. headed)
-        (λ rest. some_also (bytes new.journal.disk) (λ file. StandsFor file (content_of there)) (StandsForEither (history_of new.engine.past) (latest (history_of new.engine.past) new.failed))
-        (λ file stands. inl (subst (λ (h : History). Stands file h) (sym same_there) (record { holds = stands; sound = sound }))) (shown (content_of there) rest))
+        (λ told. some_also (bytes new.journal.disk) (λ file. StandsFor file (content_of there)) (StandsForEither (history_of new.engine.past) (latest (history_of new.engine.past) new.failed))
+        (λ file stands. inl (subst (λ (h : History). Stands file h) (sym same_there) (record { holds = stands; sound = sound }))) (shown (content_of there) told))
 
 -- a draft is one of the event that it holds
 pub own_draft : (h : History) (e : Event) (draft : Draft) → IsDraft h e draft → IsDraft h draft.prepared.event draft

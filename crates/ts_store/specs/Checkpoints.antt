@@ -1,7 +1,7 @@
 -- What a checkpoint answers, and what it leaves on the disk.
-use Rattle.std.specs.Prelude.{◌≡◌, ◌≢◌, ◌⊎◌, ℕ, ◌<◌, ◌≤◌, ◌^◌, ◌-◌, true, min, List, [], length, Option, Some, None, IsSomeAnd, ⊤}
+use Rattle.std.specs.Prelude.{◌≡◌, ◌≢◌, ◌⊎◌, ℕ, ◌<◌, ◌≤◌, ◌^◌, ◌-◌, true, min, List, [], length, Option, Some, None, ⊤}
 use Rattle.ts_schema.specs.Faults.{Rose}
-use Rattle.ts_disk.specs.CrashImage.{LeavesOnly, Only}
+use Rattle.ts_disk.specs.CrashImage.{Only}
 use Rattle.ts_model.specs.declared.events.Event.{Event}
 use Rattle.ts_model.specs.declared.images.Image.{Image}
 use Rattle.ts_model.specs.History.{History, Begins, position, resumed}
@@ -119,13 +119,3 @@ pub record BeginsSaved (h : History) (file : List ℕ) : Type 0 where
   pub all : History
   pub stands : StandsSaved all file
   pub begins : Begins h all
-
--- what a checkpoint of a history that rests leaves
-pub record SavesSafely {D : Type 0} (bytes : D → Option (List ℕ)) (may_leave : D → List ℕ → Type 0) (moment : D → ℕ)
-    (left_since : D → ℕ → List ℕ → Type 0) (end : CheckEnd) (h : History) (old new : D) : Type 0 where
-  -- a crash at any moment leaves a file that stands for the history, or for its image
-  pub any_moment : IfWritten end (LeavesOnly moment left_since old new (StandsSaved h))
-  -- so does what reads give
-  pub shown : IfWritten end (IsSomeAnd (bytes new) (StandsSaved h))
-  -- once the image stands there, nothing else may be left
-  pub done : IfSaved end (HoldsImage bytes may_leave new h)

@@ -1,11 +1,11 @@
 -- An engine with its journal, as a part of a store.
-use Rattle.std.specs.Prelude.{Bool, ℕ, ◌≤◌, List, Option}
+use Rattle.std.specs.Prelude.{Bool, ℕ, ◌≤◌, List, Option, IsSomeAnd}
 use Rattle.ts_disk.specs.CrashImage.{LeavesOnly}
 use Rattle.ts_model.specs.declared.outcomes.Outcome.{Outcome}
 use Rattle.ts_model.specs.Calls.{Act}
 use Rattle.ts_model.specs.History.{History, Begins}
 use Rattle.engine_core.specs.Histories.{history_of}
-use Rattle.txn_journal.specs.Calls.{IsAtRest, IfDone}
+use Rattle.txn_journal.specs.Calls.{IsAtRest, IsTold, IfDone}
 use Rattle.txn_journal.specs.declared.journals.Append.{Append}
 use Rattle.ts_store.specs.declared.recorders.Recorder.{Recorder}
 use Rattle.ts_store.specs.Images.{BeginSince}
@@ -61,7 +61,11 @@ IsSafeIn {D} bytes may_leave moment left_since old new =
     (begun : D) (opened : ℕ) (armed : Bool)
     → IsSafe bytes may_leave moment left_since (store_of old begun opened armed) (store_of new begun opened armed)
 
--- its journal didn't stop, and all of it is on the disk: the events of the history
+-- its journal didn't stop, and reads of it give the events of the history
+abbrev pub TellsIn : {D : Type 0} → (D → Option (List ℕ)) → Recorder D → Type 0
+TellsIn bytes recorder = IsTold bytes recorder.journal (content_of (history_of recorder.engine.past))
+
+-- and all of it is on the disk
 abbrev pub RestsIn : {D : Type 0} → (D → Option (List ℕ)) → (D → List ℕ → Type 0) → Recorder D → Type 0
 RestsIn bytes may_leave recorder =
     IsAtRest bytes may_leave recorder.journal (content_of (history_of recorder.engine.past))
@@ -69,12 +73,16 @@ RestsIn bytes may_leave recorder =
 -- what a header that is written leaves
 pub record ArmsSafely {D : Type 0} (bytes : D → Option (List ℕ)) (may_leave : D → List ℕ → Type 0) (moment : D → ℕ)
     (left_since : D → ℕ → List ℕ → Type 0) (answer : Append) (old new : Recorder D) : Type 0 where
+  pub tells : TellsIn bytes old → IfDone answer (TellsIn bytes new)
   pub done : RestsIn bytes may_leave old → IfDone answer (RestsIn bytes may_leave new)
   -- a crash at any moment leaves a file that stands for the history
   pub any_moment : RestsIn bytes may_leave old
       → LeavesOnly moment left_since old.journal.disk new.journal.disk
       (λ file. Stands file (history_of old.engine.past))
-  -- and since each earlier moment at which there was this history, it leaves one that begins with it
+  -- so does what reads give, whether all of it was on the disk or not
+  pub shown : TellsIn bytes old
+      → IsSomeAnd (bytes new.journal.disk) (λ file. Stands file (history_of old.engine.past))
+  -- and since each earlier moment at which there was this history, a crash leaves one that begins with it
   pub earlier : (t : ℕ) (h : History) → RestsIn bytes may_leave old → Begins h (history_of old.engine.past)
       → t ≤ moment old.journal.disk → BeginSince left_since old.journal.disk t h
       → BeginSince left_since new.journal.disk t h

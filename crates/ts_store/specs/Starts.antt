@@ -4,7 +4,7 @@ use Rattle.ts_schema.specs.Faults.{Rose}
 use Rattle.ts_model.specs.History.{position}
 use Rattle.engine_core.specs.Histories.{history_of}
 use Rattle.engine_core.specs.Values.{EngineValue}
-use Rattle.txn_journal.specs.Calls.{Logged, IsAtRest}
+use Rattle.txn_journal.specs.Calls.{Logged, IsAtRest, IsTold}
 use Rattle.txn_journal.specs.declared.journals.Standing.TheVariants.{Still}
 use Rattle.ts_store.specs.Stands.{Stands, IsDamagedAt, IsSound, content_of}
 use Rattle.ts_store.specs.Stores.{StoreValue, opening, seen}
@@ -42,7 +42,12 @@ IfReplayed (replayed.Damaged disk at) P = ⊤
 IfReplayed (replayed.DiskFault disk) P = ⊤
 IfReplayed (replayed.NoMemory disk) P = ⊤
 
--- the journal is at rest with the events of the engine's history
+-- reads of the journal give the events of the engine's history
+abbrev pub TellsReplayed : {D : Type 0} → (D → Option (List ℕ)) → Replayed D → Type 0
+TellsReplayed bytes found =
+    IfReplayed found (λ journal engine. IsTold bytes journal (content_of (history_of engine.past)))
+
+-- and the journal is at rest with them
 abbrev pub RestsReplayed : {D : Type 0} → (D → Option (List ℕ)) → (D → List ℕ → Type 0) → Replayed D → Type 0
 RestsReplayed bytes may_leave found =
     IfReplayed found (λ journal engine. IsAtRest bytes may_leave journal (content_of (history_of engine.past)))

@@ -1,5 +1,5 @@
 -- What contracts see of a store.
-use Rattle.std.specs.Prelude.{◌≡◌, ◌≢◌, ℕ, suc, ◌≤◌, ◌<◌, ◌^◌, Bool, true, false, cond, nat_lt, List, [], ◌∷◌, ◌++◌, length, Option, Some, None, is_some, IsTrue, IsSomeAnd}
+use Rattle.std.specs.Prelude.{◌≡◌, ◌≢◌, ℕ, suc, ◌≤◌, ◌<◌, ◌^◌, Bool, true, false, cond, nat_lt, List, [], ◌∷◌, ◌++◌, length, Option, Some, None, is_some, IsTrue, IsSome, IsSomeAnd}
 use Rattle.ts_schema.specs.Faults.{Rose}
 use Rattle.ts_model.specs.declared.events.Event.{Event}
 use Rattle.ts_model.specs.declared.outcomes.Outcome.{Outcome}
@@ -8,7 +8,7 @@ use Rattle.ts_model.specs.History.{History, start, resumed, ◌▸◌, position,
 use Rattle.ts_model.specs.States.{Origin, State}
 use Rattle.engine_core.specs.Histories.{history_of}
 use Rattle.engine_core.specs.Values.{EngineValue}
-use Rattle.txn_journal.specs.Calls.{Logged, IsAtRest}
+use Rattle.txn_journal.specs.Calls.{Logged, IsAtRest, IsTold}
 use Rattle.txn_journal.specs.declared.journals.Standing.{Standing}
 use Rattle.txn_journal.specs.declared.journals.Standing.TheVariants.{Bare, Ready, Still}
 use Rattle.ts_store.specs.Images.{IsDurable, IsBetween, StandsForEither, latest}
@@ -82,11 +82,16 @@ is_still Bare = false
 is_still Ready = false
 is_still Still = true
 
--- its journal didn't stop, and all of it is on the disk: the events of the history
+-- its journal didn't stop, and reads of it give the events of the history
+abbrev pub Tells : {D : Type 0} → (D → Option (List ℕ)) → StoreValue D → Type 0
+Tells bytes s = IsTold bytes s.journal (content_of (seen s))
+
+-- and all of it is on the disk
 abbrev pub Rests : {D : Type 0} → (D → Option (List ℕ)) → (D → List ℕ → Type 0) → StoreValue D → Type 0
 Rests bytes may_leave s = IsAtRest bytes may_leave s.journal (content_of (seen s))
 
--- what is true of each store. Where all was on the disk at the start, it tells of each image since then
+-- what is true of each store. Where the disk told its bytes at the start, it tells of what reads give, and where all of
+-- them were on the disk, of each image since then
 pub record IsKept {D : Type 0} (bytes : D → Option (List ℕ)) (may_leave : D → List ℕ → Type 0) (moment : D → ℕ)
     (left_since : D → ℕ → List ℕ → Type 0) (faults : D → ℕ) (s : StoreValue D) : Type 0 where
   pub sound : IsSound (seen s)
@@ -99,9 +104,10 @@ pub record IsKept {D : Type 0} (bytes : D → Option (List ℕ)) (may_leave : D 
   -- where it was armed, its journal has a header
   pub headed : s.armed ≡ true → s.journal.standing ≢ Bare
   pub later : IsDurable bytes may_leave s.begun → moment s.begun ≤ moment s.journal.disk
+  pub tells : IsSome (bytes s.begun) → s.failed ≡ None → Tells bytes s
   pub rests : IsDurable bytes may_leave s.begun → s.failed ≡ None → Rests bytes may_leave s
   -- what reads give
-  pub shown : IsDurable bytes may_leave s.begun
+  pub shown : IsSome (bytes s.begun)
       → IsSomeAnd (bytes s.journal.disk) (StandsForEither (seen s) (latest (seen s) s.failed))
   pub images : IsDurable bytes may_leave s.begun → (c : List ℕ) → left_since s.journal.disk (moment s.begun) c
       → IsBetween (opening s) (seen s) s.failed c

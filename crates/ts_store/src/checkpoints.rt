@@ -2,14 +2,14 @@
 ghost use Rattle.std.specs.Prelude.{◌≡◌, ◌≢◌, ◌<◌, ◌^◌, IsSomeAnd, None, is_some, true};
 ghost use Rattle.ts_disk.specs.CrashImage.{LeavesOnly};
 ghost use Rattle.engine_core.specs.Histories.{history_of};
-ghost use Rattle.txn_journal.specs.Calls.{Ends, IfDone, IsAtRest, IsCounted};
+ghost use Rattle.txn_journal.specs.Calls.{Ends, IfDone, IsAtRest, IsCounted, IsTold};
 ghost use Rattle.txn_journal.specs.Contents.{Content, is_base, raised};
 ghost use Rattle.txn_journal.specs.Frames.{StandsForEither};
 ghost use Rattle.txn_journal.specs.Reading.{based_on};
 ghost use Rattle.txn_journal.specs.declared.journals.Standing.TheVariants.{Bare, Still};
 ghost use Rattle.txn_journal.specs.declared.versions.Version.TheVariants.{Two};
-ghost use Rattle.ts_store.specs.Checkpoints.{CountsEnd, EndsAs, IfUntouched, SavesSafely};
-ghost use Rattle.ts_store.specs.Recorders.{RestsIn};
+ghost use Rattle.ts_store.specs.Checkpoints.{CountsEnd, EndsAs, HoldsImage, IfSaved, IfUntouched, IfWritten, StandsSaved};
+ghost use Rattle.ts_store.specs.Recorders.{RestsIn, TellsIn};
 ghost use Rattle.ts_store.specs.Stands.{IsSound, content_of};
 ghost use Rattle.ts_store.specs.Stores.{is_still};
 
@@ -57,8 +57,13 @@ pub(crate) fn checkpoint<D: Disk>(
     requires most { most < 2 ^ 32 }
     ensures ends { EndsAs result.end recorder.engine.past recorder.failed most }
     ensures untouched { IfUntouched result.end (result.disk ≡ recorder.journal.disk) }
-    ensures safe { RestsIn D.bytes D.may_leave recorder → SavesSafely D.bytes D.may_leave D.moment D.left_since
-        result.end (history_of recorder.engine.past) recorder.journal.disk result.disk }
+    ensures any_moment { RestsIn D.bytes D.may_leave recorder → IfWritten result.end
+        (LeavesOnly D.moment D.left_since recorder.journal.disk result.disk
+        (StandsSaved (history_of recorder.engine.past))) }
+    ensures shown { TellsIn D.bytes recorder → IfWritten result.end
+        (IsSomeAnd (D.bytes result.disk) (StandsSaved (history_of recorder.engine.past))) }
+    ensures done { TellsIn D.bytes recorder → IfSaved result.end
+        (HoldsImage D.bytes D.may_leave result.disk (history_of recorder.engine.past)) }
     ensures counted { CountsEnd result.end (D.faults recorder.journal.disk) (D.faults result.disk) }
 {
     let mut recorder = recorder;
@@ -77,8 +82,13 @@ fn put<D: Disk>(alloc: Global, recorder: &mut Recorder<D>, most: u64) -> CheckEn
     requires most { most < 2 ^ 32 }
     ensures ends { EndsAs result recorder.old.engine.past recorder.old.failed most }
     ensures untouched { IfUntouched result (recorder.new.journal.disk ≡ recorder.old.journal.disk) }
-    ensures safe { RestsIn D.bytes D.may_leave recorder.old → SavesSafely D.bytes D.may_leave D.moment D.left_since
-        result (history_of recorder.old.engine.past) recorder.old.journal.disk recorder.new.journal.disk }
+    ensures any_moment { RestsIn D.bytes D.may_leave recorder.old → IfWritten result
+        (LeavesOnly D.moment D.left_since recorder.old.journal.disk recorder.new.journal.disk
+        (StandsSaved (history_of recorder.old.engine.past))) }
+    ensures shown { TellsIn D.bytes recorder.old → IfWritten result
+        (IsSomeAnd (D.bytes recorder.new.journal.disk) (StandsSaved (history_of recorder.old.engine.past))) }
+    ensures done { TellsIn D.bytes recorder.old → IfSaved result
+        (HoldsImage D.bytes D.may_leave recorder.new.journal.disk (history_of recorder.old.engine.past)) }
     ensures counted { CountsEnd result (D.faults recorder.old.journal.disk) (D.faults recorder.new.journal.disk) }
 {
     if let Some(pos) = recorder.stop() {
@@ -103,13 +113,13 @@ fn put<D: Disk>(alloc: Global, recorder: &mut Recorder<D>, most: u64) -> CheckEn
 fn put_base<D: Disk>(journal: &mut Journal<D>, frame: &Frame) -> Append
     requires armed { journal.old.standing ≢ Bare }
     requires base { is_base Two frame.now ≡ true }
-    ensures done { (content : Content) → IsAtRest D.bytes D.may_leave journal.old content
+    ensures done { (content : Content) → IsTold D.bytes journal.old content
         → IfDone result (IsAtRest D.bytes D.may_leave journal.new (based_on frame.now)) }
     ensures any_moment { (content : Content) → IsAtRest D.bytes D.may_leave journal.old content
         → raised content ≡ content
         → LeavesOnly D.moment D.left_since journal.old.disk journal.new.disk
         (StandsForEither content (based_on frame.now)) }
-    ensures shown { (content : Content) → IsAtRest D.bytes D.may_leave journal.old content → raised content ≡ content
+    ensures shown { (content : Content) → IsTold D.bytes journal.old content → raised content ≡ content
         → IsSomeAnd (D.bytes journal.new.disk) (StandsForEither content (based_on frame.now)) }
     ensures ends { Ends result journal.old.standing journal.new.standing }
     ensures counted { IsCounted result (D.faults journal.old.disk) (D.faults journal.new.disk) }

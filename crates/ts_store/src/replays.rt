@@ -10,7 +10,8 @@ ghost use Rattle.refresh_build.specs.Fitting.{JobIsFor};
 ghost use Rattle.engine_core.specs.Histories.{history_of, past_from, with_event};
 ghost use Rattle.txn_journal.specs.Contents.{nothing};
 ghost use Rattle.txn_journal.specs.Reading.{HasRead};
-ghost use Rattle.ts_store.specs.Starts.{CountsReplayed, GoesOn, Replays, RestsReplayed, SoundReplayed, disk_of_replayed};
+ghost use Rattle.ts_store.specs.Starts.{CountsReplayed, GoesOn, Replays, RestsReplayed, SoundReplayed, TellsReplayed};
+ghost use Rattle.ts_store.specs.Starts.{disk_of_replayed};
 ghost use Rattle.ts_store.specs.Takes.{Resumes, Takes};
 
 use base_image::{ReadImage, read};
@@ -58,6 +59,7 @@ pub(crate) fn replay<R: Threads + Sync, D: Disk>(
     requires sync { IsSync R.row }
     requires empty { engine.past ≡ past_from None }
     ensures replays { (file : List ℕ) → HasRead D.bytes reader file nothing → Replays result file }
+    ensures tells { (file : List ℕ) → HasRead D.bytes reader file nothing → TellsReplayed D.bytes result }
     ensures at_rest { (file : List ℕ) → HasRead D.bytes reader file nothing → Only file (D.may_leave reader.disk)
         → RestsReplayed D.bytes D.may_leave result }
     ensures sound { SoundReplayed result }

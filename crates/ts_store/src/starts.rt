@@ -4,8 +4,8 @@ ghost use Rattle.std.specs.Thread.{IsSync};
 ghost use Rattle.ts_disk.specs.CrashImage.{Only};
 ghost use Rattle.ts_disk.specs.Disk.{Keeps};
 ghost use Rattle.ts_store.specs.Starts.{CountsReplayed, CountsStarted, GoesOn, IfReady, IsNew, Replays, RestsReplayed, SoundReplayed};
-ghost use Rattle.ts_store.specs.Starts.{Starts, disk_of, disk_of_replayed};
-ghost use Rattle.ts_store.specs.Stores.{Rests};
+ghost use Rattle.ts_store.specs.Starts.{Starts, TellsReplayed, disk_of, disk_of_replayed};
+ghost use Rattle.ts_store.specs.Stores.{Rests, Tells};
 
 use crate::begun::Begun;
 use crate::replays::{Replayed, replay};
@@ -37,6 +37,7 @@ impl<D: Disk> Store<D> {
     pub fn start<R: Threads + Sync>(rt: &R, alloc: Global, disk: D) -> Started<D>
         requires sync { IsSync R.row }
         ensures starts { (file : List ℕ) → D.bytes disk ≡ Some file → Starts result file }
+        ensures tells { (file : List ℕ) → D.bytes disk ≡ Some file → IfReady result (Tells D.bytes) }
         ensures rests { (file : List ℕ) → D.bytes disk ≡ Some file → Only file (D.may_leave disk)
             → IfReady result (Rests D.bytes D.may_leave) }
         ensures new { IfReady result (IsNew disk) }
@@ -65,6 +66,7 @@ impl<D: Disk> Store<D> {
 fn from_replayed<D: Disk>(alloc: Global, begun: Begun<D>, replayed: Replayed<D>) -> Started<D>
     requires bounded { D.faults begun < 2 ^ 64 }
     requires replays { (file : List ℕ) → D.bytes begun ≡ Some file → Replays replayed file }
+    requires tells { (file : List ℕ) → D.bytes begun ≡ Some file → TellsReplayed D.bytes replayed }
     requires at_rest { (file : List ℕ) → D.bytes begun ≡ Some file → Only file (D.may_leave begun)
         → RestsReplayed D.bytes D.may_leave replayed }
     requires sound { SoundReplayed replayed }
@@ -72,6 +74,7 @@ fn from_replayed<D: Disk>(alloc: Global, begun: Begun<D>, replayed: Replayed<D>)
     requires kept { Keeps D.bytes D.may_leave D.moment D.left_since begun (disk_of_replayed replayed) }
     requires counted { CountsReplayed replayed (D.faults begun) (D.faults (disk_of_replayed replayed)) }
     ensures starts { (file : List ℕ) → D.bytes begun ≡ Some file → Starts result file }
+    ensures tells { (file : List ℕ) → D.bytes begun ≡ Some file → IfReady result (Tells D.bytes) }
     ensures rests { (file : List ℕ) → D.bytes begun ≡ Some file → Only file (D.may_leave begun)
         → IfReady result (Rests D.bytes D.may_leave) }
     ensures new { IfReady result (IsNew begun) }

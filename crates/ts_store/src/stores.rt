@@ -1,5 +1,5 @@
 //! A store.
-ghost use Rattle.std.specs.Prelude.{◌≡◌, ◌⊎◌, ℕ, ◌<◌, ◌≤◌, ◌^◌, List, None, IsTrue, IsSomeAnd, true};
+ghost use Rattle.std.specs.Prelude.{◌≡◌, ◌⊎◌, ℕ, ◌<◌, ◌≤◌, ◌^◌, List, None, IsTrue, IsSome, IsSomeAnd, true};
 ghost use Rattle.ts_disk.specs.CrashImage.{LeavesOnly};
 ghost use Rattle.ts_model.specs.History.{History, Begins};
 ghost use Rattle.ts_model.specs.Sound.{sound};
@@ -7,11 +7,12 @@ ghost use Rattle.refresh_build.specs.Fitting.{JobIsFor};
 ghost use Rattle.engine_core.specs.Acts.{making_event};
 ghost use Rattle.txn_journal.specs.Calls.{IfDone, IfStopped, IsCounted};
 ghost use Rattle.ts_store.specs.Arming.{armed_after};
-ghost use Rattle.ts_store.specs.Checkpoints.{BeginsSaved, CountsEnd, EndsAs, IfUntouched, SavesSafely, StandsForImage};
+ghost use Rattle.ts_store.specs.Checkpoints.{BeginsSaved, CountsEnd, EndsAs, HoldsImage, IfSaved, IfUntouched, IfWritten};
+ghost use Rattle.ts_store.specs.Checkpoints.{StandsForImage, StandsSaved};
 ghost use Rattle.ts_store.specs.Images.{BeginSince, HasHeader, IsBetween, IsDurable, StandsForEither, latest};
 ghost use Rattle.ts_store.specs.Safe.{IsSafe, StopsBy};
 ghost use Rattle.ts_store.specs.Stands.{Stands};
-ghost use Rattle.ts_store.specs.Stores.{Does, IsKept, Rests, known_of, opening, seen, stop_at, store_at_start};
+ghost use Rattle.ts_store.specs.Stores.{Does, IsKept, Rests, Tells, known_of, opening, seen, stop_at, store_at_start};
 
 use crate::begun::Begun;
 use crate::checkpoints::{Checkpointed, checkpoint};
@@ -91,12 +92,16 @@ impl<D: Disk> Store<D> {
         ensures engine { self.new.engine ≡ self.old.engine }
         ensures begun { self.new.begun ≡ self.old.begun }
         ensures opened { self.new.opened ≡ self.old.opened }
+        ensures tells { Tells D.bytes self.old → IfDone result (Tells D.bytes self.new) }
         ensures done { Rests D.bytes D.may_leave self.old → IfDone result (Rests D.bytes D.may_leave self.new) }
         // A crash at any moment leaves a file that stands for the history.
         ensures any_moment { Rests D.bytes D.may_leave self.old
             → LeavesOnly D.moment D.left_since self.old.journal.disk self.new.journal.disk
             (λ file. Stands file (seen self.old)) }
-        // And since each earlier moment at which there was this one, it leaves one that begins with it.
+        // So does what reads give, whether all of it was on the disk or not.
+        ensures shown { Tells D.bytes self.old
+            → IsSomeAnd (D.bytes self.new.journal.disk) (λ file. Stands file (seen self.old)) }
+        // And since each earlier moment at which there was this one, a crash leaves one that begins with it.
         ensures earlier { (t : ℕ) (h : History) → Rests D.bytes D.may_leave self.old → Begins h (seen self.old)
             → t ≤ D.moment self.old.journal.disk
             → BeginSince D.left_since self.old.journal.disk t h → BeginSince D.left_since self.new.journal.disk t h }
@@ -114,13 +119,13 @@ impl<D: Disk> Store<D> {
     /// The disk.
     pub fn close(self) -> D
         ensures disk { result ≡ self.journal.disk }
-        // Where all was on the disk at the start, this is what reads give.
-        ensures shown { IsDurable D.bytes D.may_leave self.begun
+        // Where the disk told its bytes at the start, this is what reads give.
+        ensures shown { IsSome (D.bytes self.begun)
             → IsSomeAnd (D.bytes result) (StandsForEither (seen self) (latest (seen self) self.failed)) }
         // Where the store was armed, that begins with the header.
-        ensures header { self.armed ≡ true → self.failed ≡ None → IsDurable D.bytes D.may_leave self.begun
+        ensures header { self.armed ≡ true → self.failed ≡ None → IsSome (D.bytes self.begun)
             → IsSomeAnd (D.bytes result) HasHeader }
-        // And this is what a crash at each moment since then might have left.
+        // And where all was on the disk then, this is what a crash at each moment since might have left.
         ensures images { IsDurable D.bytes D.may_leave self.begun
             → (c : List ℕ) → D.left_since result (D.moment self.begun) c
             → IsBetween (opening self) (seen self) self.failed c }
@@ -138,9 +143,15 @@ impl<D: Disk> Store<D> {
         requires most { most < 2 ^ 32 }
         ensures ends { EndsAs result.end self.engine.past self.failed most }
         ensures untouched { IfUntouched result.end (result.disk ≡ self.journal.disk) }
-        // A crash at any moment leaves the history, or its image; after `Done` the latter.
-        ensures safe { Rests D.bytes D.may_leave self → SavesSafely D.bytes D.may_leave D.moment D.left_since
-            result.end (seen self) self.journal.disk result.disk }
+        // A crash at any moment leaves the history, or its image.
+        ensures any_moment { Rests D.bytes D.may_leave self → IfWritten result.end
+            (LeavesOnly D.moment D.left_since self.journal.disk result.disk (StandsSaved (seen self))) }
+        // So does what reads give, whether all of it was on the disk or not.
+        ensures shown { Tells D.bytes self → IfWritten result.end
+            (IsSomeAnd (D.bytes result.disk) (StandsSaved (seen self))) }
+        // After `Done` it is the image, and nothing else may be left.
+        ensures done { Tells D.bytes self → IfSaved result.end
+            (HoldsImage D.bytes D.may_leave result.disk (seen self)) }
         // And since each earlier moment at which there was one that this begins with, it leaves a history that
         // begins with that, or the image of one.
         ensures earlier { (t : ℕ) (h : History) → Rests D.bytes D.may_leave self → Begins h (seen self)
@@ -151,7 +162,7 @@ impl<D: Disk> Store<D> {
             → (c : List ℕ) → D.left_since result.disk (D.moment self.begun) c
             → IsBetween (opening self) (seen self) self.failed c ⊎ StandsForImage (seen self) c }
         // Where nothing was written, what reads give begins with the header.
-        ensures header { self.failed ≡ None → IsDurable D.bytes D.may_leave self.begun
+        ensures header { self.failed ≡ None → IsSome (D.bytes self.begun)
             → IfUntouched result.end (IsSomeAnd (D.bytes result.disk) HasHeader) }
         ensures counted { CountsEnd result.end (D.faults self.journal.disk) (D.faults result.disk) }
     {

@@ -1,15 +1,16 @@
 -- What the calls of a journal leave.
-use Rattle.std.proofs.Common.{◌≡◌, ◌≢◌, inl, inr, ⊎_elim, ℕ, ◌≤◌, List, Option, Some, None, IsSome, IsSomeAnd, IfSome, refl, sym, subst}
-use Rattle.ts_disk.specs.CrashImage.{LeavesOnly, written}
-use Rattle.txn_journal.specs.Calls.{Logged, LiesAs, IsAtRest, BeginSince}
+use Rattle.std.proofs.Common.{◌≡◌, ◌≢◌, inl, inr, ⊎_elim, ℕ, ◌≤◌, List, Option, Some, IsSomeAnd, refl, sym, subst}
+use Rattle.ts_disk.specs.CrashImage.{LeavesOnly, Torn, written}
+use Rattle.ts_disk.proofs.Told.{some_also}
+use Rattle.txn_journal.specs.Calls.{Logged, LiesAs, IsAtRest, IsTold, BeginSince}
 use Rattle.txn_journal.specs.Contents.{Content, IsFront, raised}
 use Rattle.txn_journal.specs.Frames.{HoldsTo, StandsFor, StandsForEither, StandsForMore, header}
-use Rattle.txn_journal.specs.Writes.{IsWritten, Rests}
+use Rattle.txn_journal.specs.Writes.{IsWritten, Rests, Tells}
 use Rattle.txn_journal.specs.declared.journals.Standing.{Standing}
 use Rattle.txn_journal.specs.declared.journals.Standing.TheVariants.{Bare, Ready, Still}
 use Rattle.txn_journal.specs.declared.versions.Version.{Version}
 use Rattle.txn_journal.specs.declared.versions.Version.TheVariants.{One, Two}
-use Rattle.txn_journal.proofs.FrameLaws.{header_holds, raised_holds, written_header}
+use Rattle.txn_journal.proofs.FrameLaws.{header_holds, raised_holds, torn_header, written_header}
 
 pub lies_ready : (standing : Standing) (version : Version) (file : List ℕ) (end : ℕ) (content : Content) → standing ≢ Bare → LiesAs standing version file end content → HoldsTo file version end content
 lies_ready Bare version file end content armed lies = absurd (armed refl)
@@ -29,13 +30,18 @@ lies_stands Ready version file end content lies = inr lies.holds
 lies_stands Still version file end content lies = absurd lies
 
 module _ {D : Type 0} (bytes : D → Option (List ℕ)) (may_leave : D → List ℕ → Type 0) (moment : D → ℕ) (left_since : D → ℕ → List ℕ → Type 0) where
-  -- a journal with a header rests as its disk does
-  pub rests_from : (journal : Logged D) (content : Content) → journal.standing ≢ Bare → IsAtRest bytes may_leave journal content → Rests bytes may_leave journal.disk journal.version journal.end content
-  rests_from journal content armed rest = record {
-    file = rest.file;
-    written = record { told = rest.told; durable = rest.durable };
-    lies = lies_ready journal.standing journal.version rest.file journal.end content armed rest.lies;
+  -- a journal with a header is told as its disk is
+  pub tells_from : (journal : Logged D) (content : Content) → journal.standing ≢ Bare → IsTold bytes journal content → Tells bytes journal.disk journal.version journal.end content
+  tells_from journal content armed tells = record {
+    file = tells.file;
+    told = tells.told;
+    lies = lies_ready journal.standing journal.version tells.file journal.end content armed tells.lies;
   }
+
+  -- and it rests as its disk does
+  pub rests_from : (journal : Logged D) (content : Content) → journal.standing ≢ Bare → IsAtRest bytes may_leave journal content → Rests bytes may_leave journal.disk journal.version journal.end content
+  unfolding tells_from
+  rests_from journal content armed rest = record { tells = tells_from journal content armed rest.tells; durable = rest.durable }
 
   -- what a call over a disk that rests leaves
   pub run_from : (old : Logged D) (new : D) (P : Content → List ℕ → Type 0)
@@ -43,59 +49,64 @@ module _ {D : Type 0} (bytes : D → Option (List ℕ)) (may_leave : D → List 
       → old.standing ≢ Bare → (content : Content) → IsAtRest bytes may_leave old content → LeavesOnly moment left_since old.disk new (P content)
   run_from old new P run armed content rest = run content (rests_from old content armed rest)
 
-  -- what counts after a call over a disk that rests
+  -- what reads of a disk give after a call, where they gave this before it
+  pub shown_from : (old : Logged D) (P : Content → Type 0) → ((content : Content) → Tells bytes old.disk old.version old.end content → P content)
+      → old.standing ≢ Bare → (content : Content) → IsTold bytes old content → P content
+  shown_from old P shown armed content tells = shown content (tells_from old content armed tells)
+
+  -- what counts after a call that was done
   pub rests_after : (old : Logged D) (new : D) (version : Version) (end later : ℕ) (now : Content → Content)
-      → ((content : Content) → Rests bytes may_leave old.disk old.version old.end content → Rests bytes may_leave new version later (now content))
-      → end ≡ later → old.standing ≢ Bare → (content : Content) → IsAtRest bytes may_leave old content
+      → ((content : Content) → Tells bytes old.disk old.version old.end content → Rests bytes may_leave new version later (now content))
+      → end ≡ later → old.standing ≢ Bare → (content : Content) → IsTold bytes old content
       → IsAtRest bytes may_leave (record { disk = new; version = version; end = end; standing = old.standing }) (now content)
-  rests_after old new version end later now done is armed content rest =
-      let rests = done content (rests_from old content armed rest) in
+  rests_after old new version end later now done is armed content tells =
+      let rests = done content (tells_from old content armed tells) in
       record {
-        file = rests.file;
-        told = rests.written.told;
-        lies = subst (λ (n : ℕ). LiesAs old.standing version rests.file n (now content)) (sym is)
-            (lies_as_ready old.standing old.version rest.file old.end content version rests.file later (now content) armed rest.lies rests.lies);
-        durable = rests.written.durable;
+        tells = record {
+          file = rests.tells.file;
+          told = rests.tells.told;
+          lies = subst (λ (n : ℕ). LiesAs old.standing version rests.tells.file n (now content)) (sym is)
+              (lies_as_ready old.standing old.version tells.file old.end content version rests.tells.file later (now content) armed tells.lies rests.tells.lies);
+        };
+        durable = rests.durable;
       }
 
   -- a header over a file of at most nine bytes
   pub armed : (old : Logged D) (new : D) → ((file : List ℕ) → bytes old.disk ≡ Some file → IsWritten bytes may_leave new (written file 0 header))
-      → old.standing ≡ Bare → (content : Content) → IsAtRest bytes may_leave old content
+      → old.standing ≡ Bare → (content : Content) → IsTold bytes old content
       → IsAtRest bytes may_leave (record { disk = new; version = old.version; end = 8; standing = Ready }) content
-  armed old new done is content rest =
-      let lies : LiesAs Bare old.version rest.file old.end content = subst (λ (s : Standing). LiesAs s old.version rest.file old.end content) is rest.lies in
-      let wrote = done rest.file rest.told in
-      let whole : written rest.file 0 header ≡ header = written_header rest.file lies.0 in
+  armed old new done is content tells =
+      let lies : LiesAs Bare old.version tells.file old.end content = subst (λ (s : Standing). LiesAs s old.version tells.file old.end content) is tells.lies in
+      let wrote = done tells.file tells.told in
+      let whole : written tells.file 0 header ≡ header = written_header tells.file lies.0 in
       record {
-        file = written rest.file 0 header;
-        told = wrote.told;
-        lies = subst (λ (file : List ℕ). HoldsTo file old.version 8 content) (sym whole)
-            (subst (λ (v : Version). HoldsTo header v 8 content) (sym lies.3) (subst (HoldsTo header One 8) (sym lies.2) header_holds));
+        tells = record {
+          file = written tells.file 0 header;
+          told = wrote.told;
+          lies = subst (λ (file : List ℕ). HoldsTo file old.version 8 content) (sym whole)
+              (subst (λ (v : Version). HoldsTo header v 8 content) (sym lies.3) (subst (HoldsTo header One 8) (sym lies.2) header_holds));
+        };
         durable = wrote.durable;
       }
 
+  -- and what reads give where it may be torn
+  pub armed_shows : (old : Logged D) (new : D) → ((file : List ℕ) → bytes old.disk ≡ Some file → IsSomeAnd (bytes new) (Torn 0 9 file))
+      → old.standing ≡ Bare → (content : Content) → IsTold bytes old content → IsSomeAnd (bytes new) (λ file. StandsFor file content)
+  armed_shows old new shown is content tells =
+      let lies : LiesAs Bare old.version tells.file old.end content = subst (λ (s : Standing). LiesAs s old.version tells.file old.end content) is tells.lies in
+      some_also (bytes new) (Torn 0 9 tells.file) (λ file. StandsFor file content)
+      (λ now torn. subst (StandsFor now) (sym lies.2) (torn_header tells.file now lies.0 torn)) (shown tells.file tells.told)
+
   -- a journal of version 2 is what it would become
-  pub raised_rests : (old : Logged D) → old.version ≡ Two → old.standing ≢ Bare → (content : Content) → IsAtRest bytes may_leave old content → raised content ≡ content
-  raised_rests old is armed content rest =
-      raised_holds rest.file old.end content
-      (subst (λ (v : Version). HoldsTo rest.file v old.end content) is (lies_ready old.standing old.version rest.file old.end content armed rest.lies))
+  pub raised_tells : (old : Logged D) → old.version ≡ Two → old.standing ≢ Bare → (content : Content) → IsTold bytes old content → raised content ≡ content
+  raised_tells old is armed content tells =
+      raised_holds tells.file old.end content
+      (subst (λ (v : Version). HoldsTo tells.file v old.end content) is (lies_ready old.standing old.version tells.file old.end content armed tells.lies))
 
   -- images of which each stands for more than some payloads, after those since an earlier moment did
   pub begin_on : (old new : D) (P : List ℕ → Type 0) (t : ℕ) (before : Content) → LeavesOnly moment left_since old new P → ((c : List ℕ) → P c → StandsForMore before c)
       → t ≤ moment old → BeginSince left_since old t before → BeginSince left_since new t before
   begin_on old new P t before run more le begin c left = ⊎_elim (begin c) (more c) (run.before t c le left)
-
-  -- what a read gives is an image
-  pub shown_after : (old new : D) (P : List ℕ → Type 0) → ((t : ℕ) (c : List ℕ) → t ≤ moment new → may_leave new c → left_since new t c) → IfSome (bytes new) (may_leave new)
-      → LeavesOnly moment left_since old new P → IsSome (bytes new) → IsSomeAnd (bytes new) P
-  shown_after old new P counts shows run some = go (bytes new) some shows
-    where
-      go : (told : Option (List ℕ)) → IsSome told → IfSome told (may_leave new) → IsSomeAnd told P
-      go None is left = absurd (cc is)
-      go (Some file) is left = run.each file (counts (moment old) file run.later left)
-
-  pub some_from : (told : Option (List ℕ)) (file : List ℕ) → told ≡ Some file → IsSome told
-  some_from told file is = subst IsSome (sym is) refl
 
 pub either_more : (before one other : Content) (c : List ℕ) → IsFront before one → IsFront before other → StandsForEither one other c → StandsForMore before c
 either_more before one other c first second (inl stands) = record { all = one; stands = stands; begins = first }

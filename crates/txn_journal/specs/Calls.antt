@@ -27,13 +27,17 @@ LiesAs Bare version file end content =
 LiesAs Ready version file end content = HoldsTo file version end content
 LiesAs Still version file end content = ⊥
 
--- a journal that didn't stop stands for this content, and all of it is on the disk
-pub record IsAtRest {D : Type 0} (bytes : D → Option (List ℕ)) (may_leave : D → List ℕ → Type 0) (journal : Logged D)
-    (content : Content) : Type 0 where
+-- a journal that didn't stop stands for this content, by what reads give
+pub record IsTold {D : Type 0} (bytes : D → Option (List ℕ)) (journal : Logged D) (content : Content) : Type 0 where
   pub file : List ℕ
   pub told : bytes journal.disk ≡ Some file
   pub lies : LiesAs journal.standing journal.version file journal.end content
-  pub durable : Only file (may_leave journal.disk)
+
+-- and all of it is on the disk
+pub record IsAtRest {D : Type 0} (bytes : D → Option (List ℕ)) (may_leave : D → List ℕ → Type 0) (journal : Logged D)
+    (content : Content) : Type 0 where
+  pub tells : IsTold bytes journal content
+  pub durable : Only tells.file (may_leave journal.disk)
 
 -- each image since this moment stands for content that begins with this
 abbrev pub BeginSince : {D : Type 0} → (D → ℕ → List ℕ → Type 0) → D → ℕ → Content → Type 0

@@ -1,7 +1,7 @@
 -- A journal that is read at once.
 use Rattle.std.specs.Prelude.{◌≡◌, ◌≢◌, ◌⊎◌, ℕ, List, Option, IsSome, ⊤}
 use Rattle.ts_schema.specs.Faults.{Rose}
-use Rattle.txn_journal.specs.Calls.{IsAtRest}
+use Rattle.txn_journal.specs.Calls.{IsAtRest, IsTold}
 use Rattle.txn_journal.specs.Contents.{Content, listed}
 use Rattle.txn_journal.specs.Frames.{StandsFor, IsDamaged, placed, payloads_of}
 use Rattle.txn_journal.specs.declared.journals.Standing.TheVariants.{Still}
@@ -36,7 +36,15 @@ CountsRecovered (Damaged disk payloads at) before now = now ≡ before
 CountsRecovered (DiskFault disk) before now = Rose before now
 CountsRecovered (NoMemory disk) before now = now ≡ before
 
--- the journal that was read is at rest
+-- reads of the journal that was read give what counts
+abbrev pub TellsAfter : {D : Type 0} → (D → Option (List ℕ)) → Recovered D → Type 0
+TellsAfter bytes (Ready journal payloads) =
+    (content : Content) × AreListed payloads content × IsTold bytes journal content
+TellsAfter bytes (Damaged disk payloads at) = ⊤
+TellsAfter bytes (DiskFault disk) = ⊤
+TellsAfter bytes (NoMemory disk) = ⊤
+
+-- and the journal is at rest
 abbrev pub RestsAfter : {D : Type 0} → (D → Option (List ℕ)) → (D → List ℕ → Type 0) → Recovered D → Type 0
 RestsAfter bytes may_leave (Ready journal payloads) =
     (content : Content) × AreListed payloads content × IsAtRest bytes may_leave journal content

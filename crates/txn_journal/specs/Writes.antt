@@ -11,9 +11,15 @@ pub record IsWritten {D : Type 0} (bytes : D → Option (List ℕ)) (may_leave :
   pub told : bytes disk ≡ Some file
   pub durable : Only file (may_leave disk)
 
--- a disk holds payloads of which this counts, up to the gate at this place, and all of it is on the disk
+-- reads of a disk give payloads of which this counts, up to the gate at this place
+pub record Tells {D : Type 0} (bytes : D → Option (List ℕ)) (disk : D) (version : Version) (end : ℕ)
+    (content : Content) : Type 0 where
+  pub file : List ℕ
+  pub told : bytes disk ≡ Some file
+  pub lies : HoldsTo file version end content
+
+-- and all of it is on the disk
 pub record Rests {D : Type 0} (bytes : D → Option (List ℕ)) (may_leave : D → List ℕ → Type 0) (disk : D)
     (version : Version) (end : ℕ) (content : Content) : Type 0 where
-  pub file : List ℕ
-  pub written : IsWritten bytes may_leave disk file
-  pub lies : HoldsTo file version end content
+  pub tells : Tells bytes disk version end content
+  pub durable : Only tells.file (may_leave disk)

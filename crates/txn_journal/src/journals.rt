@@ -1,7 +1,7 @@
 //! A journal to which payloads are appended.
 ghost use Rattle.std.specs.Prelude.{◌≡◌, ◌≢◌, ℕ, ◌≤◌, IsSomeAnd};
 ghost use Rattle.ts_disk.specs.CrashImage.{LeavesOnly};
-ghost use Rattle.txn_journal.specs.Calls.{IsAtRest, BeginSince, Ends, IsCounted, IfDone, IfStopped};
+ghost use Rattle.txn_journal.specs.Calls.{IsAtRest, IsTold, BeginSince, Ends, IsCounted, IfDone, IfStopped};
 ghost use Rattle.txn_journal.specs.Contents.{Content, IsFront, number_of, raised, with_payload};
 ghost use Rattle.txn_journal.specs.Frames.{StandsFor, StandsForEither, WithOrWithout};
 ghost use Rattle.txn_journal.specs.Places.{IsPlaced};
@@ -82,6 +82,8 @@ impl<D: Disk> Journal<D> {
     /// Writes and syncs the header where the file has at most nine bytes and isn't the header, and else
     /// does nothing.
     pub fn arm(&mut self) -> Append
+        ensures tells { (content : Content) → IsTold D.bytes self.old content
+            → IfDone result (IsTold D.bytes self.new content) }
         ensures done { (content : Content) → IsAtRest D.bytes D.may_leave self.old content
             → IfDone result (IsAtRest D.bytes D.may_leave self.new content) }
         // A crash at any moment leaves a file that stands for the same.
@@ -91,8 +93,8 @@ impl<D: Disk> Journal<D> {
         ensures earlier { (t : ℕ) (before content : Content) → IsAtRest D.bytes D.may_leave self.old content
             → IsFront before content → t ≤ D.moment self.old.disk
             → BeginSince D.left_since self.old.disk t before → BeginSince D.left_since self.new.disk t before }
-        // So does what reads give.
-        ensures shown { (content : Content) → IsAtRest D.bytes D.may_leave self.old content
+        // So does what reads give, whether all of it was on the disk or not.
+        ensures shown { (content : Content) → IsTold D.bytes self.old content
             → IsSomeAnd (D.bytes self.new.disk) (λ file. StandsFor file content) }
         ensures ends { Ends result self.old.standing self.new.standing }
         ensures armed { self.new.standing ≢ Standing.Bare }
@@ -124,8 +126,7 @@ impl<D: Disk> Journal<D> {
     /// answers `Done`, every crash leaves a file that has it.
     pub fn append(&mut self, frame: &Frame) -> Append
         requires armed { self.old.standing ≢ Standing.Bare }
-        ensures done { (content : Content) → IsAtRest D.bytes D.may_leave self.old content
-            → IfDone result
+        ensures done { (content : Content) → IsTold D.bytes self.old content → IfDone result
             (IsAtRest D.bytes D.may_leave self.new (with_payload self.old.version content frame.now)) }
         // A crash at any moment leaves a file that stands for what was there, with this payload or without it.
         ensures any_moment { (content : Content) → IsAtRest D.bytes D.may_leave self.old content
@@ -136,8 +137,8 @@ impl<D: Disk> Journal<D> {
             → IsFront before content → IsFront before (with_payload self.old.version content frame.now)
             → t ≤ D.moment self.old.disk
             → BeginSince D.left_since self.old.disk t before → BeginSince D.left_since self.new.disk t before }
-        // So does what reads give.
-        ensures shown { (content : Content) → IsAtRest D.bytes D.may_leave self.old content
+        // So does what reads give, whether all of it was on the disk or not.
+        ensures shown { (content : Content) → IsTold D.bytes self.old content
             → IsSomeAnd (D.bytes self.new.disk) (WithOrWithout self.old.version content frame.now) }
         ensures ends { Ends result self.old.standing self.new.standing }
         ensures version { self.new.version ≡ self.old.version }
@@ -164,13 +165,15 @@ impl<D: Disk> Journal<D> {
     /// it does nothing.
     pub fn raise_version(&mut self) -> Append
         requires armed { self.old.standing ≢ Standing.Bare }
+        ensures tells { (content : Content) → IsTold D.bytes self.old content
+            → IfDone result (IsTold D.bytes self.new (raised content)) }
         ensures done { (content : Content) → IsAtRest D.bytes D.may_leave self.old content
             → IfDone result (IsAtRest D.bytes D.may_leave self.new (raised content)) }
         // A crash at any moment leaves a file that stands for what counts in the one version or in the other.
         ensures any_moment { (content : Content) → IsAtRest D.bytes D.may_leave self.old content
             → LeavesOnly D.moment D.left_since self.old.disk self.new.disk (StandsForEither content (raised content)) }
-        // So does what reads give.
-        ensures shown { (content : Content) → IsAtRest D.bytes D.may_leave self.old content
+        // So does what reads give, whether all of it was on the disk or not.
+        ensures shown { (content : Content) → IsTold D.bytes self.old content
             → IsSomeAnd (D.bytes self.new.disk) (StandsForEither content (raised content)) }
         ensures ends { Ends result self.old.standing self.new.standing }
         ensures version { IfDone result (self.new.version ≡ Version.Two) }

@@ -2,7 +2,7 @@
 ghost use Rattle.std.specs.Prelude.{◌≡◌, ◌≢◌, ℕ, ◌+◌, ◌≤◌, List, true, false, length};
 ghost use Rattle.ts_disk.specs.CrashImage.{Only};
 ghost use Rattle.ts_disk.specs.Disk.{HasRange, Keeps};
-ghost use Rattle.txn_journal.specs.Calls.{IsAtRest};
+ghost use Rattle.txn_journal.specs.Calls.{IsAtRest, IsTold};
 ghost use Rattle.txn_journal.specs.Places.{IsReading};
 ghost use Rattle.txn_journal.specs.Contents.{Content};
 ghost use Rattle.txn_journal.specs.Reading.{CountsNext, CountsTaken, HasRead, IfTaken, Moves, Steps, Takes, at_gate, is_end};
@@ -147,6 +147,8 @@ impl<D: Disk> Reader<D> {
         ensures disk { result.disk ≡ self.disk }
         ensures goes_on { result.standing ≢ Standing.Still }
         ensures version { result.version ≡ self.version }
+        ensures tells { (file : List ℕ) (content : Content) → HasRead D.bytes self file content
+            → IsTold D.bytes result content }
         ensures at_rest { (file : List ℕ) (content : Content) → HasRead D.bytes self file content
             → Only file (D.may_leave self.disk) → IsAtRest D.bytes D.may_leave result content }
     {

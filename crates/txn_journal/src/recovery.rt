@@ -4,7 +4,7 @@ ghost use Rattle.ts_disk.specs.CrashImage.{Only};
 ghost use Rattle.ts_disk.specs.Disk.{Keeps};
 ghost use Rattle.txn_journal.specs.Contents.{nothing};
 ghost use Rattle.txn_journal.specs.Reading.{HasRead};
-ghost use Rattle.txn_journal.specs.Recovering.{CountsRecovered, GoesOn, Recovers, RestsAfter, disk_of};
+ghost use Rattle.txn_journal.specs.Recovering.{CountsRecovered, GoesOn, Recovers, RestsAfter, TellsAfter, disk_of};
 
 use crate::journals::Journal;
 use crate::openings::Opened;
@@ -37,6 +37,7 @@ pub enum Recovered<D: Disk> {
 /// Reads a journal from its base on. It writes nothing. It holds all these payloads at once; `Reader` holds one at a time.
 pub fn recover<D: Disk>(alloc: Global, disk: D) -> Recovered<D>
     ensures recovers { (file : List ℕ) → D.bytes disk ≡ Some file → Recovers result file }
+    ensures tells { (file : List ℕ) → D.bytes disk ≡ Some file → TellsAfter D.bytes result }
     ensures at_rest { (file : List ℕ) → D.bytes disk ≡ Some file → Only file (D.may_leave disk)
         → RestsAfter D.bytes D.may_leave result }
     ensures goes_on { GoesOn result }
@@ -57,6 +58,7 @@ pub fn recover<D: Disk>(alloc: Global, disk: D) -> Recovered<D>
 /// Reads all payloads, where none was read yet.
 fn read_all<D: Disk>(alloc: Global, reader: Reader<D>) -> Recovered<D>
     ensures recovers { (file : List ℕ) → HasRead D.bytes reader file nothing → Recovers result file }
+    ensures tells { (file : List ℕ) → HasRead D.bytes reader file nothing → TellsAfter D.bytes result }
     ensures at_rest { (file : List ℕ) → HasRead D.bytes reader file nothing → Only file (D.may_leave reader.disk)
         → RestsAfter D.bytes D.may_leave result }
     ensures goes_on { GoesOn result }

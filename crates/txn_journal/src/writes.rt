@@ -1,10 +1,10 @@
 //! A write that is put onto the disk before anything else.
-ghost use Rattle.std.specs.Prelude.{◌≡◌, ℕ, ◌+◌, ◌≤◌, [], ◌∷◌, ◌++◌, List, Some, length, OnOk, IsSome};
+ghost use Rattle.std.specs.Prelude.{◌≡◌, ℕ, ◌+◌, ◌≤◌, [], ◌∷◌, ◌++◌, List, Some, length, OnOk, IsSomeAnd};
 ghost use Rattle.ts_disk.specs.CrashImage.{written, Torn, Only, LeavesOnly};
 ghost use Rattle.ts_disk.specs.Disk.{Counted, HasRange};
 ghost use Rattle.txn_journal.specs.Contents.{Content, raised, with_payload};
 ghost use Rattle.txn_journal.specs.Frames.{Fits, StandsForEither, WithOrWithout};
-ghost use Rattle.txn_journal.specs.Writes.{IsWritten, Rests};
+ghost use Rattle.txn_journal.specs.Writes.{IsWritten, Rests, Tells};
 ghost use Rattle.txn_journal.specs.declared.versions.Version.{Version};
 ghost use Rattle.txn_journal.specs.declared.versions.Version.TheVariants.{One, Two};
 
@@ -20,11 +20,13 @@ pub fn write_synced<D: Disk>(disk: &mut D, at: u64, piece: &[u8]) -> Result<(), 
     // From a disk whose bytes are all on it, a crash at any moment leaves them as the write may tear them.
     ensures crash { (file : List ℕ) → D.bytes disk.old ≡ Some file → Only file (D.may_leave disk.old)
         → LeavesOnly D.moment D.left_since disk.old disk.new (Torn at (length piece.now) file) }
+    // So does what reads give, whether all of it was on the disk or not.
+    ensures shown { (file : List ℕ) → D.bytes disk.old ≡ Some file
+        → IsSomeAnd (D.bytes disk.new) (Torn at (length piece.now) file) }
     ensures done { OnOk result ((file : List ℕ) → D.bytes disk.old ≡ Some file
         → IsWritten D.bytes D.may_leave disk.new (written file at piece.now)) }
     ensures grown { (end : ℕ) → HasRange (D.bytes disk.old) end → OnOk result (HasRange (D.bytes disk.new) end) }
     ensures reaches { OnOk result (HasRange (D.bytes disk.new) (at + length piece.now)) }
-    ensures told { (file : List ℕ) → D.bytes disk.old ≡ Some file → IsSome (D.bytes disk.new) }
     ensures most { OnOk result (at + length piece.now ≤ MOST_BYTES) }
     ensures counted { Counted (D.faults disk.old) (D.faults disk.new) result }
 {
@@ -38,10 +40,10 @@ pub fn put_frame<D: Disk>(disk: &mut D, end: u64, frame: &Frame) -> Result<(), F
     requires range { HasRange (D.bytes disk.old) (end + 1) }
     ensures any_moment { (version : Version) (content : Content) → Rests D.bytes D.may_leave disk.old version end content
         → LeavesOnly D.moment D.left_since disk.old disk.new (WithOrWithout version content frame.now) }
-    ensures done { OnOk result ((version : Version) (content : Content)
-        → Rests D.bytes D.may_leave disk.old version end content
+    ensures shown { (version : Version) (content : Content) → Tells D.bytes disk.old version end content
+        → IsSomeAnd (D.bytes disk.new) (WithOrWithout version content frame.now) }
+    ensures done { OnOk result ((version : Version) (content : Content) → Tells D.bytes disk.old version end content
         → Rests D.bytes D.may_leave disk.new version (end + 5 + length frame.now) (with_payload version content frame.now)) }
-    ensures told { (file : List ℕ) → D.bytes disk.old ≡ Some file → IsSome (D.bytes disk.new) }
     ensures reaches { OnOk result (HasRange (D.bytes disk.new) (end + 6 + length frame.now)) }
     ensures most { OnOk result (end + 6 + length frame.now ≤ MOST_BYTES) }
     ensures counted { Counted (D.faults disk.old) (D.faults disk.new) result }
@@ -58,9 +60,10 @@ pub fn put_version<D: Disk>(disk: &mut D) -> Result<(), Failed>
     // As long as the write may be torn the byte may be any.
     ensures any_moment { (end : ℕ) (content : Content) → Rests D.bytes D.may_leave disk.old One end content
         → LeavesOnly D.moment D.left_since disk.old disk.new (StandsForEither content (raised content)) }
-    ensures done { OnOk result ((end : ℕ) (content : Content) → Rests D.bytes D.may_leave disk.old One end content
+    ensures shown { (end : ℕ) (content : Content) → Tells D.bytes disk.old One end content
+        → IsSomeAnd (D.bytes disk.new) (StandsForEither content (raised content)) }
+    ensures done { OnOk result ((end : ℕ) (content : Content) → Tells D.bytes disk.old One end content
         → Rests D.bytes D.may_leave disk.new Two end (raised content)) }
-    ensures told { (file : List ℕ) → D.bytes disk.old ≡ Some file → IsSome (D.bytes disk.new) }
     ensures grown { (end : ℕ) → HasRange (D.bytes disk.old) end → OnOk result (HasRange (D.bytes disk.new) end) }
     ensures counted { Counted (D.faults disk.old) (D.faults disk.new) result }
 {

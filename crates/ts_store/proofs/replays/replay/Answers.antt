@@ -36,6 +36,12 @@ events-preserved-in-Done g c =
       counted = c.in-Base.ensures.counted ∙ c.events.invariant.counted;
     }
 
+pub returns-in-End-clause-at_rest : goal.returns-in-End-clause-at_rest
+returns-in-End-clause-at_rest g c = λ file has only.
+    let now = content_of (history_of c.events.engine.past) in
+    let kept = keeps_both g.D.Disk.bytes g.D.Disk.may_leave g.D.Disk.moment g.D.Disk.left_since c.args.reader.disk c.events.reader.disk c.next.new.self.disk c.events.invariant.kept c.next.ensures.kept in
+    c.finish.ensures.at_rest file now (c.in-End.ensures.steps file now (c.events.invariant.read file has)).1 (λ image left. only image (kept.leaves image left))
+
 pub returns-in-Damaged-clause-replays : goal.returns-in-Damaged-clause-replays
 returns-in-Damaged-clause-replays g c = λ file has.
     let h = history_of c.events.engine.past in

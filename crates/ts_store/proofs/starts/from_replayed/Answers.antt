@@ -2,8 +2,8 @@ use Rattle.std.proofs.Common.{◌≡◌, ℕ, List, Some, sym, subst}
 use Rattle.ts_disk.specs.CrashImage.{Only}
 use Rattle.ts_disk.specs.Disk.{Keeps}
 use Rattle.ts_store.specs.Stands.{Stands}
-use Rattle.ts_store.specs.Starts.{CountsReplayed, GoesOn, IsNew, Replays, RestsReplayed, SoundReplayed, disk_of_replayed}
-use Rattle.ts_store.specs.Stores.{StoreValue, seen}
+use Rattle.ts_store.specs.Starts.{CountsReplayed, GoesOn, IsNew, Replays, RestsReplayed, SoundReplayed, TellsReplayed, disk_of_replayed}
+use Rattle.ts_store.specs.Stores.{StoreValue, Rests, seen}
 use Rattle.ts_store.specs.declared.replays.Replayed.{Replayed}
 use Rattle.ts_store.proofs.KeptLaws.{kept_at_start}
 use Rattle.ts_store.proofs.StartLaws.{new_at_start}
@@ -18,6 +18,7 @@ new-requires g c = record {
       (subst (λ (r : Replayed g.row.D.Denot). SoundReplayed r) c.in-Ready.is c.requires.sound)
       (subst (λ (r : Replayed g.row.D.Denot). GoesOn r) c.in-Ready.is c.requires.goes_on)
       (subst (λ (r : Replayed g.row.D.Denot). (file : List ℕ) → g.D.Disk.bytes c.args.begun ≡ Some file → Replays r file) c.in-Ready.is c.requires.replays)
+      (subst (λ (r : Replayed g.row.D.Denot). (file : List ℕ) → g.D.Disk.bytes c.args.begun ≡ Some file → TellsReplayed g.D.Disk.bytes r) c.in-Ready.is c.requires.tells)
       (subst (λ (r : Replayed g.row.D.Denot). (file : List ℕ) → g.D.Disk.bytes c.args.begun ≡ Some file → Only file (g.D.Disk.may_leave c.args.begun) → RestsReplayed g.D.Disk.bytes g.D.Disk.may_leave r) c.in-Ready.is c.requires.at_rest);
 }
 
@@ -25,6 +26,11 @@ pub returns-in-Ready-clause-starts : goal.returns-in-Ready-clause-starts
 returns-in-Ready-clause-starts g c =
     subst (λ (s : StoreValue g.row.D.Denot). (file : List ℕ) → g.D.Disk.bytes c.args.begun ≡ Some file → Stands file (seen s)) (sym c.new.ensures.made)
     (subst (λ (r : Replayed g.row.D.Denot). (file : List ℕ) → g.D.Disk.bytes c.args.begun ≡ Some file → Replays r file) c.in-Ready.is c.requires.replays)
+
+pub returns-in-Ready-clause-rests : goal.returns-in-Ready-clause-rests
+returns-in-Ready-clause-rests g c =
+    subst (λ (s : StoreValue g.row.D.Denot). (file : List ℕ) → g.D.Disk.bytes c.args.begun ≡ Some file → Only file (g.D.Disk.may_leave c.args.begun) → Rests g.D.Disk.bytes g.D.Disk.may_leave s) (sym c.new.ensures.made)
+    (subst (λ (r : Replayed g.row.D.Denot). (file : List ℕ) → g.D.Disk.bytes c.args.begun ≡ Some file → Only file (g.D.Disk.may_leave c.args.begun) → RestsReplayed g.D.Disk.bytes g.D.Disk.may_leave r) c.in-Ready.is c.requires.at_rest)
 
 pub returns-in-Ready-clause-new : goal.returns-in-Ready-clause-new
 returns-in-Ready-clause-new g c = subst (λ (s : StoreValue g.row.D.Denot). IsNew c.args.begun s) (sym c.new.ensures.made) (new_at_start c.in-Ready.engine c.in-Ready.journal c.args.begun)

@@ -47,6 +47,14 @@ returns-in-End-clause-recovers g c = λ file has.
     let so_far = c.payloads.invariant.read file has in
     (so_far.0, are_listed c.payloads.payloads so_far.0 c.payloads.reader.at so_far.1, (c.in-End.ensures.steps file so_far.0 so_far.2).0)
 
+pub returns-in-End-clause-tells : goal.returns-in-End-clause-tells
+returns-in-End-clause-tells g c = λ file has.
+    let so_far = c.payloads.invariant.read file has in (
+      so_far.0,
+      are_listed c.payloads.payloads so_far.0 c.payloads.reader.at so_far.1,
+      c.finish.ensures.tells file so_far.0 (c.in-End.ensures.steps file so_far.0 so_far.2).1,
+    )
+
 pub returns-in-End-clause-at_rest : goal.returns-in-End-clause-at_rest
 returns-in-End-clause-at_rest g c = λ file has only.
     let so_far = c.payloads.invariant.read file has in

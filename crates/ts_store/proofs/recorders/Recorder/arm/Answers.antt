@@ -13,19 +13,19 @@ use Rattle.ts_store.proofs.recorders.Recorder.arm.Goals as goal
 pub returns-in-Done-clause-arms : goal.returns-in-Done-clause-arms
 returns-in-Done-clause-arms g c =
     let new : Recorder g.row.D.Denot = record { engine = c.args.self.now.engine; journal = c.arm.new.self; failed = c.args.self.now.failed } in
-    arms_safely g.D.Disk.bytes g.D.Disk.may_leave g.D.Disk.moment g.D.Disk.left_since g.D.Disk.faults c.args.self.now new c.requires.sound refl c.arm.ensures.any_moment Done (λ rest. c.in-Done.ensures.done _ rest)
+    arms_safely g.D.Disk.bytes g.D.Disk.may_leave g.D.Disk.moment g.D.Disk.left_since g.D.Disk.faults c.args.self.now new c.requires.sound refl c.arm.ensures.any_moment Done (λ tells. c.in-Done.ensures.tells _ tells) (λ rest. c.in-Done.ensures.done _ rest) c.arm.ensures.shown
 
 pub returns-in-DiskFault-clause-arms : goal.returns-in-DiskFault-clause-arms
 returns-in-DiskFault-clause-arms g c =
     let new : Recorder g.row.D.Denot = record { engine = c.args.self.now.engine; journal = c.arm.new.self; failed = c.args.self.now.failed } in
-    let safely = arms_safely g.D.Disk.bytes g.D.Disk.may_leave g.D.Disk.moment g.D.Disk.left_since g.D.Disk.faults c.args.self.now new c.requires.sound refl c.arm.ensures.any_moment c.arm.result (λ rest. c.arm.ensures.done _ rest) in
-    record { done = λ rest. tt; any_moment = safely.any_moment; earlier = safely.earlier }
+    let safely = arms_safely g.D.Disk.bytes g.D.Disk.may_leave g.D.Disk.moment g.D.Disk.left_since g.D.Disk.faults c.args.self.now new c.requires.sound refl c.arm.ensures.any_moment c.arm.result (λ tells. c.arm.ensures.tells _ tells) (λ rest. c.arm.ensures.done _ rest) c.arm.ensures.shown in
+    record { tells = λ tells. tt; done = λ rest. tt; any_moment = safely.any_moment; shown = safely.shown; earlier = safely.earlier }
 
 pub returns-in-Stopped-clause-arms : goal.returns-in-Stopped-clause-arms
 returns-in-Stopped-clause-arms g c =
     let new : Recorder g.row.D.Denot = record { engine = c.args.self.now.engine; journal = c.arm.new.self; failed = c.args.self.now.failed } in
-    let safely = arms_safely g.D.Disk.bytes g.D.Disk.may_leave g.D.Disk.moment g.D.Disk.left_since g.D.Disk.faults c.args.self.now new c.requires.sound refl c.arm.ensures.any_moment c.arm.result (λ rest. c.arm.ensures.done _ rest) in
-    record { done = λ rest. tt; any_moment = safely.any_moment; earlier = safely.earlier }
+    let safely = arms_safely g.D.Disk.bytes g.D.Disk.may_leave g.D.Disk.moment g.D.Disk.left_since g.D.Disk.faults c.args.self.now new c.requires.sound refl c.arm.ensures.any_moment c.arm.result (λ tells. c.arm.ensures.tells _ tells) (λ rest. c.arm.ensures.done _ rest) c.arm.ensures.shown in
+    record { tells = λ tells. tt; done = λ rest. tt; any_moment = safely.any_moment; shown = safely.shown; earlier = safely.earlier }
 
 pub returns-in-Done-clause-ends : goal.returns-in-Done-clause-ends
 returns-in-Done-clause-ends g c =
@@ -43,7 +43,7 @@ returns-in-Done-clause-kept g c =
     let new : Recorder g.row.D.Denot = record { engine = c.args.self.now.engine; journal = c.arm.new.self; failed = c.args.self.now.failed } in
     let none = none_of_going c.args.self.now.failed c.args.self.now.journal.standing c.requires.still (c.in-Done.ensures.ends).0 in
     kept_armed g.D.Disk.bytes g.D.Disk.may_leave g.D.Disk.moment g.D.Disk.left_since g.D.Disk.faults c.args.self.now new c.requires.sound refl c.arm.ensures.any_moment
-    none (λ rest _. c.in-Done.ensures.done _ rest)
+    none (λ tells _. c.in-Done.ensures.tells _ tells) (λ rest _. c.in-Done.ensures.done _ rest)
     (λ begun few le. omega (arith, le, c.in-Done.ensures.counted))
     (λ begun le. rose_none c.args.self.now.failed (g.D.Disk.faults begun) (g.D.Disk.faults c.arm.new.self.disk) none)
     (ap is_some none ∙ ap is_still (sym (c.in-Done.ensures.ends).1))
@@ -55,7 +55,7 @@ returns-in-DiskFault-clause-kept g c =
     let new : Recorder g.row.D.Denot = record { engine = c.args.self.now.engine; journal = c.arm.new.self; failed = Some (Built 0 0) } in
     let none = none_of_going c.args.self.now.failed c.args.self.now.journal.standing c.requires.still (c.in-DiskFault.ensures.ends).0 in
     kept_armed g.D.Disk.bytes g.D.Disk.may_leave g.D.Disk.moment g.D.Disk.left_since g.D.Disk.faults c.args.self.now new c.requires.sound refl c.arm.ensures.any_moment
-    none (λ rest is. absurd (cc is))
+    none (λ tells is. absurd (cc is)) (λ rest is. absurd (cc is))
     (λ begun few le. rose_above (g.D.Disk.faults begun) (g.D.Disk.faults c.arm.new.self.disk) few (rose_from (g.D.Disk.faults begun) (g.D.Disk.faults c.args.self.now.journal.disk) (g.D.Disk.faults c.arm.new.self.disk) le c.in-DiskFault.ensures.counted))
     (λ begun le some. rose_from (g.D.Disk.faults begun) (g.D.Disk.faults c.args.self.now.journal.disk) (g.D.Disk.faults c.arm.new.self.disk) le c.in-DiskFault.ensures.counted)
     (ap is_still (sym (c.in-DiskFault.ensures.ends).1))

@@ -1,4 +1,4 @@
-use Rattle.std.proofs.Common.{◌≡◌, ℕ, ◌≤◌, ◌∙◌, ap, subst}
+use Rattle.std.proofs.Common.{◌≡◌, ℕ, ◌≤◌, IsSomeAnd, ◌∙◌, ap, subst}
 use Rattle.ts_disk.specs.CrashImage.{LeavesOnly}
 use Rattle.ts_model.specs.History.{History, Begins}
 use Rattle.txn_journal.specs.Calls.{IfDone, IfStopped, IsCounted}
@@ -6,7 +6,7 @@ use Rattle.ts_store.specs.Images.{BeginSince}
 use Rattle.ts_store.specs.Recorders.{store_of}
 use Rattle.ts_store.specs.Safe.{StopsBy}
 use Rattle.ts_store.specs.Stands.{Stands}
-use Rattle.ts_store.specs.Stores.{StoreValue, Rests, seen}
+use Rattle.ts_store.specs.Stores.{StoreValue, Rests, Tells, seen}
 use Rattle.ts_store.proofs.AppendLaws.{armed_done, armed_stays}
 use Rattle.ts_store.proofs.KeptLaws.{kept_armed_now}
 use Rattle.ts_store.proofs.RecordLaws.{stopped_same}
@@ -27,6 +27,12 @@ returns-clause-begun g c = ap (λ (s : StoreValue g.row.D.Denot). s.begun) c.sel
 pub returns-clause-opened : goal.returns-clause-opened
 returns-clause-opened g c = ap (λ (s : StoreValue g.row.D.Denot). s.opened) c.self.view_is
 
+pub returns-clause-tells : goal.returns-clause-tells
+returns-clause-tells g c =
+    let new : StoreValue g.row.D.Denot = store_of c.arm-answer.new.self c.self.inside.begun c.self.inside.opened c.is_armed_after-self-inside.result in
+    subst (λ (s : StoreValue g.row.D.Denot). Tells g.D.Disk.bytes s → IfDone c.arm-answer.result (Tells g.D.Disk.bytes new)) c.self.view_is
+    c.arm-answer.ensures.arms.tells
+
 pub returns-clause-done : goal.returns-clause-done
 returns-clause-done g c =
     let new : StoreValue g.row.D.Denot = store_of c.arm-answer.new.self c.self.inside.begun c.self.inside.opened c.is_armed_after-self-inside.result in
@@ -37,6 +43,11 @@ pub returns-clause-any_moment : goal.returns-clause-any_moment
 returns-clause-any_moment g c =
     subst (λ (s : StoreValue g.row.D.Denot). Rests g.D.Disk.bytes g.D.Disk.may_leave s → LeavesOnly g.D.Disk.moment g.D.Disk.left_since s.journal.disk c.arm-answer.new.self.journal.disk (λ file. Stands file (seen s))) c.self.view_is
     c.arm-answer.ensures.arms.any_moment
+
+pub returns-clause-shown : goal.returns-clause-shown
+returns-clause-shown g c =
+    subst (λ (s : StoreValue g.row.D.Denot). Tells g.D.Disk.bytes s → IsSomeAnd (g.D.Disk.bytes c.arm-answer.new.self.journal.disk) (λ file. Stands file (seen s))) c.self.view_is
+    c.arm-answer.ensures.arms.shown
 
 pub returns-clause-earlier : goal.returns-clause-earlier
 returns-clause-earlier g c =

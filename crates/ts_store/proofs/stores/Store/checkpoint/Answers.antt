@@ -1,5 +1,5 @@
 use Rattle.std.proofs.Common.{◌≡◌, ◌⊎◌, ℕ, ◌≤◌, true, List, None, subst}
-use Rattle.std.specs.Prelude.{IsSomeAnd}
+use Rattle.std.specs.Prelude.{IsSome, IsSomeAnd}
 use Rattle.ts_disk.specs.CrashImage.{LeavesOnly}
 use Rattle.ts_model.specs.History.{History, Begins}
 use Rattle.ts_model.proofs.HistoryLaws.{begins_prefix}
@@ -19,7 +19,7 @@ returns-clause-earlier g c =
     c.self.view_is
     (λ t h rest begins le begin.
     begins_run g.D.Disk.bytes g.D.Disk.may_leave g.D.Disk.moment g.D.Disk.left_since c.checkpoint.result.end h (history_of c.self.inside.recorder.engine.past) t c.self.inside.recorder.journal.disk c.checkpoint.result.disk
-    (c.checkpoint.ensures.safe rest).any_moment c.checkpoint.ensures.untouched begins le begin)
+    (c.checkpoint.ensures.any_moment rest) c.checkpoint.ensures.untouched begins le begin)
 
 pub returns-clause-images : goal.returns-clause-images
 returns-clause-images g c =
@@ -32,15 +32,15 @@ returns-clause-images g c =
     images_run g.D.Disk.bytes g.D.Disk.may_leave g.D.Disk.moment g.D.Disk.left_since c.checkpoint.result.end (opening inside) (seen inside) c.self.inside.recorder.failed (g.D.Disk.moment c.self.inside.begun)
     c.self.inside.recorder.journal.disk c.checkpoint.result.disk
     (written_from (LeavesOnly g.D.Disk.moment g.D.Disk.left_since c.self.inside.recorder.journal.disk c.checkpoint.result.disk (StandsSaved h)) c.checkpoint.result.end c.self.inside.recorder.engine.past c.self.inside.recorder.failed c.args.most
-    c.checkpoint.ensures.ends (λ going. (c.checkpoint.ensures.safe (c.self.invariant.rests durable going)).any_moment))
+    c.checkpoint.ensures.ends (λ going. c.checkpoint.ensures.any_moment (c.self.invariant.rests durable going)))
     c.checkpoint.ensures.untouched (begins_prefix (seen inside) c.self.inside.opened) (c.self.invariant.later durable) (c.self.invariant.images durable))
 
 pub returns-clause-header : goal.returns-clause-header
-returns-clause-header g c going durable =
+returns-clause-header g c going some =
     let D = g.D.Disk in
     let inside : StoreValue g.row.D.Denot = store_of c.self.inside.recorder c.self.inside.begun c.self.inside.opened c.self.inside.armed in
-    subst (λ (s : StoreValue g.row.D.Denot). s.armed ≡ true → s.failed ≡ None → IsDurable D.bytes D.may_leave s.begun → IfUntouched c.checkpoint.result.end (IsSomeAnd (D.bytes c.checkpoint.result.disk) HasHeader))
+    subst (λ (s : StoreValue g.row.D.Denot). s.armed ≡ true → s.failed ≡ None → IsSome (D.bytes s.begun) → IfUntouched c.checkpoint.result.end (IsSomeAnd (D.bytes c.checkpoint.result.disk) HasHeader))
     c.self.view_is
-    (λ armed goes_on whole. untouched_shows D.bytes c.checkpoint.result.end inside.journal.disk c.checkpoint.result.disk HasHeader c.checkpoint.ensures.untouched
-    (shows_header D.bytes D.may_leave D.moment D.left_since D.faults inside c.self.invariant armed goes_on whole))
-    c.requires.armed going durable
+    (λ armed goes_on known. untouched_shows D.bytes c.checkpoint.result.end inside.journal.disk c.checkpoint.result.disk HasHeader c.checkpoint.ensures.untouched
+    (shows_header D.bytes D.may_leave D.moment D.left_since D.faults inside c.self.invariant armed goes_on known))
+    c.requires.armed going some

@@ -1,5 +1,5 @@
 use Rattle.std.proofs.Common.{◌≡◌, ℕ, true, List, None, sym, ◌∙◌, ap, subst}
-use Rattle.std.specs.Prelude.{IsSomeAnd}
+use Rattle.std.specs.Prelude.{IsSome, IsSomeAnd}
 use Rattle.ts_store.specs.Images.{HasHeader, IsBetween, IsDurable, StandsForEither, latest}
 use Rattle.ts_store.specs.Stores.{StoreValue, opening, seen}
 use Rattle.ts_store.specs.Recorders.{store_of}
@@ -11,8 +11,8 @@ returns-clause-disk g c = c.close.ensures.disk ∙ ap (λ (s : StoreValue g.row.
 
 pub returns-clause-shown : goal.returns-clause-shown
 returns-clause-shown g c =
-    subst (λ (disk : g.row.D.Denot). IsDurable g.D.Disk.bytes g.D.Disk.may_leave c.args.self.begun → IsSomeAnd (g.D.Disk.bytes disk) (StandsForEither (seen c.args.self) (latest (seen c.args.self) c.args.self.failed))) (sym (returns-clause-disk g c))
-    (subst (λ (s : StoreValue g.row.D.Denot). IsDurable g.D.Disk.bytes g.D.Disk.may_leave s.begun → IsSomeAnd (g.D.Disk.bytes s.journal.disk) (StandsForEither (seen s) (latest (seen s) s.failed))) c.self.view_is c.self.invariant.shown)
+    subst (λ (disk : g.row.D.Denot). IsSome (g.D.Disk.bytes c.args.self.begun) → IsSomeAnd (g.D.Disk.bytes disk) (StandsForEither (seen c.args.self) (latest (seen c.args.self) c.args.self.failed))) (sym (returns-clause-disk g c))
+    (subst (λ (s : StoreValue g.row.D.Denot). IsSome (g.D.Disk.bytes s.begun) → IsSomeAnd (g.D.Disk.bytes s.journal.disk) (StandsForEither (seen s) (latest (seen s) s.failed))) c.self.view_is c.self.invariant.shown)
 
 pub returns-clause-images : goal.returns-clause-images
 returns-clause-images g c =
@@ -21,6 +21,6 @@ returns-clause-images g c =
 
 pub returns-clause-header : goal.returns-clause-header
 returns-clause-header g c =
-    subst (λ (disk : g.row.D.Denot). c.args.self.armed ≡ true → c.args.self.failed ≡ None → IsDurable g.D.Disk.bytes g.D.Disk.may_leave c.args.self.begun → IsSomeAnd (g.D.Disk.bytes disk) HasHeader) (sym (returns-clause-disk g c))
-    (subst (λ (s : StoreValue g.row.D.Denot). s.armed ≡ true → s.failed ≡ None → IsDurable g.D.Disk.bytes g.D.Disk.may_leave s.begun → IsSomeAnd (g.D.Disk.bytes s.journal.disk) HasHeader) c.self.view_is
+    subst (λ (disk : g.row.D.Denot). c.args.self.armed ≡ true → c.args.self.failed ≡ None → IsSome (g.D.Disk.bytes c.args.self.begun) → IsSomeAnd (g.D.Disk.bytes disk) HasHeader) (sym (returns-clause-disk g c))
+    (subst (λ (s : StoreValue g.row.D.Denot). s.armed ≡ true → s.failed ≡ None → IsSome (g.D.Disk.bytes s.begun) → IsSomeAnd (g.D.Disk.bytes s.journal.disk) HasHeader) c.self.view_is
     (shows_header g.D.Disk.bytes g.D.Disk.may_leave g.D.Disk.moment g.D.Disk.left_since g.D.Disk.faults (store_of c.self.inside.recorder c.self.inside.begun c.self.inside.opened c.self.inside.armed) c.self.invariant))

@@ -5,6 +5,11 @@ use Rattle.ts_store.proofs.HistoryLaws.{sound_start}
 use Rattle.ts_store.proofs.ReplayLaws.{damaged_short}
 use Rattle.ts_store.proofs.stores.Store.start.Goals as goal
 
+pub from_replayed-requires-clause-tells : goal.from_replayed-requires-clause-tells
+from_replayed-requires-clause-tells g c = λ file told.
+    let told_there = subst (λ (d : g.row.D.Denot). g.D.Disk.bytes d ≡ Some file) c.of-begun.ensures.value told in
+    c.replay.ensures.tells file (c.in-Reading.ensures.opens file told_there)
+
 pub from_replayed-requires-clause-at_rest : goal.from_replayed-requires-clause-at_rest
 from_replayed-requires-clause-at_rest g c = λ file told durable.
     let told_there = subst (λ (d : g.row.D.Denot). g.D.Disk.bytes d ≡ Some file) c.of-begun.ensures.value told in

@@ -1,11 +1,11 @@
-use Rattle.std.proofs.Common.{◌≡◌, ◌≢◌, ◌+◌, [], ◌∷◌, length, ◌∙◌, ap, subst, arith, length-append}
+use Rattle.std.proofs.Common.{◌≡◌, ◌≢◌, ◌+◌, [], ◌∷◌, IsSomeAnd, length, ap, subst, arith, length-append}
 use Rattle.ts_disk.specs.CrashImage.{LeavesOnly}
-use Rattle.txn_journal.specs.Calls.{Logged, IsAtRest}
+use Rattle.txn_journal.specs.Calls.{Logged, IsAtRest, IsTold}
 use Rattle.txn_journal.specs.Contents.{Content, with_payload}
 use Rattle.txn_journal.specs.Frames.{WithOrWithout, body}
 use Rattle.txn_journal.specs.declared.journals.Standing.TheVariants.{Bare}
 use Rattle.txn_journal.proofs.FrameLaws.{length-body}
-use Rattle.txn_journal.proofs.JournalLaws.{begin_on, either_more, rests_after, run_from, shown_after}
+use Rattle.txn_journal.proofs.JournalLaws.{begin_on, either_more, rests_after, run_from, shown_from}
 use Rattle.txn_journal.proofs.journals.Journal.append.Goals as goal
 
 pub returns-in-Ok-clause-done : goal.returns-in-Ok-clause-done
@@ -13,7 +13,7 @@ returns-in-Ok-clause-done g c =
     let old : Logged g.row.D.Denot = record { disk = c.self.inside.disk; version = c.self.inside.version; end = c.self.inside.end; standing = c.self.inside.standing } in
     let size : c.self.inside.end + length c.bytes.result.now ≡ c.self.inside.end + 5 + length c.args.frame.now =
     omega (arith, ap length c.bytes.ensures.bytes, length-append (body c.args.frame.now) (0 ∷ []), length-body c.args.frame.now) in
-    subst (λ (j : Logged g.row.D.Denot). j.standing ≢ Bare → (content : Content) → IsAtRest g.D.Disk.bytes g.D.Disk.may_leave j content
+    subst (λ (j : Logged g.row.D.Denot). j.standing ≢ Bare → (content : Content) → IsTold g.D.Disk.bytes j content
     → IsAtRest g.D.Disk.bytes g.D.Disk.may_leave (record { disk = c.put_frame.new.disk; version = c.self.inside.version; end = c.self.inside.end + length c.bytes.result.now; standing = c.self.inside.standing }) (with_payload j.version content c.args.frame.now))
     c.self.view_is
     (rests_after g.D.Disk.bytes g.D.Disk.may_leave g.D.Disk.moment g.D.Disk.left_since old c.put_frame.new.disk c.self.inside.version (c.self.inside.end + length c.bytes.result.now) (c.self.inside.end + 5 + length c.args.frame.now)
@@ -35,11 +35,12 @@ returns-in-Ok-clause-earlier g c = λ t before content rest is is_more le begin.
     (returns-in-Ok-clause-any_moment g c content rest) (λ image either. either_more before content (with_payload c.args.self.now.version content c.args.frame.now) image is is_more either) le begin
 
 pub returns-in-Ok-clause-shown : goal.returns-in-Ok-clause-shown
-returns-in-Ok-clause-shown g c = λ content rest.
-    shown_after g.D.Disk.bytes g.D.Disk.may_leave g.D.Disk.moment g.D.Disk.left_since c.args.self.now.disk c.put_frame.new.disk (WithOrWithout c.args.self.now.version content c.args.frame.now)
-    (λ t image. g.met.D.Disk.counts_now c.put_frame.new.disk t image) (g.met.D.Disk.shows_an_image c.put_frame.new.disk)
-    (returns-in-Ok-clause-any_moment g c content rest)
-    (c.put_frame.ensures.told rest.file (ap (λ (j : Logged g.row.D.Denot). g.D.Disk.bytes j.disk) c.self.view_is ∙ rest.told))
+returns-in-Ok-clause-shown g c =
+    let old : Logged g.row.D.Denot = record { disk = c.self.inside.disk; version = c.self.inside.version; end = c.self.inside.end; standing = c.self.inside.standing } in
+    subst (λ (j : Logged g.row.D.Denot). j.standing ≢ Bare → (content : Content) → IsTold g.D.Disk.bytes j content → IsSomeAnd (g.D.Disk.bytes c.put_frame.new.disk) (WithOrWithout j.version content c.args.frame.now))
+    c.self.view_is
+    (shown_from g.D.Disk.bytes g.D.Disk.may_leave g.D.Disk.moment g.D.Disk.left_since old (λ content. IsSomeAnd (g.D.Disk.bytes c.put_frame.new.disk) (WithOrWithout c.self.inside.version content c.args.frame.now)) (c.put_frame.ensures.shown c.self.inside.version))
+    c.requires.armed
 
 pub returns-in-Err-clause-any_moment : goal.returns-in-Err-clause-any_moment
 returns-in-Err-clause-any_moment g c =
@@ -56,8 +57,9 @@ returns-in-Err-clause-earlier g c = λ t before content rest is is_more le begin
     (returns-in-Err-clause-any_moment g c content rest) (λ image either. either_more before content (with_payload c.args.self.now.version content c.args.frame.now) image is is_more either) le begin
 
 pub returns-in-Err-clause-shown : goal.returns-in-Err-clause-shown
-returns-in-Err-clause-shown g c = λ content rest.
-    shown_after g.D.Disk.bytes g.D.Disk.may_leave g.D.Disk.moment g.D.Disk.left_since c.args.self.now.disk c.put_frame.new.disk (WithOrWithout c.args.self.now.version content c.args.frame.now)
-    (λ t image. g.met.D.Disk.counts_now c.put_frame.new.disk t image) (g.met.D.Disk.shows_an_image c.put_frame.new.disk)
-    (returns-in-Err-clause-any_moment g c content rest)
-    (c.put_frame.ensures.told rest.file (ap (λ (j : Logged g.row.D.Denot). g.D.Disk.bytes j.disk) c.self.view_is ∙ rest.told))
+returns-in-Err-clause-shown g c =
+    let old : Logged g.row.D.Denot = record { disk = c.self.inside.disk; version = c.self.inside.version; end = c.self.inside.end; standing = c.self.inside.standing } in
+    subst (λ (j : Logged g.row.D.Denot). j.standing ≢ Bare → (content : Content) → IsTold g.D.Disk.bytes j content → IsSomeAnd (g.D.Disk.bytes c.put_frame.new.disk) (WithOrWithout j.version content c.args.frame.now))
+    c.self.view_is
+    (shown_from g.D.Disk.bytes g.D.Disk.may_leave g.D.Disk.moment g.D.Disk.left_since old (λ content. IsSomeAnd (g.D.Disk.bytes c.put_frame.new.disk) (WithOrWithout c.self.inside.version content c.args.frame.now)) (c.put_frame.ensures.shown c.self.inside.version))
+    c.requires.armed
