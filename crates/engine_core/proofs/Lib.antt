@@ -1,3 +1,4 @@
 pub mod ActLaws
 pub mod StoreLaws
 pub mod EventLaws
+pub mod TimelineLaws

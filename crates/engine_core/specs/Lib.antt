@@ -4,3 +4,4 @@ pub mod States
 pub mod Effects
 pub mod Acts
 pub mod Stores
+pub mod Timelines

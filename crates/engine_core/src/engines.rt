@@ -74,8 +74,8 @@ fn finished(state: &State, event: &Event) -> Pending
     }
 }
 
-/// The position at which a history begins.
-fn begun_at(base: &Option<Image>) -> u64
+/// The position at which a history begins, with an image where there is one.
+pub fn begun_at(base: &Option<Image>) -> u64
     ensures { result ≡ position (begun_by base.now) }
 {
     match base {

@@ -1,0 +1,43 @@
+-- The states of a history at its positions.
+use Rattle.std.specs.Prelude.{◌≡◌, ◌≤◌, ℕ, suc, ◌+◌, true, List, length, slice_get, Some}
+use Rattle.ts_model.specs.declared.events.Event.{Event}
+use Rattle.ts_model.specs.Allowed.{all_allowed, allowed}
+use Rattle.ts_model.specs.History.{History, ◌▸◌, base_position, position, prefix}
+use Rattle.engine_state.specs.Afters.{CountsAre}
+use Rattle.engine_state.specs.Stands.{StateValue, StandsFor}
+use Rattle.engine_core.specs.Histories.{history_of}
+use Rattle.engine_core.specs.Values.{Past}
+
+-- what contracts see of what is kept of a history: its state, and how many rows its last event appended and took away
+pub record MomentValue : Type 0 where
+  pub state : StateValue
+  pub inserted : ℕ
+  pub removed : ℕ
+
+-- it is kept of this history
+pub record IsMomentOf (h : History) (m : MomentValue) : Type 0 where
+  pub stands : StandsFor h m.state
+  pub counts : (g : History) (e : Event) → h ≡ g ▸ e → CountsAre g e m.inserted m.removed
+
+-- of a history one moment is kept for each position from one on, in order
+abbrev pub AreMoments : History → ℕ → List MomentValue → Type 0
+AreMoments all start ms = (k : ℕ) (m : MomentValue) → slice_get ms k ≡ Some m → IsMomentOf (prefix all (start + k)) m
+
+-- what contracts see of a timeline: what was told, and the first position that is kept
+pub record TimelineValue : Type 0 where
+  pub past : Past
+  pub start : ℕ
+
+-- the history is an allowed one, which ends at a position, and each position from the first one on is kept
+pub record IsTimeline (past : Past) (start end : ℕ) (ms : List MomentValue) : Type 0 where
+  pub allowed : all_allowed (history_of past) ≡ true
+  pub low : base_position (history_of past) ≤ start
+  pub ends : end ≡ position (history_of past)
+  pub moments : AreMoments (history_of past) start ms
+  pub all : start + length ms ≡ suc end
+
+-- a state stands for some history after which an event is allowed
+pub record MayFollow (s : StateValue) (e : Event) : Type 0 where
+  pub history : History
+  pub stands : StandsFor history s
+  pub fits : allowed history e ≡ true
