@@ -14,6 +14,6 @@ mod summaries;
 
 pub use answers::{put_answer, put_queued_answer};
 pub use events::{put_event, put_history, put_pending};
-pub use refusals::put_refusal;
+pub use refusals::{Tail, put_refusal};
 pub use replies::{Said, put_line_fault, put_reply};
 pub use summaries::{Summary, put_summary};

@@ -9,7 +9,7 @@ use ts_schema::NoMemory;
 
 /// What a refusal's reply ends with.
 #[derive(Clone, Copy, Debug, PartialEq, Eq)]
-pub(crate) enum Tail {
+pub enum Tail {
     /// Nothing.
     Bare,
     /// A place in the line.

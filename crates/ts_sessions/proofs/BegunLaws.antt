@@ -1,9 +1,10 @@
 -- The block of a session after a line had begun by its end.
-use Rattle.std.proofs.Common.{ℕ, ◌≤◌, [], ◌∷◌, length, arith}
+use Rattle.std.proofs.Common.{ℕ, suc, ◌≤◌, List, [], ◌∷◌, ◌++◌, length, Option, Some, None, inl, inr, sym, subst, arith}
 use Rattle.std.specs.Prelude.{Result}
+use Rattle.ts_model.specs.declared.events.Event.{Event}
 use Rattle.ts_model.specs.declared.events.Op.{Op}
 use Rattle.ts_model.specs.Calls.{cutting, making_hyper, making_table, making_view, setting_mode}
-use Rattle.ts_model.specs.History.{History, position}
+use Rattle.ts_model.specs.History.{History, position, prefix}
 use Rattle.ts_model.specs.Roster.{roster, view_of}
 use Rattle.ts_model.proofs.HistoryLaws.{begins_prefix, position_begins}
 use Rattle.stmt_reader.specs.declared.faults.Fault.{Fault}
@@ -15,10 +16,13 @@ use Rattle.stmt_check.specs.declared.actions.Action.TheVariants as actions
 use Rattle.stmt_check.specs.Check.{action_of, refusal_of}
 use Rattle.result_text.specs.declared.replies.Said.TheVariants as said
 use Rattle.ts_sessions.specs.Actors.{BlocksBegin}
+use Rattle.ts_sessions.specs.Gives.{Gives}
 use Rattle.ts_sessions.specs.LineLaws.{ReadsWithin}
 use Rattle.ts_sessions.specs.Places.{Block, none, writing, reading, Places, Turn, enters}
-use Rattle.ts_sessions.specs.Procedures.{looks}
+use Rattle.ts_sessions.specs.Procedures.{Procedure, sees, adds, ends, looks}
+use Rattle.ts_sessions.specs.Replies.{reply_to, replies}
 use Rattle.ts_sessions.specs.Step.{acts, after_cut, after_view, block_refusal, changes, closes, cut_turn, kind_of, least_start, named_first, named_here, read_at, refresh_meant, reported, step, as_read, passes_block, performs}
+use Rattle.ts_sessions.specs.ToldLaws.{GivenBlocksBegin}
 use Rattle.ts_sessions.proofs.NamedLaws.{named_holds, performs_holds, read_holds, unless_holds}
 use Rattle.ts_sessions.proofs.WalkLaws.{goes_walks}
 use Rattle.ts_sessions.proofs.TurnBlocks.{EndsBy, InTurn, by_commits, by_cut, by_cut_turn, by_finishes, by_reported, by_snaps, by_view, call_by, one_by, walks_by}
@@ -100,3 +104,24 @@ blocks_begin alone failed old p text skip new y within w =
     let goes = goes_walks alone failed old (step p text skip) new y w in
     walks_by (InBegun n) n alone failed old (step p text skip) new y (omega arith)
     (by_read n p (reads_later p.block (position old.history) n (position_begins goes.begins) within) (length text) (statement (stream text skip))) w
+
+-- ---- what lines give
+
+gives_by : {A : Type 0} (N : A → Type 0) (all : History) (stop : Option ℕ) (at : ℕ) (so_far : List (ℕ × Event)) (procedure : Procedure A) (looks : List (Option ℕ)) (last : ℕ) (given : List (ℕ × Event)) (y : A) → EndsBy N (position all) procedure → Gives all stop at so_far procedure looks last given y → N y
+gives_by N all stop at so_far (sees shown f) [] last given y t g = absurd g
+gives_by N all stop at so_far (sees shown f) (None ∷ ps) last given y t g = gives_by N all stop at so_far (f all) ps last given y (t all (omega arith)) g.1
+gives_by N all stop at so_far (sees shown f) (Some p ∷ ps) last given y t g =
+    gives_by N all stop p so_far (f (prefix all p)) ps last given y (t (prefix all p) (position_begins (begins_prefix all p))) g.3
+gives_by N all stop at so_far (adds e next stop_next) ps last given y t (inl g) = gives_by N all stop at so_far stop_next ps last given y t.1 g.1
+gives_by N all stop at so_far (adds e next stop_next) ps last given y t (inr g) = gives_by N all stop (suc at) (so_far ++ (suc at, e) ∷ []) next ps last given y t.0 g.1
+gives_by N all stop at so_far (ends a) [] last given y t g = subst N (sym g.2) t
+gives_by N all stop at so_far (ends a) (p ∷ ps) last given y t g = absurd g
+
+reply_by : (n : ℕ) (p : Places) → ReadsWithin p.block n → (bytes : ℕ) (stmt : Stmt) → EndsBy (InBegun n) n (replies p bytes stmt)
+reply_by n p within bytes stmt = unless_holds (EndsBy (InBegun n) n) p (block_refusal p.block (kind_of stmt)) (named_here p bytes stmt) (λ r e. within) (λ e. by_here n p within bytes stmt)
+
+pub given_blocks_begin : GivenBlocksBegin (λ (p : Places). p.block) reply_to
+given_blocks_begin all stop at p text skip looks last given y within g =
+    let n = position all in
+    let ends_so = read_holds (EndsBy (InBegun n) n) p (replies p (length text)) (statement (stream text skip)) (λ f. within) (reply_by n p within (length text)) in
+    gives_by (InBegun n) all stop at [] (reply_to p text skip) looks last given y ends_so g

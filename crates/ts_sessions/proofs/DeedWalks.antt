@@ -106,7 +106,7 @@ unspent (nexts.End t) = refl
 
 -- ---- a statement
 
-abbrev led_turn : Option Said → Turn Places → Turn Places
+abbrev pub led_turn : Option Said → Turn Places → Turn Places
 led_turn None y = y
 led_turn (Some line) y = after_line line y
 
@@ -118,7 +118,7 @@ led_breaks : (line : Option Said) (alone : Bool) (old : State) (procedure : Proc
 led_breaks None alone old procedure new b = b
 led_breaks (Some line) alone old procedure new b = breaks_first alone old procedure (λ a. ends (after_line line a)) new b
 
-joined_turn : {T J : Type 0} (line : Option Said) (p : Places) (read : ℕ) (t u : Completion T J) → u.said ≡ led_lines line t.said → u.change ≡ t.change → led_turn line (turn_of p read t) ≡ turn_of p read u
+pub joined_turn : {T J : Type 0} (line : Option Said) (p : Places) (read : ℕ) (t u : Completion T J) → u.said ≡ led_lines line t.said → u.change ≡ t.change → led_turn line (turn_of p read t) ≡ turn_of p read u
 joined_turn None p read t u s c = sym (ap (λ q. record { places = changed q p; said = u.said; reads = read }) c ∙ ap (λ q. record { places = changed t.change p; said = q; reads = read }) s)
 joined_turn (Some line) p read t u s c = sym (ap (λ q. record { places = changed q p; said = u.said; reads = read }) c ∙ ap (λ q. record { places = changed t.change p; said = q; reads = read }) s)
 

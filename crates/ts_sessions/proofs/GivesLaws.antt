@@ -15,7 +15,7 @@ use Rattle.ts_sessions.specs.Steady.{IsEnded, Steady}
 -- ---- events and prefixes of longer histories
 
 -- an event has a number up to the position
-numbered : (h : History) (k : ℕ) (e : Event) → event_at h k ≡ Some e → k ≤ position h
+pub numbered : (h : History) (k : ℕ) (e : Event) → event_at h k ≡ Some e → k ≤ position h
 numbered start k e is = absurd (true≢false (sym (ap is_some is)))
 numbered (resumed i) k e is = absurd (true≢false (sym (ap is_some is)))
 numbered (h ▸ x) k e is =

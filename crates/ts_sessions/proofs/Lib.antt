@@ -17,14 +17,23 @@ pub mod FormLaws
 pub mod FirstLaws
 pub mod MeantLaws
 pub mod HeldDeeds
+pub mod LeftLaws
 pub mod GivesLaws
+pub mod TellWalks
+pub mod TellDeeds
+pub mod TellViews
+pub mod TellStatements
+pub mod StandingLaws
+pub mod TellQueues
+pub mod TellLines
 pub mod GivenWalks
 pub mod MadeLaws
 mod FewEvents
 pub mod StepLaws
 pub mod ReplyLaws
 pub mod SteadyLaws
-mod QueueLaws
+pub mod QueueLaws
+pub mod QueueTableLaws
 pub mod RefusalCodes
 mod UpperCodes
 pub mod StopLaws
@@ -32,5 +41,7 @@ pub mod GivenNames
 pub mod TogetherLaws
 mod TurnBlocks
 pub mod BegunLaws
+pub mod ToldLaws
+pub mod LookLaws
 mod OutsideLaws
 pub mod ActorLaws

@@ -148,7 +148,7 @@ acts_left shown p bytes none h other look pass k = let e = k refl in absurd cc
 acts_left shown p bytes (writing ops n) h other look pass k = absurd cc
 acts_left shown p bytes (reading at) h other look pass k = absurd cc
 
-named_left : {T J : Type 0} (shown : Shown T J) (p : Places) (bytes : ℕ) (b : Block) (h : History) (stmt : Stmt) → looks_at_names (kind_of stmt) ≡ true → block_refusal b (kind_of stmt) ≡ None → (b ≡ none → makes_event (kind_of stmt) ≡ false) → named p bytes stmt h ≡ meant_left {T = T} {J = J} p bytes b h (meant_by (position h) (roster h) stmt)
+pub named_left : {T J : Type 0} (shown : Shown T J) (p : Places) (bytes : ℕ) (b : Block) (h : History) (stmt : Stmt) → looks_at_names (kind_of stmt) ≡ true → block_refusal b (kind_of stmt) ≡ None → (b ≡ none → makes_event (kind_of stmt) ≡ false) → named p bytes stmt h ≡ meant_left {T = T} {J = J} p bytes b h (meant_by (position h) (roster h) stmt)
 named_left {T} {J} shown p bytes b h stmt look pass k = read_left (upper_read (position h) (roster h) stmt)
   where
     checked_left : (o : Option Refusal) → unless p o (acts p bytes h (action_of (roster h) stmt)) ≡ meant_left {T = T} {J = J} p bytes b h (checked_as (roster h) stmt o)

@@ -1,6 +1,7 @@
 -- Looks by a call that only looks, and snapshots for refreshes.
 use Rattle.std.proofs.Common.{◌≡◌, ℕ, ◌<◌, ◌^◌, Bool, true, false, sym, refl, ap, ◌∙◌, arith}
-use Rattle.std.specs.Prelude.{Ok, Err}
+use Rattle.std.specs.Prelude.{Result, Ok, Err}
+use Rattle.ts_schema.specs.declared.memory.NoMemory.{NoMemory}
 use Rattle.ts_schema.specs.Counts.{raised_by}
 use Rattle.ts_model.specs.declared.refreshes.Pending.TheVariants.{Waiting, Finished, Unknown}
 use Rattle.ts_model.specs.History.{History, position}
@@ -11,7 +12,7 @@ use Rattle.ts_model.specs.Reads.{job_reads}
 use Rattle.ts_sessions.specs.declared.refreshes.Snapped.{Snapped}
 use Rattle.ts_sessions.specs.declared.refreshes.Snapped.TheVariants as snapped
 use Rattle.ts_sessions.specs.Procedures.{Procedure, sees, ends}
-use Rattle.ts_sessions.specs.Sessions.{Snaps, read_by, taken_as}
+use Rattle.ts_sessions.specs.Sessions.{IsTakenAs, SnapEnds, TakenAs, read_by, taken_as}
 use Rattle.ts_sessions.specs.Step.{taken, taken_of}
 use Rattle.ts_sessions.specs.Walks.{Walks, Breaks}
 use Rattle.ts_sessions.proofs.StateLaws.{sees_looked}
@@ -34,24 +35,31 @@ unraised n short = omega arith
 
 -- ---- snapshots for refreshes
 
-snaps_so : {J : Type 0} (alone : Bool) (old : State) (Reports : History → Type 0) (new : State) (c : ℕ) (s : Snapped J) (read before after : ℕ) → Looked alone old Reports new → taken_as read s ≡ taken c new.history → after ≡ raised_by (read_by read s) before → Snaps alone old c s new before after
-snaps_so alone old Reports new c s read before after l e counted = record {
-  read = read;
-  walks = looked_walks alone false old Reports new (λ h. true) (λ h. ends (taken c h)) new (taken_as read s) l (refl, refl, e);
+pub looked_snaps : {J : Type 0} (alone : Bool) (old : State) (Reports : History → Type 0) (new : State) (c : ℕ) (result : Result (Snapped J) NoMemory) (before after : ℕ) → Looked alone old Reports new → TakenAs new.history c result before after → SnapEnds alone old c result new before after
+looked_snaps alone old Reports new c (Ok s) before after l k = record {
+  read = k.read;
+  walks = looked_walks alone false old Reports new (λ h. true) (λ h. ends (taken c h)) new (taken_as k.read s) l (refl, refl, k.is);
+  counted = k.counted;
+}
+looked_snaps alone old Reports new c (Err e) before after l k = (looked_only alone old Reports new (λ h. true) (λ h. ends (taken c h)) l, k)
+
+pub taken_waiting : {J : Type 0} (h : History) (c n at : ℕ) (job : J) (before after : ℕ) → pending h c ≡ Waiting n → at ≡ position h → after ≡ raised_by (job_reads h c) before → IsTakenAs h c (snapped.Taken at job) before after
+taken_waiting h c n at job before after w p counted = record {
+  read = job_reads h c;
+  is = ap (λ x. Ok (record { at = x; reads = job_reads h c })) p ∙ sym (ap (taken_of h c) w);
   counted = counted;
 }
 
-pub snaps_waiting : {J : Type 0} (alone : Bool) (old : State) (Reports : History → Type 0) (new : State) (c n at : ℕ) (job : J) (before after : ℕ) → Looked alone old Reports new → pending new.history c ≡ Waiting n → at ≡ position new.history → after ≡ raised_by (job_reads new.history c) before → Snaps alone old c (snapped.Taken at job) new before after
-snaps_waiting alone old Reports new c n at job before after l w p counted =
-    snaps_so alone old Reports new c (snapped.Taken at job) (job_reads new.history c) before after l
-    (ap (λ x. Ok (record { at = x; reads = job_reads new.history c })) p ∙ sym (ap (taken_of new.history c) w)) counted
+pub taken_finished : {J : Type 0} (h : History) (c f pos : ℕ) (before : ℕ) → pending h c ≡ Finished f → pos ≡ position h → before < 2 ^ 64 → IsTakenAs {J = J} h c (snapped.Refused (record { code = no_refresh; pos = pos; mark = f })) before before
+taken_finished h c f pos before w p short = record {
+  read = 0;
+  is = ap (λ x. Err (record { code = no_refresh; pos = x; mark = f })) p ∙ sym (ap (taken_of h c) w);
+  counted = unraised before short;
+}
 
-pub snaps_finished : {J : Type 0} (alone : Bool) (old : State) (Reports : History → Type 0) (new : State) (c f pos : ℕ) (before : ℕ) → Looked alone old Reports new → pending new.history c ≡ Finished f → pos ≡ position new.history → before < 2 ^ 64 → Snaps {J = J} alone old c (snapped.Refused (record { code = no_refresh; pos = pos; mark = f })) new before before
-snaps_finished {J = J} alone old Reports new c f pos before l w p short =
-    snaps_so {J = J} alone old Reports new c (snapped.Refused (record { code = no_refresh; pos = pos; mark = f })) 0 before before l
-    (ap (λ x. Err (record { code = no_refresh; pos = x; mark = f })) p ∙ sym (ap (taken_of new.history c) w)) (unraised before short)
-
-pub snaps_unknown : {J : Type 0} (alone : Bool) (old : State) (Reports : History → Type 0) (new : State) (c pos : ℕ) (before : ℕ) → Looked alone old Reports new → pending new.history c ≡ Unknown → pos ≡ position new.history → before < 2 ^ 64 → Snaps {J = J} alone old c (snapped.Refused (record { code = no_refresh; pos = pos; mark = 0 })) new before before
-snaps_unknown {J = J} alone old Reports new c pos before l w p short =
-    snaps_so {J = J} alone old Reports new c (snapped.Refused (record { code = no_refresh; pos = pos; mark = 0 })) 0 before before l
-    (ap (λ x. Err (record { code = no_refresh; pos = x; mark = 0 })) p ∙ sym (ap (taken_of new.history c) w)) (unraised before short)
+pub taken_unknown : {J : Type 0} (h : History) (c pos : ℕ) (before : ℕ) → pending h c ≡ Unknown → pos ≡ position h → before < 2 ^ 64 → IsTakenAs {J = J} h c (snapped.Refused (record { code = no_refresh; pos = pos; mark = 0 })) before before
+taken_unknown h c pos before w p short = record {
+  read = 0;
+  is = ap (λ x. Err (record { code = no_refresh; pos = x; mark = 0 })) p ∙ sym (ap (taken_of h c) w);
+  counted = unraised before short;
+}

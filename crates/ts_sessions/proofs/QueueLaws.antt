@@ -47,7 +47,7 @@ fits_each R (op ∷ ops) g h a b fits =
 
 -- ---- blocks
 
-queue_fits : (h : History) (bytes : ℕ) (ops : List Op) → bytes ≤ 67108864 → IsQueue h bytes ops → QueueFits ops h
+pub queue_fits : (h : History) (bytes : ℕ) (ops : List Op) → bytes ≤ 67108864 → IsQueue h bytes ops → QueueFits ops h
 queue_fits h bytes [] few q = tt
 queue_fits h bytes (op ∷ ops) few q =
     let may = queues_are_sound.commits h bytes (op ∷ ops) q (omega arith) few in

@@ -146,7 +146,7 @@ unshown base p bytes stmt y no_look is =
 
 -- ---- outside a block
 
-only_begins : (stmt : Stmt) → begins (kind_of stmt) ≡ true → stmt ≡ stmts.Begin
+pub only_begins : (stmt : Stmt) → begins (kind_of stmt) ≡ true → stmt ≡ stmts.Begin
 only_begins (stmts.Table name cols) e = absurd (true≢false (sym e))
 only_begins (stmts.Hyper table col interval) e = absurd (true≢false (sym e))
 only_begins (stmts.View name only filled fold) e = absurd (true≢false (sym e))
@@ -176,7 +176,7 @@ steady_outside base p bytes stmt =
 
 -- ---- in a write block
 
-none_there : (o : Option Refusal) → is_some o ≡ false → o ≡ None
+pub none_there : (o : Option Refusal) → is_some o ≡ false → o ≡ None
 none_there None e = refl
 none_there (Some r) e = absurd (true≢false e)
 

@@ -1,6 +1,8 @@
 pub mod Procedures
 pub mod Walks
 pub mod Gives
+pub mod Told
+pub mod Pasts
 pub mod Places
 pub mod Made
 pub mod Step
@@ -11,7 +13,10 @@ pub mod Replies
 pub mod LineLaws
 pub mod Stopped
 pub mod Named
+pub mod Looks
+pub mod QueueTables
 pub mod Actors
+pub mod ToldLaws
 pub mod Held
 pub mod Holding
 pub mod Tried
@@ -21,3 +26,4 @@ pub mod Sound
 pub mod Parts
 pub mod Deeds
 pub mod Meant
+pub mod Telling

@@ -29,7 +29,7 @@ use Rattle.stmt_reader.specs.declared.statements.Stmt.{Stmt}
 use Rattle.stmt_reader.specs.declared.statements.Stmt.TheVariants as stmts
 use Rattle.stmt_reader.specs.Reading.{statement}
 use Rattle.stmt_reader.specs.Streams.{Stream, stream}
-use Rattle.ts_sessions.specs.Step.{Taken, refresh_meant, takes_snapshot}
+use Rattle.ts_sessions.specs.Step.{Taken, refresh_meant, taken, takes_snapshot}
 use Rattle.ts_model.specs.declared.snapshots.Shown.{Ghosts as Shown}
 use Rattle.ts_sessions.specs.declared.sessions.Session.{Session}
 use Rattle.ts_model.specs.declared.backends.Backend.{Ghosts as Backend}
@@ -68,6 +68,17 @@ read_by read (snapped.Refused r) = 0
 abbrev pub FitsSnapped : {T J : Type 0} → Shown T J → ℕ → History → Snapped J → Type 0
 FitsSnapped shown c h (snapped.Taken at job) = IsJobOf shown c at h job
 FitsSnapped shown c h (snapped.Refused r) = ⊤
+
+-- this is what a snapshot of a history for a refresh comes to; the rows that it read were counted
+pub record IsTakenAs {J : Type 0} (h : History) (c : ℕ) (s : Snapped J) (before after : ℕ) : Type 0 where
+  pub read : ℕ
+  pub is : taken_as read s ≡ taken c h
+  pub counted : after ≡ raised_by (read_by read s) before
+
+-- so, or it broke off for want of memory
+abbrev pub TakenAs : {J : Type 0} → History → ℕ → Result (Snapped J) NoMemory → ℕ → ℕ → Type 0
+TakenAs h c (Ok s) before after = IsTakenAs h c s before after
+TakenAs h c (Err e) before after = before ≤ after
 
 -- a snapshot was taken for a refresh, or the refresh isn't pending; the rows that it read were counted
 pub record Snaps {J : Type 0} (alone : Bool) (old : State) (c : ℕ) (s : Snapped J) (new : State)

@@ -169,7 +169,7 @@ where
 }
 
 /// A completion of a statement that may have said a line before, and whose disk may have failed.
-fn joined<T: Shown + Drop>(
+pub(crate) fn joined<T: Shown + Drop>(
     completion: Completion<T>,
     said: Option<Said>,
     failed: bool,
@@ -347,7 +347,7 @@ where
 
 impl Making {
     /// The line that says it.
-    fn line(&self) -> Line
+    pub(crate) fn line(&self) -> Line
         ensures { result ≡ line_of self.now }
     {
         match self {

@@ -2,6 +2,7 @@
 ghost use Rattle.std.specs.Prelude.{◌≡◌, ◌<◌, ◌^◌, Bool, None, true, IsTrue, IfOk};
 ghost use Rattle.std.specs.Thread.{IsSync};
 ghost use Rattle.ts_model.specs.Allowed.{all_allowed};
+ghost use Rattle.ts_model.specs.History.{History};
 ghost use Rattle.ts_model.specs.States.{State};
 ghost use Rattle.stmt_check.specs.Check.{IsNumbered, refusal_of};
 ghost use Rattle.ts_sessions.specs.declared.kinds.Kind.TheVariants.{Changes};
@@ -11,6 +12,7 @@ ghost use Rattle.ts_sessions.specs.Meant.{asked_by as asked_by_action, asked_for
 ghost use Rattle.ts_sessions.specs.Places.{queue_in};
 ghost use Rattle.ts_sessions.specs.Sound.{AsksSoundly, StandsForAllowed, kind_of_action};
 ghost use Rattle.ts_sessions.specs.Step.{block_refusal, kind_of as kind_of_stmt, performs, read_at};
+ghost use Rattle.ts_sessions.specs.Telling.{IsLeftOf};
 
 use crate::blocks::Open;
 use crate::changes::Change;
@@ -47,7 +49,7 @@ where
 }
 
 /// What a statement asks for by the names of a roster; `pos` is the position looked at.
-fn meant_by<T: Shown + Drop>(
+pub(crate) fn meant_by<T: Shown + Drop>(
     alloc: Global,
     stmt: &Stmt,
     roster: &Roster,
@@ -185,7 +187,7 @@ where
     }
 
     /// What a statement is to do whose names are looked at in a snapshot.
-    fn at_names<R: Threads + Sync, L>(
+    pub(crate) fn at_names<R: Threads + Sync, L>(
         &self,
         rt: &R,
         alloc: Global,
@@ -204,6 +206,8 @@ where
             → IsTrue (all_allowed (read_at (places_in self.now).block s.history))
             → OpensTo T.Shown bytes alone s (left_of T.Shown (places_in self.now) bytes stmt.now
             (read_at (places_in self.now).block s.history)) (places_in self.now) result s steps.old steps.new }
+        ensures leaves { (h : History) → T.stands shot.now h
+            → IfOk result (IsLeftOf T.Shown (places_in self.now) bytes stmt.now h) }
         ensures taken { IfOk result (λ n. taken_next n ≡ None) }
     {
         match meant_by(alloc, stmt, shot.roster(), shot.position())? {

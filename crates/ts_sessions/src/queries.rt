@@ -9,11 +9,13 @@ ghost use Rattle.ts_model.specs.Answers.{answer as answer_of, can_ask};
 ghost use Rattle.ts_model.specs.Reads.{reads as reads_of};
 ghost use Rattle.result_text.specs.declared.replies.Said.TheVariants.{Answered};
 ghost use Rattle.ts_model.specs.States.{State};
-ghost use Rattle.ts_sessions.specs.Deeds.{FormFits, IsFormed, OpensTo, taken_next};
+ghost use Rattle.ts_sessions.specs.declared.changes.Change.TheVariants as changes;
+ghost use Rattle.ts_sessions.specs.Deeds.{FormFits, IsFormed, OpensTo, said_once, taken_next};
 ghost use Rattle.ts_sessions.specs.Held.{block_of};
 ghost use Rattle.ts_sessions.specs.Procedures.{ends};
 ghost use Rattle.ts_sessions.specs.Places.{Places, queue_in};
 ghost use Rattle.ts_sessions.specs.Sound.{StandsForAllowed};
+ghost use Rattle.ts_sessions.specs.Telling.{answered_line};
 ghost use Rattle.ts_sessions.specs.Step.{answers, asked_start as start_asked, in_form as formed, least_start as start_of_view, plan_of as plan_of_query, roll_up_plan as plan_of_roll_up, calendar_plan as plan_of_calendar, shown_in, unit_of as unit_of_word};
 
 use crate::blocks::Open;
@@ -71,6 +73,8 @@ where
     ensures opens { (h : History) → T.stands shot.now h → (p : Places) (bytes : ℕ) (alone : Bool) (s : State)
         → p.block ≡ block_of block.now
         → OpensTo T.Shown bytes alone s (ends (answers p h plan)) p result s steps.old steps.new }
+    ensures says { (h : History) → T.stands shot.now h
+        → IfOk result (λ n. n ≡ said_once (answered_line (block_of block.now) h plan) changes.Nothing) }
     ensures taken { IfOk result (λ n. taken_next n ≡ None) }
 {
     let roster = shot.roster();
@@ -104,7 +108,12 @@ fn ask<R: Threads + Sync, T: Shown, L>(
 }
 
 /// What is made of an answer, by the roster of its snapshot.
-fn in_form(alloc: Global, roster: &Roster, form: &Form, answer: Answer) -> Result<Answer, NoMemory>
+pub(crate) fn in_form(
+    alloc: Global,
+    roster: &Roster,
+    form: &Form,
+    answer: Answer,
+) -> Result<Answer, NoMemory>
     requires { FormFits roster.now form.now answer }
     ensures { IfOk result (λ shown. shown ≡ formed roster.now form.now answer) }
 {
@@ -119,7 +128,7 @@ fn in_form(alloc: Global, roster: &Roster, form: &Form, answer: Answer) -> Resul
 }
 
 /// What is said of an answer at a position, with so many operations queued, if in a write block.
-fn answered(plan: &Plan, answer: Answer, pos: u64, queue: Option<u64>) -> Said
+pub(crate) fn answered(plan: &Plan, answer: Answer, pos: u64, queue: Option<u64>) -> Said
     ensures { result ≡ Answered answer pos queue plan.now.min }
 {
     Said::Answered {

@@ -3,8 +3,9 @@ ghost use Rattle.std.specs.Prelude.{◌≡◌, ◌<◌, ◌^◌, Ok, IsSome, IsT
 ghost use Rattle.std.specs.Option.{ForSome};
 ghost use Rattle.std.specs.Thread.{IsSync};
 ghost use Rattle.ts_bucket.specs.Bucket.{is_time};
+ghost use Rattle.ts_model.specs.History.{History};
 ghost use Rattle.ts_model.specs.Roster.{roster, view_of};
-ghost use Rattle.ts_sessions.specs.Sessions.{FitsSnapped, SnapEnds, Tries};
+ghost use Rattle.ts_sessions.specs.Sessions.{FitsSnapped, SnapEnds, TakenAs, Tries};
 ghost use Rattle.ts_sessions.specs.Step.{cuts_refresh, finishes_refresh};
 
 use crate::refusals::at;
@@ -56,7 +57,7 @@ pub fn cut<B: Backend>(
 
 /// Takes a snapshot for the refresh with this number, and makes its job. Whether the refresh still
 /// waits is looked at anew: another session may have finished it.
-#[tactic(auto, using(crate::proofs::NameCheckWalks::snaps_waiting, crate::proofs::NameCheckWalks::snaps_finished, crate::proofs::NameCheckWalks::snaps_unknown, crate::proofs::NameCheckWalks::looked_only, crate::proofs::StateLaws::looked_reports))]
+#[tactic(auto, using(crate::proofs::NameCheckWalks::looked_only, crate::proofs::StateLaws::looked_reports))]
 pub fn take_snapshot<R: Threads + Sync, B: Backend, L>(
     rt: &R,
     backend: &mut B,
@@ -70,6 +71,22 @@ pub fn take_snapshot<R: Threads + Sync, B: Backend, L>(
     ensures kin { B.kin backend.new ≡ B.kin backend.old }
 {
     let shot = backend.snap()?;
+    snapshot_of(rt, &shot, cut, steps)
+}
+
+/// What a snapshot for the refresh with this number comes to, with its job.
+#[tactic(auto, using(crate::proofs::NameCheckWalks::taken_waiting, crate::proofs::NameCheckWalks::taken_finished, crate::proofs::NameCheckWalks::taken_unknown))]
+pub(crate) fn snapshot_of<R: Threads + Sync, T: Shown, L>(
+    rt: &R,
+    shot: &T,
+    cut: u64,
+    steps: &mut Steps<L>,
+) -> Result<Snapped<T::Job>, NoMemory>
+    requires sync { IsSync R.row }
+    requires counts { steps.old < 2 ^ 64 }
+    ensures taken { (h : History) → T.stands shot.now h → TakenAs h cut result steps.old steps.new }
+    ensures fits { (h : History) → T.stands shot.now h → IfOk result (FitsSnapped T.Shown cut h) }
+{
     match shot.pending(cut) {
         Pending::Waiting(_) => {
             let job = shot.start_job(rt, cut, steps)?;

@@ -44,6 +44,15 @@ pub struct Snapshot<J> {
     pub job: Option<J>,
 }
 
+impl<J> Snapshot<J> {
+    /// Its position.
+    pub(crate) fn place(&self) -> u64
+        ensures { result ≡ self.now.at }
+    {
+        self.at
+    }
+}
+
 impl<T: Shown + Drop> Session<T>
 where
     T::Job: Drop,

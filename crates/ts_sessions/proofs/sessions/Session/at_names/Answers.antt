@@ -4,6 +4,7 @@ use Rattle.ts_sessions.specs.declared.deeds.Next.TheVariants as nexts
 use Rattle.ts_sessions.specs.Held.{places_in}
 use Rattle.ts_sessions.specs.Step.{read_at}
 use Rattle.ts_sessions.proofs.FirstLaws.{refused_opens}
+use Rattle.ts_sessions.proofs.LeftLaws.{left_changes, left_does, left_refused, left_shows}
 use Rattle.ts_sessions.proofs.MeantLaws.{MeantFits, change_opens, change_passes, does_opens, meant_fits, plan_fits, seen_opens}
 use Rattle.ts_sessions.proofs.SoundLaws.{is_numbered}
 use Rattle.ts_sessions.proofs.sessions.Session.at_names.Goals as goal
@@ -59,3 +60,28 @@ returns-in-Does-clause-opens g c = λ s alone stands ok.
     let k = meant_fits g.T.Shown p.block c.args.bytes s c.args.stmt.now _ _ m c.requires.names c.requires.passes c.requires.sound ok (c.position.ensures h stands) (c.roster.ensures h stands) c.in_ok-refusal.ensures in
     seen_opens g.T.Shown c.args.bytes alone s p c.args.stmt.now h _ _ _ _ (Ok (nexts.Deed c.in-Does.deed)) _ _ (c.position.ensures h stands) (c.roster.ensures h stands) c.in_ok-refusal.ensures c.in-Does.is
     (does_opens g.T.Shown c.args.bytes alone s p c.in-Does.deed _ c.requires.counts (subst (MeantFits g.T.Shown p.block c.args.bytes s) c.in-Does.is k))
+
+pub returns-in-Refused-clause-leaves : goal.returns-in-Refused-clause-leaves
+returns-in-Refused-clause-leaves g c = λ h stands.
+    let p = places_in c.args.self.now in
+    let m = c.in_ok-refusal.field-0 in
+    left_refused g.T.Shown p c.args.bytes c.args.stmt.now h _ _ m c.in-Refused.refusal c.say.result (c.position.ensures h stands) (c.roster.ensures h stands) c.in_ok-refusal.ensures c.in-Refused.is c.say.ensures
+
+pub returns-in-Shows-clause-leaves : goal.returns-in-Shows-clause-leaves
+returns-in-Shows-clause-leaves g c = λ h stands.
+    let p = places_in c.args.self.now in
+    let m = c.in_ok-refusal.field-0 in
+    left_shows g.T.Shown p c.args.bytes c.args.stmt.now h _ _ m c.in-Shows.plan c.answer.result (c.position.ensures h stands) (c.roster.ensures h stands) c.in_ok-refusal.ensures c.in-Shows.is (c.answer.ensures.says h stands)
+
+pub returns-in-Changes-clause-leaves : goal.returns-in-Changes-clause-leaves
+returns-in-Changes-clause-leaves g c = λ h stands.
+    let s = c.requires.stands in
+    let p = places_in c.args.self.now in
+    let m = c.in_ok-refusal.field-0 in
+    left_changes g.T.Shown p c.args.bytes c.args.stmt.now h _ _ m c.in-Changes.op c.change.result (c.position.ensures h stands) (c.roster.ensures h stands) c.in_ok-refusal.ensures c.in-Changes.is (change_passes g.T.Shown c.args.bytes c.args.stmt.now s.history c.requires.sound s.allowed p.block _ _ m c.in-Changes.op c.requires.passes (c.position.ensures s.history s.holds) (c.roster.ensures s.history s.holds) c.in_ok-refusal.ensures c.in-Changes.is) c.change.ensures
+
+pub returns-in-Does-clause-leaves : goal.returns-in-Does-clause-leaves
+returns-in-Does-clause-leaves g c = λ h stands.
+    let p = places_in c.args.self.now in
+    let m = c.in_ok-refusal.field-0 in
+    left_does g.T.Shown p c.args.bytes c.args.stmt.now h _ _ m c.in-Does.deed c.requires.names c.requires.passes (c.position.ensures h stands) (c.roster.ensures h stands) c.in_ok-refusal.ensures c.in-Does.is

@@ -1,0 +1,5 @@
+pub mod ByteLaws
+pub mod NumberLaws
+mod WordLaws
+mod HeadLaws
+pub mod TextLaws

@@ -1,0 +1,14 @@
+-- The law of texts.
+use Rattle.std.specs.Prelude.{◌≡◌, ℕ, suc, ◌<◌, ◌^◌, false, List}
+use Rattle.std.specs.List.{AllByRecursion, list_any}
+use Rattle.result_text.specs.declared.replies.Said.{Said}
+use Rattle.ts_sessions.specs.Looks.{looks_told}
+use Rattle.ts_sessions.specs.Script.{text_of}
+use Rattle.reply_looks.specs.Replies.{is_line_end, looks_in}
+
+-- what is read of the text of a reply are the looks that the reply tells, where the events after them have numbers of
+-- 64 bits and its name is one of a line
+abbrev pub TextsTellLooks : Type 0
+TextsTellLooks =
+    (name : List ℕ) (lines : List Said) → list_any is_line_end name ≡ false
+    → AllByRecursion (λ p. suc p < 2 ^ 64) (looks_told lines) → looks_in name (text_of name lines) ≡ looks_told lines

@@ -1,0 +1,25 @@
+-- The looks that a reply prints, read from its text.
+use Rattle.std.specs.Prelude.{ℕ, ◌+◌, Bool, true, false, cond, nat_eq, List, [], ◌∷◌, ◌++◌, length, drop}
+use Rattle.std.specs.List.{slice_split}
+use Rattle.reply_looks.specs.declared.lines.Head.{Head}
+use Rattle.reply_looks.specs.declared.lines.Head.TheVariants as heads
+use Rattle.reply_looks.specs.Lines.{head_of, told_in}
+
+-- nothing follows behind an answer
+abbrev pub is_last : Head → Bool
+is_last heads.Answer = true
+is_last other = false
+
+abbrev pub is_line_end : ℕ → Bool
+is_line_end b = nat_eq b 10
+
+-- the looks of lines, of each of which so many bytes are passed over
+abbrev pub looks_in_lines : ℕ → List (List ℕ) → List ℕ
+looks_in_lines skip [] = []
+looks_in_lines skip (line ∷ lines) =
+    told_in (head_of (drop skip line)) (drop skip line)
+    ++ cond (is_last (head_of (drop skip line))) [] (looks_in_lines skip lines)
+
+-- the looks of a reply of a session: each line begins with the name, a colon and a blank
+abbrev pub looks_in : List ℕ → List ℕ → List ℕ
+looks_in name text = looks_in_lines (length name + 2) (slice_split is_line_end text)
