@@ -2,9 +2,11 @@ mod Values
 pub mod PieceTexts
 mod Trailing
 mod ReadingBack
-mod Lines
+pub mod AsciiLaws
+pub mod Lines
 mod Objects
 mod Apart
 mod Sequel
+mod EscapeLaws
 mod SendingLists
 mod SendingParts

@@ -12,6 +12,7 @@ use Rattle.stmt_reader.specs.Tokens.{blank_len, begins_with}
 use Rattle.stmt_reader.specs.Lines.{comment_at, begins_session, continues_session, session_len, has_session, line_kind, of_text, session_name}
 use Rattle.stmt_reader.specs.declared.lines.LineKind.TheVariants.{Blank, NotAscii, NoSession, Stmt}
 use Rattle.stmt_reader.proofs.StatementLines.{statement_line}
+use Rattle.transcript.specs.Ascii.{is_ascii_text}
 use Rattle.transcript.specs.Laws.{LinesAreSound}
 use Rattle.transcript.specs.Shape.{is_session_name, is_line_of, speaks_in}
 
@@ -61,17 +62,18 @@ same_kind line =
 
 -- ---- where a session speaks
 
-record Spoken (session : Bool) (n s e len skip end : ℕ) : Type 0 where
+record Spoken (other session : Bool) (n s e len skip end : ℕ) : Type 0 where
+  ascii : other ≡ false
   has : session ≡ true
   lens : n ≡ len
   skips : s ≡ skip
   ends : e ≡ end
 
-spoken : (a b c : Bool) (n s e len skip end : ℕ) → (if a then Blank else if b then NotAscii else if c then Stmt n s e else NoSession) ≡ Stmt len skip end → Spoken c n s e len skip end
+spoken : (a b c : Bool) (n s e len skip end : ℕ) → (if a then Blank else if b then NotAscii else if c then Stmt n s e else NoSession) ≡ Stmt len skip end → Spoken b c n s e len skip end
 spoken true b c n s e len skip end h = absurd cc
 spoken false true c n s e len skip end h = absurd cc
 spoken false false false n s e len skip end h = absurd cc
-spoken false false true n s e len skip end h = record { has = refl; lens = cc; skips = cc; ends = cc }
+spoken false false true n s e len skip end h = record { ascii = refl; has = refl; lens = cc; skips = cc; ends = cc }
 
 all_go_on : (bytes : List ℕ) → list_all continues_session (take (session_len bytes) bytes) ≡ true
 all_go_on [] = refl
@@ -110,6 +112,10 @@ all_of_front p zero bytes h = refl
 all_of_front p (suc n) [] h = h
 all_of_front p (suc n) (b ∷ bytes) h = let all = all_of_front p n bytes (and_second (p b) (list_all p bytes) h) in (λ i. and_first (p b) (list_all p bytes) h i && all i)
 
+not_other : (b : Bool) → not b ≡ false → b ≡ true
+not_other true e = refl
+not_other false e = absurd (true≢false e)
+
 pub lines_sound : LinesAreSound
 lines_sound line len skip end short one kind =
     let c = comment_at line in
@@ -127,4 +133,9 @@ lines_sound line len skip end short one kind =
     let is_short : nat_le (length text) longest_line ≡ true = grind (arith, nat_tests, short, size, within line) in
     let speaks : speaks_in name text (line_kind text) ≡ true = ap (speaks_in name text) (same_kind line ∙ kind) ∙ (bytes_eq-Decides (session_name text len skip) name).1 same in
     let is_line : is_line_of name text ≡ true = (λ i. (is_short i && all_of_front (λ b. not (b == 10)) c line one i) && speaks i) in
-    (ap is_session_name (sym named) ∙ good_name bytes p.has, ap (is_line_of name) (sym cut) ∙ is_line)
+    record {
+      named = ap is_session_name (sym named) ∙ good_name bytes p.has;
+      spoken = ap (is_line_of name) (sym cut) ∙ is_line;
+      ascii = ap is_ascii_text (sym cut) ∙ not_other (is_ascii_text text) p.ascii;
+      kind = ap line_kind (sym cut) ∙ same_kind line ∙ kind;
+    }

@@ -1,10 +1,8 @@
 -- The texts of the parts, in pieces.
-use Rattle.std.proofs.Common.{◌≡◌, ℕ, List, [], ◌∷◌, ◌++◌, Bool, false, codes, decimal, refl, sym, ap, ◌∙◌, append_assoc}
-use Rattle.json.specs.Print.{escape_byte, quoted, print, print_from}
-use Rattle.json.specs.Token.{Token}
-use Rattle.serde_json.specs.Data.{string}
-use Rattle.serde_json.proofs.Texts.{print-outline}
+use Rattle.std.proofs.Common.{◌≡◌, List, ℕ, [], ◌∷◌, ◌++◌, Bool, false, codes, decimal, refl, sym, ap, ◌∙◌, append_assoc}
+use Rattle.json.specs.Print.{escape, escape_byte, quoted}
 use Rattle.serde_json.specs.Written.{compact_text, items_text, comma_if}
+use Rattle.transcript.specs.Pieces.{talk_head}
 use Rattle.transcript.specs.Text.{exchange_data, exchanges_data, talk_data, talks_data, transcript_text}
 use Rattle.transcript.specs.declared.transcripts.Exchange.{Exchange}
 use Rattle.transcript.specs.declared.transcripts.Talk.{Talk}
@@ -24,28 +22,25 @@ transcript_pieces t =
     let start = decimal t.start in
     ap (λ s. codes "{\"sessions\":[" ++ s) (append_assoc (items_text false (talks_data t.sessions)) _ (10 ∷ []) ∙ ap (λ s. items_text false (talks_data t.sessions) ++ (codes ",\"start\":" ++ s)) (append_assoc start (125 ∷ []) (10 ∷ [])))
 
--- pieces that were appended one after another
-pub five_pieces : (old a b c d e : List ℕ) → ((((old ++ a) ++ b) ++ c) ++ d) ++ e ≡ old ++ (a ++ (b ++ (c ++ (d ++ e))))
-five_pieces old a b c d e = simp append_assoc
+-- ---- the same with the quotes in the pieces
 
-pub print_string : (s : List ℕ) → print (Token.string s ∷ []) ≡ quoted s
-print_string s = print-outline (string s)
+quote_apart : (s rest : List ℕ) → quoted s ++ rest ≡ 34 ∷ (escape s ++ (34 ∷ rest))
+quote_apart s rest = ap (λ l. 34 ∷ l) (append_assoc (escape s) (34 ∷ []) rest)
 
-pub print_none : print [] ≡ []
-unfolding print_from
-print_none = refl
+exchange_escaped : (e : Exchange) → compact_text (exchange_data e) ≡ codes "{\"line\":\"" ++ (escape e.line ++ (codes "\",\"reply\":\"" ++ (escape e.reply ++ codes "\"}")))
+exchange_escaped e =
+    exchange_pieces e
+    ∙ ap (λ s. codes "{\"line\":" ++ s) (quote_apart e.line (codes ",\"reply\":" ++ (quoted e.reply ++ codes "}")))
+    ∙ ap (λ s. codes "{\"line\":\"" ++ (escape e.line ++ (codes "\",\"reply\":" ++ s))) (quote_apart e.reply (codes "}"))
 
--- ---- what stands in a buffer after one piece after another
+pub exchange_put : (e : Exchange) (later : Bool) (first line reply : List ℕ) → first ≡ comma_if later → line ≡ e.line → reply ≡ e.reply
+    → first ++ (codes "{\"line\":\"" ++ (escape line ++ (codes "\",\"reply\":\"" ++ (escape reply ++ codes "\"}")))) ≡ comma_if later ++ compact_text (exchange_data e)
+exchange_put e later first line reply first_is line_is reply_is =
+    (λ i. first_is i ++ (codes "{\"line\":\"" ++ (escape (line_is i) ++ (codes "\",\"reply\":\"" ++ (escape (reply_is i) ++ codes "\"}")))))
+    ∙ ap (λ s. comma_if later ++ s) (sym (exchange_escaped e))
 
-five : (old o1 o2 o3 o4 o5 a b c d e : List ℕ) → o1 ≡ old ++ a → o2 ≡ o1 ++ b → o3 ≡ o2 ++ c → o4 ≡ o3 ++ d → o5 ≡ o4 ++ e → o5 ≡ old ++ (a ++ (b ++ (c ++ (d ++ e))))
-five old o1 o2 o3 o4 o5 a b c d e h1 h2 h3 h4 h5 = rw (h5, h4, h3, h2, h1) (five_pieces old a b c d e)
-
-six : (old o0 o1 o2 o3 o4 o5 z a b c d e : List ℕ) → o0 ≡ old ++ z → o1 ≡ o0 ++ a → o2 ≡ o1 ++ b → o3 ≡ o2 ++ c → o4 ≡ o3 ++ d → o5 ≡ o4 ++ e → o5 ≡ old ++ (z ++ (a ++ (b ++ (c ++ (d ++ e)))))
-six old o0 o1 o2 o3 o4 o5 z a b c d e h0 h1 h2 h3 h4 h5 = five o0 o1 o2 o3 o4 o5 a b c d e h1 h2 h3 h4 h5 ∙ ap (λ s. s ++ (a ++ (b ++ (c ++ (d ++ e))))) h0 ∙ append_assoc old z _
-
-pub exchange_put : (x : Exchange) (later : Bool) (old o0 o1 o2 o3 o4 o5 line reply : List ℕ) → line ≡ x.line → reply ≡ x.reply
-    → o0 ≡ old ++ comma_if later → o1 ≡ o0 ++ codes "{\"line\":" → o2 ≡ o1 ++ quoted line → o3 ≡ o2 ++ codes ",\"reply\":" → o4 ≡ o3 ++ quoted reply → o5 ≡ o4 ++ codes "}"
-    → o5 ≡ old ++ (comma_if later ++ compact_text (exchange_data x))
-exchange_put x later old o0 o1 o2 o3 o4 o5 line reply line_is reply_is h0 h1 h2 h3 h4 h5 =
-    six old o0 o1 o2 o3 o4 o5 _ _ _ _ _ _ h0 h1 (h2 ∙ ap (λ s. o1 ++ quoted s) line_is) h3 (h4 ∙ ap (λ s. o3 ++ quoted s) reply_is) h5
-    ∙ ap (λ s. old ++ (comma_if later ++ s)) (sym (exchange_pieces x))
+pub talk_head_put : (name : List ℕ) (later : Bool) (first : List ℕ) → first ≡ comma_if later
+    → first ++ (codes "{\"name\":\"" ++ (escape name ++ codes "\",\"replies\":[")) ≡ talk_head later name
+talk_head_put name later first first_is =
+    ap (λ s. s ++ (codes "{\"name\":\"" ++ (escape name ++ codes "\",\"replies\":["))) first_is
+    ∙ ap (λ s. comma_if later ++ (codes "{\"name\":" ++ s)) (sym (quote_apart name (codes ",\"replies\":[")))

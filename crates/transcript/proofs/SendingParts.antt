@@ -2,7 +2,7 @@
 use Rattle.std.proofs.Common.{◌≡◌, ℕ, Bool, false, List, ◌++◌, codes, sym, ap, ◌∙◌, append_assoc}
 use Rattle.json.specs.Print.{quoted}
 use Rattle.serde_json.specs.Written.{comma_if, compact_text, items_text}
-use Rattle.transcript.specs.Sending.{start_text, talk_head}
+use Rattle.transcript.specs.Pieces.{start_text, talk_head}
 use Rattle.transcript.specs.Text.{exchanges_data, talk_data, talks_data, transcript_text}
 use Rattle.transcript.specs.declared.transcripts.Exchange.{Exchange}
 use Rattle.transcript.specs.declared.transcripts.Talk.{Talk}

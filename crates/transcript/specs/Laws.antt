@@ -3,6 +3,7 @@ use Rattle.std.specs.Prelude.{◌≡◌, ◌≤◌, ◌<◌, ◌^◌, ℕ, List,
 use Rattle.stmt_reader.specs.Limits.{longest_line}
 use Rattle.stmt_reader.specs.Lines.{line_kind, session_name}
 use Rattle.stmt_reader.specs.declared.lines.LineKind.TheVariants.{Stmt}
+use Rattle.transcript.specs.Ascii.{is_ascii_text, is_ascii_transcript}
 use Rattle.transcript.specs.Reading.{IsReading}
 use Rattle.transcript.specs.Shape.{is_session_name, is_one_line, is_line_of, is_sound}
 use Rattle.transcript.specs.Text.{transcript_text, IsWritable}
@@ -12,15 +13,26 @@ use Rattle.transcript.specs.declared.transcripts.Transcript.{Transcript}
 abbrev pub ReadsBack : Type 0
 ReadsBack = (t : Transcript) → t.start < 2 ^ 64 → IsWritable t → IsTrue (is_sound t) → IsReading (transcript_text t) t
 
+-- and so is that of a sound transcript whose texts are ASCII
+abbrev pub AsciiReadsBack : Type 0
+AsciiReadsBack =
+    (t : Transcript) → t.start < 2 ^ 64 → IsTrue (is_ascii_transcript t) → IsTrue (is_sound t)
+    → IsReading (transcript_text t) t
+
 -- a text is read as one transcript at most
 abbrev pub ReadsAsOne : Type 0
 ReadsAsOne = (text : List ℕ) (t u : Transcript) → IsReading text t → IsReading text u → t ≡ u
 
--- where a session speaks in a line of an input, its name is a good one, and the line up to its comment is a line of
--- that session
+-- the name of a session is a good one, and the line of an input in which it speaks is one of its lines up to the
+-- comment: ASCII, and told apart as the whole line is
+pub record IsSoundLine (line : List ℕ) (len skip end : ℕ) : Type 0 where
+  pub named : IsTrue (is_session_name (session_name line len skip))
+  pub spoken : IsTrue (is_line_of (session_name line len skip) (take end line))
+  pub ascii : IsTrue (is_ascii_text (take end line))
+  pub kind : line_kind (take end line) ≡ Stmt len skip end
+
+-- so it is with every line in which a session speaks
 abbrev pub LinesAreSound : Type 0
 LinesAreSound =
     (line : List ℕ) (len skip end : ℕ) → length line ≤ longest_line → IsTrue (is_one_line line)
-    → line_kind line ≡ Stmt len skip end
-    → IsTrue (is_session_name (session_name line len skip))
-    × IsTrue (is_line_of (session_name line len skip) (take end line))
+    → line_kind line ≡ Stmt len skip end → IsSoundLine line len skip end

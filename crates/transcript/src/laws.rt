@@ -1,9 +1,10 @@
 //! Laws of transcripts. Each is the clause of a function that does nothing.
-ghost use Rattle.transcript.specs.Laws.{LinesAreSound, ReadsBack, ReadsAsOne};
+ghost use Rattle.transcript.specs.Laws.{AsciiReadsBack, LinesAreSound, ReadsBack, ReadsAsOne};
 
-/// The text of a sound transcript is read as that transcript, and as no other.
+/// The text of a sound transcript is read as that transcript, and as no other. Each that is ASCII is such a text.
 pub fn text_law()
     ensures back { ReadsBack }
+    ensures ascii { AsciiReadsBack }
     ensures one { ReadsAsOne }
 {}
 

@@ -2,16 +2,20 @@
 //! written in pieces and read back.
 //!
 //! - `transcripts`: what a transcript holds.
-//! - `shape`: whether its names and lines are good.
+//! - `shape`, `ascii`: whether its names and lines are good, and whether its texts are ASCII.
 //! - `reading`: a transcript read from its text.
 //! - `members`: the parts of a JSON value.
 //! - `sending`: the text of a transcript sent to a sink.
-//! - `pieces`: the pieces of that text.
+//! - `pieces`, `escapes`: the pieces of that text, and its strings.
+//! - `pages`: a text written in pages.
 //! - `laws`: what stands between a transcript, its text, and the lines of an input.
 #![tactic(auto)]
 
+mod ascii;
+mod escapes;
 mod laws;
 mod members;
+mod pages;
 mod pieces;
 mod reading;
 mod sending;
@@ -20,7 +24,8 @@ mod shape;
 mod tests;
 mod transcripts;
 
+pub use ascii::is_ascii;
 pub use laws::{lines_law, text_law};
 pub use reading::{ReadTranscript, read_transcript};
-pub use sending::{Unwritten, send_transcript};
+pub use sending::send_transcript;
 pub use transcripts::{Exchange, Talk, Transcript};

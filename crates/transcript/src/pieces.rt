@@ -1,108 +1,58 @@
-//! The pieces of a transcript's text, each made whole before it is sent.
-ghost use Rattle.std.specs.Prelude.{◌≡◌, ◌++◌, ◌∷◌, [], codes, decimal, OnOk, OnErr, IsUtf8};
-ghost use Rattle.json.specs.Print.{quoted};
-ghost use Rattle.serde_json.specs.Written.{compact_text, comma_if};
-ghost use Rattle.transcript.specs.Sending.{start_text, talk_head};
-ghost use Rattle.transcript.specs.Text.{exchange_data, IsWritableExchange};
+//! The pieces of a transcript's text, sent one after another.
+ghost use Rattle.std.specs.Prelude.{◌≡◌, is_err};
+ghost use Rattle.std.specs.List.{flat_map};
+ghost use Rattle.serde_json.specs.Written.{comma_if};
+ghost use Rattle.ts_io.specs.Faults.{Counted};
+ghost use Rattle.transcript.specs.Pieces.{piece_text};
+ghost use Rattle.transcript.specs.Sending.{Sends};
 
-use crate::transcripts::Exchange;
-use itoa::Buffer;
-use json::Writer;
-use std::alloc::Global;
-use std::mem;
-use ts_schema::NoMemory;
+use crate::escapes::send_escaped;
+use crate::pages::{Page, send};
+use ts_io::{Sink, WriteFault};
 
-/// Appends a talk up to its first exchange, behind a comma where one stands before it.
-pub(crate) fn put_talk_head(
-    alloc: Global,
-    later: bool,
-    name: &[u8],
-    out: &mut Vec<u8>,
-) -> Result<(), NoMemory>
-    requires utf8 { IsUtf8 name.now }
-    ensures appended { OnOk result (out.new.items ≡ out.old.items ++ talk_head later name.now) }
-{
-    put_comma(later, out)?;
-    out.extend_from_slice(b"{\"name\":")?;
-    put_quoted(alloc, name, out)?;
-    out.extend_from_slice(b",\"replies\":[")?;
-    Ok(())
+/// A piece of a text.
+#[derive(Clone, Copy, Debug)]
+pub(crate) enum Piece<'a> {
+    /// Bytes as they are.
+    Plain(&'a [u8]),
+    /// A text between the quotes of a string.
+    Escaped(&'a [u8]),
 }
 
-/// Appends an exchange, behind a comma where one stands before it.
-pub(crate) fn put_exchange(
-    alloc: Global,
-    later: bool,
-    exchange: &Exchange,
-    out: &mut Vec<u8>,
-) -> Result<(), NoMemory>
-    requires writable { IsWritableExchange exchange.now }
-    ensures appended { OnOk result
-        (out.new.items
-        ≡ out.old.items ++ (comma_if later ++ compact_text (exchange_data exchange.now))) }
+/// Sends pieces one after another.
+pub(crate) fn send_pieces<K: Sink>(
+    pieces: &[Piece<'_>],
+    page: &mut Page,
+    sink: &mut K,
+) -> Result<(), WriteFault>
+    ensures sent { Sends result (K.written sink.old) (K.written sink.new) page.old.items page.new.items
+        (flat_map piece_text pieces.now) }
+    ensures counted { Counted (K.faults sink.old) (K.faults sink.new) (is_err result) }
 {
-    put_comma(later, out)?;
-    out.extend_from_slice(b"{\"line\":")?;
-    put_quoted(alloc, exchange.line.items(), out)?;
-    out.extend_from_slice(b",\"reply\":")?;
-    put_quoted(alloc, exchange.reply.items(), out)?;
-    out.extend_from_slice(b"}")?;
-    Ok(())
-}
-
-/// Appends the last member of a transcript, and the end of its text.
-pub(crate) fn put_start(start: u64, out: &mut Vec<u8>) -> Result<(), NoMemory>
-    ensures appended { OnOk result (out.new.items ≡ out.old.items ++ start_text start) }
-{
-    out.extend_from_slice(b",\"start\":")?;
-    put_number(start, out)?;
-    out.extend_from_slice(b"}\n")?;
-    Ok(())
-}
-
-/// Appends a comma where something stands before.
-fn put_comma(later: bool, out: &mut Vec<u8>) -> Result<(), NoMemory>
-    ensures appended { OnOk result (out.new.items ≡ out.old.items ++ comma_if later) }
-{
-    if later {
-        out.extend_from_slice(b",")?;
+    for piece in pieces {
+        match send_piece(piece, page, sink) {
+            Ok(()) => {}
+            Err(fault) => return Err(fault),
+        }
     }
     Ok(())
 }
 
-#[tactic(auto, using(crate::proofs::PieceTexts::print_string, crate::proofs::PieceTexts::print_none))]
-/// Appends a text in quotes, as JSON writes it. Where memory runs out, `out` is as before.
-fn put_quoted(alloc: Global, text: &[u8], out: &mut Vec<u8>) -> Result<(), NoMemory>
-    requires utf8 { IsUtf8 text.now }
-    ensures appended { OnOk result (out.new.items ≡ out.old.items ++ quoted text.now) }
-    ensures kept { OnErr result (out.new.items ≡ out.old.items) }
+/// Sends one piece.
+fn send_piece<K: Sink>(piece: &Piece<'_>, page: &mut Page, sink: &mut K) -> Result<(), WriteFault>
+    ensures sent { Sends result (K.written sink.old) (K.written sink.new) page.old.items page.new.items
+        (piece_text piece.now) }
+    ensures counted { Counted (K.faults sink.old) (K.faults sink.new) (is_err result) }
 {
-    let text = str_of(text);
-    let mut writer = Writer::new(mem::replace(out, Vec::new(alloc)));
-    let written = writer.string(text);
-    *out = writer.into_inner();
-    match written {
-        Ok(()) => Ok(()),
-        Err(_) => Err(NoMemory),
+    match piece {
+        Piece::Plain(bytes) => send(bytes, page, sink),
+        Piece::Escaped(text) => send_escaped(text, page, sink),
     }
 }
 
-/// The bytes as a text, which they are known to be.
-fn str_of(bytes: &[u8]) -> &str
-    requires utf8 { IsUtf8 bytes.now }
-    ensures same { result.now ≡ bytes.now }
+/// A comma, where something stands before.
+pub(crate) fn comma(later: bool) -> &'static [u8]
+    ensures { result.now ≡ comma_if later }
 {
-    match str::from_utf8(bytes) {
-        Ok(text) => text,
-        Err(_) => unreachable!(),
-    }
-}
-
-/// Appends a number in decimal. Where memory runs out, `out` is as before.
-fn put_number(n: u64, out: &mut Vec<u8>) -> Result<(), NoMemory>
-    ensures appended { OnOk result (out.new.items ≡ out.old.items ++ decimal n) }
-    ensures kept { OnErr result (out.new.items ≡ out.old.items) }
-{
-    out.extend_from_slice(Buffer::new().format(n).as_bytes())?;
-    Ok(())
+    if later { b"," } else { b"" }
 }

@@ -1,195 +1,197 @@
-//! The text of a transcript sent to a sink piece by piece, with one piece in memory at a time.
-ghost use Rattle.std.specs.Prelude.{◌≡◌, ◌++◌, codes, false, IsUtf8};
-ghost use Rattle.std.specs.List.{AllByRecursion};
+//! The text of a transcript sent to a sink piece by piece. It takes no memory, so that none is wanted once
+//! a byte is written.
+ghost use Rattle.std.specs.Prelude.{◌≡◌, ◌++◌, codes, false, is_err, OnErr, OnOk};
+ghost use Rattle.std.specs.Io.KnownBytes.{Appends};
 ghost use Rattle.serde_json.specs.Written.{comma_if, compact_text, items_text};
 ghost use Rattle.ts_io.specs.Faults.{Counted};
-ghost use Rattle.transcript.specs.Sending.{Sends, is_fault, start_text, talk_head};
-ghost use Rattle.transcript.specs.Text.{exchange_data, exchanges_data, talk_data, talks_data, transcript_text, IsWritable, IsWritableTalk, IsWritableExchange};
+ghost use Rattle.ts_io.specs.Whole.{AppendsPart};
+ghost use Rattle.transcript.specs.Pieces.{start_text, talk_head};
+ghost use Rattle.transcript.specs.Sending.{Sends};
+ghost use Rattle.transcript.specs.Text.{exchange_data, exchanges_data, talk_data, talks_data, transcript_text};
 
-use crate::pieces::{put_exchange, put_start, put_talk_head};
+use crate::pages::{Page, flush, send};
+use crate::pieces::{Piece, comma, send_pieces};
 use crate::transcripts::{Exchange, Talk, Transcript};
-use std::alloc::Global;
-use ts_io::{Sink, write_whole};
-use ts_schema::NoMemory;
+use itoa::Buffer;
+use ts_io::{Sink, WriteFault};
 
-/// Why a text was not written to its end.
-#[derive(Clone, Copy, Debug, PartialEq, Eq)]
-pub enum Unwritten {
-    /// A write failed, and the sink's count of faults rose.
-    WriteFault,
-    /// There was no memory.
-    NoMemory,
-}
-
-/// Writes the text of a transcript: the compact JSON text of its value and a line feed. Where it doesn't
-/// come to its end, a prefix of the text was written.
-pub fn send_transcript<K: Sink>(
-    alloc: Global,
-    transcript: &Transcript,
-    sink: &mut K,
-) -> Result<(), Unwritten>
-    requires writable { IsWritable transcript.now }
-    ensures sent { Sends result (K.written sink.old) (K.written sink.new) (transcript_text transcript.now) }
-    ensures counted { Counted (K.faults sink.old) (K.faults sink.new) (is_fault result) }
+/// Writes the text of a transcript: the compact JSON text of its value and a line feed. After a fault a
+/// prefix of the text was written.
+pub fn send_transcript<K: Sink>(transcript: &Transcript, sink: &mut K) -> Result<(), WriteFault>
+    ensures all { OnOk result
+        (Appends (K.written sink.old) (K.written sink.new) (transcript_text transcript.now)) }
+    ensures part { OnErr result
+        (AppendsPart (K.written sink.old) (K.written sink.new) (transcript_text transcript.now)) }
+    ensures counted { Counted (K.faults sink.old) (K.faults sink.new) (is_err result) }
 {
-    match send(b"{\"sessions\":[", sink) {
-        Ok(()) => send_after_head(alloc, transcript, sink),
-        Err(why) => Err(why),
+    let mut page = Page::new();
+    match send_whole(transcript, &mut page, sink) {
+        Ok(()) => flush(&mut page, sink),
+        Err(fault) => Err(fault),
     }
 }
 
-/// Writes the text of a transcript behind its first bracket.
+/// Sends the text of a transcript.
+fn send_whole<K: Sink>(
+    transcript: &Transcript,
+    page: &mut Page,
+    sink: &mut K,
+) -> Result<(), WriteFault>
+    ensures sent { Sends result (K.written sink.old) (K.written sink.new) page.old.items page.new.items
+        (transcript_text transcript.now) }
+    ensures counted { Counted (K.faults sink.old) (K.faults sink.new) (is_err result) }
+{
+    match send(b"{\"sessions\":[", page, sink) {
+        Ok(()) => send_after_head(transcript, page, sink),
+        Err(fault) => Err(fault),
+    }
+}
+
+/// Sends the text of a transcript behind its first bracket.
 fn send_after_head<K: Sink>(
-    alloc: Global,
     transcript: &Transcript,
+    page: &mut Page,
     sink: &mut K,
-) -> Result<(), Unwritten>
-    requires writable { IsWritable transcript.now }
-    ensures sent { Sends result (K.written sink.old) (K.written sink.new)
+) -> Result<(), WriteFault>
+    ensures sent { Sends result (K.written sink.old) (K.written sink.new) page.old.items page.new.items
         (items_text false (talks_data transcript.now.sessions) ++ start_text transcript.now.start) }
-    ensures counted { Counted (K.faults sink.old) (K.faults sink.new) (is_fault result) }
+    ensures counted { Counted (K.faults sink.old) (K.faults sink.new) (is_err result) }
 {
-    match send_talks(alloc, transcript.sessions.items(), sink) {
-        Ok(()) => send_start(alloc, transcript.start, sink),
-        Err(why) => Err(why),
+    match send_talks(transcript.sessions.items(), page, sink) {
+        Ok(()) => send_start(transcript.start, page, sink),
+        Err(fault) => Err(fault),
     }
 }
 
-/// Writes the last member of a transcript, and the end of the text.
-fn send_start<K: Sink>(alloc: Global, start: u64, sink: &mut K) -> Result<(), Unwritten>
-    ensures sent { Sends result (K.written sink.old) (K.written sink.new) (start_text start) }
-    ensures counted { Counted (K.faults sink.old) (K.faults sink.new) (is_fault result) }
+/// Sends the last member of a transcript, and the end of the text.
+fn send_start<K: Sink>(start: u64, page: &mut Page, sink: &mut K) -> Result<(), WriteFault>
+    ensures sent { Sends result (K.written sink.old) (K.written sink.new) page.old.items page.new.items
+        (start_text start) }
+    ensures counted { Counted (K.faults sink.old) (K.faults sink.new) (is_err result) }
 {
-    let mut piece = Vec::new(alloc);
-    match put_start(start, &mut piece) {
-        Ok(()) => send(piece.as_slice(), sink),
-        Err(NoMemory) => Err(Unwritten::NoMemory),
-    }
+    let mut digits = Buffer::new();
+    let number = digits.format(start).as_bytes();
+    let pieces = [
+        Piece::Plain(b",\"start\":"),
+        Piece::Plain(number),
+        Piece::Plain(b"}\n"),
+    ];
+    send_pieces(&pieces, page, sink)
 }
 
-/// Writes the talks with commas between them, and the closing bracket.
-fn send_talks<K: Sink>(alloc: Global, talks: &[Talk], sink: &mut K) -> Result<(), Unwritten>
-    requires writable { AllByRecursion IsWritableTalk talks.now }
-    ensures sent { Sends result (K.written sink.old) (K.written sink.new)
+/// Sends the talks with commas between them, and the closing bracket.
+fn send_talks<K: Sink>(talks: &[Talk], page: &mut Page, sink: &mut K) -> Result<(), WriteFault>
+    ensures sent { Sends result (K.written sink.old) (K.written sink.new) page.old.items page.new.items
         (items_text false (talks_data talks.now)) }
-    ensures counted { Counted (K.faults sink.old) (K.faults sink.new) (is_fault result) }
+    ensures counted { Counted (K.faults sink.old) (K.faults sink.new) (is_err result) }
 {
     let mut later = false;
     let mut left = talks;
     while let Some((talk, rest)) = left.split_first() {
-        match send_talk(alloc, later, talk, sink) {
+        match send_talk(later, talk, page, sink) {
             Ok(()) => {}
-            Err(why) => return Err(why),
+            Err(fault) => return Err(fault),
         }
         later = true;
         left = rest;
     }
-    send(b"]", sink)
+    send(b"]", page, sink)
 }
 
-/// Writes a talk, behind a comma where one stands before it.
+/// Sends a talk, behind a comma where one stands before it.
 fn send_talk<K: Sink>(
-    alloc: Global,
     later: bool,
     talk: &Talk,
+    page: &mut Page,
     sink: &mut K,
-) -> Result<(), Unwritten>
-    requires writable { IsWritableTalk talk.now }
-    ensures sent { Sends result (K.written sink.old) (K.written sink.new)
+) -> Result<(), WriteFault>
+    ensures sent { Sends result (K.written sink.old) (K.written sink.new) page.old.items page.new.items
         (comma_if later ++ compact_text (talk_data talk.now)) }
-    ensures counted { Counted (K.faults sink.old) (K.faults sink.new) (is_fault result) }
+    ensures counted { Counted (K.faults sink.old) (K.faults sink.new) (is_err result) }
 {
-    match send_talk_head(alloc, later, talk.name.items(), sink) {
-        Ok(()) => send_talk_rest(alloc, talk.replies.items(), sink),
-        Err(why) => Err(why),
+    match send_talk_head(later, talk.name.items(), page, sink) {
+        Ok(()) => send_talk_rest(talk.replies.items(), page, sink),
+        Err(fault) => Err(fault),
     }
 }
 
-/// Writes a talk up to its first exchange.
+/// Sends a talk up to its first exchange.
 fn send_talk_head<K: Sink>(
-    alloc: Global,
     later: bool,
     name: &[u8],
+    page: &mut Page,
     sink: &mut K,
-) -> Result<(), Unwritten>
-    requires utf8 { IsUtf8 name.now }
-    ensures sent { Sends result (K.written sink.old) (K.written sink.new) (talk_head later name.now) }
-    ensures counted { Counted (K.faults sink.old) (K.faults sink.new) (is_fault result) }
+) -> Result<(), WriteFault>
+    ensures sent { Sends result (K.written sink.old) (K.written sink.new) page.old.items page.new.items
+        (talk_head later name.now) }
+    ensures counted { Counted (K.faults sink.old) (K.faults sink.new) (is_err result) }
 {
-    let mut piece = Vec::new(alloc);
-    match put_talk_head(alloc, later, name, &mut piece) {
-        Ok(()) => send(piece.as_slice(), sink),
-        Err(NoMemory) => Err(Unwritten::NoMemory),
-    }
+    let pieces = [
+        Piece::Plain(comma(later)),
+        Piece::Plain(b"{\"name\":\""),
+        Piece::Escaped(name),
+        Piece::Plain(b"\",\"replies\":["),
+    ];
+    send_pieces(&pieces, page, sink)
 }
 
-/// Writes the exchanges of a talk, and its end.
+/// Sends the exchanges of a talk, and its end.
 fn send_talk_rest<K: Sink>(
-    alloc: Global,
     exchanges: &[Exchange],
+    page: &mut Page,
     sink: &mut K,
-) -> Result<(), Unwritten>
-    requires writable { AllByRecursion IsWritableExchange exchanges.now }
-    ensures sent { Sends result (K.written sink.old) (K.written sink.new)
+) -> Result<(), WriteFault>
+    ensures sent { Sends result (K.written sink.old) (K.written sink.new) page.old.items page.new.items
         (items_text false (exchanges_data exchanges.now) ++ codes "}") }
-    ensures counted { Counted (K.faults sink.old) (K.faults sink.new) (is_fault result) }
+    ensures counted { Counted (K.faults sink.old) (K.faults sink.new) (is_err result) }
 {
-    match send_exchanges(alloc, exchanges, sink) {
-        Ok(()) => send(b"}", sink),
-        Err(why) => Err(why),
+    match send_exchanges(exchanges, page, sink) {
+        Ok(()) => send(b"}", page, sink),
+        Err(fault) => Err(fault),
     }
 }
 
-/// Writes the exchanges with commas between them, and the closing bracket.
+/// Sends the exchanges with commas between them, and the closing bracket.
 fn send_exchanges<K: Sink>(
-    alloc: Global,
     exchanges: &[Exchange],
+    page: &mut Page,
     sink: &mut K,
-) -> Result<(), Unwritten>
-    requires writable { AllByRecursion IsWritableExchange exchanges.now }
-    ensures sent { Sends result (K.written sink.old) (K.written sink.new)
+) -> Result<(), WriteFault>
+    ensures sent { Sends result (K.written sink.old) (K.written sink.new) page.old.items page.new.items
         (items_text false (exchanges_data exchanges.now)) }
-    ensures counted { Counted (K.faults sink.old) (K.faults sink.new) (is_fault result) }
+    ensures counted { Counted (K.faults sink.old) (K.faults sink.new) (is_err result) }
 {
     let mut later = false;
     let mut left = exchanges;
     while let Some((exchange, rest)) = left.split_first() {
-        match send_exchange(alloc, later, exchange, sink) {
+        match send_exchange(later, exchange, page, sink) {
             Ok(()) => {}
-            Err(why) => return Err(why),
+            Err(fault) => return Err(fault),
         }
         later = true;
         left = rest;
     }
-    send(b"]", sink)
+    send(b"]", page, sink)
 }
 
-/// Writes an exchange, behind a comma where one stands before it.
+/// Sends an exchange, behind a comma where one stands before it.
 fn send_exchange<K: Sink>(
-    alloc: Global,
     later: bool,
     exchange: &Exchange,
+    page: &mut Page,
     sink: &mut K,
-) -> Result<(), Unwritten>
-    requires writable { IsWritableExchange exchange.now }
-    ensures sent { Sends result (K.written sink.old) (K.written sink.new)
+) -> Result<(), WriteFault>
+    ensures sent { Sends result (K.written sink.old) (K.written sink.new) page.old.items page.new.items
         (comma_if later ++ compact_text (exchange_data exchange.now)) }
-    ensures counted { Counted (K.faults sink.old) (K.faults sink.new) (is_fault result) }
+    ensures counted { Counted (K.faults sink.old) (K.faults sink.new) (is_err result) }
 {
-    let mut piece = Vec::new(alloc);
-    match put_exchange(alloc, later, exchange, &mut piece) {
-        Ok(()) => send(piece.as_slice(), sink),
-        Err(NoMemory) => Err(Unwritten::NoMemory),
-    }
-}
-
-/// Writes a piece of the text.
-fn send<K: Sink>(piece: &[u8], sink: &mut K) -> Result<(), Unwritten>
-    ensures sent { Sends result (K.written sink.old) (K.written sink.new) piece.now }
-    ensures counted { Counted (K.faults sink.old) (K.faults sink.new) (is_fault result) }
-{
-    match write_whole(sink, piece) {
-        Ok(()) => Ok(()),
-        Err(_) => Err(Unwritten::WriteFault),
-    }
+    let pieces = [
+        Piece::Plain(comma(later)),
+        Piece::Plain(b"{\"line\":\""),
+        Piece::Escaped(exchange.line.items()),
+        Piece::Plain(b"\",\"reply\":\""),
+        Piece::Escaped(exchange.reply.items()),
+        Piece::Plain(b"\"}"),
+    ];
+    send_pieces(&pieces, page, sink)
 }

@@ -1,6 +1,3 @@
-ghost use Rattle.std.specs.Prelude.{IfOk, IsUtf8};
-ghost use Rattle.transcript.specs.Text.{IsWritable};
-
 use crate::{Exchange, ReadTranscript, Talk, Transcript, read_transcript, send_transcript};
 use std::alloc::Global;
 use std::test::Fail;
@@ -10,16 +7,12 @@ use ts_schema::Seq;
 const FIRST: &[u8] =
     b"{\"sessions\":[{\"name\":\"a\",\"replies\":[{\"line\":\"a: CREATE TABLE m (time BIGINT NOT NULL, v BIGINT)\",\"reply\":\"a: TABLE @1\\n\"}]}],\"start\":0}\n";
 
-fn bytes(alloc: Global, text: &str) -> Result<Seq<u8>, Fail>
-    ensures utf8 { IfOk result IsUtf8 }
-{
+fn bytes(alloc: Global, text: &str) -> Result<Seq<u8>, Fail> {
     Ok(Seq::of(Vec::from_slice(alloc, text.as_bytes())?))
 }
 
 /// One session with one line.
-fn first(alloc: Global) -> Result<Transcript, Fail>
-    ensures writable { IfOk result IsWritable }
-{
+fn first(alloc: Global) -> Result<Transcript, Fail> {
     let mut replies = Seq::new(alloc);
     replies.push(Exchange {
         line: bytes(alloc, "a: CREATE TABLE m (time BIGINT NOT NULL, v BIGINT)")?,
@@ -36,7 +29,7 @@ fn first(alloc: Global) -> Result<Transcript, Fail>
 #[test]
 fn a_transcript_is_sent_as_compact_json(rt: HostRuntime) -> Result<(), Fail> {
     let mut sink = MemSink::new(rt.alloc(), 7, Vec::new(rt.alloc()));
-    let sent = send_transcript(rt.alloc(), &first(rt.alloc())?, &mut sink);
+    let sent = send_transcript(&first(rt.alloc())?, &mut sink);
     assert!(rt; sent.is_ok());
     assert!(rt; sink.bytes() == FIRST);
     Ok(())

@@ -1,5 +1,5 @@
 -- What a checkpoint has done, by how it ended and what it left on the disk.
-use Rattle.std.proofs.Common.{◌≡◌, ◌≢◌, ◌↔◌, ◌⊎◌, inl, inr, ⊎_elim, ℕ, ◌≤◌, false, List, [], Option, Some, None, IfSome, IsSomeAnd, refl, sym, ap, ◌∙◌, subst}
+use Rattle.std.proofs.Common.{◌≡◌, ◌≢◌, ◌↔◌, ◌⊎◌, inl, inr, ⊎_elim, ℕ, ◌≤◌, false, List, [], Option, Some, None, IfSome, IsSomeAnd, refl, sym, ap, ◌∙◌, subst, IsSome}
 use Rattle.std.specs.Io.KnownBytes.{Appends}
 use Rattle.ts_io.specs.Faults.{Counted}
 use Rattle.ts_io.specs.Whole.{AppendsPart}
@@ -7,24 +7,25 @@ use Rattle.ts_model.specs.declared.events.Event.{Event}
 use Rattle.ts_model.specs.History.{History, events_of, position}
 use Rattle.engine_core.specs.Histories.{history_of}
 use Rattle.engine_core.specs.Values.{Past}
-use Rattle.txn_journal.specs.Calls.{IsAtRest, Logged}
+use Rattle.txn_journal.specs.Calls.{IsAtRest, IsTold, Logged}
 use Rattle.txn_journal.specs.Contents.{Content}
-use Rattle.ts_store.specs.Checkpoints.{CountsEnd, EndsAs, HasImage, HoldsImage, IfSaved, IfUntouched, SavesSafely, StandsForImage, StandsSaved}
+use Rattle.ts_store.specs.Checkpoints.{CountsEnd, EndsAs, HasImage, HoldsImage, IfSaved, IfUntouched, IfWritten, StandsForImage, StandsSaved}
 use Rattle.ts_store.specs.Images.{HasHeader, IsBetween, IsDurable}
 use Rattle.ts_store.specs.Stands.{Stands, content_of}
 use Rattle.ts_store.specs.Stores.{stop_at}
 use Rattle.ts_store.specs.declared.checkpoints.CheckEnd.{CheckEnd}
 use Rattle.ts_store.specs.declared.checkpoints.CheckEnd.TheVariants as ends
-use Rattle.ts_store.proofs.ImageLaws.{holds_header, shown_at_rest, some_is}
+use Rattle.ts_store.proofs.ImageLaws.{holds_header, shown_told}
 use Rattle.ts_top.specs.Checkpoints.{AsBefore, AsEither, AsImage, CheckpointTo, TellsEnd, ToldNothing, ToldSaved, ToldTooLong, longest_image, nothing_text, saved_text, too_long_text}
 use Rattle.ts_top.specs.Endings.{is_disk_fault, is_read_fault}
 use Rattle.ts_top.specs.Openings.{NotOpened}
-use Rattle.ts_top.specs.Outcomes.{IfWentOn, Outside}
+use Rattle.ts_top.specs.Outcomes.{IfWentOn, Outside, LeftAfter}
 use Rattle.ts_top.specs.declared.endings.Status.{Status}
 use Rattle.ts_top.specs.declared.endings.Status.TheVariants.{Done, Refused, BadWords, ReadFault, WriteFault, DiskFault, Damaged, NoMemory, InputLong}
 use Rattle.ts_top.proofs.LogLaws.{events_of_past}
 use Rattle.ts_top.proofs.ParallelLaws.{only_one}
 use Rattle.ts_top.proofs.PrintLaws.{none_not_some}
+use Rattle.ts_disk.proofs.Told.{some_is, some_told, the_told}
 
 -- ---- a store that goes on
 
@@ -53,41 +54,44 @@ image_header h file image =
 -- ---- the disk
 
 module _ {D : Type 0} (bytes : D → Option (List ℕ)) (may_leave : D → List ℕ → Type 0) (moment : D → ℕ) (left_since : D → ℕ → List ℕ → Type 0) (begun new : D) (journal : Logged D) (h : History) where
+  abbrev pub Known : Type 0
+  Known = IsSome (bytes begun)
+
   abbrev pub Durable : Type 0
   Durable = IsDurable bytes may_leave begun
 
   abbrev pub Safe : CheckEnd → Type 0
-  Safe end = Durable → SavesSafely bytes may_leave moment left_since end h journal.disk new
+  Safe end = Known → IfWritten end (IsSomeAnd (bytes new) (StandsSaved h)) × IfSaved end (HoldsImage bytes may_leave new h)
 
   abbrev pub LeftSince : List ℕ → Type 0
-  LeftSince = left_since new (moment begun)
+  LeftSince = LeftAfter bytes may_leave moment left_since begun new
 
-  module _ (stands : (file : List ℕ) → bytes begun ≡ Some file → Stands file h) (rests : Durable → IsAtRest bytes may_leave journal (content_of h)) where
-    shown : Durable → IsSomeAnd (bytes journal.disk) (λ c. Stands c h)
-    shown d = shown_at_rest bytes may_leave moment left_since journal h (stands d.file d.told).sound (rests d)
+  module _ (stands : (file : List ℕ) → bytes begun ≡ Some file → Stands file h) (tells : Known → IsTold bytes journal (content_of h)) (rests : Durable → IsAtRest bytes may_leave journal (content_of h)) where
+    shown : Known → IsSomeAnd (bytes journal.disk) (λ c. Stands c h)
+    shown some = let known = the_told (bytes begun) some in shown_told bytes journal h (stands known.0 known.1).sound (tells some)
 
     durable_before : Durable → IsDurable bytes may_leave journal.disk
-    durable_before d = let rest = rests d in record { file = rest.file; told = rest.told; durable = rest.durable }
+    durable_before d = let rest = rests d in record { file = rest.tells.file; told = rest.tells.told; durable = rest.durable }
 
-    as_before : new ≡ journal.disk → (Durable → (c : List ℕ) → left_since journal.disk (moment begun) c → Stands c h) → AsBefore Durable LeftSince h (bytes new)
+    as_before : new ≡ journal.disk → ((c : List ℕ) → LeftAfter bytes may_leave moment left_since begun journal.disk c → Stands c h) → AsBefore Known LeftSince h (bytes new)
     as_before same images = record {
       holds = λ d. subst (λ disk. IsSomeAnd (bytes disk) (λ c. Stands c h)) (sym same) (shown d);
-      images = λ d c image. images d c (subst (λ disk. left_since disk (moment begun) c) same image);
+      images = λ c image. images c (subst (λ disk. LeftAfter bytes may_leave moment left_since begun disk c) same image);
     }
 
-    as_image : (p n : ℕ) → Safe (ends.Done p n) → (Durable → (c : List ℕ) → LeftSince c → StandsSaved h c) → AsImage Durable LeftSince h (bytes new)
+    as_image : (p n : ℕ) → Safe (ends.Done p n) → ((c : List ℕ) → LeftSince c → StandsSaved h c) → AsImage Known LeftSince h (bytes new)
     as_image p n safe images = record {
-      holds = λ d. let saved : HoldsImage bytes may_leave new h = (safe d).done in some_is (bytes new) saved.file (StandsForImage h) saved.told saved.stands;
+      holds = λ some. let saved : HoldsImage bytes may_leave new h = (safe some).1 in some_is (bytes new) saved.file (StandsForImage h) saved.told saved.stands;
       images = images;
     }
 
-    as_either : Safe ends.DiskFault → (Durable → (c : List ℕ) → LeftSince c → StandsSaved h c) → AsEither Durable LeftSince h (bytes new)
-    as_either safe images = record { holds = λ d. (safe d).shown; images = images }
+    as_either : Safe ends.DiskFault → ((c : List ℕ) → LeftSince c → StandsSaved h c) → AsEither Known LeftSince h (bytes new)
+    as_either safe images = record { holds = λ some. (safe some).0; images = images }
 
     -- all bytes are on the disk again
     pub lasts : (end : CheckEnd) → Safe end → IfUntouched end (new ≡ journal.disk) → IfSaved end (Durable → IsDurable bytes may_leave new) × IfUntouched end (Durable → IsDurable bytes may_leave new)
     lasts (ends.Done p n) safe same =
-        (λ d. let saved : HoldsImage bytes may_leave new h = (safe d).done in record { file = saved.file; told = saved.told; durable = saved.durable }, tt)
+        (λ d. let saved : HoldsImage bytes may_leave new h = (safe (some_told (bytes begun) d.file d.told)).1 in record { file = saved.file; told = saved.told; durable = saved.durable }, tt)
     lasts (ends.Nothing p) safe same = (tt, λ d. subst (IsDurable bytes may_leave) (sym same) (durable_before d))
     lasts (ends.TooLong p n) safe same = (tt, λ d. subst (IsDurable bytes may_leave) (sym same) (durable_before d))
     lasts ends.DiskFault safe same = (tt, tt)
@@ -103,12 +107,12 @@ module _ {D : Type 0} (bytes : D → Option (List ℕ)) (may_leave : D → List 
       at_end p is = is ∙ ap position (sym is_past)
 
       abbrev To : Status → Type 0
-      To status = CheckpointTo status Durable LeftSince unprinted ⊥ o
+      To status = CheckpointTo status Known LeftSince unprinted ⊥ o
 
       abbrev Ends : CheckEnd → Type 0
       Ends end = EndsAs end past failed longest_image
 
-      saved : (p n : ℕ) (Wrote : List ℕ → Type 0) → Ends (ends.Done p n) → AsImage Durable LeftSince h (bytes new) → Wrote (saved_text p n) → ToldSaved Durable LeftSince Wrote o h
+      saved : (p n : ℕ) (Wrote : List ℕ → Type 0) → Ends (ends.Done p n) → AsImage Known LeftSince h (bytes new) → Wrote (saved_text p n) → ToldSaved Known LeftSince Wrote o h
       saved p n Wrote end journal wrote = record {
         line = saved_text p n;
         tells = record {
@@ -119,18 +123,18 @@ module _ {D : Type 0} (bytes : D → Option (List ℕ)) (may_leave : D → List 
           text = ap (λ (q : ℕ). saved_text q n) (at_end p end.1);
         };
         wrote = wrote;
-        journal = subst (AsImage Durable LeftSince h) (sym file) journal;
+        journal = subst (AsImage Known LeftSince h) (sym file) journal;
       }
 
-      nothing : (p : ℕ) (Wrote : List ℕ → Type 0) → Ends (ends.Nothing p) → AsBefore Durable LeftSince h (bytes new) → Wrote (nothing_text p) → ToldNothing Durable LeftSince Wrote o h
+      nothing : (p : ℕ) (Wrote : List ℕ → Type 0) → Ends (ends.Nothing p) → AsBefore Known LeftSince h (bytes new) → Wrote (nothing_text p) → ToldNothing Known LeftSince Wrote o h
       nothing p Wrote end journal wrote = record {
         line = nothing_text p;
         tells = record { none = ap events_of is_past ∙ events_of_past past ∙ end.1; text = ap nothing_text (at_end p end.2) };
         wrote = wrote;
-        journal = subst (AsBefore Durable LeftSince h) (sym file) journal;
+        journal = subst (AsBefore Known LeftSince h) (sym file) journal;
       }
 
-      too_long : (p n : ℕ) (Wrote : List ℕ → Type 0) → Ends (ends.TooLong p n) → AsBefore Durable LeftSince h (bytes new) → Wrote (too_long_text p n) → ToldTooLong Durable LeftSince Wrote o h
+      too_long : (p n : ℕ) (Wrote : List ℕ → Type 0) → Ends (ends.TooLong p n) → AsBefore Known LeftSince h (bytes new) → Wrote (too_long_text p n) → ToldTooLong Known LeftSince Wrote o h
       too_long p n Wrote end journal wrote = record {
         line = too_long_text p n;
         tells = record {
@@ -141,11 +145,11 @@ module _ {D : Type 0} (bytes : D → Option (List ℕ)) (may_leave : D → List 
           text = ap (λ (q : ℕ). too_long_text q n) (at_end p end.1);
         };
         wrote = wrote;
-        journal = subst (AsBefore Durable LeftSince h) (sym file) journal;
+        journal = subst (AsBefore Known LeftSince h) (sym file) journal;
       }
 
       pub ended_to : (end : CheckEnd) (status : Status) → Ends end → Safe end → IfUntouched end (new ≡ journal.disk)
-          → (Durable → (c : List ℕ) → left_since journal.disk (moment begun) c → Stands c h) → (Durable → (c : List ℕ) → LeftSince c → StandsSaved h c)
+          → ((c : List ℕ) → LeftAfter bytes may_leave moment left_since begun journal.disk c → Stands c h) → ((c : List ℕ) → LeftSince c → StandsSaved h c)
           → TellsEnd end status unprinted o.written_before o.written → To status
       ended_to (ends.Done p n) status end safe same before images (inl told) =
           subst To (sym told.0) (record { opening = h; stood = stood; ran = inl (saved p n (Appends o.written_before o.written) end (as_image p n safe images) told.1) })
@@ -160,15 +164,15 @@ module _ {D : Type 0} (bytes : D → Option (List ℕ)) (may_leave : D → List 
       ended_to (ends.TooLong p n) status end safe same before images (inr told) =
           subst To (sym told.0) (record { opening = h; stood = stood; ran = inr (inr (too_long p n (AppendsPart o.written_before o.written) end (as_before same before) told.1)) })
       ended_to ends.DiskFault status end safe same before images told =
-          subst To (sym told.0) (told.1, inr (record { opening = h; stood = stood; ran = (later end.1, subst (AsEither Durable LeftSince h) (sym file) (as_either safe images)) }))
+          subst To (sym told.0) (told.1, inr (record { opening = h; stood = stood; ran = (later end.1, subst (AsEither Known LeftSince h) (sym file) (as_either safe images)) }))
       ended_to (ends.Stopped p) status end safe same before images told = absurd (never_stopped (history_of past) failed p goes_on end)
       ended_to ends.NoMemory status end safe same before images told =
-          subst To (sym told.0) (told.1, inr (record { opening = h; stood = stood; ran = (later end.1, subst (AsBefore Durable LeftSince h) (sym file) (as_before same before)) }))
+          subst To (sym told.0) (told.1, inr (record { opening = h; stood = stood; ran = (later end.1, subst (AsBefore Known LeftSince h) (sym file) (as_before same before)) }))
 
   -- the header is there
-  pub headed : (end : CheckEnd) → Safe end → (Durable → IfUntouched end (IsSomeAnd (bytes new) HasHeader)) → IfSaved end (Durable → IsSomeAnd (bytes new) HasHeader) × IfUntouched end (Durable → IsSomeAnd (bytes new) HasHeader)
+  pub headed : (end : CheckEnd) → Safe end → (Known → IfUntouched end (IsSomeAnd (bytes new) HasHeader)) → IfSaved end (Known → IsSomeAnd (bytes new) HasHeader) × IfUntouched end (Known → IsSomeAnd (bytes new) HasHeader)
   headed (ends.Done p n) safe untouched =
-      (λ d. let saved : HoldsImage bytes may_leave new h = (safe d).done in some_is (bytes new) saved.file HasHeader saved.told (image_header h saved.file saved.stands), tt)
+      (λ some. let saved : HoldsImage bytes may_leave new h = (safe some).1 in some_is (bytes new) saved.file HasHeader saved.told (image_header h saved.file saved.stands), tt)
   headed (ends.Nothing p) safe untouched = (tt, untouched)
   headed (ends.TooLong p n) safe untouched = (tt, untouched)
   headed ends.DiskFault safe untouched = (tt, tt)
@@ -216,9 +220,9 @@ counted_disk ends.NoMemory status unprinted before written past failed most faul
 
 -- ---- the opening
 
-module _ (durable : Type 0) (left : List ℕ → Type 0) (unprinted : Type 0) (o : Outside) where
+module _ (told : Type 0) (left : List ℕ → Type 0) (unprinted : Type 0) (o : Outside) where
   -- where the journal was opened the disk needn't be as it was
-  pub changed_or_kept : (status : Status) (kept : Type 0) → CheckpointTo status durable left unprinted ⊥ o → CheckpointTo status durable left unprinted kept o
+  pub changed_or_kept : (status : Status) (kept : Type 0) → CheckpointTo status told left unprinted ⊥ o → CheckpointTo status told left unprinted kept o
   changed_or_kept Done kept to = to
   changed_or_kept Refused kept to = to
   changed_or_kept BadWords kept to = to
@@ -230,7 +234,7 @@ module _ (durable : Type 0) (left : List ℕ → Type 0) (unprinted : Type 0) (o
   changed_or_kept InputLong kept to = to
 
   -- a call that opened no journal
-  pub not_opened_checkpoint : (status : Status) (kept : Type 0) → unprinted → NotOpened status durable left kept o.file_before o.file → CheckpointTo status durable left unprinted kept o
+  pub not_opened_checkpoint : (status : Status) (kept : Type 0) → unprinted → NotOpened status told left kept o.file_before o.file → CheckpointTo status told left unprinted kept o
   not_opened_checkpoint Done kept still n = absurd n
   not_opened_checkpoint Refused kept still n = absurd n
   not_opened_checkpoint BadWords kept still n = absurd n
@@ -242,7 +246,7 @@ module _ (durable : Type 0) (left : List ℕ → Type 0) (unprinted : Type 0) (o
   not_opened_checkpoint InputLong kept still n = absurd n
 
   -- the words were good
-  good_words : (status : Status) (kept : Type 0) → CheckpointTo status durable left unprinted kept o → status ≡ BadWords → ⊥
+  good_words : (status : Status) (kept : Type 0) → CheckpointTo status told left unprinted kept o → status ≡ BadWords → ⊥
   good_words Done kept to is = cc is
   good_words Refused kept to is = cc is
   good_words BadWords kept to is = to
@@ -253,5 +257,5 @@ module _ (durable : Type 0) (left : List ℕ → Type 0) (unprinted : Type 0) (o
   good_words NoMemory kept to is = cc is
   good_words InputLong kept to is = cc is
 
-  pub not_bad_words : {T : Type 0} (status : Status) (kept : Type 0) (asked : Option T) (x : T) → CheckpointTo status durable left unprinted kept o → asked ≡ Some x → ((status ≡ BadWords) ↔ (asked ≡ None))
+  pub not_bad_words : {T : Type 0} (status : Status) (kept : Type 0) (asked : Option T) (x : T) → CheckpointTo status told left unprinted kept o → asked ≡ Some x → ((status ≡ BadWords) ↔ (asked ≡ None))
   not_bad_words status kept asked x to is = (λ bad. absurd (good_words status kept to bad), λ none. absurd (none_not_some x asked none is))

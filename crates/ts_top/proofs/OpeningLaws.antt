@@ -6,9 +6,9 @@ use Rattle.ts_top.specs.Endings.{is_read_fault, is_write_fault}
 use Rattle.ts_top.specs.Openings.{NotOpened}
 use Rattle.ts_top.specs.Outcomes.{IfWentOn, Outside, RanTo}
 
-module _ (durable : Type 0) (left : List ℕ → Type 0) (before after : Option (List ℕ)) where
+module _ (told : Type 0) (left : List ℕ → Type 0) (before after : Option (List ℕ)) where
   -- where the header was reached the disk needn't be as it was
-  pub failed_or_kept : (status : Status) (kept : Type 0) → NotOpened status durable left ⊥ before after → NotOpened status durable left kept before after
+  pub failed_or_kept : (status : Status) (kept : Type 0) → NotOpened status told left ⊥ before after → NotOpened status told left kept before after
   failed_or_kept Done kept n = n
   failed_or_kept Refused kept n = n
   failed_or_kept BadWords kept n = n
@@ -21,7 +21,7 @@ module _ (durable : Type 0) (left : List ℕ → Type 0) (before after : Option 
   failed_or_kept InputLong kept n = n
 
   -- nothing was read and nothing printed, so no fault of either is told
-  pub not_opened_reads : (status : Status) (kept : Type 0) → NotOpened status durable left kept before after → is_read_fault status ≡ false
+  pub not_opened_reads : (status : Status) (kept : Type 0) → NotOpened status told left kept before after → is_read_fault status ≡ false
   not_opened_reads Done kept n = refl
   not_opened_reads Refused kept n = refl
   not_opened_reads BadWords kept n = refl
@@ -32,7 +32,7 @@ module _ (durable : Type 0) (left : List ℕ → Type 0) (before after : Option 
   not_opened_reads NoMemory kept n = refl
   not_opened_reads InputLong kept n = refl
 
-  pub not_opened_writes : (status : Status) (kept : Type 0) → NotOpened status durable left kept before after → is_write_fault status ≡ false
+  pub not_opened_writes : (status : Status) (kept : Type 0) → NotOpened status told left kept before after → is_write_fault status ≡ false
   not_opened_writes Done kept n = refl
   not_opened_writes Refused kept n = refl
   not_opened_writes BadWords kept n = refl
@@ -43,7 +43,7 @@ module _ (durable : Type 0) (left : List ℕ → Type 0) (before after : Option 
   not_opened_writes NoMemory kept n = refl
   not_opened_writes InputLong kept n = refl
 
-  pub not_opened_header : (status : Status) (kept P : Type 0) → NotOpened status durable left kept before after → IfWentOn status P
+  pub not_opened_header : (status : Status) (kept P : Type 0) → NotOpened status told left kept before after → IfWentOn status P
   not_opened_header Done kept P n = absurd n
   not_opened_header Refused kept P n = absurd n
   not_opened_header BadWords kept P n = absurd n
@@ -55,8 +55,8 @@ module _ (durable : Type 0) (left : List ℕ → Type 0) (before after : Option 
   not_opened_header InputLong kept P n = absurd n
 
 -- a run that opened no journal
-module _ (durable : Type 0) (left : List ℕ → Type 0) (o : Outside) (unread unprinted kept : Type 0) (still : unread × unprinted) where
-  pub not_opened_run : (status : Status) → NotOpened status durable left kept o.file_before o.file → RanTo status durable left unread unprinted kept o
+module _ (told : Type 0) (left : List ℕ → Type 0) (o : Outside) (unread unprinted kept : Type 0) (still : unread × unprinted) where
+  pub not_opened_run : (status : Status) → NotOpened status told left kept o.file_before o.file → RanTo status told left unread unprinted kept o
   not_opened_run Done n = absurd n
   not_opened_run Refused n = absurd n
   not_opened_run BadWords n = absurd n

@@ -3,7 +3,6 @@ use Rattle.std.proofs.Common.{◌≡◌, ◌≤◌, inl, inr, ⊎_elim, ℕ, fal
 use Rattle.std.specs.Prelude.{IsSome, IsSomeAnd}
 use Rattle.std.specs.Io.KnownBytes.{Appends}
 use Rattle.std.proofs.KnownBytes.{Appends-nil}
-use Rattle.ts_disk.specs.CrashImage.{LeavesOnly}
 use Rattle.ts_model.specs.declared.events.Event.{Event}
 use Rattle.ts_model.specs.History.{History, ◌▸◌, Begins, same, further}
 use Rattle.ts_model.specs.States.{State, stands_still}
@@ -23,7 +22,7 @@ use Rattle.ts_top.specs.declared.endings.Status.TheVariants.{Done, Refused, BadW
 use Rattle.ts_top.specs.Scripts.{history_after}
 use Rattle.ts_top.specs.Outcomes.{Outside, StandsBetween, Holds, ImagesUpTo, RanWhole, RanBefore, RanWithin, RanWriting, RanTo, IfWentOn}
 use Rattle.ts_schema.proofs.Cases.{none_there}
-use Rattle.ts_store.proofs.ImageLaws.{some_also}
+use Rattle.ts_disk.proofs.Told.{some_also}
 
 -- ---- options
 
@@ -34,9 +33,9 @@ if_some (Some x) P Q gives p = gives x p
 -- ---- files
 
 -- what a store says of its disk once it is closed
-pub record Closed (durable : Type 0) (left : List ℕ → Type 0) (opening : History) (s : State) (file : Option (List ℕ)) : Type 0 where
-  pub shown : durable → IsSomeAnd file (StandsForEither s.history (latest s.history s.failed))
-  pub images : durable → (c : List ℕ) → left c → IsBetween opening s.history s.failed c
+pub record Closed (told : Type 0) (left : List ℕ → Type 0) (opening : History) (s : State) (file : Option (List ℕ)) : Type 0 where
+  pub shown : told → IsSomeAnd file (StandsForEither s.history (latest s.history s.failed))
+  pub images : (c : List ℕ) → left c → IsBetween opening s.history s.failed c
 
 -- a file that stands for the history, where the disk didn't fail
 pub the_one : (h : History) (failed : Option Event) (file : List ℕ) → failed ≡ None → StandsForEither h (latest h failed) file → Stands file h
@@ -71,14 +70,14 @@ file_failed from seen to e failed file fails began next (inr stands) = record { 
 abbrev pub left_of : State → Outside → Left
 left_of s o = record { store = s; written_before = o.written_before; written = o.written; read_before = 0; read = o.reads }
 
-module _ (durable : Type 0) (left : List ℕ → Type 0) (unread unprinted kept : Type 0) (o : Outside) (h : History) (s : State) (closed : Closed durable left h s o.file) where
-  holds_all : (to : History) → s.failed ≡ None → s.history ≡ to → durable → Holds o.file to
+module _ (told : Type 0) (left : List ℕ → Type 0) (unread unprinted kept : Type 0) (o : Outside) (h : History) (s : State) (closed : Closed told left h s o.file) where
+  holds_all : (to : History) → s.failed ≡ None → s.history ≡ to → told → Holds o.file to
   holds_all to none is d = some_also o.file (StandsForEither s.history (latest s.history s.failed)) (λ file. Stands file to) (λ file either. subst (λ g. Stands file g) is (the_one s.history s.failed file none either)) (closed.shown d)
 
-  images_all : (to : History) → s.failed ≡ None → Begins s.history to → durable → ImagesUpTo left h to
-  images_all to none within d = λ c image. image_before h s.history to s.failed c none within (closed.images d c image)
+  images_all : (to : History) → s.failed ≡ None → Begins s.history to → ImagesUpTo left h to
+  images_all to none within = λ c image. image_before h s.history to s.failed c none within (closed.images c image)
 
-  ran_whole : (lines : List (List ℕ)) → s.failed ≡ None → Executed program_semantics h lines (left_of s o) → RanWhole durable left h lines o
+  ran_whole : (lines : List (List ℕ)) → s.failed ≡ None → Executed program_semantics h lines (left_of s o) → RanWhole told left h lines o
   ran_whole lines none ran = record {
     wrote = ran.wrote;
     holds = holds_all (history_after h lines) none ran.history;
@@ -86,10 +85,10 @@ module _ (durable : Type 0) (left : List ℕ → Type 0) (unread unprinted kept 
     counted = ran.counted;
   }
 
-  ran_before : (lines : List (List ℕ)) → s.failed ≡ None → StoppedBefore program_semantics h lines (left_of s o) → RanBefore durable left h lines o
+  ran_before : (lines : List (List ℕ)) → s.failed ≡ None → StoppedBefore program_semantics h lines (left_of s o) → RanBefore told left h lines o
   ran_before lines none stopped = record { done = stopped.done; rest = stopped.rest; split = stopped.split; ran = ran_whole stopped.done none stopped.executed_first }
 
-  ran_writing : (lines : List (List ℕ)) → s.failed ≡ None → StoppedWriting program_semantics h lines (left_of s o) → RanWriting durable left h lines o
+  ran_writing : (lines : List (List ℕ)) → s.failed ≡ None → StoppedWriting program_semantics h lines (left_of s o) → RanWriting told left h lines o
   ran_writing lines none stopped =
       let to : History = history_after h (stopped.done ++ stopped.line ∷ []) in
       record {
@@ -106,7 +105,7 @@ module _ (durable : Type 0) (left : List ℕ → Type 0) (unread unprinted kept 
         counted = stopped.counted;
       }
 
-  ran_within : (lines : List (List ℕ)) → s.failed ≡ None → StoppedWithin program_semantics h lines (left_of s o) → RanWithin durable left h lines o
+  ran_within : (lines : List (List ℕ)) → s.failed ≡ None → StoppedWithin program_semantics h lines (left_of s o) → RanWithin told left h lines o
   ran_within lines none stopped =
       let from : History = history_after h stopped.done in
       let to : History = history_after h (stopped.done ++ take 1 stopped.rest) in
@@ -121,7 +120,7 @@ module _ (durable : Type 0) (left : List ℕ → Type 0) (unread unprinted kept 
         counted = stopped.counted;
       }
 
-  ran_at_event : (lines : List (List ℕ)) → StoppedAtEvent program_semantics h lines (left_of s o) → RanWithin durable left h lines o
+  ran_at_event : (lines : List (List ℕ)) → StoppedAtEvent program_semantics h lines (left_of s o) → RanWithin told left h lines o
   ran_at_event lines stopped =
       let from : History = history_after h stopped.done in
       let to : History = history_after h (stopped.done ++ stopped.line ∷ []) in
@@ -133,12 +132,12 @@ module _ (durable : Type 0) (left : List ℕ → Type 0) (unread unprinted kept 
         wrote = stopped.wrote;
         holds = λ d. some_also o.file (StandsForEither s.history (latest s.history s.failed)) (StandsBetween from to)
             (λ file either. file_failed from s.history to failed.event s.failed file failed.failed failed.began failed.next either) (closed.shown d);
-        images = λ d c image. image_failed h s.history to failed.event s.failed c failed.failed failed.next (closed.images d c image);
+        images = λ c image. image_failed h s.history to failed.event s.failed c failed.failed failed.next (closed.images c image);
         counted = stopped.counted;
       }
 
   -- what the call has done whose script ended so
-  pub told_run : (end : RunEnd) → stands_still s ≡ is_disk_fault_of end → IfSome o.file_before (λ file. Stands file h) → IfSome o.input (λ input. RanScript end program_semantics h input o.rest (left_of s o)) → RanTo (status_of end) durable left unread unprinted kept o
+  pub told_run : (end : RunEnd) → stands_still s ≡ is_disk_fault_of end → IfSome o.file_before (λ file. Stands file h) → IfSome o.input (λ input. RanScript end program_semantics h input o.rest (left_of s o)) → RanTo (status_of end) told left unread unprinted kept o
   told_run ends.Done still stood ran =
       record { opening = h; stood = stood; ran = if_some o.input _ _ (λ input r. (r.0, r.2, ran_whole (executed input) (none_there s.failed still) r.1)) ran }
   told_run ends.Refused still stood ran =
@@ -165,18 +164,18 @@ headed ends.NoMemory P there = tt
 headed ends.InputLong P there = there refl
 
 -- a run that did something is one that did something or nothing
-pub ran_or_not : (status : Status) (durable : Type 0) (left : List ℕ → Type 0) (unread unprinted kept : Type 0) (o : Outside) → RanTo status durable left ⊥ ⊥ ⊥ o → RanTo status durable left unread unprinted kept o
-ran_or_not Done durable left unread unprinted kept o ran = ran
-ran_or_not Refused durable left unread unprinted kept o ran = ran
-ran_or_not BadWords durable left unread unprinted kept o ran = ran
-ran_or_not ReadFault durable left unread unprinted kept o ran = ran
-ran_or_not WriteFault durable left unread unprinted kept o ran = ran
-ran_or_not DiskFault durable left unread unprinted kept o (inl never) = absurd never.0
-ran_or_not DiskFault durable left unread unprinted kept o (inr ran) = inr ran
-ran_or_not (Damaged at) durable left unread unprinted kept o ran = absurd ran.0.0
-ran_or_not NoMemory durable left unread unprinted kept o (inl never) = absurd never.0
-ran_or_not NoMemory durable left unread unprinted kept o (inr ran) = inr ran
-ran_or_not InputLong durable left unread unprinted kept o ran = ran
+pub ran_or_not : (status : Status) (told : Type 0) (left : List ℕ → Type 0) (unread unprinted kept : Type 0) (o : Outside) → RanTo status told left ⊥ ⊥ ⊥ o → RanTo status told left unread unprinted kept o
+ran_or_not Done told left unread unprinted kept o ran = ran
+ran_or_not Refused told left unread unprinted kept o ran = ran
+ran_or_not BadWords told left unread unprinted kept o ran = ran
+ran_or_not ReadFault told left unread unprinted kept o ran = ran
+ran_or_not WriteFault told left unread unprinted kept o ran = ran
+ran_or_not DiskFault told left unread unprinted kept o (inl never) = absurd never.0
+ran_or_not DiskFault told left unread unprinted kept o (inr ran) = inr ran
+ran_or_not (Damaged at) told left unread unprinted kept o ran = absurd ran.0.0
+ran_or_not NoMemory told left unread unprinted kept o (inl never) = absurd never.0
+ran_or_not NoMemory told left unread unprinted kept o (inr ran) = inr ran
+ran_or_not InputLong told left unread unprinted kept o ran = ran
 
 -- the counts of faults are those of the script
 pub same_read_fault : (end : RunEnd) → is_read_fault_of end ≡ is_read_fault (status_of end)
@@ -205,17 +204,6 @@ same_disk_fault ends.WriteFault = refl
 same_disk_fault ends.DiskFault = refl
 same_disk_fault ends.NoMemory = refl
 same_disk_fault ends.InputLong = refl
-
--- ---- disks
-
--- what reads give is an image, so it is as each image since a moment is
-pub shown_is : {D : Type 0} (bytes : D → Option (List ℕ)) (may_leave : D → List ℕ → Type 0) (moment : D → ℕ) (left_since : D → ℕ → List ℕ → Type 0) → ((disk : D) → IfSome (bytes disk) (may_leave disk)) → ((disk : D) (t : ℕ) (c : List ℕ) → t ≤ moment disk → may_leave disk c → left_since disk t c)
-    → (old new : D) (P Q : List ℕ → Type 0) → LeavesOnly moment left_since old new P → IsSomeAnd (bytes new) Q → IsSomeAnd (bytes new) P
-shown_is bytes may_leave moment left_since shows counts old new P Q only outcome =
-    elim (bytes new) as (λ o. IfSome o (may_leave new) → IsSomeAnd o Q → IsSomeAnd o P) [
-      | None ↦ λ image q. q
-      | Some file ↦ λ image q. only.each file (counts new (moment old) file only.later image)
-    ] (shows new) outcome
 
 -- what is true of known bytes
 pub if_known : (o : Option (List ℕ)) (P : List ℕ → Type 0) → ((file : List ℕ) → o ≡ Some file → P file) → IfSome o P

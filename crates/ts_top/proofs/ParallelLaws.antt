@@ -22,14 +22,15 @@ use Rattle.par_run.specs.declared.ends.ParStop.{ParStop}
 use Rattle.par_run.specs.declared.ends.ParStop.TheVariants as stops
 use Rattle.ts_top.specs.declared.endings.Status.{Status}
 use Rattle.ts_top.specs.declared.endings.Status.TheVariants.{Done, Refused, BadWords, ReadFault, WriteFault, DiskFault, Damaged, NoMemory, InputLong}
-use Rattle.ts_top.specs.Calls.{CountedAfterDisk}
-use Rattle.ts_top.specs.Endings.{is_disk_fault, status_answered}
+use Rattle.ts_top.specs.Endings.{is_disk_fault, is_write_fault, status_answered}
 use Rattle.ts_top.specs.Openings.{NotOpened}
 use Rattle.ts_top.specs.Outcomes.{Holds, Outside, Untouched}
-use Rattle.ts_top.specs.Parallel.{Any, ByWorkers, CountedAfterWorkers, GaveUp, InputRan, InputTo, ParTo, PrintedUnless, PrintsReplies, RanNothing}
+use Rattle.ts_top.specs.declared.parallel.Replies.{Replies}
+use Rattle.ts_top.specs.declared.parallel.Replies.TheVariants.{Plain, Json}
+use Rattle.ts_top.specs.Parallel.{Any, ByWorkers, CountedAfterDisk, CountedAfterPrinting, CountedAfterWorkers, GaveUp, InputRan, InputTo, IsPrinted, IsPrintedAfterFault, ParTo, Prints, RanNothing}
 use Rattle.ts_top.proofs.OutcomeLaws.{Closed, if_some}
 use Rattle.ts_schema.proofs.Cases.{none_there}
-use Rattle.ts_store.proofs.ImageLaws.{some_also}
+use Rattle.ts_disk.proofs.Told.{some_also}
 
 -- ---- histories
 
@@ -58,11 +59,11 @@ either_more h seen failed file b (inr stands) = record { all = latest seen faile
 
 -- ---- the end of a run
 
-module _ (durable : Type 0) (left : List ℕ → Type 0) (sink_failed : Type 0) (h : History) (input : List ℕ) (reads : ℕ) (before written file : Option (List ℕ)) (s : State) (out : Output) (closed : Closed durable left h s file) where
+module _ (told : Type 0) (left : List ℕ → Type 0) (sink_failed : Type 0) (h : History) (input : List ℕ) (reads : ℕ) (before written file : Option (List ℕ)) (s : State) (out : Output) (closed : Closed told left h s file) where
   abbrev pub Ran : Type 0
   Ran = LinesRan program_replies first_places h (sorted input) s out reads
 
-  by_workers : (stopped : Bool) (Faulted : Bool → Type 0) (Wrote : List ℕ → Type 0) → Ran → stands_still s ≡ stopped → Faulted out.fault → Wrote out.text → ByWorkers durable left h input reads stopped Faulted Wrote file
+  by_workers : (stopped : Bool) (Faulted : Bool → Type 0) (Wrote : Output → Type 0) → Ran → stands_still s ≡ stopped → Faulted out.fault → Wrote out → ByWorkers told left h input reads stopped Faulted Wrote file
   by_workers stopped Faulted Wrote ran stops faulted wrote = record {
     state = s;
     out = out;
@@ -74,23 +75,44 @@ module _ (durable : Type 0) (left : List ℕ → Type 0) (sink_failed : Type 0) 
     images = closed.images;
   }
 
-  gave_up : Begins h s.history → written ≡ before → GaveUp durable left h (written ≡ before) file
+  gave_up : Begins h s.history → written ≡ before → GaveUp told left h (written ≡ before) file
   gave_up b none = record {
     printed_nothing = none;
     holds = λ d. some_also file (StandsForEither s.history (latest s.history s.failed)) (StandsForMore h) (λ c either. either_more h s.history s.failed c b either) (closed.shown d);
-    images = λ d c image. let i = closed.images d c image in record { all = i.history; stands = i.stands; begins = i.from };
+    images = λ c image. let i = closed.images c image in record { all = i.history; stands = i.stands; begins = i.from };
   }
 
-  answered : Ran → stands_still s ≡ false → Appends before written out.text → (b : Bool) → out.fault ≡ b → InputTo (status_answered b) durable left sink_failed h input reads before written file
-  answered ran stops wrote true is = by_workers false (λ f. f ≡ true) (Appends before written) ran stops is wrote
-  answered ran stops wrote false is = by_workers false (λ f. f ≡ false) (Appends before written) ran stops is wrote
+  module _ (replies : Replies) where
+    answered : Ran → stands_still s ≡ false → IsPrinted replies (Appends before written) (position h) out → (b : Bool) → out.fault ≡ b → InputTo replies (status_answered b) told left sink_failed h input reads before written file
+    answered ran stops wrote true is = by_workers false (λ f. f ≡ true) (IsPrinted replies (Appends before written) (position h)) ran stops is wrote
+    answered ran stops wrote false is = by_workers false (λ f. f ≡ false) (IsPrinted replies (Appends before written) (position h)) ran stops is wrote
 
-  -- what the run of an input that stopped so has done, once its replies were printed
-  pub input_to : (stop : ParStop) (status : Status) → PrintsReplies stop out.fault out.text status sink_failed before written → (stop ≢ stops.NoMemory → Ran) → (stop ≢ stops.NoMemory → stands_still s ≡ is_disk_fault_of stop) → Begins h s.history → InputTo status durable left sink_failed h input reads before written file
-  input_to stops.Done status (inl p) ran stop b = subst (λ x. InputTo x durable left sink_failed h input reads before written file) (sym p.0) (answered (ran (λ e. cc e)) (stop (λ e. cc e)) p.1 out.fault refl)
-  input_to stops.Done status (inr p) ran stop b = subst (λ x. InputTo x durable left sink_failed h input reads before written file) (sym p.0) (by_workers false Any (AppendsPart before written) (ran (λ e. cc e)) (stop (λ e. cc e)) tt p.1)
-  input_to stops.DiskFault status p ran stop b = subst (λ x. InputTo x durable left sink_failed h input reads before written file) (sym p.0) (by_workers true Any (PrintedUnless sink_failed before written) (ran (λ e. cc e)) (stop (λ e. cc e)) tt p.1)
-  input_to stops.NoMemory status p ran stop b = subst (λ x. InputTo x durable left sink_failed h input reads before written file) (sym p.0) (gave_up b p.1)
+    printed_whole : Ran → stands_still s ≡ false → (status : Status) → (status ≡ status_answered out.fault) × IsPrinted replies (Appends before written) (position h) out → InputTo replies status told left sink_failed h input reads before written file
+    printed_whole ran stops status p = subst (λ x. InputTo replies x told left sink_failed h input reads before written file) (sym p.0) (answered ran stops p.1 out.fault refl)
+
+    printed_part : Ran → stands_still s ≡ false → (status : Status) → (status ≡ WriteFault) × IsPrinted replies (AppendsPart before written) (position h) out → InputTo replies status told left sink_failed h input reads before written file
+    printed_part ran stops status p =
+        subst (λ x. InputTo replies x told left sink_failed h input reads before written file) (sym p.0) (by_workers false Any (IsPrinted replies (AppendsPart before written) (position h)) ran stops tt p.1)
+
+    disk_failed : Ran → stands_still s ≡ true → (status : Status) → (status ≡ DiskFault) × IsPrintedAfterFault replies sink_failed before written out → InputTo replies status told left sink_failed h input reads before written file
+    disk_failed ran stops status p =
+        subst (λ x. InputTo replies x told left sink_failed h input reads before written file) (sym p.0) (by_workers true Any (IsPrintedAfterFault replies sink_failed before written) ran stops tt p.1)
+
+    no_memory : Begins h s.history → (status : Status) → (status ≡ NoMemory) × (written ≡ before) → InputTo replies status told left sink_failed h input reads before written file
+    no_memory b status p = subst (λ x. InputTo replies x told left sink_failed h input reads before written file) (sym p.0) (gave_up b p.1)
+
+  -- what the run of an input that stopped so has done, once it was printed
+  pub input_to : (replies : Replies) (stop : ParStop) (status : Status) → Prints replies stop (position h) out status sink_failed before written → (stop ≢ stops.NoMemory → Ran) → (stop ≢ stops.NoMemory → stands_still s ≡ is_disk_fault_of stop)
+      → Begins h s.history → InputTo replies status told left sink_failed h input reads before written file
+  input_to Plain stops.Done status (inl p) ran stop b = printed_whole Plain (ran (λ e. cc e)) (stop (λ e. cc e)) status p
+  input_to Plain stops.Done status (inr p) ran stop b = printed_part Plain (ran (λ e. cc e)) (stop (λ e. cc e)) status p
+  input_to Plain stops.DiskFault status p ran stop b = disk_failed Plain (ran (λ e. cc e)) (stop (λ e. cc e)) status p
+  input_to Plain stops.NoMemory status p ran stop b = no_memory Plain b status p
+  input_to Json stops.Done status (inl p) ran stop b = printed_whole Json (ran (λ e. cc e)) (stop (λ e. cc e)) status p
+  input_to Json stops.Done status (inr (inl p)) ran stop b = printed_part Json (ran (λ e. cc e)) (stop (λ e. cc e)) status p
+  input_to Json stops.Done status (inr (inr p)) ran stop b = no_memory Json b status p
+  input_to Json stops.DiskFault status p ran stop b = disk_failed Json (ran (λ e. cc e)) (stop (λ e. cc e)) status p
+  input_to Json stops.NoMemory status p ran stop b = no_memory Json b status p
 
 -- ---- the input
 
@@ -110,10 +132,10 @@ too_long (Some xs) (Some ys) out p = p.0
 
 -- ---- the call
 
-module _ (durable : Type 0) (left : List ℕ → Type 0) (sink_failed : Type 0) (o : Outside) where
+module _ (replies : Replies) (told : Type 0) (left : List ℕ → Type 0) (sink_failed : Type 0) (o : Outside) where
   module _ (h : History) (stood : IfSome o.file_before (λ file. Stands file h)) where
     -- no statement was run, over a journal that stands for the opening history
-    pub ran_nothing : o.written ≡ o.written_before → (durable → Holds o.file h) → (durable → (c : List ℕ) → left c → Stands c h) → RanNothing durable left o
+    pub ran_nothing : o.written ≡ o.written_before → (told → Holds o.file h) → ((c : List ℕ) → left c → Stands c h) → RanNothing told left o
     ran_nothing same_text holds images = record {
       opening = h;
       stood = stood;
@@ -121,15 +143,15 @@ module _ (durable : Type 0) (left : List ℕ → Type 0) (sink_failed : Type 0) 
     }
 
     module _ (input : List ℕ) (read : IfSome o.input (λ i. ReadWhole i o.rest × (i ≡ input))) where
-      over_input : (status : Status) → InputTo status durable left sink_failed h input o.reads o.written_before o.written o.file → InputRan status durable left sink_failed o
+      over_input : (status : Status) → InputTo replies status told left sink_failed h input o.reads o.written_before o.written o.file → InputRan replies status told left sink_failed o
       over_input status to = record {
         opening = h;
         stood = stood;
-        ran = if_some o.input (λ i. ReadWhole i o.rest × (i ≡ input)) (λ i. ReadWhole i o.rest × InputTo status durable left sink_failed h i o.reads o.written_before o.written o.file)
-            (λ i r. (r.0, subst (λ x. InputTo status durable left sink_failed h x o.reads o.written_before o.written o.file) (sym r.1) to)) read;
+        ran = if_some o.input (λ i. ReadWhole i o.rest × (i ≡ input)) (λ i. ReadWhole i o.rest × InputTo replies status told left sink_failed h i o.reads o.written_before o.written o.file)
+            (λ i r. (r.0, subst (λ x. InputTo replies status told left sink_failed h x o.reads o.written_before o.written o.file) (sym r.1) to)) read;
       }
 
-      pub input_par : (status : Status) → InputTo status durable left sink_failed h input o.reads o.written_before o.written o.file → ParTo status durable left sink_failed ⊥ ⊥ ⊥ o
+      pub input_par : (status : Status) → InputTo replies status told left sink_failed h input o.reads o.written_before o.written o.file → ParTo replies status told left sink_failed ⊥ ⊥ ⊥ o
       input_par Done to = over_input Done to
       input_par Refused to = over_input Refused to
       input_par BadWords to = absurd to
@@ -141,7 +163,7 @@ module _ (durable : Type 0) (left : List ℕ → Type 0) (sink_failed : Type 0) 
       input_par InputLong to = absurd to
 
   -- a call that did something is one that did something or nothing
-  pub par_or_not : (status : Status) (unread unprinted kept : Type 0) → ParTo status durable left sink_failed ⊥ ⊥ ⊥ o → ParTo status durable left sink_failed unread unprinted kept o
+  pub par_or_not : (status : Status) (unread unprinted kept : Type 0) → ParTo replies status told left sink_failed ⊥ ⊥ ⊥ o → ParTo replies status told left sink_failed unread unprinted kept o
   par_or_not Done unread unprinted kept ran = ran
   par_or_not Refused unread unprinted kept ran = ran
   par_or_not BadWords unread unprinted kept ran = ran
@@ -155,7 +177,7 @@ module _ (durable : Type 0) (left : List ℕ → Type 0) (sink_failed : Type 0) 
   par_or_not InputLong unread unprinted kept ran = ran
 
   -- one that opened no journal
-  pub not_opened_par : (unread unprinted kept : Type 0) → unread × unprinted → (status : Status) → NotOpened status durable left kept o.file_before o.file → ParTo status durable left sink_failed unread unprinted kept o
+  pub not_opened_par : (unread unprinted kept : Type 0) → unread × unprinted → (status : Status) → NotOpened status told left kept o.file_before o.file → ParTo replies status told left sink_failed unread unprinted kept o
   not_opened_par unread unprinted kept still Done n = absurd n
   not_opened_par unread unprinted kept still Refused n = absurd n
   not_opened_par unread unprinted kept still BadWords n = absurd n
@@ -167,16 +189,31 @@ module _ (durable : Type 0) (left : List ℕ → Type 0) (sink_failed : Type 0) 
   not_opened_par unread unprinted kept still InputLong n = absurd n
 
 -- a call that opened no journal prints nothing, and so no fault of the sink is told
-pub not_opened_sink : (durable : Type 0) (left : List ℕ → Type 0) (before after : Option (List ℕ)) (status : Status) (kept : Type 0) (n : ℕ) → NotOpened status durable left kept before after → CountedAfterDisk status n n
-not_opened_sink durable left before after Done kept n e = refl
-not_opened_sink durable left before after Refused kept n e = refl
-not_opened_sink durable left before after BadWords kept n e = refl
-not_opened_sink durable left before after ReadFault kept n e = refl
-not_opened_sink durable left before after WriteFault kept n e = absurd e
-not_opened_sink durable left before after DiskFault kept n e = (false, refl)
-not_opened_sink durable left before after (Damaged at) kept n e = refl
-not_opened_sink durable left before after NoMemory kept n e = refl
-not_opened_sink durable left before after InputLong kept n e = refl
+not_opened_plain : (told : Type 0) (left : List ℕ → Type 0) (before after : Option (List ℕ)) (status : Status) (kept : Type 0) (n : ℕ) → NotOpened status told left kept before after → CountedAfterDisk status n n
+not_opened_plain told left before after Done kept n e = refl
+not_opened_plain told left before after Refused kept n e = refl
+not_opened_plain told left before after BadWords kept n e = refl
+not_opened_plain told left before after ReadFault kept n e = refl
+not_opened_plain told left before after WriteFault kept n e = absurd e
+not_opened_plain told left before after DiskFault kept n e = (false, refl)
+not_opened_plain told left before after (Damaged at) kept n e = refl
+not_opened_plain told left before after NoMemory kept n e = refl
+not_opened_plain told left before after InputLong kept n e = refl
+
+not_opened_json : (told : Type 0) (left : List ℕ → Type 0) (before after : Option (List ℕ)) (status : Status) (kept : Type 0) (n : ℕ) → NotOpened status told left kept before after → Counted n n (is_write_fault status)
+not_opened_json told left before after Done kept n e = refl
+not_opened_json told left before after Refused kept n e = refl
+not_opened_json told left before after BadWords kept n e = refl
+not_opened_json told left before after ReadFault kept n e = refl
+not_opened_json told left before after WriteFault kept n e = absurd e
+not_opened_json told left before after DiskFault kept n e = refl
+not_opened_json told left before after (Damaged at) kept n e = refl
+not_opened_json told left before after NoMemory kept n e = refl
+not_opened_json told left before after InputLong kept n e = refl
+
+pub not_opened_sink : (replies : Replies) (told : Type 0) (left : List ℕ → Type 0) (before after : Option (List ℕ)) (status : Status) (kept : Type 0) (n : ℕ) → NotOpened status told left kept before after → CountedAfterPrinting replies status n n
+not_opened_sink Plain told left before after status kept n e = not_opened_plain told left before after status kept n e
+not_opened_sink Json told left before after status kept n e = not_opened_json told left before after status kept n e
 
 -- ---- counts of the disk's faults
 
@@ -188,19 +225,34 @@ counted_by_state first now g =
     ] refl
 
 -- how a call ended tells of a disk fault exactly where the store stands still, but for want of memory
-pub counted_by : (stop : ParStop) (fault : Bool) (text : List ℕ) (status : Status) (sink_failed : Type 0) (before written : Option (List ℕ)) (first now : State) → PrintsReplies stop fault text status sink_failed before written → (stop ≢ stops.NoMemory → stands_still now ≡ is_disk_fault_of stop) → GoesOn first now → CountedAfterWorkers status first.faults now.faults
-counted_by stops.Done fault text status sink_failed before written first now (inl p) is g =
-    subst (λ x. CountedAfterWorkers x first.faults now.faults) (sym p.0) (answered fault)
-  where
-    answered : (b : Bool) → CountedAfterWorkers (status_answered b) first.faults now.faults
-    answered true = subst (λ b. Counted first.faults now.faults b) (is (λ e. cc e)) (counted_by_state first now g)
-    answered false = subst (λ b. Counted first.faults now.faults b) (is (λ e. cc e)) (counted_by_state first now g)
-counted_by stops.Done fault text status sink_failed before written first now (inr p) is g =
-    subst (λ x. CountedAfterWorkers x first.faults now.faults) (sym p.0) (subst (λ b. Counted first.faults now.faults b) (is (λ e. cc e)) (counted_by_state first now g))
-counted_by stops.DiskFault fault text status sink_failed before written first now p is g =
-    subst (λ x. CountedAfterWorkers x first.faults now.faults) (sym p.0) (subst (λ b. Counted first.faults now.faults b) (is (λ e. cc e)) (counted_by_state first now g))
-counted_by stops.NoMemory fault text status sink_failed before written first now p is g =
-    subst (λ x. CountedAfterWorkers x first.faults now.faults) (sym p.0) (stands_still now, counted_by_state first now g)
+module _ (first now : State) (g : GoesOn first now) where
+  counted_still : (still : Bool) → stands_still now ≡ still → Counted first.faults now.faults still
+  counted_still still is = subst (λ b. Counted first.faults now.faults b) is (counted_by_state first now g)
+
+  counted_answered : (status : Status) (fault : Bool) → status ≡ status_answered fault → stands_still now ≡ false → CountedAfterWorkers status first.faults now.faults
+  counted_answered status true is still = subst (λ x. CountedAfterWorkers x first.faults now.faults) (sym is) (counted_still false still)
+  counted_answered status false is still = subst (λ x. CountedAfterWorkers x first.faults now.faults) (sym is) (counted_still false still)
+
+  counted_write : (status : Status) → status ≡ WriteFault → stands_still now ≡ false → CountedAfterWorkers status first.faults now.faults
+  counted_write status is still = subst (λ x. CountedAfterWorkers x first.faults now.faults) (sym is) (counted_still false still)
+
+  counted_disk : (status : Status) → status ≡ DiskFault → stands_still now ≡ true → CountedAfterWorkers status first.faults now.faults
+  counted_disk status is still = subst (λ x. CountedAfterWorkers x first.faults now.faults) (sym is) (counted_still true still)
+
+  counted_memory : (status : Status) → status ≡ NoMemory → CountedAfterWorkers status first.faults now.faults
+  counted_memory status is = subst (λ x. CountedAfterWorkers x first.faults now.faults) (sym is) (stands_still now, counted_by_state first now g)
+
+pub counted_by : (replies : Replies) (stop : ParStop) (start : ℕ) (out : Output) (status : Status) (sink_failed : Type 0) (before written : Option (List ℕ)) (first now : State) → Prints replies stop start out status sink_failed before written
+    → (stop ≢ stops.NoMemory → stands_still now ≡ is_disk_fault_of stop) → GoesOn first now → CountedAfterWorkers status first.faults now.faults
+counted_by Plain stops.Done start out status sink_failed before written first now (inl p) is g = counted_answered first now g status out.fault p.0 (is (λ e. cc e))
+counted_by Plain stops.Done start out status sink_failed before written first now (inr p) is g = counted_write first now g status p.0 (is (λ e. cc e))
+counted_by Plain stops.DiskFault start out status sink_failed before written first now p is g = counted_disk first now g status p.0 (is (λ e. cc e))
+counted_by Plain stops.NoMemory start out status sink_failed before written first now p is g = counted_memory first now g status p.0
+counted_by Json stops.Done start out status sink_failed before written first now (inl p) is g = counted_answered first now g status out.fault p.0 (is (λ e. cc e))
+counted_by Json stops.Done start out status sink_failed before written first now (inr (inl p)) is g = counted_write first now g status p.0 (is (λ e. cc e))
+counted_by Json stops.Done start out status sink_failed before written first now (inr (inr p)) is g = counted_memory first now g status p.0
+counted_by Json stops.DiskFault start out status sink_failed before written first now p is g = counted_disk first now g status p.0 (is (λ e. cc e))
+counted_by Json stops.NoMemory start out status sink_failed before written first now p is g = counted_memory first now g status p.0
 
 -- one that opened no journal tells of the disk's fault as its parts do
 pub not_opened_disk : (status : Status) (before now : ℕ) → Counted before now (is_disk_fault status) → CountedAfterWorkers status before now

@@ -5,14 +5,15 @@ use Rattle.ts_io.specs.Faults.{Counted}
 use Rattle.ts_io.specs.Whole.{AppendsPart}
 use Rattle.demo_run.specs.Demos.{demo_summary, is_refused_demo, reads_of_demo}
 use Rattle.ts_top.specs.declared.commands.Command.{Command}
-use Rattle.ts_top.specs.declared.commands.Command.TheVariants.{Run, Par, Demo, Print, Checkpoint}
+use Rattle.ts_top.specs.declared.commands.Command.TheVariants.{Run, Par, ParJson, Demo, Print, Checkpoint}
 use Rattle.ts_top.specs.declared.endings.Status.{Status}
-use Rattle.ts_top.specs.declared.endings.Status.TheVariants.{Done, BadWords, WriteFault, DiskFault, NoMemory}
+use Rattle.ts_top.specs.declared.endings.Status.TheVariants.{Done, BadWords, WriteFault, NoMemory}
 use Rattle.ts_top.specs.Checkpoints.{CheckpointTo}
 use Rattle.ts_top.specs.Endings.{is_disk_fault, is_write_fault}
 use Rattle.ts_top.specs.Logs.{text_of}
 use Rattle.ts_top.specs.Outcomes.{Outside, PrintedTo, RanTo, Untouched}
-use Rattle.ts_top.specs.Parallel.{CountedAfterWorkers, ParTo}
+use Rattle.ts_top.specs.declared.parallel.Replies.TheVariants.{Plain, Json}
+use Rattle.ts_top.specs.Parallel.{CountedAfterPrinting, CountedAfterWorkers, ParTo}
 
 -- the demonstration with a number has printed its summary, or a part of it; no reply to its script is a FAULT, and it
 -- has looked at as many stored rows as all others
@@ -33,30 +34,33 @@ DemoTo demo other unprinted o = ⊥
 -- it was; a checkpoint reads no input
 abbrev pub Outcome :
     Command → Status → Type 0 → (List ℕ → Type 0) → Type 0 → Type 0 → Type 0 → Type 0 → Outside → Type 0
-Outcome Run status durable left sink_failed unread unprinted kept o =
-    RanTo status durable left unread unprinted kept o
-Outcome Par status durable left sink_failed unread unprinted kept o =
-    ParTo status durable left sink_failed unread unprinted kept o
-Outcome (Demo demo) status durable left sink_failed unread unprinted kept o =
+Outcome Run status told left sink_failed unread unprinted kept o =
+    RanTo status told left unread unprinted kept o
+Outcome Par status told left sink_failed unread unprinted kept o =
+    ParTo Plain status told left sink_failed unread unprinted kept o
+Outcome ParJson status told left sink_failed unread unprinted kept o =
+    ParTo Json status told left sink_failed unread unprinted kept o
+Outcome (Demo demo) status told left sink_failed unread unprinted kept o =
     unread × kept × DemoTo demo status unprinted o
-Outcome (Print text) status durable left sink_failed unread unprinted kept o =
+Outcome (Print text) status told left sink_failed unread unprinted kept o =
     unread × kept × PrintedTo (text_of text) status unprinted o
-Outcome Checkpoint status durable left sink_failed unread unprinted kept o =
-    unread × (o.reads ≡ 0) × CheckpointTo status durable left unprinted kept o
+Outcome Checkpoint status told left sink_failed unread unprinted kept o =
+    unread × (o.reads ≡ 0) × CheckpointTo status told left unprinted kept o
 
 -- what a call with these words has done: where they ask for nothing, that is all
 abbrev pub OutcomeOf :
     Option Command → Status → Type 0 → (List ℕ → Type 0) → Type 0 → Type 0 → Type 0 → Type 0 → Outside → Type 0
-OutcomeOf None status durable left sink_failed unread unprinted kept o =
+OutcomeOf None status told left sink_failed unread unprinted kept o =
     (status ≡ BadWords) × Untouched unread unprinted kept
-OutcomeOf (Some command) status durable left sink_failed unread unprinted kept o =
-    Outcome command status durable left sink_failed unread unprinted kept o
+OutcomeOf (Some command) status told left sink_failed unread unprinted kept o =
+    Outcome command status told left sink_failed unread unprinted kept o
 
 -- P of a call that writes to the journal
 abbrev pub IfWrites : Option Command → Type 0 → Type 0
 IfWrites None P = ⊤
 IfWrites (Some Run) P = P
 IfWrites (Some Par) P = P
+IfWrites (Some ParJson) P = P
 IfWrites (Some (Demo demo)) P = ⊤
 IfWrites (Some (Print text)) P = ⊤
 IfWrites (Some Checkpoint) P = P
@@ -66,6 +70,7 @@ abbrev pub IfCheckpoint : Option Command → Type 0 → Type 0
 IfCheckpoint None P = ⊤
 IfCheckpoint (Some Run) P = ⊤
 IfCheckpoint (Some Par) P = ⊤
+IfCheckpoint (Some ParJson) P = ⊤
 IfCheckpoint (Some (Demo demo)) P = ⊤
 IfCheckpoint (Some (Print text)) P = ⊤
 IfCheckpoint (Some Checkpoint) P = P
@@ -75,21 +80,17 @@ abbrev pub IfDemo : Option Command → Type 0 → Type 0
 IfDemo None P = ⊤
 IfDemo (Some Run) P = ⊤
 IfDemo (Some Par) P = ⊤
+IfDemo (Some ParJson) P = ⊤
 IfDemo (Some (Demo demo)) P = P
 IfDemo (Some (Print text)) P = ⊤
 IfDemo (Some Checkpoint) P = ⊤
-
--- the count of the sink's faults rises where the call tells of one, and else stays; but where the disk failed in a
--- parallel run, its replies are printed all the same, and the sink may fail after that
-abbrev pub CountedAfterDisk : Status → ℕ → ℕ → Type 0
-CountedAfterDisk DiskFault before now = (failed : Bool) × Counted before now failed
-CountedAfterDisk status before now = Counted before now (is_write_fault status)
 
 -- the count of the sink's faults rises where the call tells of one, and else stays
 abbrev pub SinkCounted : Option Command → Status → ℕ → ℕ → Type 0
 SinkCounted None status before now = Counted before now (is_write_fault status)
 SinkCounted (Some Run) status before now = Counted before now (is_write_fault status)
-SinkCounted (Some Par) status before now = CountedAfterDisk status before now
+SinkCounted (Some Par) status before now = CountedAfterPrinting Plain status before now
+SinkCounted (Some ParJson) status before now = CountedAfterPrinting Json status before now
 SinkCounted (Some (Demo demo)) status before now = Counted before now (is_write_fault status)
 SinkCounted (Some (Print text)) status before now = Counted before now (is_write_fault status)
 SinkCounted (Some Checkpoint) status before now = Counted before now (is_write_fault status)
@@ -99,6 +100,7 @@ abbrev pub DiskCounted : Option Command → Status → ℕ → ℕ → Type 0
 DiskCounted None status before now = Counted before now (is_disk_fault status)
 DiskCounted (Some Run) status before now = Counted before now (is_disk_fault status)
 DiskCounted (Some Par) status before now = CountedAfterWorkers status before now
+DiskCounted (Some ParJson) status before now = CountedAfterWorkers status before now
 DiskCounted (Some (Demo demo)) status before now = Counted before now (is_disk_fault status)
 DiskCounted (Some (Print text)) status before now = Counted before now (is_disk_fault status)
 DiskCounted (Some Checkpoint) status before now = Counted before now (is_disk_fault status)

@@ -51,24 +51,24 @@ pub record TellsTooLong (h : History) (line : List ℕ) : Type 0 where
 
 -- ---- the journal
 
--- where all of the file was on the disk at first: reads give a file that has the one, and what a crash at any moment
--- of the call might have left has the other
-pub record JournalLeft (durable : Type 0) (left : List ℕ → Type 0) (Shown MaySee : List ℕ → Type 0)
+-- where the disk told its bytes at first, reads give a file that has the one, and where all of them were on it, what a
+-- crash at any moment of the call might have left has the other
+pub record JournalLeft (told : Type 0) (left : List ℕ → Type 0) (Shown MaySee : List ℕ → Type 0)
     (file : Option (List ℕ)) : Type 0 where
-  pub holds : durable → IsSomeAnd file Shown
-  pub images : durable → (c : List ℕ) → left c → MaySee c
+  pub holds : told → IsSomeAnd file Shown
+  pub images : (c : List ℕ) → left c → MaySee c
 
 -- it stands for the history
 abbrev pub AsBefore : Type 0 → (List ℕ → Type 0) → History → Option (List ℕ) → Type 0
-AsBefore durable left h file = JournalLeft durable left (λ c. Stands c h) (λ c. Stands c h) file
+AsBefore told left h file = JournalLeft told left (λ c. Stands c h) (λ c. Stands c h) file
 
 -- it stands for the image of the history, and on the way there for the one or the other
 abbrev pub AsImage : Type 0 → (List ℕ → Type 0) → History → Option (List ℕ) → Type 0
-AsImage durable left h file = JournalLeft durable left (StandsForImage h) (StandsSaved h) file
+AsImage told left h file = JournalLeft told left (StandsForImage h) (StandsSaved h) file
 
 -- it stands for the history, or for its image
 abbrev pub AsEither : Type 0 → (List ℕ → Type 0) → History → Option (List ℕ) → Type 0
-AsEither durable left h file = JournalLeft durable left (StandsSaved h) (StandsSaved h) file
+AsEither told left h file = JournalLeft told left (StandsSaved h) (StandsSaved h) file
 
 -- ---- the call
 
@@ -80,13 +80,13 @@ pub record Told (Tells Wrote : List ℕ → Type 0) (Journal : Type 0) : Type 0 
   pub journal : Journal
 
 abbrev pub ToldSaved : Type 0 → (List ℕ → Type 0) → (List ℕ → Type 0) → Outside → History → Type 0
-ToldSaved durable left Wrote o h = Told (TellsSaved h) Wrote (AsImage durable left h o.file)
+ToldSaved told left Wrote o h = Told (TellsSaved h) Wrote (AsImage told left h o.file)
 
 abbrev pub ToldNothing : Type 0 → (List ℕ → Type 0) → (List ℕ → Type 0) → Outside → History → Type 0
-ToldNothing durable left Wrote o h = Told (TellsNothing h) Wrote (AsBefore durable left h o.file)
+ToldNothing told left Wrote o h = Told (TellsNothing h) Wrote (AsBefore told left h o.file)
 
 abbrev pub ToldTooLong : Type 0 → (List ℕ → Type 0) → (List ℕ → Type 0) → Outside → History → Type 0
-ToldTooLong durable left Wrote o h = Told (TellsTooLong h) Wrote (AsBefore durable left h o.file)
+ToldTooLong told left Wrote o h = Told (TellsTooLong h) Wrote (AsBefore told left h o.file)
 
 -- a history has events after its image, and so the journal stands
 abbrev pub Later : History → Type 0 → Type 0
@@ -95,27 +95,27 @@ Later h Journal = (events_of h ≢ []) × Journal
 -- what a checkpoint that ended so has done. It prints one line, or nothing where the disk failed, the journal is
 -- damaged, or memory ran out
 abbrev pub CheckpointTo : Status → Type 0 → (List ℕ → Type 0) → Type 0 → Type 0 → Outside → Type 0
-CheckpointTo Done durable left unprinted kept o =
+CheckpointTo Done told left unprinted kept o =
     Over o
-    (λ h. ToldSaved durable left (Appends o.written_before o.written) o h
-    ⊎ ToldNothing durable left (Appends o.written_before o.written) o h)
-CheckpointTo Refused durable left unprinted kept o =
-    Over o (ToldTooLong durable left (Appends o.written_before o.written) o)
-CheckpointTo BadWords durable left unprinted kept o = ⊥
-CheckpointTo ReadFault durable left unprinted kept o = ⊥
-CheckpointTo WriteFault durable left unprinted kept o =
+    (λ h. ToldSaved told left (Appends o.written_before o.written) o h
+    ⊎ ToldNothing told left (Appends o.written_before o.written) o h)
+CheckpointTo Refused told left unprinted kept o =
+    Over o (ToldTooLong told left (Appends o.written_before o.written) o)
+CheckpointTo BadWords told left unprinted kept o = ⊥
+CheckpointTo ReadFault told left unprinted kept o = ⊥
+CheckpointTo WriteFault told left unprinted kept o =
     Over o
-    (λ h. ToldSaved durable left (AppendsPart o.written_before o.written) o h
-    ⊎ ToldNothing durable left (AppendsPart o.written_before o.written) o h
-    ⊎ ToldTooLong durable left (AppendsPart o.written_before o.written) o h)
-CheckpointTo DiskFault durable left unprinted kept o =
+    (λ h. ToldSaved told left (AppendsPart o.written_before o.written) o h
+    ⊎ ToldNothing told left (AppendsPart o.written_before o.written) o h
+    ⊎ ToldTooLong told left (AppendsPart o.written_before o.written) o h)
+CheckpointTo DiskFault told left unprinted kept o =
     unprinted
-    × ((kept ⊎ HeaderFailed durable left o.file_before o.file)
-    ⊎ Over o (λ h. Later h (AsEither durable left h o.file)))
-CheckpointTo (Damaged at) durable left unprinted kept o = unprinted × kept × IsDamaged at o
-CheckpointTo NoMemory durable left unprinted kept o =
-    unprinted × (kept ⊎ Over o (λ h. Later h (AsBefore durable left h o.file)))
-CheckpointTo InputLong durable left unprinted kept o = ⊥
+    × ((kept ⊎ HeaderFailed told left o.file_before o.file)
+    ⊎ Over o (λ h. Later h (AsEither told left h o.file)))
+CheckpointTo (Damaged at) told left unprinted kept o = unprinted × kept × IsDamaged at o
+CheckpointTo NoMemory told left unprinted kept o =
+    unprinted × (kept ⊎ Over o (λ h. Later h (AsBefore told left h o.file)))
+CheckpointTo InputLong told left unprinted kept o = ⊥
 
 -- ---- how the call ends, by the checkpoint's end
 

@@ -1,7 +1,7 @@
 -- What the words of the command line ask for.
 use Rattle.std.specs.Prelude.{ℕ, Bool, true, false, ◌+◌, ◌*◌, ◌-◌, ◌&&◌, nat_eq, nat_lt, nat_le, List, [], ◌∷◌, Option, Some, None, option_map, codes, bytes_eq, if◌then◌else◌}
 use Rattle.ts_top.specs.declared.commands.Command.{Command}
-use Rattle.ts_top.specs.declared.commands.Command.TheVariants.{Run, Par, Demo, Print, Checkpoint}
+use Rattle.ts_top.specs.declared.commands.Command.TheVariants.{Run, Par, ParJson, Demo, Print, Checkpoint}
 use Rattle.ts_top.specs.declared.commands.Text.TheVariants.{Log, Check}
 
 -- the command that a word is
@@ -31,14 +31,17 @@ demo_number (first ∷ next ∷ more) = if nat_eq first 48 then None else number
 
 -- the command that two words are
 abbrev pub of_words : List ℕ → List ℕ → Option Command
-of_words word number = if bytes_eq word (codes "demo") then option_map Demo (demo_number number) else None
+of_words word next =
+    if bytes_eq word (codes "demo") then option_map Demo (demo_number next)
+    else if bytes_eq word (codes "par") && bytes_eq next (codes "json") then Some ParJson
+    else None
 
 -- the command that words are
 abbrev pub named : List (List ℕ) → Option Command
 named [] = None
 named (word ∷ []) = of_word word
-named (word ∷ number ∷ []) = of_words word number
-named (word ∷ number ∷ next ∷ more) = None
+named (word ∷ next ∷ []) = of_words word next
+named (word ∷ next ∷ last ∷ more) = None
 
 -- the words without a first `--`
 abbrev pub after_dashes : List (List ℕ) → List (List ℕ)
@@ -53,6 +56,7 @@ command_of words = named (after_dashes words)
 abbrev pub writes : Command → Bool
 writes Run = true
 writes Par = true
+writes ParJson = true
 writes (Demo demo) = false
 writes (Print text) = false
 writes Checkpoint = true

@@ -7,7 +7,7 @@ use Rattle.ts_top.specs.Outcomes.{HeaderFailed}
 
 -- no journal was opened: the disk is as it was, or its header was being written
 abbrev pub NotOpened : Status → Type 0 → (List ℕ → Type 0) → Type 0 → Option (List ℕ) → Option (List ℕ) → Type 0
-NotOpened DiskFault durable left kept before after = kept ⊎ HeaderFailed durable left before after
-NotOpened (Damaged at) durable left kept before after = kept × IfSome before (λ file. IsDamagedAt file at)
-NotOpened NoMemory durable left kept before after = kept
-NotOpened other durable left kept before after = ⊥
+NotOpened DiskFault told left kept before after = kept ⊎ HeaderFailed told left before after
+NotOpened (Damaged at) told left kept before after = kept × IfSome before (λ file. IsDamagedAt file at)
+NotOpened NoMemory told left kept before after = kept
+NotOpened other told left kept before after = ⊥

@@ -5,7 +5,7 @@ use Rattle.ts_io.specs.Whole.{AppendsPart}
 use Rattle.ts_io.specs.declared.limits.TheConstants.{INPUT_LIMIT}
 use Rattle.ts_model.specs.History.{History, Begins}
 use Rattle.ts_schema.specs.Counts.{raised_by}
-use Rattle.ts_store.specs.Images.{HasHeader}
+use Rattle.ts_store.specs.Images.{HasHeader, IsDurable}
 use Rattle.ts_store.specs.Stands.{Stands, IsDamagedAt}
 use Rattle.script_run.specs.Runs.{ReadWhole, executed}
 use Rattle.ts_top.specs.Scripts.{replies_of, reply_after, history_after, rows_read, is_faulted}
@@ -32,6 +32,13 @@ pub record StandsBetween (from to : History) (file : List ℕ) : Type 0 where
   pub began : Begins from history
   pub within : Begins history to
 
+-- where all that reads gave of the one disk was on it, this is what a crash since then might have left of the other,
+-- which it became
+abbrev pub LeftAfter :
+    {D : Type 0} → (D → Option (List ℕ)) → (D → List ℕ → Type 0) → (D → ℕ) → (D → ℕ → List ℕ → Type 0) → D → D
+    → List ℕ → Type 0
+LeftAfter bytes may_leave moment left_since old new c = IsDurable bytes may_leave old × left_since new (moment old) c
+
 -- what a crash at any moment of the call might have left stands for a history on the way from the opening one
 abbrev pub ImagesUpTo : (List ℕ → Type 0) → History → History → Type 0
 ImagesUpTo left opening to = (c : List ℕ) → left c → StandsBetween opening to c
@@ -44,37 +51,38 @@ Holds file h = IsSomeAnd file (λ bytes. Stands bytes h)
 abbrev pub HoldsBetween : Option (List ℕ) → History → History → Type 0
 HoldsBetween file from to = IsSomeAnd file (StandsBetween from to)
 
--- ---- scripts, over a history. What is said of the journal holds where all of it was on the disk at first
+-- ---- scripts, over a history. What is said of reads of the journal holds where the disk told its bytes at first, and
+-- what is said of crashes, where all of them were on the disk
 
 -- the lines were run to the last, and their replies written
-pub record RanWhole (durable : Type 0) (left : List ℕ → Type 0) (h : History) (lines : List (List ℕ))
+pub record RanWhole (told : Type 0) (left : List ℕ → Type 0) (h : History) (lines : List (List ℕ))
     (o : Outside) : Type 0 where
   pub wrote : Appends o.written_before o.written (replies_of h lines)
-  pub holds : durable → Holds o.file (history_after h lines)
-  pub images : durable → ImagesUpTo left h (history_after h lines)
+  pub holds : told → Holds o.file (history_after h lines)
+  pub images : ImagesUpTo left h (history_after h lines)
   pub counted : o.reads ≡ raised_by (rows_read h lines) 0
 
 -- some first lines were run, their replies written, and nothing done of the others
-pub record RanBefore (durable : Type 0) (left : List ℕ → Type 0) (h : History) (lines : List (List ℕ))
+pub record RanBefore (told : Type 0) (left : List ℕ → Type 0) (h : History) (lines : List (List ℕ))
     (o : Outside) : Type 0 where
   pub done : List (List ℕ)
   pub rest : List (List ℕ)
   pub split : lines ≡ done ++ rest
-  pub ran : RanWhole durable left h done o
+  pub ran : RanWhole told left h done o
 
 -- the replies to some first lines were written, and nothing of the next one's, of which the first events may stand
-pub record RanWithin (durable : Type 0) (left : List ℕ → Type 0) (h : History) (lines : List (List ℕ))
+pub record RanWithin (told : Type 0) (left : List ℕ → Type 0) (h : History) (lines : List (List ℕ))
     (o : Outside) : Type 0 where
   pub done : List (List ℕ)
   pub rest : List (List ℕ)
   pub split : lines ≡ done ++ rest
   pub wrote : Appends o.written_before o.written (replies_of h done)
-  pub holds : durable → HoldsBetween o.file (history_after h done) (history_after h (done ++ take 1 rest))
-  pub images : durable → ImagesUpTo left h (history_after h (done ++ take 1 rest))
+  pub holds : told → HoldsBetween o.file (history_after h done) (history_after h (done ++ take 1 rest))
+  pub images : ImagesUpTo left h (history_after h (done ++ take 1 rest))
   pub counted : raised_by (rows_read h done) 0 ≤ o.reads
 
 -- the replies to some first lines were written, and the next line was run, of whose reply a part was written
-pub record RanWriting (durable : Type 0) (left : List ℕ → Type 0) (h : History) (lines : List (List ℕ))
+pub record RanWriting (told : Type 0) (left : List ℕ → Type 0) (h : History) (lines : List (List ℕ))
     (o : Outside) : Type 0 where
   pub done : List (List ℕ)
   pub line : List ℕ
@@ -84,8 +92,8 @@ pub record RanWriting (durable : Type 0) (left : List ℕ → Type 0) (h : Histo
   pub split : lines ≡ done ++ line ∷ rest
   pub reply : reply_after h done line ≡ part ++ todo
   pub wrote : Appends o.written_before o.written (replies_of h done ++ part)
-  pub holds : durable → Holds o.file (history_after h (done ++ line ∷ []))
-  pub images : durable → ImagesUpTo left h (history_after h (done ++ line ∷ []))
+  pub holds : told → Holds o.file (history_after h (done ++ line ∷ []))
+  pub images : ImagesUpTo left h (history_after h (done ++ line ∷ []))
   pub counted : o.reads ≡ raised_by (rows_read h (done ++ line ∷ [])) 0
 
 -- ---- the opening history
@@ -104,18 +112,18 @@ OverScript o Ran = Over o (λ h. IfSome o.input (Ran h))
 abbrev pub Untouched : Type 0 → Type 0 → Type 0 → Type 0
 Untouched unread unprinted kept = unread × unprinted × kept
 
--- the disk failed while the journal's header was written: it stands for the opening history as before, and so does
--- what a crash might have left
-pub record HeaderFailed (durable : Type 0) (left : List ℕ → Type 0) (before after : Option (List ℕ)) : Type 0 where
+-- the disk failed while the journal's header was written: reads give a file that stands for the opening history as
+-- before, and a crash might have left one
+pub record HeaderFailed (told : Type 0) (left : List ℕ → Type 0) (before after : Option (List ℕ)) : Type 0 where
   pub opening : History
   pub stood : IfSome before (λ file. Stands file opening)
-  pub holds : durable → Holds after opening
-  pub images : durable → (c : List ℕ) → left c → Stands c opening
+  pub holds : told → Holds after opening
+  pub images : (c : List ℕ) → left c → Stands c opening
 
 -- nothing was read and nothing printed, and the disk stayed as it was, or failed while the header was written
 abbrev pub NotBegun : Type 0 → (List ℕ → Type 0) → Type 0 → Type 0 → Type 0 → Outside → Type 0
-NotBegun durable left unread unprinted kept o =
-    unread × unprinted × (kept ⊎ HeaderFailed durable left o.file_before o.file)
+NotBegun told left unread unprinted kept o =
+    unread × unprinted × (kept ⊎ HeaderFailed told left o.file_before o.file)
 
 -- and this is where the file is damaged, so that it stands for no history
 abbrev pub IsDamaged : ℕ → Outside → Type 0
@@ -123,25 +131,25 @@ IsDamaged at o = IfSome o.file_before (λ file. IsDamagedAt file at)
 
 -- what a run that ended so has done
 abbrev pub RanTo : Status → Type 0 → (List ℕ → Type 0) → Type 0 → Type 0 → Type 0 → Outside → Type 0
-RanTo Done durable left unread unprinted kept o =
+RanTo Done told left unread unprinted kept o =
     OverScript o
-    (λ h input. ReadWhole input o.rest × (is_faulted h input ≡ false) × RanWhole durable left h (executed input) o)
-RanTo Refused durable left unread unprinted kept o =
+    (λ h input. ReadWhole input o.rest × (is_faulted h input ≡ false) × RanWhole told left h (executed input) o)
+RanTo Refused told left unread unprinted kept o =
     OverScript o
-    (λ h input. ReadWhole input o.rest × (is_faulted h input ≡ true) × RanWhole durable left h (executed input) o)
-RanTo BadWords durable left unread unprinted kept o = ⊥
-RanTo ReadFault durable left unread unprinted kept o =
-    OverScript o (λ h input. RanBefore durable left h (executed input) o)
-RanTo WriteFault durable left unread unprinted kept o =
-    OverScript o (λ h input. RanWriting durable left h (executed input) o)
-RanTo DiskFault durable left unread unprinted kept o =
-    NotBegun durable left unread unprinted kept o
-    ⊎ OverScript o (λ h input. RanWithin durable left h (executed input) o)
-RanTo (Damaged at) durable left unread unprinted kept o = Untouched unread unprinted kept × IsDamaged at o
-RanTo NoMemory durable left unread unprinted kept o =
-    Untouched unread unprinted kept ⊎ OverScript o (λ h input. RanWithin durable left h (executed input) o)
-RanTo InputLong durable left unread unprinted kept o =
-    OverScript o (λ h input. (INPUT_LIMIT < length input) × RanWhole durable left h (executed input) o)
+    (λ h input. ReadWhole input o.rest × (is_faulted h input ≡ true) × RanWhole told left h (executed input) o)
+RanTo BadWords told left unread unprinted kept o = ⊥
+RanTo ReadFault told left unread unprinted kept o =
+    OverScript o (λ h input. RanBefore told left h (executed input) o)
+RanTo WriteFault told left unread unprinted kept o =
+    OverScript o (λ h input. RanWriting told left h (executed input) o)
+RanTo DiskFault told left unread unprinted kept o =
+    NotBegun told left unread unprinted kept o
+    ⊎ OverScript o (λ h input. RanWithin told left h (executed input) o)
+RanTo (Damaged at) told left unread unprinted kept o = Untouched unread unprinted kept × IsDamaged at o
+RanTo NoMemory told left unread unprinted kept o =
+    Untouched unread unprinted kept ⊎ OverScript o (λ h input. RanWithin told left h (executed input) o)
+RanTo InputLong told left unread unprinted kept o =
+    OverScript o (λ h input. (INPUT_LIMIT < length input) × RanWhole told left h (executed input) o)
 
 -- P of a call that opened the journal, and that neither the disk nor want of memory ended
 abbrev pub IfWentOn : Status → Type 0 → Type 0
@@ -151,10 +159,9 @@ IfWentOn (Damaged at) P = ⊤
 IfWentOn NoMemory P = ⊤
 IfWentOn other P = P
 
--- the header is on the disk before the source is read or an image is written, where all of the file was on the disk at
--- first
+-- the header stands before the source is read or an image is written, where the disk told its bytes at first
 abbrev pub HeaderAfter : Status → Type 0 → Option (List ℕ) → Type 0
-HeaderAfter status durable file = IfWentOn status (durable → IsSomeAnd file HasHeader)
+HeaderAfter status told file = IfWentOn status (told → IsSomeAnd file HasHeader)
 
 -- the text of a history was printed, or a part of it
 abbrev pub Printed : (History → List ℕ) → Outside → Type 0

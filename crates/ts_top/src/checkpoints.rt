@@ -1,13 +1,13 @@
 //! The image of a journal's history, put behind the journal.
-ghost use Rattle.std.specs.Prelude.{◌≡◌, ◌++◌, ◌≤◌, ℕ, List, None, Option, codes, decimal, false, length, true};
+ghost use Rattle.std.specs.Prelude.{◌≡◌, ◌++◌, ◌≤◌, ℕ, List, None, Option, codes, decimal, false, length, true, IsSome};
 ghost use Rattle.ts_disk.specs.Disk.{Keeps};
 ghost use Rattle.ts_io.specs.Faults.{Counted};
 ghost use Rattle.ts_store.specs.Images.{IsDurable};
 ghost use Rattle.ts_store.specs.Stands.{Stands};
-ghost use Rattle.ts_store.specs.Stores.{Rests, opening, seen};
+ghost use Rattle.ts_store.specs.Stores.{Rests, Tells, opening, seen};
 ghost use Rattle.ts_top.specs.Checkpoints.{CheckpointTo, Prints, TellsEnd, nothing_text, saved_text, too_long_text};
 ghost use Rattle.ts_top.specs.Endings.{is_disk_fault, is_read_fault, is_write_fault};
-ghost use Rattle.ts_top.specs.Outcomes.{HeaderAfter, IfWentOn};
+ghost use Rattle.ts_top.specs.Outcomes.{HeaderAfter, IfWentOn, LeftAfter};
 
 use crate::endings::{Ended, Status};
 use crate::openings::open;
@@ -101,11 +101,12 @@ fn save<K: Sink, D: Disk>(sink: &mut K, store: Store<D>) -> Ended<D>
     requires armed { store.armed ≡ true }
     requires whole { opening store ≡ seen store }
     requires stands { (file : List ℕ) → D.bytes store.begun ≡ Some file → Stands file (seen store) }
+    requires tells { IsSome (D.bytes store.begun) → Tells D.bytes store }
     requires rests { IsDurable D.bytes D.may_leave store.begun → Rests D.bytes D.may_leave store }
-    requires images { IsDurable D.bytes D.may_leave store.begun
-        → (c : List ℕ) → D.left_since store.journal.disk (D.moment store.begun) c → Stands c (seen store) }
+    requires images { (c : List ℕ)
+        → LeftAfter D.bytes D.may_leave D.moment D.left_since store.begun store.journal.disk c → Stands c (seen store) }
     ensures outcome { (input rest : Option (List ℕ)) → CheckpointTo result.status
-        (IsDurable D.bytes D.may_leave store.begun) (D.left_since result.disk (D.moment store.begun))
+        (IsSome (D.bytes store.begun)) (LeftAfter D.bytes D.may_leave D.moment D.left_since store.begun result.disk)
         (sink.new ≡ sink.old) ⊥ (record {
           input = input;
           rest = rest;
@@ -117,7 +118,7 @@ fn save<K: Sink, D: Disk>(sink: &mut K, store: Store<D>) -> Ended<D>
         }) }
     ensures unread { is_read_fault result.status ≡ false }
     ensures uncounted { result.reads ≡ 0 }
-    ensures header { HeaderAfter result.status (IsDurable D.bytes D.may_leave store.begun) (D.bytes result.disk) }
+    ensures header { HeaderAfter result.status (IsSome (D.bytes store.begun)) (D.bytes result.disk) }
     ensures lasting { IfWentOn result.status
         (IsDurable D.bytes D.may_leave store.begun → IsDurable D.bytes D.may_leave result.disk) }
     ensures writes { Counted (K.faults sink.old) (K.faults sink.new) (is_write_fault result.status) }
@@ -140,7 +141,7 @@ pub(crate) fn checkpoint<R: Threads + Sync, K: Sink, D: Disk>(
     disk: D,
 ) -> Ended<D>
     ensures outcome { (input rest : Option (List ℕ)) → CheckpointTo result.status
-        (IsDurable D.bytes D.may_leave disk) (D.left_since result.disk (D.moment disk))
+        (IsSome (D.bytes disk)) (LeftAfter D.bytes D.may_leave D.moment D.left_since disk result.disk)
         (sink.new ≡ sink.old) (Keeps D.bytes D.may_leave D.moment D.left_since disk result.disk)
         (record {
           input = input;
@@ -153,7 +154,7 @@ pub(crate) fn checkpoint<R: Threads + Sync, K: Sink, D: Disk>(
         }) }
     ensures unread { is_read_fault result.status ≡ false }
     ensures uncounted { result.reads ≡ 0 }
-    ensures header { HeaderAfter result.status (IsDurable D.bytes D.may_leave disk) (D.bytes result.disk) }
+    ensures header { HeaderAfter result.status (IsSome (D.bytes disk)) (D.bytes result.disk) }
     ensures lasting { IfWentOn result.status
         (IsDurable D.bytes D.may_leave disk → IsDurable D.bytes D.may_leave result.disk) }
     ensures writes { Counted (K.faults sink.old) (K.faults sink.new) (is_write_fault result.status) }

@@ -9,6 +9,8 @@ pub enum Command {
     Run,
     /// To run the lines of the input by a worker for each session, over the history of the journal.
     Par,
+    /// The same, and to print the transcript of the run in place of its replies.
+    ParJson,
     /// To run the script of the demonstration with a number below a million, and to print a summary.
     Demo(u32),
     /// To print a text of the journal.
@@ -25,6 +27,7 @@ impl Command {
         match self {
             Command::Run => true,
             Command::Par => true,
+            Command::ParJson => true,
             Command::Demo(_) => false,
             Command::Print(_) => false,
             Command::Checkpoint => true,
@@ -95,11 +98,13 @@ fn demo_number(digits: &[u8]) -> Option<u32>
 }
 
 /// The command that these two words are.
-fn of_words(word: &str, number: &str) -> Option<Command>
-    ensures { result ≡ of_words word.now number.now }
+fn of_words(word: &str, next: &str) -> Option<Command>
+    ensures { result ≡ of_words word.now next.now }
 {
     if word == "demo" {
-        demo_number(number.as_bytes()).map(Command::Demo)
+        demo_number(next.as_bytes()).map(Command::Demo)
+    } else if word == "par" && next == "json" {
+        Some(Command::ParJson)
     } else {
         None
     }
@@ -111,7 +116,7 @@ fn named(words: &[String]) -> Option<Command>
 {
     match words {
         [word] => of_word(word.as_str()),
-        [word, number] => of_words(word.as_str(), number.as_str()),
+        [word, next] => of_words(word.as_str(), next.as_str()),
         _ => None,
     }
 }

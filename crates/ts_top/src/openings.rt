@@ -1,12 +1,13 @@
 //! How the journal on a disk is opened for a script.
-ghost use Rattle.std.specs.Prelude.{◌≡◌, ℕ, List, None, Option, Some, true, IfErr, IfOk, IfSome};
+ghost use Rattle.std.specs.Prelude.{◌≡◌, ℕ, List, None, Option, Some, true, IfErr, IfOk, IfSome, IsSome};
 ghost use Rattle.ts_disk.specs.Disk.{Keeps};
 ghost use Rattle.ts_io.specs.Faults.{Counted};
 ghost use Rattle.ts_store.specs.Images.{IsDurable};
 ghost use Rattle.ts_store.specs.Stands.{Stands};
-ghost use Rattle.ts_store.specs.Stores.{Rests, opening, seen};
+ghost use Rattle.ts_store.specs.Stores.{Rests, Tells, opening, seen};
 ghost use Rattle.ts_top.specs.Endings.{is_disk_fault};
 ghost use Rattle.ts_top.specs.Openings.{NotOpened};
+ghost use Rattle.ts_top.specs.Outcomes.{LeftAfter};
 
 use crate::endings::{Ended, Status};
 use std::alloc::Global;
@@ -24,19 +25,22 @@ fn armed<D: Disk>(mut store: Store<D>) -> Result<Store<D>, Ended<D>>
     ensures goes_on { IfOk result (λ ready. ready.failed ≡ None) }
     ensures armed { IfOk result (λ ready. ready.armed ≡ true) }
     ensures whole { IfOk result (λ ready. opening ready ≡ seen ready) }
+    ensures tells { (IsSome (D.bytes store.begun) → Tells D.bytes store)
+        → IfOk result (λ ready. IsSome (D.bytes store.begun) → Tells D.bytes ready) }
     ensures rests { (IsDurable D.bytes D.may_leave store.begun → Rests D.bytes D.may_leave store)
         → IfOk result (λ ready. IsDurable D.bytes D.may_leave store.begun → Rests D.bytes D.may_leave ready) }
     ensures images { (IsDurable D.bytes D.may_leave store.begun → Rests D.bytes D.may_leave store)
         → Keeps D.bytes D.may_leave D.moment D.left_since store.begun store.journal.disk
-        → IfOk result (λ ready. IsDurable D.bytes D.may_leave store.begun
-        → (c : List ℕ) → D.left_since ready.journal.disk (D.moment store.begun) c → Stands c (seen ready)) }
+        → IfOk result (λ ready. (c : List ℕ)
+        → LeftAfter D.bytes D.may_leave D.moment D.left_since store.begun ready.journal.disk c → Stands c (seen ready)) }
     ensures counted { IfOk result (λ ready. D.faults ready.journal.disk ≡ D.faults store.journal.disk) }
     ensures ended { IfErr result (λ end. (before : Option (List ℕ))
         → IfSome before (λ file. Stands file (seen store))
+        → (IsSome (D.bytes store.begun) → Tells D.bytes store)
         → (IsDurable D.bytes D.may_leave store.begun → Rests D.bytes D.may_leave store)
         → Keeps D.bytes D.may_leave D.moment D.left_since store.begun store.journal.disk
         → NotOpened end.status
-        (IsDurable D.bytes D.may_leave store.begun) (D.left_since end.disk (D.moment store.begun))
+        (IsSome (D.bytes store.begun)) (LeftAfter D.bytes D.may_leave D.moment D.left_since store.begun end.disk)
         ⊥ before (D.bytes end.disk)) }
     ensures unread { IfErr result (λ end. end.reads ≡ 0) }
     ensures disk { IfErr result (λ end.
@@ -70,13 +74,14 @@ pub(crate) fn open<R: Threads + Sync, D: Disk>(
     ensures goes_on { IfOk result (λ store. store.failed ≡ None) }
     ensures armed { IfOk result (λ store. store.armed ≡ true) }
     ensures whole { IfOk result (λ store. opening store ≡ seen store) }
+    ensures tells { IfOk result (λ store. IsSome (D.bytes disk) → Tells D.bytes store) }
     ensures rests { IfOk result (λ store.
         IsDurable D.bytes D.may_leave disk → Rests D.bytes D.may_leave store) }
-    ensures images { IfOk result (λ store. IsDurable D.bytes D.may_leave disk
-        → (c : List ℕ) → D.left_since store.journal.disk (D.moment disk) c → Stands c (seen store)) }
+    ensures images { IfOk result (λ store. (c : List ℕ)
+        → LeftAfter D.bytes D.may_leave D.moment D.left_since disk store.journal.disk c → Stands c (seen store)) }
     ensures counted { IfOk result (λ store. D.faults store.journal.disk ≡ D.faults disk) }
     ensures ended { IfErr result (λ end. NotOpened end.status
-        (IsDurable D.bytes D.may_leave disk) (D.left_since end.disk (D.moment disk))
+        (IsSome (D.bytes disk)) (LeftAfter D.bytes D.may_leave D.moment D.left_since disk end.disk)
         (Keeps D.bytes D.may_leave D.moment D.left_since disk end.disk) (D.bytes disk) (D.bytes end.disk)) }
     ensures unread { IfErr result (λ end. end.reads ≡ 0) }
     ensures disk { IfErr result (λ end. Counted (D.faults disk) (D.faults end.disk) (is_disk_fault end.status)) }

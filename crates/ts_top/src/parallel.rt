@@ -1,10 +1,11 @@
 //! Inputs that are run by a worker for each session, over the history of a journal.
-ghost use Rattle.std.specs.Prelude.{◌≡◌, ◌≢◌, ◌≤◌, ℕ, List, None, Option, false, true, length, IfSome, IsSomeAnd, IsTrue};
+ghost use Rattle.std.specs.Prelude.{◌≡◌, ◌≢◌, ◌<◌, ◌≤◌, ◌^◌, ℕ, List, None, Option, false, true, length, IfSome, IsSomeAnd, IsTrue, IsSome};
 ghost use Rattle.std.specs.Thread.{IsSync};
 ghost use Rattle.ts_schema.specs.Faults.{Rose};
 ghost use Rattle.ts_disk.specs.Disk.{Keeps};
 ghost use Rattle.ts_io.specs.Faults.{Counted};
 ghost use Rattle.ts_io.specs.declared.limits.TheConstants.{INPUT_LIMIT};
+ghost use Rattle.ts_model.specs.History.{position};
 ghost use Rattle.ts_model.specs.States.{stands_still};
 ghost use Rattle.ts_top.specs.Scripts.{first_places, program_replies};
 ghost use Rattle.shared_store.specs.Wrapped.{GoesOn};
@@ -12,26 +13,56 @@ ghost use Rattle.par_lines.specs.Sorted.{sorted};
 ghost use Rattle.par_run.specs.Crews.{LinesRan};
 ghost use Rattle.par_run.specs.Ends.{is_disk_fault};
 ghost use Rattle.par_run.specs.Outputs.{output_of};
-ghost use Rattle.ts_store.specs.Images.{HasHeader, IsDurable};
+ghost use Rattle.ts_store.specs.Images.{HasHeader};
 ghost use Rattle.ts_store.specs.Stands.{Stands};
 ghost use Rattle.ts_store.specs.Stores.{opening, seen};
-ghost use Rattle.ts_top.specs.Calls.{CountedAfterDisk};
-ghost use Rattle.ts_top.specs.Endings.{is_read_fault};
-ghost use Rattle.ts_top.specs.Outcomes.{Holds, HeaderAfter};
-ghost use Rattle.ts_top.specs.Parallel.{CountedAfterWorkers, InputTo, ParTo, PrintsReplies};
+ghost use Rattle.run_transcript.specs.Made.{transcript_in, transcript_of};
+ghost use Rattle.transcript.specs.Ascii.{is_ascii_transcript};
+ghost use Rattle.ts_top.specs.Endings.{is_read_fault, is_write_fault};
+ghost use Rattle.ts_top.specs.Outcomes.{Holds, HeaderAfter, LeftAfter};
+ghost use Rattle.ts_top.specs.Parallel.{CountedAfterDisk, CountedAfterPrinting, CountedAfterWorkers, InputTo, ParTo, Prints, PrintsReplies, PrintsTranscript, output_in};
 
 use crate::endings::{Ended, Status, status_answered};
 use crate::openings::open;
-use par_run::{ParEnd, ParStop, par as run_in_parallel};
+use par_run::{ParEnd, ParLine, ParStop, par as run_in_parallel};
 use policy_jobs::PolicySession;
+use run_transcript::transcript_of;
 use std::alloc::Global;
 use std::sync::Wait;
 use std::thread::Threads;
+use transcript::{Transcript, is_ascii, send_transcript};
 use ts_disk::Disk;
 use ts_io::{AllEnd, Sink, Source, WriteFault, read_all, write_whole};
 use ts_model::{Backend, Gate, Shown};
+use ts_schema::{Name, NoMemory, Seq};
 use ts_sessions::Session;
 use ts_store::Store;
+
+/// What is printed of a parallel run.
+#[derive(Clone, Copy, Debug, PartialEq, Eq)]
+pub(crate) enum Replies {
+    /// The refusals of lines that no session answers, and all replies.
+    Plain,
+    /// The transcript of the run.
+    Json,
+}
+
+/// What the sessions of a parallel run were replied.
+#[derive(Drop)]
+struct Replied {
+    /// The position at which the run began.
+    start: u64,
+    /// The refusals of lines that no session answers, and then all replies.
+    text: Seq<u8>,
+    /// Whether one of them is a FAULT.
+    fault: bool,
+    /// The names of the sessions.
+    names: Seq<Name>,
+    /// Their lines with the replies.
+    lines: Seq<ParLine>,
+    /// How the run stopped.
+    stop: ParStop,
+}
 
 /// A call that ended so without a statement, over a store whose journal has its header.
 fn closed<D: Disk>(store: Store<D>, status: Status) -> Ended<D>
@@ -39,10 +70,10 @@ fn closed<D: Disk>(store: Store<D>, status: Status) -> Ended<D>
     requires armed { store.armed ≡ true }
     requires whole { opening store ≡ seen store }
     ensures status { result.status ≡ status }
-    ensures holds { IsDurable D.bytes D.may_leave store.begun → Holds (D.bytes result.disk) (seen store) }
-    ensures images { IsDurable D.bytes D.may_leave store.begun
-        → (c : List ℕ) → D.left_since result.disk (D.moment store.begun) c → Stands c (seen store) }
-    ensures header { IsDurable D.bytes D.may_leave store.begun → IsSomeAnd (D.bytes result.disk) HasHeader }
+    ensures holds { IsSome (D.bytes store.begun) → Holds (D.bytes result.disk) (seen store) }
+    ensures images { (c : List ℕ)
+        → LeftAfter D.bytes D.may_leave D.moment D.left_since store.begun result.disk c → Stands c (seen store) }
+    ensures header { IsSome (D.bytes store.begun) → IsSomeAnd (D.bytes result.disk) HasHeader }
     ensures counted { D.faults result.disk ≡ D.faults store.journal.disk }
 {
     Ended {
@@ -72,6 +103,91 @@ fn print_replies<K: Sink>(sink: &mut K, text: &[u8], fault: bool, stop: ParStop)
     }
 }
 
+/// Prints a transcript that is ASCII, and tells how the call ends.
+fn print_ascii<K: Sink>(sink: &mut K, transcript: &Transcript, refused: bool) -> Status
+    requires ascii { IsTrue (is_ascii_transcript transcript.now) }
+    requires start { transcript.now.start < 2 ^ 64 }
+    ensures prints { PrintsTranscript ParStop.Done refused transcript.now result
+        (K.written sink.old) (K.written sink.new) }
+    ensures counted { Counted (K.faults sink.old) (K.faults sink.new) (is_write_fault result) }
+{
+    match send_transcript(transcript, sink) {
+        Ok(()) => status_answered(refused),
+        Err(WriteFault) => Status::WriteFault,
+    }
+}
+
+/// Prints a transcript, and tells how the call ends. Each reply is ASCII; no clause of the sessions says so,
+/// and one that isn't would be answered as want of memory.
+fn print_made<K: Sink>(sink: &mut K, transcript: &Transcript, refused: bool) -> Status
+    requires start { transcript.now.start < 2 ^ 64 }
+    ensures prints { PrintsTranscript ParStop.Done refused transcript.now result
+        (K.written sink.old) (K.written sink.new) }
+    ensures counted { Counted (K.faults sink.old) (K.faults sink.new) (is_write_fault result) }
+{
+    if is_ascii(transcript) {
+        print_ascii(sink, transcript, refused)
+    } else {
+        Status::NoMemory
+    }
+}
+
+/// Prints the transcript of a run that was executed whole, and tells how the call ends. Where there is no
+/// memory for it nothing is printed.
+fn print_executed<K: Sink>(
+    alloc: Global,
+    sink: &mut K,
+    start: u64,
+    names: &[Name],
+    lines: Seq<ParLine>,
+    refused: bool,
+) -> Status
+    ensures prints { PrintsTranscript ParStop.Done refused (transcript_of start names.now lines) result
+        (K.written sink.old) (K.written sink.new) }
+    ensures counted { Counted (K.faults sink.old) (K.faults sink.new) (is_write_fault result) }
+{
+    match transcript_of(alloc, start, names, lines) {
+        Ok(transcript) => print_made(sink, &transcript, refused),
+        Err(NoMemory) => Status::NoMemory,
+    }
+}
+
+/// Prints the transcript of a parallel run, and tells how the call ends. Where the disk failed, or memory ran
+/// out, nothing is printed.
+fn print_transcript<K: Sink>(alloc: Global, sink: &mut K, replied: Replied) -> Status
+    ensures prints { PrintsTranscript replied.stop replied.fault (transcript_in replied.start (output_in replied))
+        result (K.written sink.old) (K.written sink.new) }
+    ensures counted { Counted (K.faults sink.old) (K.faults sink.new) (is_write_fault result) }
+{
+    let Replied {
+        start,
+        text,
+        fault,
+        names,
+        lines,
+        stop,
+    } = replied;
+    // Each reply stands beside its line too.
+    drop(text);
+    match stop {
+        ParStop::Done => print_executed(alloc, sink, start, names.items(), lines, fault),
+        ParStop::DiskFault => Status::DiskFault,
+        ParStop::NoMemory => Status::NoMemory,
+    }
+}
+
+/// Prints a parallel run, and tells how the call ends.
+fn print_run<K: Sink>(alloc: Global, replies: Replies, sink: &mut K, replied: Replied) -> Status
+    ensures prints { Prints replies replied.stop replied.start (output_in replied) result
+        (Rose (K.faults sink.old) (K.faults sink.new)) (K.written sink.old) (K.written sink.new) }
+    ensures counted { CountedAfterPrinting replies result (K.faults sink.old) (K.faults sink.new) }
+{
+    match replies {
+        Replies::Plain => { print_replies(sink, replied.text.items(), replied.fault, replied.stop) }
+        Replies::Json => print_transcript(alloc, sink, replied),
+    }
+}
+
 /// Runs an input by a worker for each session, over a store that is alone and goes on.
 fn run_sessions<B, R, G>(rt: &R, alloc: Global, backend: B, input: &[u8], gate: &G) -> ParEnd<B>
 where
@@ -86,6 +202,7 @@ where
     requires within { length input.now ≤ INPUT_LIMIT }
     ensures ran { result.stop ≢ ParStop.NoMemory → LinesRan program_replies first_places
         (B.state backend).history (sorted input.now) (B.state result.backend) (output_of result) result.reads }
+    ensures start { result.start ≡ position (B.state backend).history }
     ensures stop { result.stop ≢ ParStop.NoMemory
         → stands_still (B.state result.backend) ≡ is_disk_fault result.stop }
     ensures goes_on { GoesOn (B.state backend) (B.state result.backend) }
@@ -94,11 +211,11 @@ where
     run_in_parallel::<PolicySession<Session<B::Shot>>, B, R, G>(rt, alloc, backend, input, gate)
 }
 
-/// Runs an input by a worker for each session, over a store whose journal has its header, and prints the
-/// replies.
+/// Runs an input by a worker for each session, over a store whose journal has its header, and prints the run.
 fn run_input<R, K, D, G>(
     rt: &R,
     alloc: Global,
+    replies: Replies,
     input: &[u8],
     sink: &mut K,
     store: Store<D>,
@@ -113,23 +230,33 @@ where
     requires armed { store.armed ≡ true }
     requires whole { opening store ≡ seen store }
     requires within { length input.now ≤ INPUT_LIMIT }
-    ensures ran { InputTo result.status
-        (IsDurable D.bytes D.may_leave store.begun) (D.left_since result.disk (D.moment store.begun))
+    ensures ran { InputTo replies result.status
+        (IsSome (D.bytes store.begun)) (LeftAfter D.bytes D.may_leave D.moment D.left_since store.begun result.disk)
         (Rose (K.faults sink.old) (K.faults sink.new)) (seen store) input.now result.reads
         (K.written sink.old) (K.written sink.new) (D.bytes result.disk) }
-    ensures header { HeaderAfter result.status (IsDurable D.bytes D.may_leave store.begun) (D.bytes result.disk) }
-    ensures writes { CountedAfterDisk result.status (K.faults sink.old) (K.faults sink.new) }
+    ensures header { HeaderAfter result.status (IsSome (D.bytes store.begun)) (D.bytes result.disk) }
+    ensures writes { CountedAfterPrinting replies result.status (K.faults sink.old) (K.faults sink.new) }
     ensures disk { CountedAfterWorkers result.status (D.faults store.journal.disk) (D.faults result.disk) }
 {
     let ParEnd {
         backend,
+        start,
         text,
         fault,
+        names,
+        lines,
         reads,
         stop,
-        ..
     } = run_sessions(rt, alloc, store, input, gate);
-    let status = print_replies(sink, text.items(), fault, stop);
+    let replied = Replied {
+        start,
+        text,
+        fault,
+        names,
+        lines,
+        stop,
+    };
+    let status = print_run(alloc, replies, sink, replied);
     Ended {
         status,
         disk: backend.close(),
@@ -142,6 +269,7 @@ where
 fn run_all<R, S, K, D, G>(
     rt: &R,
     alloc: Global,
+    replies: Replies,
     source: &mut S,
     sink: &mut K,
     store: Store<D>,
@@ -158,8 +286,8 @@ where
     requires armed { store.armed ≡ true }
     requires whole { opening store ≡ seen store }
     ensures outcome { (before : Option (List ℕ)) → IfSome before (λ file. Stands file (seen store))
-        → ParTo result.status
-        (IsDurable D.bytes D.may_leave store.begun) (D.left_since result.disk (D.moment store.begun))
+        → ParTo replies result.status
+        (IsSome (D.bytes store.begun)) (LeftAfter D.bytes D.may_leave D.moment D.left_since store.begun result.disk)
         (Rose (K.faults sink.old) (K.faults sink.new))
         ⊥ ⊥ ⊥ (record {
           input = S.left source.old;
@@ -170,14 +298,14 @@ where
           file = D.bytes result.disk;
           reads = result.reads;
         }) }
-    ensures header { HeaderAfter result.status (IsDurable D.bytes D.may_leave store.begun) (D.bytes result.disk) }
+    ensures header { HeaderAfter result.status (IsSome (D.bytes store.begun)) (D.bytes result.disk) }
     ensures reads { Counted (S.faults source.old) (S.faults source.new) (is_read_fault result.status) }
-    ensures writes { CountedAfterDisk result.status (K.faults sink.old) (K.faults sink.new) }
+    ensures writes { CountedAfterPrinting replies result.status (K.faults sink.old) (K.faults sink.new) }
     ensures disk { CountedAfterWorkers result.status (D.faults store.journal.disk) (D.faults result.disk) }
 {
     let mut input = Vec::new(alloc);
     match read_all(source, &mut input) {
-        AllEnd::End => run_input(rt, alloc, &input, sink, store, gate),
+        AllEnd::End => run_input(rt, alloc, replies, &input, sink, store, gate),
         AllEnd::InputLong => closed(store, Status::InputLong),
         AllEnd::ReadFault => closed(store, Status::ReadFault),
         AllEnd::NoMemory => closed(store, Status::NoMemory),
@@ -185,10 +313,11 @@ where
 }
 
 /// Runs the whole input by a worker for each session, over the history that the journal on the disk
-/// stands for.
+/// stands for, and prints the run.
 pub(crate) fn par<R, S, K, D, G>(
     rt: &R,
     alloc: Global,
+    replies: Replies,
     source: &mut S,
     sink: &mut K,
     disk: D,
@@ -201,8 +330,8 @@ where
     D: Disk + Send,
     G: Gate + Sync,
     requires untold { S.ended source.old ≡ false }
-    ensures outcome { ParTo result.status
-        (IsDurable D.bytes D.may_leave disk) (D.left_since result.disk (D.moment disk))
+    ensures outcome { ParTo replies result.status
+        (IsSome (D.bytes disk)) (LeftAfter D.bytes D.may_leave D.moment D.left_since disk result.disk)
         (Rose (K.faults sink.old) (K.faults sink.new)) (source.new ≡ source.old) (sink.new ≡ sink.old)
         (Keeps D.bytes D.may_leave D.moment D.left_since disk result.disk)
         (record {
@@ -214,13 +343,13 @@ where
           file = D.bytes result.disk;
           reads = result.reads;
         }) }
-    ensures header { HeaderAfter result.status (IsDurable D.bytes D.may_leave disk) (D.bytes result.disk) }
+    ensures header { HeaderAfter result.status (IsSome (D.bytes disk)) (D.bytes result.disk) }
     ensures reads { Counted (S.faults source.old) (S.faults source.new) (is_read_fault result.status) }
-    ensures writes { CountedAfterDisk result.status (K.faults sink.old) (K.faults sink.new) }
+    ensures writes { CountedAfterPrinting replies result.status (K.faults sink.old) (K.faults sink.new) }
     ensures disk { CountedAfterWorkers result.status (D.faults disk) (D.faults result.disk) }
 {
     match open(rt, alloc, disk) {
-        Ok(store) => run_all(rt, alloc, source, sink, store, gate),
+        Ok(store) => run_all(rt, alloc, replies, source, sink, store, gate),
         Err(ended) => ended,
     }
 }

@@ -1,5 +1,5 @@
 //! The top call.
-ghost use Rattle.std.specs.Prelude.{◌≡◌, ◌↔◌, false, None, map, string_bytes};
+ghost use Rattle.std.specs.Prelude.{◌≡◌, ◌↔◌, false, None, map, string_bytes, IsSome};
 ghost use Rattle.ts_disk.specs.Disk.{Keeps};
 ghost use Rattle.ts_io.specs.Faults.{Counted};
 ghost use Rattle.ts_schema.specs.Faults.{Rose};
@@ -7,13 +7,13 @@ ghost use Rattle.ts_store.specs.Images.{IsDurable};
 ghost use Rattle.ts_top.specs.Commands.{command_of};
 ghost use Rattle.ts_top.specs.Calls.{DiskCounted, IfCheckpoint, IfDemo, IfWrites, OutcomeOf, SinkCounted};
 ghost use Rattle.ts_top.specs.Endings.{is_read_fault};
-ghost use Rattle.ts_top.specs.Outcomes.{HeaderAfter, IfWentOn};
+ghost use Rattle.ts_top.specs.Outcomes.{HeaderAfter, IfWentOn, LeftAfter};
 
 use crate::checkpoints::checkpoint;
 use crate::commands::{Command, command_of};
 use crate::demos::print_demo;
 use crate::endings::{Ended, Status};
-use crate::parallel::par;
+use crate::parallel::{Replies, par};
 use crate::prints::print;
 use crate::scripts::run;
 use std::alloc::Global;
@@ -23,13 +23,14 @@ use ts_disk::Disk;
 use ts_io::{Sink, Source};
 use ts_model::Gate;
 
-/// Does what the words ask for, with or without `--` before them: `run` runs the lines of the source in
-/// order over the history of the journal on the disk, and writes their replies to the sink; `par` reads
-/// them all, and runs them by a worker for each session; `demo` and a number runs a script of its own over
-/// a disk of its own, and writes a summary; `log` and `check` print what stands in the journal; `checkpoint`
-/// puts the image of the journal's history behind the journal, so that a later call begins there. The source
-/// is one that hasn't told its end. The gate is called by the workers of `par` alone, for which the call
-/// may wait.
+/// Does what the words ask for, with or without `--` before them: `run` runs the lines of the source in order
+/// over the history of the journal on the disk, and writes their replies to the sink; `par` reads them all,
+/// and runs them by a worker for each session; `par json` does the same, and writes the transcript of the run
+/// in place of its replies, where neither memory nor the disk failed; `demo` and a number runs a script of
+/// its own over a disk of its own, and writes a summary; `log` and `check` print what stands in the journal;
+/// `checkpoint` puts the image of the journal's history behind the journal, so that a later call begins
+/// there. The source is one that hasn't told its end. The gate is called by the workers of `par` and `par
+/// json` alone, for which the call may wait.
 pub fn run_words<R, S, K, D, G>(
     rt: &R,
     alloc: Global,
@@ -48,7 +49,7 @@ where
     requires untold { S.ended source.old ≡ false }
     ensures words { (result.status ≡ Status.BadWords) ↔ (command_of (map string_bytes words.now) ≡ None) }
     ensures outcome { OutcomeOf (command_of (map string_bytes words.now)) result.status
-        (IsDurable D.bytes D.may_leave disk) (D.left_since result.disk (D.moment disk))
+        (IsSome (D.bytes disk)) (LeftAfter D.bytes D.may_leave D.moment D.left_since disk result.disk)
         (Rose (K.faults sink.old) (K.faults sink.new)) (source.new ≡ source.old) (sink.new ≡ sink.old)
         (Keeps D.bytes D.may_leave D.moment D.left_since disk result.disk)
         (record {
@@ -61,7 +62,7 @@ where
           reads = result.reads;
         }) }
     ensures header { IfWrites (command_of (map string_bytes words.now))
-        (HeaderAfter result.status (IsDurable D.bytes D.may_leave disk) (D.bytes result.disk)) }
+        (HeaderAfter result.status (IsSome (D.bytes disk)) (D.bytes result.disk)) }
     // No later crash takes an image back.
     ensures lasting { IfCheckpoint (command_of (map string_bytes words.now)) (IfWentOn result.status
         (IsDurable D.bytes D.may_leave disk → IsDurable D.bytes D.may_leave result.disk)) }
@@ -74,7 +75,8 @@ where
 {
     match command_of(words) {
         Some(Command::Run) => run(rt, alloc, source, sink, disk),
-        Some(Command::Par) => par(rt, alloc, source, sink, disk, gate),
+        Some(Command::Par) => par(rt, alloc, Replies::Plain, source, sink, disk, gate),
+        Some(Command::ParJson) => par(rt, alloc, Replies::Json, source, sink, disk, gate),
         Some(Command::Demo(number)) => print_demo(rt, alloc, sink, disk, number),
         Some(Command::Print(text)) => print(rt, alloc, sink, disk, text),
         Some(Command::Checkpoint) => checkpoint(rt, alloc, sink, disk),

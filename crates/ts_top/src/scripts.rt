@@ -1,12 +1,11 @@
 //! Scripts over the history of a journal.
-ghost use Rattle.std.specs.Prelude.{◌≡◌, ℕ, List, None, Option, false, true, IfSome};
+ghost use Rattle.std.specs.Prelude.{◌≡◌, ℕ, List, None, Option, false, true, IfSome, IsSome};
 ghost use Rattle.ts_disk.specs.Disk.{Keeps};
 ghost use Rattle.ts_io.specs.Faults.{Counted};
-ghost use Rattle.ts_store.specs.Images.{IsDurable};
 ghost use Rattle.ts_store.specs.Stands.{Stands};
 ghost use Rattle.ts_store.specs.Stores.{opening, seen};
 ghost use Rattle.ts_top.specs.Endings.{is_disk_fault, is_read_fault, is_write_fault};
-ghost use Rattle.ts_top.specs.Outcomes.{RanTo, HeaderAfter};
+ghost use Rattle.ts_top.specs.Outcomes.{RanTo, HeaderAfter, LeftAfter};
 
 use crate::endings::{Ended, status_of};
 use crate::openings::open;
@@ -38,7 +37,7 @@ fn run_lines<R: Threads + Sync, S: Source, K: Sink, D: Disk>(
     requires whole { opening store ≡ seen store }
     ensures outcome { (before : Option (List ℕ)) → IfSome before (λ file. Stands file (seen store))
         → RanTo result.status
-        (IsDurable D.bytes D.may_leave store.begun) (D.left_since result.disk (D.moment store.begun))
+        (IsSome (D.bytes store.begun)) (LeftAfter D.bytes D.may_leave D.moment D.left_since store.begun result.disk)
         ⊥ ⊥ ⊥ (record {
           input = S.left source.old;
           rest = S.left source.new;
@@ -48,7 +47,7 @@ fn run_lines<R: Threads + Sync, S: Source, K: Sink, D: Disk>(
           file = D.bytes result.disk;
           reads = result.reads;
         }) }
-    ensures header { HeaderAfter result.status (IsDurable D.bytes D.may_leave store.begun) (D.bytes result.disk) }
+    ensures header { HeaderAfter result.status (IsSome (D.bytes store.begun)) (D.bytes result.disk) }
     ensures reads { Counted (S.faults source.old) (S.faults source.new) (is_read_fault result.status) }
     ensures writes { Counted (K.faults sink.old) (K.faults sink.new) (is_write_fault result.status) }
     ensures disk { Counted (D.faults store.journal.disk) (D.faults result.disk) (is_disk_fault result.status) }
@@ -74,7 +73,7 @@ pub(crate) fn run<R: Threads + Sync, S: Source, K: Sink, D: Disk>(
 ) -> Ended<D>
     requires untold { S.ended source.old ≡ false }
     ensures outcome { RanTo result.status
-        (IsDurable D.bytes D.may_leave disk) (D.left_since result.disk (D.moment disk))
+        (IsSome (D.bytes disk)) (LeftAfter D.bytes D.may_leave D.moment D.left_since disk result.disk)
         (source.new ≡ source.old) (sink.new ≡ sink.old)
         (Keeps D.bytes D.may_leave D.moment D.left_since disk result.disk)
         (record {
@@ -86,7 +85,7 @@ pub(crate) fn run<R: Threads + Sync, S: Source, K: Sink, D: Disk>(
           file = D.bytes result.disk;
           reads = result.reads;
         }) }
-    ensures header { HeaderAfter result.status (IsDurable D.bytes D.may_leave disk) (D.bytes result.disk) }
+    ensures header { HeaderAfter result.status (IsSome (D.bytes disk)) (D.bytes result.disk) }
     ensures reads { Counted (S.faults source.old) (S.faults source.new) (is_read_fault result.status) }
     ensures writes { Counted (K.faults sink.old) (K.faults sink.new) (is_write_fault result.status) }
     ensures disk { Counted (D.faults disk) (D.faults result.disk) (is_disk_fault result.status) }

@@ -1,14 +1,12 @@
 use Rattle.std.proofs.Common.{◌≡◌, false, length}
-use Rattle.std.specs.List.{AllByRecursion}
 use Rattle.serde_json.specs.Written.{items_text}
-use Rattle.transcript.specs.Text.{exchanges_data, IsWritableExchange}
+use Rattle.transcript.specs.Text.{exchanges_data}
 use Rattle.transcript.proofs.Sequel.{SentSome}
 use Rattle.transcript.proofs.sending.send_exchanges.Given as goal
 
 abbrev pub invariant-loop-exchange : goal.invariant-loop-exchange
 invariant-loop-exchange g l = record {
-  writable : AllByRecursion IsWritableExchange l.left;
-  some : SentSome (g.K.Sink.written l.initial.sink) (g.K.Sink.written l.sink) (items_text false (exchanges_data l.fn.exchanges)) (items_text l.later (exchanges_data l.left));
+  some : SentSome (g.K.Sink.written l.initial.sink) (g.K.Sink.written l.sink) l.initial.page.items l.page.items (items_text false (exchanges_data l.fn.exchanges)) (items_text l.later (exchanges_data l.left));
   counted : g.K.Sink.faults l.sink ≡ g.K.Sink.faults l.initial.sink;
 }
 

@@ -1,12 +1,11 @@
-use Rattle.std.proofs.Common.{subst}
-use Rattle.ts_io.specs.Whole.{AppendsPart}
-use Rattle.transcript.specs.Sending.{Sends}
-use Rattle.transcript.proofs.SendingParts.{transcript_parts}
-use Rattle.transcript.proofs.Sequel.{first_failed, then_sent}
+use Rattle.transcript.proofs.Sequel.{wrote, wrote_some, wrote_front}
 use Rattle.transcript.proofs.sending.send_transcript.Goals as goal
 
-pub returns-in-Err-clause-sent : goal.returns-in-Err-clause-sent
-returns-in-Err-clause-sent g c = subst (AppendsPart _ _) (transcript_parts c.args.transcript.now) (first_failed _ _ _ _ c.in-Err.ensures.sent)
+pub returns-in-Ok-clause-all : goal.returns-in-Ok-clause-all
+returns-in-Ok-clause-all g c = wrote _ _ _ _ _ _ c.flush.result c.new-page.ensures c.in-Ok.ensures.sent c.flush.ensures.all
 
-pub returns-in-Ok-clause-sent : goal.returns-in-Ok-clause-sent
-returns-in-Ok-clause-sent g c = subst (Sends c.send_after_head.result _ _) (transcript_parts c.args.transcript.now) (then_sent _ _ _ _ _ c.send_after_head.result c.in-Ok.ensures.sent c.send_after_head.ensures.sent)
+pub returns-in-Ok-clause-part : goal.returns-in-Ok-clause-part
+returns-in-Ok-clause-part g c = wrote_some _ _ _ _ _ _ c.flush.result c.new-page.ensures c.in-Ok.ensures.sent c.flush.ensures.part
+
+pub returns-in-Err-clause-part : goal.returns-in-Err-clause-part
+returns-in-Err-clause-part g c = wrote_front _ _ _ _ c.new-page.ensures c.in-Err.ensures.sent

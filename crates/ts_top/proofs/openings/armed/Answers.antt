@@ -1,15 +1,12 @@
 -- The header stands, or the disk failed while it was written.
 use Rattle.std.proofs.Common.{inr, true, sym, ap, ◌∙◌, subst}
-use Rattle.std.specs.Prelude.{IsSomeAnd}
-use Rattle.ts_disk.specs.CrashImage.{LeavesOnly}
 use Rattle.ts_io.specs.Faults.{Counted}
 use Rattle.ts_model.specs.History.{prefix}
 use Rattle.engine_core.specs.Histories.{history_of}
-use Rattle.ts_store.specs.Images.{IsDurable, StandsForEither, latest}
 use Rattle.ts_store.specs.Stands.{Stands}
 use Rattle.ts_store.specs.Stores.{seen}
 use Rattle.ts_top.specs.Outcomes.{Holds}
-use Rattle.ts_top.proofs.OutcomeLaws.{never_some, shown_is}
+use Rattle.ts_top.proofs.OutcomeLaws.{never_some}
 use Rattle.ts_top.proofs.openings.armed.Goals as goal
 
 pub returns-in-Done-clause-begun : goal.returns-in-Done-clause-begun
@@ -34,30 +31,29 @@ returns-in-Done-clause-whole g c =
 pub returns-in-Done-clause-rests : goal.returns-in-Done-clause-rests
 returns-in-Done-clause-rests g c rests d = c.in-Done.ensures.done (rests d)
 
+pub returns-in-Done-clause-tells : goal.returns-in-Done-clause-tells
+returns-in-Done-clause-tells g c tells some = c.in-Done.ensures.tells (tells some)
+
 pub returns-in-Done-clause-images : goal.returns-in-Done-clause-images
-returns-in-Done-clause-images g c rests kept d x image =
+returns-in-Done-clause-images g c rests kept x image =
     let D = g.D.Disk in
     subst (λ h. Stands x h) (sym (ap (λ e. history_of e.past) c.in-Done.ensures.engine))
-    ((c.in-Done.ensures.any_moment (rests d)).each x (subst (λ t. D.left_since c.arm.new.self.journal.disk t x) (sym kept.at_moment) image))
+    ((c.in-Done.ensures.any_moment (rests image.0)).each x (subst (λ t. D.left_since c.arm.new.self.journal.disk t x) (sym kept.at_moment) image.1))
 
 pub returns-in-Done-clause-counted : goal.returns-in-Done-clause-counted
 returns-in-Done-clause-counted g c = c.in-Done.ensures.counted
 
 pub returns-in-DiskFault-clause-ended : goal.returns-in-DiskFault-clause-ended
-returns-in-DiskFault-clause-ended g c before stood rests kept =
+returns-in-DiskFault-clause-ended g c before stood tells rests kept =
     let D = g.D.Disk in
     let old = c.args.store in
     let new = c.arm.new.self in
-    let durable : Type 0 = IsDurable D.bytes D.may_leave old.begun in
-    let only : durable → LeavesOnly D.moment D.left_since old.journal.disk new.journal.disk (λ file. Stands file (seen old)) = λ d. c.in-DiskFault.ensures.any_moment (rests d) in
-    let same_begun : durable → IsDurable D.bytes D.may_leave new.begun = λ d. subst (λ b. IsDurable D.bytes D.may_leave b) (sym c.in-DiskFault.ensures.begun) d in
     inr (record {
       opening = seen old;
       stood = stood;
-      holds = λ d. subst (λ disk. Holds (D.bytes disk) (seen old)) (sym c.close.ensures.disk)
-          (shown_is D.bytes D.may_leave D.moment D.left_since g.met.D.Disk.shows_an_image g.met.D.Disk.counts_now old.journal.disk new.journal.disk (λ file. Stands file (seen old)) (StandsForEither (seen new) (latest (seen new) new.failed)) (only d)
-          (subst (λ disk. IsSomeAnd (D.bytes disk) (StandsForEither (seen new) (latest (seen new) new.failed))) c.close.ensures.disk (c.close.ensures.shown (same_begun d))));
-      images = λ d x image. (only d).each x (subst (λ t. D.left_since new.journal.disk t x) (sym kept.at_moment) (subst (λ disk. D.left_since disk (D.moment old.begun) x) c.close.ensures.disk image));
+      holds = λ some. subst (λ disk. Holds (D.bytes disk) (seen old)) (sym c.close.ensures.disk) (c.in-DiskFault.ensures.shown (tells some));
+      images = λ x image. (c.in-DiskFault.ensures.any_moment (rests image.0)).each x
+          (subst (λ t. D.left_since new.journal.disk t x) (sym kept.at_moment) (subst (λ disk. D.left_since disk (D.moment old.begun) x) c.close.ensures.disk image.1));
     })
 
 pub returns-in-DiskFault-clause-disk : goal.returns-in-DiskFault-clause-disk

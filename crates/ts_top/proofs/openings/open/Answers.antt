@@ -10,6 +10,9 @@ use Rattle.ts_top.specs.Endings.{is_disk_fault}
 use Rattle.ts_top.specs.Openings.{NotOpened}
 use Rattle.ts_top.proofs.OutcomeLaws.{if_known}
 use Rattle.ts_top.proofs.OpeningLaws.{failed_or_kept}
+use Rattle.std.specs.Prelude.{IsSome}
+use Rattle.ts_top.specs.Outcomes.{LeftAfter}
+use Rattle.ts_disk.proofs.Told.{the_told}
 use Rattle.ts_top.proofs.openings.open.Goals as goal
 
 pub armed-requires-clause-goes_on : goal.armed-requires-clause-goes_on
@@ -25,6 +28,13 @@ pub returns-in-Ready-clause-stands : goal.returns-in-Ready-clause-stands
 returns-in-Ready-clause-stands g c =
     IfOk-weaker c.armed.result _ _ (λ store is file told. subst (λ h. Stands file h) (sym is) (c.in-Ready.ensures.starts file told)) c.armed.ensures.history
 
+pub returns-in-Ready-clause-tells : goal.returns-in-Ready-clause-tells
+returns-in-Ready-clause-tells g c =
+    let D = g.D.Disk in
+    let begun : c.in-Ready.store.begun ≡ c.args.disk = c.in-Ready.ensures.new.begun in
+    IfOk-weaker c.armed.result _ _ (λ ready tells some. tells (subst (λ b. IsSome (D.bytes b)) (sym begun) some))
+    (c.armed.ensures.tells (λ some. let known = the_told (D.bytes c.args.disk) (subst (λ b. IsSome (D.bytes b)) begun some) in c.in-Ready.ensures.tells known.0 known.1))
+
 pub returns-in-Ready-clause-rests : goal.returns-in-Ready-clause-rests
 returns-in-Ready-clause-rests g c =
     let D = g.D.Disk in
@@ -38,7 +48,7 @@ returns-in-Ready-clause-images g c =
     let store = c.in-Ready.store in
     let begun : store.begun ≡ c.args.disk = c.in-Ready.ensures.new.begun in
     IfOk-weaker c.armed.result _ _
-    (λ ready images. subst (λ b. IsDurable D.bytes D.may_leave b → (x : List ℕ) → D.left_since ready.journal.disk (D.moment b) x → Stands x (seen ready)) begun images)
+    (λ ready images. subst (λ b. (x : List ℕ) → LeftAfter D.bytes D.may_leave D.moment D.left_since b ready.journal.disk x → Stands x (seen ready)) begun images)
     (c.armed.ensures.images
     (λ d. let e : IsDurable D.bytes D.may_leave c.args.disk = subst (λ b. IsDurable D.bytes D.may_leave b) begun d in c.in-Ready.ensures.rests e.file e.told e.durable)
     (subst (λ b. Keeps D.bytes D.may_leave D.moment D.left_since b store.journal.disk) (sym begun) c.in-Ready.ensures.kept))
@@ -55,9 +65,10 @@ returns-in-Ready-clause-ended g c =
     let stood : IfSome (D.bytes disk) (λ file. Stands file (seen store)) = if_known (D.bytes disk) (λ file. Stands file (seen store)) c.in-Ready.ensures.starts in
     IfErr-weaker c.armed.result _ _
     (λ end failed.
-    failed_or_kept (IsDurable D.bytes D.may_leave disk) (D.left_since end.disk (D.moment disk)) (D.bytes disk) (D.bytes end.disk) end.status (Keeps D.bytes D.may_leave D.moment D.left_since disk end.disk)
-    (subst (λ b. NotOpened end.status (IsDurable D.bytes D.may_leave b) (D.left_since end.disk (D.moment b)) ⊥ (D.bytes disk) (D.bytes end.disk)) begun
+    failed_or_kept (IsSome (D.bytes disk)) (LeftAfter D.bytes D.may_leave D.moment D.left_since disk end.disk) (D.bytes disk) (D.bytes end.disk) end.status (Keeps D.bytes D.may_leave D.moment D.left_since disk end.disk)
+    (subst (λ b. NotOpened end.status (IsSome (D.bytes b)) (LeftAfter D.bytes D.may_leave D.moment D.left_since b end.disk) ⊥ (D.bytes disk) (D.bytes end.disk)) begun
     (failed (D.bytes disk) stood
+    (λ some. let known = the_told (D.bytes disk) (subst (λ b. IsSome (D.bytes b)) begun some) in c.in-Ready.ensures.tells known.0 known.1)
     (λ d. let e : IsDurable D.bytes D.may_leave disk = subst (λ b. IsDurable D.bytes D.may_leave b) begun d in c.in-Ready.ensures.rests e.file e.told e.durable)
     (subst (λ b. Keeps D.bytes D.may_leave D.moment D.left_since b store.journal.disk) (sym begun) c.in-Ready.ensures.kept))))
     c.armed.ensures.ended

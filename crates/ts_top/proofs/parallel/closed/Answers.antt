@@ -5,8 +5,8 @@ use Rattle.ts_store.specs.Stands.{Stands}
 use Rattle.ts_store.specs.Stores.{seen}
 use Rattle.ts_top.proofs.OutcomeLaws.{the_one}
 use Rattle.ts_top.proofs.ParallelLaws.{only_one}
+use Rattle.ts_disk.proofs.Told.{some_also}
 use Rattle.ts_top.proofs.parallel.closed.Goals as goal
-use Rattle.ts_store.proofs.ImageLaws.{some_also}
 
 pub returns-clause-holds : goal.returns-clause-holds
 returns-clause-holds g c d =
@@ -15,9 +15,9 @@ returns-clause-holds g c d =
     (λ file either. the_one (seen store) store.failed file c.requires.goes_on either) (c.close.ensures.shown d)
 
 pub returns-clause-images : goal.returns-clause-images
-returns-clause-images g c d x image =
+returns-clause-images g c x image =
     let store = c.args.store in
-    only_one (seen store) store.failed x c.requires.goes_on (subst (λ h. IsBetween h (seen store) store.failed x) c.requires.whole (c.close.ensures.images d x image))
+    only_one (seen store) store.failed x c.requires.goes_on (subst (λ h. IsBetween h (seen store) store.failed x) c.requires.whole (c.close.ensures.images image.0 x image.1))
 
 pub returns-clause-header : goal.returns-clause-header
 returns-clause-header g c d = c.close.ensures.header c.requires.armed c.requires.goes_on d

@@ -9,9 +9,11 @@ use Rattle.ts_store.specs.Images.{IsBetween, IsDurable}
 use Rattle.ts_store.specs.Stores.{opening, seen, state_of}
 use Rattle.ts_top.specs.contracts.parallel.run_input.{D-row}
 use Rattle.ts_store.proofs.Crossing.{shot_send, store_send}
-use Rattle.ts_top.specs.Parallel.{CountedAfterWorkers, PrintsReplies}
+use Rattle.ts_top.specs.Parallel.{CountedAfterWorkers, Prints}
 use Rattle.ts_top.proofs.OutcomeLaws.{Closed}
 use Rattle.ts_top.proofs.ParallelLaws.{counted_by, input_to}
+use Rattle.std.specs.Prelude.{IsSome}
+use Rattle.ts_top.specs.Outcomes.{LeftAfter}
 use Rattle.ts_top.proofs.parallel.run_input.Goals as goal
 
 pub run_sessions-backend-requires-send-B : goal.run_sessions-backend-requires-send-B
@@ -29,16 +31,17 @@ returns-clause-ran g c =
     let state : State = state_of D.faults D.moment new in
     let begun : new.begun ≡ old.begun = ap (λ k. k.disk) c.run_sessions-backend.ensures.kin in
     let from : opening new ≡ seen old = ap (λ o. o.opening) c.run_sessions-backend.ensures.goes_on.origin ∙ c.requires.whole in
-    let durable : Type 0 = IsDurable D.bytes D.may_leave old.begun in
-    let left : List ℕ → Type 0 = D.left_since c.close.result (D.moment old.begun) in
-    let still_durable : durable → IsDurable D.bytes D.may_leave new.begun = λ d. subst (λ disk. IsDurable D.bytes D.may_leave disk) (sym begun) d in
-    let closed : Closed durable left (seen old) state (D.bytes c.close.result) = record {
-      shown = λ d. c.close.ensures.shown (still_durable d);
-      images = λ d x image. subst (λ h. IsBetween h (seen new) new.failed x) from (c.close.ensures.images (still_durable d) x (subst (λ disk. D.left_since c.close.result (D.moment disk) x) (sym begun) image));
+    let told : Type 0 = IsSome (D.bytes old.begun) in
+    let left : List ℕ → Type 0 = LeftAfter D.bytes D.may_leave D.moment D.left_since old.begun c.close.result in
+    let still_told : told → IsSome (D.bytes new.begun) = λ some. subst (λ disk. IsSome (D.bytes disk)) (sym begun) some in
+    let closed : Closed told left (seen old) state (D.bytes c.close.result) = record {
+      shown = λ some. c.close.ensures.shown (still_told some);
+      images = λ x image. subst (λ h. IsBetween h (seen new) new.failed x) from (c.close.ensures.images (subst (λ disk. IsDurable D.bytes D.may_leave disk) (sym begun) image.0) x (subst (λ disk. D.left_since c.close.result (D.moment disk) x) (sym begun) image.1));
     } in
-    let failed : Type 0 = Rose (g.K.Sink.faults c.args.sink.now) (g.K.Sink.faults c.print_replies-status.new.sink) in
-    input_to durable left failed (seen old) c.args.input.now end.reads (g.K.Sink.written c.args.sink.now) (g.K.Sink.written c.print_replies-status.new.sink) (D.bytes c.close.result) state (output_of end) closed
-    end.stop c.print_replies-status.result (subst (λ text. PrintsReplies end.stop end.fault text c.print_replies-status.result failed (g.K.Sink.written c.args.sink.now) (g.K.Sink.written c.print_replies-status.new.sink)) c.items.ensures.items c.print_replies-status.ensures.prints) c.run_sessions-backend.ensures.ran c.run_sessions-backend.ensures.stop c.run_sessions-backend.ensures.goes_on.begins
+    let failed : Type 0 = Rose (g.K.Sink.faults c.args.sink.now) (g.K.Sink.faults c.print_run-status.new.sink) in
+    let prints = subst (λ start. Prints c.args.replies end.stop start (output_of end) c.print_run-status.result failed (g.K.Sink.written c.args.sink.now) (g.K.Sink.written c.print_run-status.new.sink)) c.run_sessions-backend.ensures.start c.print_run-status.ensures.prints in
+    input_to told left failed (seen old) c.args.input.now end.reads (g.K.Sink.written c.args.sink.now) (g.K.Sink.written c.print_run-status.new.sink) (D.bytes c.close.result) state (output_of end) closed
+    c.args.replies end.stop c.print_run-status.result prints c.run_sessions-backend.ensures.ran c.run_sessions-backend.ensures.stop c.run_sessions-backend.ensures.goes_on.begins
 
 pub returns-clause-disk : goal.returns-clause-disk
 returns-clause-disk g c =
@@ -47,7 +50,6 @@ returns-clause-disk g c =
     let new = end.backend in
     let old = c.args.store in
     let state : State = state_of D.faults D.moment new in
-    let failed : Type 0 = Rose (g.K.Sink.faults c.args.sink.now) (g.K.Sink.faults c.print_replies-status.new.sink) in
-    let prints = subst (λ text. PrintsReplies end.stop end.fault text c.print_replies-status.result failed (g.K.Sink.written c.args.sink.now) (g.K.Sink.written c.print_replies-status.new.sink)) c.items.ensures.items c.print_replies-status.ensures.prints in
-    subst (λ disk. CountedAfterWorkers c.print_replies-status.result (D.faults old.journal.disk) (D.faults disk)) (sym c.close.ensures.disk)
-    (counted_by end.stop end.fault end.text c.print_replies-status.result failed _ _ (state_of D.faults D.moment old) state prints c.run_sessions-backend.ensures.stop c.run_sessions-backend.ensures.goes_on)
+    let failed : Type 0 = Rose (g.K.Sink.faults c.args.sink.now) (g.K.Sink.faults c.print_run-status.new.sink) in
+    subst (λ disk. CountedAfterWorkers c.print_run-status.result (D.faults old.journal.disk) (D.faults disk)) (sym c.close.ensures.disk)
+    (counted_by c.args.replies end.stop end.start (output_of end) c.print_run-status.result failed _ _ (state_of D.faults D.moment old) state c.print_run-status.ensures.prints c.run_sessions-backend.ensures.stop c.run_sessions-backend.ensures.goes_on)

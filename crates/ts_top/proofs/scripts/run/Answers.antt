@@ -1,13 +1,13 @@
 -- Where a journal was opened its script is run.
 use Rattle.std.proofs.Common.{IfSome, refl, sym, subst}
-use Rattle.std.specs.Prelude.{IsSomeAnd}
+use Rattle.std.specs.Prelude.{IsSomeAnd, IsSome}
 use Rattle.ts_disk.specs.Disk.{Keeps}
 use Rattle.ts_io.specs.Faults.{Counted}
-use Rattle.ts_store.specs.Images.{HasHeader, IsDurable}
+use Rattle.ts_store.specs.Images.{HasHeader}
 use Rattle.ts_store.specs.Stands.{Stands}
 use Rattle.ts_store.specs.Stores.{seen}
 use Rattle.ts_top.specs.Endings.{is_disk_fault}
-use Rattle.ts_top.specs.Outcomes.{IfWentOn, Outside, RanTo}
+use Rattle.ts_top.specs.Outcomes.{IfWentOn, Outside, RanTo, LeftAfter}
 use Rattle.ts_top.proofs.OutcomeLaws.{if_known, ran_or_not}
 use Rattle.ts_top.proofs.OpeningLaws.{not_opened_header, not_opened_reads, not_opened_run, not_opened_writes}
 use Rattle.ts_top.proofs.scripts.run.Goals as goal
@@ -30,14 +30,14 @@ returns-in-Ok-clause-outcome g c =
     let end = c.run_lines.result in
     let o : Outside = record { input = S.left c.args.source.now; rest = S.left c.run_lines.new.source; written_before = K.written c.args.sink.now; written = K.written c.run_lines.new.sink; file_before = D.bytes c.args.disk; file = D.bytes end.disk; reads = end.reads } in
     let stood : IfSome (D.bytes c.args.disk) (λ file. Stands file (seen store)) = if_known (D.bytes c.args.disk) (λ file. Stands file (seen store)) c.in-Ok.ensures.stands in
-    ran_or_not end.status (IsDurable D.bytes D.may_leave c.args.disk) (D.left_since end.disk (D.moment c.args.disk)) _ _ _ o
-    (subst (λ b. RanTo end.status (IsDurable D.bytes D.may_leave b) (D.left_since end.disk (D.moment b)) ⊥ ⊥ ⊥ o) c.in-Ok.ensures.begun
+    ran_or_not end.status (IsSome (D.bytes c.args.disk)) (LeftAfter D.bytes D.may_leave D.moment D.left_since c.args.disk end.disk) _ _ _ o
+    (subst (λ b. RanTo end.status (IsSome (D.bytes b)) (LeftAfter D.bytes D.may_leave D.moment D.left_since b end.disk) ⊥ ⊥ ⊥ o) c.in-Ok.ensures.begun
     (c.run_lines.ensures.outcome (D.bytes c.args.disk) stood))
 
 pub returns-in-Ok-clause-header : goal.returns-in-Ok-clause-header
 returns-in-Ok-clause-header g c =
     let D = g.D.Disk in
-    subst (λ b. IfWentOn c.run_lines.result.status (IsDurable D.bytes D.may_leave b → IsSomeAnd (D.bytes c.run_lines.result.disk) HasHeader)) c.in-Ok.ensures.begun c.run_lines.ensures.header
+    subst (λ b. IfWentOn c.run_lines.result.status (IsSome (D.bytes b) → IsSomeAnd (D.bytes c.run_lines.result.disk) HasHeader)) c.in-Ok.ensures.begun c.run_lines.ensures.header
 
 pub returns-in-Ok-clause-reads : goal.returns-in-Ok-clause-reads
 returns-in-Ok-clause-reads g c = c.run_lines.ensures.reads
@@ -55,7 +55,7 @@ returns-in-Err-clause-outcome g c =
     let S = g.S.Source in
     let end = c.in-Err.ended in
     let o : Outside = record { input = S.left c.args.source.now; rest = S.left c.args.source.now; written_before = K.written c.args.sink.now; written = K.written c.args.sink.now; file_before = D.bytes c.args.disk; file = D.bytes end.disk; reads = end.reads } in
-    not_opened_run (IsDurable D.bytes D.may_leave c.args.disk) (D.left_since end.disk (D.moment c.args.disk)) o _ _ (Keeps D.bytes D.may_leave D.moment D.left_since c.args.disk end.disk) (refl, refl) end.status c.in-Err.ensures.ended
+    not_opened_run (IsSome (D.bytes c.args.disk)) (LeftAfter D.bytes D.may_leave D.moment D.left_since c.args.disk end.disk) o _ _ (Keeps D.bytes D.may_leave D.moment D.left_since c.args.disk end.disk) (refl, refl) end.status c.in-Err.ensures.ended
 
 pub returns-in-Err-clause-header : goal.returns-in-Err-clause-header
 returns-in-Err-clause-header g c = not_opened_header _ _ _ _ c.in-Err.ended.status _ _ c.in-Err.ensures.ended

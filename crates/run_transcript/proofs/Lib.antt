@@ -1,0 +1,5 @@
+pub mod MadeLaws
+pub mod TalkLaws
+pub mod ScriptLaws
+pub mod NameLaws
+pub mod SoundLaws
