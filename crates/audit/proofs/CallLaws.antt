@@ -1,0 +1,104 @@
+-- What calls come to at positions of a history.
+use Rattle.std.proofs.Common.{◌≡◌, ℕ, suc, ◌≤◌, Bool, true, false, cond, ◌==◌, Option, Some, None, sym, refl, ap, ◌∙◌, subst, arith, ne_eqb}
+use Rattle.std.specs.Prelude.{length, nat_lt, is_some, unwrap_or}
+use Rattle.std.proofs.lemmas.Bool.{cond-false, cond-true}
+use Rattle.ts_model.specs.declared.events.Event.{Event}
+use Rattle.ts_model.specs.declared.events.Event.TheVariants.{Table, Hyper, View, Mode, Commit, Cut, Built}
+use Rattle.ts_model.specs.declared.outcomes.Committed.{Committed}
+use Rattle.ts_model.specs.declared.outcomes.Refusal.{Refusal}
+use Rattle.ts_model.specs.declared.refreshes.Pending.{Pending}
+use Rattle.ts_model.specs.declared.refreshes.Pending.TheVariants.{Waiting, Finished, Unknown}
+use Rattle.ts_model.specs.Allowed.{allowed}
+use Rattle.ts_model.specs.Calls.{Act, committed, finish_of, history_full, makes, making, name_taken, new_relation, numbered, refusal, refuses, returns, too_many}
+use Rattle.ts_model.specs.History.{History, position}
+use Rattle.ts_model.specs.Limits.{most_relations}
+use Rattle.ts_model.specs.Pending.{pending}
+use Rattle.ts_model.specs.Roster.{hyper_of, is_taken, roster}
+use Rattle.ts_model.specs.Timely.{has_room}
+use Rattle.event_check.specs.Checks.{call_refusal, event_refusal, no_number, refusal_in}
+use Rattle.engine_core.specs.Acts.{making_event, unless, with_answer}
+use Rattle.engine_core.specs.Effects.{effect_of}
+use Rattle.engine_core.proofs.ActLaws.{free_where_allowed, room_where_free}
+use Rattle.ts_sessions.specs.Pasts.{CameTo}
+use Rattle.ts_sessions.specs.declared.pasts.Came.{Came}
+use Rattle.ts_sessions.specs.declared.pasts.Came.TheVariants.{Made, Returned, Refused, Otherwise}
+use Rattle.audit.specs.Calls.{came_as, numbered_only}
+
+-- ---- refusals have numbers
+
+-- a refusal, if there is one, has a number
+abbrev HasNumber : Option Refusal → Type 0
+HasNumber None = Unit {0}
+HasNumber (Some r) = r.code ≡ 0 → ⊥
+
+room_numbered : {A : Type 0} (h : History) (e : Event) (x : A) → HasNumber (refusal_in (making h e x))
+room_numbered h e x = elim (has_room h) as (λ t. HasNumber (refusal_in (cond t (makes e x) (refuses (refusal history_full h 0))))) [ true ↦ tt | false ↦ λ z. absurd (omega arith) ]
+
+relation_numbered : (h : History) (taken : Bool) (many : ℕ) (e : Event) → HasNumber (refusal_in (new_relation h taken many e))
+relation_numbered h true many e = λ z. absurd (omega arith)
+relation_numbered h false many e =
+    elim (nat_lt many most_relations) as (λ t. HasNumber (refusal_in (cond t (numbered h e) (refuses (refusal too_many h (suc most_relations)))))) [
+      | true ↦ room_numbered h e (suc (position h))
+      | false ↦ λ z. absurd (omega arith)
+    ]
+
+hyper_numbered : {X : Type 0} (h : History) (o : Option X) (e : Event) → HasNumber (refusal_in (cond (is_some o) (refuses (refusal name_taken h 0)) (numbered h e)))
+hyper_numbered h None e = room_numbered h e (suc (position h))
+hyper_numbered h (Some x) e = λ z. absurd (omega arith)
+
+finish_numbered : (h : History) (cut snap : ℕ) (p : Pending) → HasNumber (refusal_in (finish_of cut snap h p))
+finish_numbered h cut snap (Waiting n) = room_numbered h (Built cut snap) (suc (position h))
+finish_numbered h cut snap (Finished by) = λ z. absurd (omega arith)
+finish_numbered h cut snap Unknown = λ z. absurd (omega arith)
+
+call_numbered : (h : History) (e : Event) → HasNumber (call_refusal h e)
+call_numbered h (Table def) = relation_numbered h (is_taken (roster h) def.name) (length (roster h).tables) (Table def)
+call_numbered h (Hyper t hyper) = hyper_numbered h (hyper_of (roster h) t) (Hyper t hyper)
+call_numbered h (View def) = relation_numbered h (is_taken (roster h) def.name) (length (roster h).views) (View def)
+call_numbered h (Mode v only) = room_numbered h (Mode v only) (suc (position h))
+call_numbered h (Commit ops) = room_numbered h (Commit ops) (committed ops h)
+call_numbered h (Cut v span) = room_numbered h (Cut v span) (suc (position h))
+call_numbered h (Built cut snap) = finish_numbered h cut snap (pending h cut)
+
+by_call : (h : History) (o : Option Refusal) → HasNumber o → numbered_only (Some (unwrap_or o (refusal no_number h 0))) ≡ o
+by_call h None has = refl
+by_call h (Some r) has = cond-false (r.code == 0) None (Some r) (ne_eqb r.code 0 has)
+
+-- without its number an event is refused as its call is, and else where it isn't sound
+pub only_calls : (h : History) (e : Event) → numbered_only (event_refusal h e) ≡ call_refusal h e
+only_calls h e =
+    elim (allowed h e) as (λ t. allowed h e ≡ t → numbered_only (cond t None (Some (unwrap_or (call_refusal h e) (refusal no_number h 0)))) ≡ call_refusal h e) [
+      | true ↦ λ ok. sym (free_where_allowed h e ok)
+      | false ↦ λ _. by_call h (call_refusal h e) (call_numbered h e)
+    ] refl
+
+-- ---- events that are made
+
+act_free : (h : History) (e : Event) → call_refusal h e ≡ None → making_event e h ≡ makes e (effect_of h e)
+act_free h e free =
+    ap (λ o. unless o (making h e (effect_of h e))) free
+    ∙ cond-true (has_room h) (makes e (effect_of h e)) (refuses (refusal history_full h 0)) (room_where_free h e free)
+
+pub came_made : (h : History) (e : Event) (next : Option Event) (b : Committed) → call_refusal h e ≡ None → next ≡ Some e → b ≡ effect_of h e → CameTo (making_event e h) next (Made b)
+came_made h e next b free is does = subst (λ act. CameTo act next (Made b)) (sym (act_free h e free)) (is, does)
+
+pub came_otherwise : (h : History) (e : Event) (next : Option Event) → call_refusal h e ≡ None → (next ≡ Some e → ⊥) → CameTo (making_event e h) next Otherwise
+came_otherwise h e next free other = subst (λ act. CameTo act next Otherwise) (sym (act_free h e free)) other
+
+pub came_refused : (h : History) (e : Event) (next : Option Event) (r : Refusal) → call_refusal h e ≡ Some r → CameTo (making_event e h) next (Refused r)
+came_refused h e next r is = subst (λ act. CameTo act next (Refused r)) (sym (ap (λ o. unless o (making h e (effect_of h e))) is)) refl
+
+-- ---- with something else returned
+
+pub came_with : {A B : Type 0} (f : A → B) (act : Act A) (next : Option Event) (came : Came A) → CameTo act next came → CameTo (with_answer f act) next (came_as f came)
+came_with f (refuses r) next came is = ap (came_as f) is
+came_with f (returns a) next came is = ap (came_as f) is
+came_with f (makes e a) next (Made b) is = (is.0, ap f is.1)
+came_with f (makes e a) next (Returned b) is = absurd is
+came_with f (makes e a) next (Refused r) is = absurd is
+came_with f (makes e a) next Otherwise is = is
+
+-- a call whose act is that of an event, with something else returned
+pub came_to : {A B : Type 0} (f : A → B) (act : Act A) (whole : Act B) (next : Option Event) (came : Came A) (result : Came B) → whole ≡ with_answer f act → result ≡ came_as f came → CameTo act next came → CameTo whole next result
+came_to f act whole next came result act_is is c =
+    subst (λ r. CameTo whole next r) (sym is) (subst (λ a. CameTo a next (came_as f came)) (sym act_is) (came_with f act next came c))

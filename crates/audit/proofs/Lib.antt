@@ -1,0 +1,11 @@
+pub mod RetoldLaws
+pub mod LostLaws
+pub mod SameEvents
+pub mod CallLaws
+pub mod NameLaws
+pub mod PolicyLaws
+pub mod TellerLaws
+pub mod TalkLaws
+pub mod OneAnswer
+pub mod TheLaws
+pub mod RetellLaws

@@ -1,0 +1,15 @@
+use Rattle.std.proofs.Common.{suc}
+use Rattle.ts_model.specs.declared.events.Event.TheVariants.{Mode}
+use Rattle.ts_model.specs.Calls.{setting_mode}
+use Rattle.ts_model.specs.History.{event_at, prefix}
+use Rattle.engine_core.specs.Acts.{making_event}
+use Rattle.engine_core.specs.Histories.{history_of}
+use Rattle.engine_core.proofs.ActLaws.{answered_mode}
+use Rattle.audit.proofs.CallLaws.{came_to}
+use Rattle.audit.proofs.pasts.KnownPast.set_mode.Goals as goal
+
+pub returns : goal.returns
+returns c =
+    let all = history_of c.args.self.now.timeline.past in
+    let h = prefix all c.args.at in
+    came_to (λ e. e.pos) (making_event (Mode c.args.view c.args.only) h) (setting_mode c.args.view c.args.only h) (event_at all (suc c.args.at)) c.call.result c.numbered.result (answered_mode c.args.view c.args.only h) c.numbered.ensures c.call.ensures.came

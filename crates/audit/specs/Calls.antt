@@ -1,0 +1,17 @@
+-- What a call comes to at a position of a history.
+use Rattle.std.specs.Prelude.{◌==◌, cond, Option, Some, None}
+use Rattle.ts_model.specs.declared.outcomes.Refusal.{Refusal}
+use Rattle.ts_sessions.specs.declared.pasts.Came.{Came}
+use Rattle.ts_sessions.specs.declared.pasts.Came.TheVariants.{Made, Returned, Refused, Otherwise}
+
+-- a refusal that has a number
+abbrev pub numbered_only : Option Refusal → Option Refusal
+numbered_only None = None
+numbered_only (Some r) = cond (r.code == 0) None (Some r)
+
+-- the same, with something else as what is returned
+abbrev pub came_as : {A B : Type 0} → (A → B) → Came A → Came B
+came_as f (Made a) = Made (f a)
+came_as f (Returned a) = Returned (f a)
+came_as f (Refused r) = Refused r
+came_as f Otherwise = Otherwise

@@ -1,0 +1,9 @@
+pub mod Lines
+pub mod Short
+pub mod Explained
+pub mod Answers
+pub mod Retold
+pub mod Judged
+pub mod Calls
+pub mod Tellers
+pub mod Laws

@@ -1,0 +1,12 @@
+-- Lines that are no longer than a line may be.
+use Rattle.std.specs.Prelude.{◌≤◌, All, List, length}
+use Rattle.stmt_reader.specs.Limits.{longest_line}
+use Rattle.transcript.specs.declared.transcripts.Exchange.{Exchange}
+use Rattle.transcript.specs.declared.transcripts.Talk.{Talk}
+
+abbrev pub AreShort : List Exchange → Type 0
+AreShort exchanges = All (λ e. length e.line ≤ longest_line) exchanges
+
+-- so are the lines of all sessions
+abbrev pub AreShortTalks : List Talk → Type 0
+AreShortTalks talks = All (λ talk. AreShort talk.replies) talks

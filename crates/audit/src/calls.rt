@@ -1,0 +1,129 @@
+//! What a call that makes an event comes to at a position of a history.
+ghost use Rattle.std.specs.Prelude.{◌≡◌, ◌≤◌, suc, None};
+ghost use Rattle.event_check.specs.Checks.{PendingIs, call_refusal};
+ghost use Rattle.ts_model.specs.declared.outcomes.CutDone.TheVariants.{Cut as CutMade};
+ghost use Rattle.ts_model.specs.History.{event_at, position, prefix};
+ghost use Rattle.engine_core.specs.Acts.{making_event};
+ghost use Rattle.engine_core.specs.Histories.{history_of};
+ghost use Rattle.ts_sessions.specs.Pasts.{CameTo};
+ghost use Rattle.audit.specs.Calls.{came_as, numbered_only};
+
+use engine_core::Timeline;
+use event_check::refusal_of;
+use ts_bucket::Span;
+use ts_model::{Committed, CutDone, Event, Pending, Refusal};
+use ts_sessions::Came;
+
+/// The number of a refusal that no call answers.
+const NO_NUMBER: u8 = 0;
+
+/// What the call comes to that makes this event.
+pub(crate) fn call(timeline: &Timeline<'_>, at: u64, event: &Event) -> Came<Committed>
+    requires known { timeline.now.start ≤ at }
+    requires within { at ≤ position (history_of timeline.now.past) }
+    ensures came { CameTo (making_event event.now (prefix (history_of timeline.now.past) at))
+        (event_at (history_of timeline.now.past) (suc at)) result }
+{
+    match refusal_at(timeline, at, event) {
+        Some(refusal) => Came::Refused(refusal),
+        None => compared(timeline, at, event),
+    }
+}
+
+/// Why the call is refused that makes this event, if it is.
+fn refusal_at(timeline: &Timeline<'_>, at: u64, event: &Event) -> Option<Refusal>
+    requires known { timeline.now.start ≤ at }
+    requires within { at ≤ position (history_of timeline.now.past) }
+    ensures refusal { result ≡ call_refusal (prefix (history_of timeline.now.past) at) event.now }
+{
+    let roster = timeline.roster(at);
+    let pending = finished(timeline, at, event);
+    numbered_only(refusal_of(roster, pending, at, timeline.base(), event))
+}
+
+/// What had become of the refresh that an event finishes, at a position.
+fn finished(timeline: &Timeline<'_>, at: u64, event: &Event) -> Pending
+    requires known { timeline.now.start ≤ at }
+    requires within { at ≤ position (history_of timeline.now.past) }
+    ensures pending { PendingIs (prefix (history_of timeline.now.past) at) event.now result }
+{
+    match event {
+        Event::Built { cut, .. } => timeline.pending(at, *cut),
+        Event::Table(_) => Pending::Unknown,
+        Event::Hyper { .. } => Pending::Unknown,
+        Event::View(_) => Pending::Unknown,
+        Event::Mode { .. } => Pending::Unknown,
+        Event::Commit(_) => Pending::Unknown,
+        Event::Cut { .. } => Pending::Unknown,
+    }
+}
+
+/// A refusal that has a number.
+fn numbered_only(refusal: Option<Refusal>) -> Option<Refusal>
+    ensures { result ≡ numbered_only refusal }
+{
+    match refusal {
+        Some(refusal) => {
+            if refusal.code == NO_NUMBER {
+                None
+            } else {
+                Some(refusal)
+            }
+        }
+        None => None,
+    }
+}
+
+/// Whether an event that no call refuses is the one that comes next, and what that does.
+fn compared(timeline: &Timeline<'_>, at: u64, event: &Event) -> Came<Committed>
+    requires known { timeline.now.start ≤ at }
+    requires within { at ≤ position (history_of timeline.now.past) }
+    requires free { call_refusal (prefix (history_of timeline.now.past) at) event.now ≡ None }
+    ensures came { CameTo (making_event event.now (prefix (history_of timeline.now.past) at))
+        (event_at (history_of timeline.now.past) (suc at)) result }
+{
+    match timeline.event_after(at) {
+        Some(next) => {
+            if *next == *event {
+                Came::Made(timeline.effect_after(at))
+            } else {
+                Came::Otherwise
+            }
+        }
+        None => Came::Otherwise,
+    }
+}
+
+/// The same, with the event's number alone.
+pub(crate) fn numbered(came: Came<Committed>) -> Came<u64>
+    ensures { result ≡ came_as (λ c. c.pos) came }
+{
+    match came {
+        Came::Made(effect) => Came::Made(effect.pos),
+        Came::Returned(effect) => Came::Returned(effect.pos),
+        Came::Refused(refusal) => Came::Refused(refusal),
+        Came::Otherwise => Came::Otherwise,
+    }
+}
+
+/// The same, with a cut over this span.
+pub(crate) fn cut_over(came: Came<Committed>, span: Span) -> Came<CutDone>
+    ensures { result ≡ came_as (λ c. CutMade c.pos span) came }
+{
+    match came {
+        Came::Made(effect) => Came::Made(cut_made(effect, span)),
+        Came::Returned(effect) => Came::Returned(cut_made(effect, span)),
+        Came::Refused(refusal) => Came::Refused(refusal),
+        Came::Otherwise => Came::Otherwise,
+    }
+}
+
+/// A cut by an event that did this.
+fn cut_made(effect: Committed, span: Span) -> CutDone
+    ensures { result ≡ CutMade effect.pos span }
+{
+    CutDone::Cut {
+        pos: effect.pos,
+        span,
+    }
+}

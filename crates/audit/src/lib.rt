@@ -1,0 +1,27 @@
+//! The audit of a parallel run: whether the one history that it left explains what every session was
+//! replied, by the transcript of the run.
+//!
+//! - `answers`: what an audit answers.
+//! - `audits`: the audit.
+//! - `lines`: the lines of a transcript, as sessions execute them, and the first that asks for policies.
+//! - `pasts`: a history as the past of a store, with its states at each position from one on.
+//! - `calls`: what a call comes to at a position of it.
+//! - `sessions`: the replies of one session, judged one after the other.
+//! - `talks`: those of all sessions.
+//! - `numbers`: whether the numbers that replies name are the positions after the start, each once.
+//! - `laws`: laws of audits, in clauses of functions that do nothing.
+#![tactic(auto)]
+
+mod answers;
+mod audits;
+mod calls;
+pub mod laws;
+mod lines;
+mod numbers;
+mod pasts;
+mod sessions;
+mod talks;
+
+pub use answers::Audit;
+pub use audits::audit;
+pub use lines::Place;

@@ -1,0 +1,188 @@
+//! The replies of one session, judged one after the other over a past.
+ghost use Rattle.std.specs.Prelude.{◌≡◌, ◌≤◌, ℕ, [], length, IfOk, IsTrue};
+ghost use Rattle.std.specs.Thread.{IsSync};
+ghost use Rattle.ts_model.specs.Allowed.{all_allowed};
+ghost use Rattle.ts_model.specs.History.{History, base_position, position};
+ghost use Rattle.stmt_reader.specs.Limits.{longest_line};
+ghost use Rattle.transcript.specs.Shape.{is_sound_talk};
+ghost use Rattle.ts_sessions.specs.Held.{HoldsOf, places_in};
+ghost use Rattle.ts_sessions.specs.Places.{no_places};
+ghost use Rattle.ts_sessions.specs.Telling.{state_of};
+ghost use Rattle.audit.specs.Judged.{JudgesTalk};
+ghost use Rattle.audit.specs.Short.{AreShort};
+ghost use Rattle.audit.specs.Tellers.{GoesBehind, IsAt, RetellsTo};
+
+use crate::lines::line_of;
+use reply_looks::looks_told_by;
+use std::alloc::Global;
+use std::thread::Threads;
+use transcript::{Exchange, Talk};
+use ts_model::Shown;
+use ts_schema::{Name, NoMemory, Seq, Steps};
+use ts_sessions::{Past, Session, ToldLine};
+
+/// The most bytes whose operations may wait for the end of a block.
+const MOST_QUEUED: u64 = 67_108_864;
+
+/// What is told of the replies of one session.
+#[derive(Drop)]
+pub(crate) enum JudgedTalk {
+    /// They are explained, and name events with these numbers.
+    Explained(Seq<u64>),
+    /// So many of them are, and the next one isn't.
+    Unexplained(u64),
+}
+
+/// A session whose replies are judged, as far as it has come.
+#[derive(Drop)]
+struct Teller<T: Shown>
+where
+    T::Job: Drop,
+{
+    /// The session.
+    session: Session<T>,
+    /// The position of its last look or event.
+    at: u64,
+    /// The numbers of the events that its replies name.
+    named: Vec<u64>,
+}
+
+/// Judges the replies of a session over a past, whose first look is at `start` or later.
+pub(crate) fn judge_talk<R: Threads + Sync, P: Past, L>(
+    rt: &R,
+    alloc: Global,
+    past: &P,
+    start: u64,
+    talk: &Talk,
+    steps: &mut Steps<L>,
+) -> Result<JudgedTalk, NoMemory>
+where
+    <P::Shot as Shown>::Job: Drop,
+    requires sync { IsSync R.row }
+    requires sound { IsTrue (is_sound_talk talk.now) }
+    requires allowed { IsTrue (all_allowed (P.all past.now)) }
+    requires known { P.from past.now ≤ start }
+    requires based { base_position (P.all past.now) ≤ start }
+    requires within { start ≤ position (P.all past.now) }
+    ensures judged { IfOk result (JudgesTalk (P.all past.now) start talk.now) }
+{
+    let teller = Teller::new(alloc, name_of(alloc, talk)?, start);
+    teller.retell_all(rt, alloc, past, talk.replies.items(), steps)
+}
+
+/// The name of a session.
+fn name_of(alloc: Global, talk: &Talk) -> Result<Name, NoMemory>
+    requires sound { IsTrue (is_sound_talk talk.now) }
+    ensures name { IfOk result (λ name. name ≡ talk.now.name) }
+{
+    match Name::read(alloc, talk.name.items())? {
+        Some(name) => Ok(name),
+        None => unreachable!(),
+    }
+}
+
+impl<T: Shown + Drop> Teller<T>
+where
+    T::Job: Drop,
+{
+    /// A session before its first line.
+    fn new(alloc: Global, name: Name, start: u64) -> Teller<T>
+        ensures name { result.session.name ≡ name }
+        ensures places { places_in result.session ≡ no_places }
+        ensures at { result.at ≡ start }
+        ensures none { result.named.items ≡ [] }
+        ensures holds { (all : History) → HoldsOf T.Shown result.session (state_of all) }
+    {
+        Teller {
+            session: Session::new(alloc, name, 0),
+            at: start,
+            named: Vec::new(alloc),
+        }
+    }
+
+    /// Judges the replies of a session that has had no line yet.
+    fn retell_all<R: Threads + Sync, P: Past<Shot = T>, L>(
+        self,
+        rt: &R,
+        alloc: Global,
+        past: &P,
+        exchanges: &[Exchange],
+        steps: &mut Steps<L>,
+    ) -> Result<JudgedTalk, NoMemory>
+        requires sync { IsSync R.row }
+        requires short { AreShort exchanges.now }
+        requires allowed { IsTrue (all_allowed (P.all past.now)) }
+        requires known { P.from past.now ≤ self.at }
+        requires based { base_position (P.all past.now) ≤ self.at }
+        requires within { self.at ≤ position (P.all past.now) }
+        requires holds { HoldsOf T.Shown self.session (state_of (P.all past.now)) }
+        requires fresh { places_in self.session ≡ no_places }
+        requires unnamed { self.named.items ≡ [] }
+        ensures judged { IfOk result (JudgesTalk (P.all past.now) self.at
+            (record { name = self.session.name; replies = exchanges.now })) }
+    {
+        let mut teller = self;
+        for (place, exchange) in exchanges.iter().enumerate() {
+            if !teller.retell(rt, alloc, past, exchange, steps)? {
+                return Ok(JudgedTalk::Unexplained(place as u64));
+            }
+        }
+        Ok(JudgedTalk::Explained(Seq::of(teller.named)))
+    }
+
+    /// Judges one more reply. Where it isn't explained, the session may be any.
+    fn retell<R: Threads + Sync, P: Past<Shot = T>, L>(
+        &mut self,
+        rt: &R,
+        alloc: Global,
+        past: &P,
+        exchange: &Exchange,
+        steps: &mut Steps<L>,
+    ) -> Result<bool, NoMemory>
+        requires sync { IsSync R.row }
+        requires short { length exchange.now.line ≤ longest_line }
+        requires allowed { IsTrue (all_allowed (P.all past.now)) }
+        requires known { P.from past.now ≤ self.old.at }
+        requires based { base_position (P.all past.now) ≤ self.old.at }
+        requires within { self.old.at ≤ position (P.all past.now) }
+        requires holds { HoldsOf T.Shown self.old.session (state_of (P.all past.now)) }
+        ensures retold { IfOk result (λ told. RetellsTo (P.all past.now) exchange.now self.old told self.new) }
+        ensures at { (start : ℕ) → IsAt T.Shown (P.all past.now) start self.old.session.name self.old
+            → IfOk result (λ told. IsTrue told → IsAt T.Shown (P.all past.now) start self.old.session.name self.new) }
+    {
+        let line = line_of(exchange);
+        let bytes = line.text.len() as u64;
+        if self.session.queued() > MOST_QUEUED - bytes {
+            return Err(NoMemory);
+        }
+        let reply = exchange.reply.items();
+        let looks = looks_told_by(alloc, self.session.name.bytes(), reply)?;
+        let told = self.session.tell(
+            rt,
+            alloc,
+            past,
+            self.at,
+            looks.as_slice(),
+            line.text,
+            line.skip,
+            steps,
+        )?;
+        match told {
+            Some(told) => self.follow(told, reply),
+            None => Ok(false),
+        }
+    }
+
+    /// Goes on behind a line that came to this, where its text is the reply.
+    fn follow(&mut self, told: ToldLine, reply: &[u8]) -> Result<bool, NoMemory>
+        ensures behind { IfOk result (λ same. GoesBehind told reply.now self.old same self.new) }
+        ensures session { self.new.session ≡ self.old.session }
+    {
+        if told.reply.text.items() != reply {
+            return Ok(false);
+        }
+        self.named.extend_from_slice(told.reply.events.items())?;
+        self.at = told.last;
+        Ok(true)
+    }
+}
