@@ -9,13 +9,14 @@ use Rattle.ts_model.specs.declared.outcomes.Refusal.{Refusal}
 use Rattle.ts_model.specs.declared.refreshes.Pending.{Pending}
 use Rattle.ts_model.specs.declared.refreshes.Pending.TheVariants.{Waiting, Finished, Unknown}
 use Rattle.ts_model.specs.Allowed.{allowed}
-use Rattle.ts_model.specs.Calls.{Act, committed, finish_of, history_full, makes, making, name_taken, new_relation, numbered, refusal, refuses, returns, too_many}
+use Rattle.ts_model.specs.Calls.{Act, committed, finish_of, makes, making, new_relation, numbered, refusal, refuses, returns}
+use Rattle.ts_model.specs.Numbers.{no_number, name_taken, too_many, history_full}
 use Rattle.ts_model.specs.History.{History, position}
 use Rattle.ts_model.specs.Limits.{most_relations}
 use Rattle.ts_model.specs.Pending.{pending}
 use Rattle.ts_model.specs.Roster.{hyper_of, is_taken, roster}
 use Rattle.ts_model.specs.Timely.{has_room}
-use Rattle.event_check.specs.Checks.{call_refusal, event_refusal, no_number, refusal_in}
+use Rattle.event_check.specs.Checks.{call_refusal, event_refusal, refusal_in}
 use Rattle.engine_core.specs.Acts.{making_event, unless, with_answer}
 use Rattle.engine_core.specs.Effects.{effect_of}
 use Rattle.engine_core.proofs.ActLaws.{free_where_allowed, room_where_free}

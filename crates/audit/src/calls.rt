@@ -11,11 +11,9 @@ ghost use Rattle.audit.specs.Calls.{came_as, numbered_only};
 use engine_core::Timeline;
 use event_check::refusal_of;
 use ts_bucket::Span;
+use ts_model::codes::NO_NUMBER;
 use ts_model::{Committed, CutDone, Event, Pending, Refusal};
 use ts_sessions::Came;
-
-/// The number of a refusal that no call answers.
-const NO_NUMBER: u8 = 0;
 
 /// What the call comes to that makes this event.
 pub(crate) fn call(timeline: &Timeline<'_>, at: u64, event: &Event) -> Came<Committed>

@@ -11,10 +11,8 @@ use crate::held::{rows_are_held, table_is_marked};
 use crate::ranges::{dirty_are_fit, lasts_are_fit, mark_is_fit};
 use crate::sums::{groups_are_below, groups_are_fit};
 use crate::waits::{finishes_are_fit, waits_are_fit};
+use ts_model::limits::LAST_POSITION;
 use ts_model::{Event, Image, Roster, SavedView, ViewDef};
-
-/// The greatest position.
-const LAST_POSITION: u64 = 4_611_686_018_427_387_904;
 
 /// Whether this may be kept of an aggregate at a position, where these commits hold the rows.
 #[tactic(auto, using(crate::proofs::Covering::lasts_rising, crate::proofs::Covering::dirty_rising))]

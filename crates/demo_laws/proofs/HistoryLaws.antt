@@ -6,7 +6,8 @@ use Rattle.ts_schema.specs.declared.rows.Row.{Row}
 use Rattle.ts_model.specs.declared.events.Event.{Event}
 use Rattle.ts_model.specs.declared.events.Event.TheVariants.{Commit}
 use Rattle.ts_model.specs.declared.events.Op.TheVariants.{Insert}
-use Rattle.ts_model.specs.Calls.{makes, making, refuses, refusal, history_full}
+use Rattle.ts_model.specs.Calls.{makes, making, refuses, refusal}
+use Rattle.ts_model.specs.Numbers.{history_full}
 use Rattle.ts_model.specs.History.{History, ◌▸◌, position}
 use Rattle.ts_model.specs.Limits.{last_position}
 use Rattle.ts_model.specs.Reads.{inserted}

@@ -28,8 +28,9 @@ use Rattle.ts_bucket.specs.Bucket.{is_time}
 use Rattle.ts_model.specs.Laws.{SoundCut}
 use Rattle.ts_model.proofs.AllowedLaws.{consistent_of}
 use Rattle.ts_model.proofs.MadeLaws.{calls_make_allowed}
-use Rattle.ts_model.specs.Calls.{refuses, makes, history_full, committed, making, numbered, new_relation, refusal, name_taken, too_many, finish_of, making_table, making_hyper, making_view, setting_mode, finishing, cutting, cut_of_view, cut_over}
-use Rattle.event_check.specs.Checks.{refusal_in, call_refusal, event_refusal, no_number}
+use Rattle.ts_model.specs.Calls.{refuses, makes, committed, making, numbered, new_relation, refusal, finish_of, making_table, making_hyper, making_view, setting_mode, finishing, cutting, cut_of_view, cut_over}
+use Rattle.ts_model.specs.Numbers.{no_number, name_taken, too_many, history_full}
+use Rattle.event_check.specs.Checks.{refusal_in, call_refusal, event_refusal}
 use Rattle.engine_core.specs.Acts.{unless, making_event, with_answer}
 use Rattle.engine_core.specs.Effects.{moves_none}
 

@@ -8,7 +8,8 @@ use Rattle.ts_model.specs.declared.outcomes.Outcome.TheVariants.{Done, DiskFault
 use Rattle.ts_model.specs.declared.outcomes.Refusal.{Refusal}
 use Rattle.ts_model.specs.History.{History, ◌▸◌, same}
 use Rattle.ts_model.specs.States.{State, Found, Keeps, Makes}
-use Rattle.ts_model.specs.Calls.{Act, history_full, refusal, makes, making, refuses, returns, Answered, Called, Looked}
+use Rattle.ts_model.specs.Calls.{Act, refusal, makes, making, refuses, returns, Answered, Called, Looked}
+use Rattle.ts_model.specs.Numbers.{history_full}
 use Rattle.ts_model.specs.Timely.{has_room}
 use Rattle.ts_model.proofs.HistoryLaws.{followed_push}
 use Rattle.engine_core.proofs.ActLaws.{room_where_free}

@@ -9,9 +9,10 @@ ghost use Rattle.ts_model.specs.Allowed.{all_allowed, allowed};
 ghost use Rattle.ts_model.specs.History.{History, base_position, event_at, position};
 ghost use Rattle.ts_model.specs.Pending.{waiting};
 ghost use Rattle.ts_model.specs.Roster.{roster, view_of};
+ghost use Rattle.ts_model.specs.Sound.{sound};
 ghost use Rattle.ts_model.specs.Valid.{valid};
 ghost use Rattle.ts_model.specs.Windows.{window};
-ghost use Rattle.event_check.specs.Checks.{PendingIs, event_refusal};
+ghost use Rattle.event_check.specs.Checks.{PendingIs, call_refusal, event_refusal};
 ghost use Rattle.engine_state.specs.Refolding.{rows_refolded};
 ghost use Rattle.engine_state.specs.Stands.{StandsFor};
 ghost use Rattle.engine_state.specs.Afters.{IsNext};
@@ -22,7 +23,7 @@ ghost use Rattle.engine_core.specs.Histories.{begun_by, history_of, past_from, w
 use crate::prepared::Prepared;
 use crate::shots::Shot;
 use engine_state::State;
-use event_check::refusal_of;
+use event_check::{call_refusal, refusal_of};
 use refresh_build::Job;
 use std::alloc::Global;
 use std::marker::Model;
@@ -120,6 +121,14 @@ fn prepared_for(
     Ok(Prepared::of(event, made, after.inserted, after.removed))
 }
 
+/// Why the call that makes an event is refused.
+fn next_call_refusal(state: &State, event: &Event) -> Option<Refusal>
+    ensures { (h : History) → StandsFor h state.now → result ≡ call_refusal h event.now }
+{
+    let pending = finished(state, event);
+    call_refusal(state.roster(), pending, state.position(), event)
+}
+
 impl Engine {
     /// The engine of the empty history.
     pub fn new(alloc: Global) -> Result<Engine, NoMemory>
@@ -199,6 +208,20 @@ impl Engine {
             event_refusal (history_of self.now.past) event.now ≡ Some refusal) }
     {
         match next_refusal(&self.state, begun_at(&self.base), event) {
+            None => Ok(()),
+            Some(refusal) => Err(refusal),
+        }
+    }
+
+    /// Whether a sound event is allowed next, and else why the call that makes it is refused: as `check`
+    /// answers of such an event, without a look at its rows.
+    pub fn check_sound(&self, event: &Event) -> Result<(), Refusal>
+        requires sound { IsTrue (sound (history_of self.now.past) event.now) }
+        ensures allowed { IfOk result (λ _. IsTrue (allowed (history_of self.now.past) event.now)) }
+        ensures refused { IfErr result (λ refusal.
+            call_refusal (history_of self.now.past) event.now ≡ Some refusal) }
+    {
+        match next_call_refusal(&self.state, event) {
             None => Ok(()),
             Some(refusal) => Err(refusal),
         }

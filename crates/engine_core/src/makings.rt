@@ -6,6 +6,7 @@ ghost use Rattle.ts_model.specs.declared.events.Event.TheVariants.{Commit, Hyper
 ghost use Rattle.ts_model.specs.declared.outcomes.CutDone.TheVariants.{Cut as CutMade};
 ghost use Rattle.ts_model.specs.Allowed.{allowed};
 ghost use Rattle.ts_model.specs.Calls.{committing, cutting, finishing, making_hyper, making_table, making_view, refusal, setting_mode};
+ghost use Rattle.ts_model.specs.Numbers.{no_bucket};
 ghost use Rattle.ts_model.specs.Roster.{roster, view_of};
 ghost use Rattle.ts_model.specs.Sound.{sound};
 ghost use Rattle.refresh_build.specs.Fitting.{JobFits, JobIsFor};
@@ -16,11 +17,9 @@ ghost use Rattle.engine_core.specs.Stores.{Does};
 use crate::engines::Engine;
 use refresh_build::Job;
 use ts_bucket::Span;
+use ts_model::codes::NO_BUCKET;
 use ts_model::{Committed, CutDone, Event, Hyper, Op, Outcome, Refusal, TableDef, ViewDef, Window};
 use ts_schema::Seq;
-
-/// No bucket lies whole in a window with a given end.
-const NO_BUCKET: u8 = 15;
 
 /// Makes an event that is allowed next, and answers what it does.
 fn made(engine: &mut Engine, event: Event, job: Option<Job>) -> Outcome<Committed>
@@ -44,7 +43,7 @@ fn make(engine: &mut Engine, event: Event, job: Option<Job>) -> Outcome<Committe
     requires job { JobIsFor (history_of engine.old.past) event job }
     ensures { Does (making_event event) engine.old.past result engine.new.past }
 {
-    match engine.check(&event) {
+    match engine.check_sound(&event) {
         Err(refusal) => Outcome::Refused(refusal),
         Ok(()) => made(engine, event, job),
     }
@@ -79,7 +78,7 @@ pub fn cut_over(outcome: Outcome<Committed>, span: Span) -> Outcome<CutDone>
 
 /// A refusal of a window without a whole bucket.
 pub fn no_bucket(engine: &Engine) -> Refusal
-    ensures { result ≡ refusal 15 (history_of engine.now.past) 0 }
+    ensures { result ≡ refusal no_bucket (history_of engine.now.past) 0 }
 {
     Refusal {
         code: NO_BUCKET,

@@ -16,7 +16,7 @@ use Rattle.ts_model.specs.Rows.{in_order}
 use Rattle.ts_model.proofs.RowLaws.{filter-in_order}
 use Rattle.chunk_catalog.specs.Chunks.{HoldsTimes}
 use Rattle.realtime_union.specs.Whole.{passing}
-use Rattle.span_fold.specs.Spans.{HaveTimes}
+use Rattle.group_fold.specs.Spans.{HaveTimes}
 
 -- a filter after another is one by both
 pub filter_both : {X : Type 0} (p q r : X → Bool) (xs : List X) → ((x : X) → r x ≡ (p x && q x)) → filter r xs ≡ filter p (filter q xs)

@@ -53,7 +53,7 @@ use Rattle.ts_model.proofs.RowLaws.{filter-in_order, in_order-twice, all-in_orde
 use Rattle.ts_model.proofs.SoundLaws.{view_width}
 use Rattle.group_fold.proofs.BucketGroups.{order_plays_no_part}
 use Rattle.group_fold.specs.Laws.{end_of_last}
-use Rattle.span_fold.specs.Spans.{HaveTimes, near_each}
+use Rattle.group_fold.specs.Spans.{HaveTimes, near_each}
 use Rattle.refresh_build.specs.declared.jobs.Job.{Job}
 use Rattle.refresh_build.specs.declared.jobs.Refresh.{Refresh}
 use Rattle.refresh_build.specs.Fitting.{FitsView, IsJobOf, JobFits}

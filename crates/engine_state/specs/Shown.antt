@@ -21,7 +21,7 @@ use Rattle.ts_model.specs.Roster.{roster, hyper_of, view_of}
 use Rattle.ts_model.specs.Answers.{buckets_in}
 use Rattle.ts_model.specs.Reads.{inserted, rows_near}
 use Rattle.ts_model.specs.Rows.{in_order, rows}
-use Rattle.span_fold.specs.Spans.{HaveTimes}
+use Rattle.group_fold.specs.Spans.{HaveTimes}
 use Rattle.realtime_union.specs.Laws.{ChunksAreNear}
 use Rattle.realtime_union.specs.Live.{union_rows}
 use Rattle.engine_state.specs.Scans.{seen_rows, stored_rows}

@@ -13,7 +13,7 @@ ghost use Rattle.ts_model.specs.Reads.{reads};
 ghost use Rattle.ts_model.specs.Roster.{hyper_of, roster, view_of};
 ghost use Rattle.ts_model.specs.Rows.{in_order};
 ghost use Rattle.ts_model.specs.Scratch.{fold_rows};
-ghost use Rattle.span_fold.specs.Spans.{HaveTimes};
+ghost use Rattle.group_fold.specs.Spans.{HaveTimes};
 ghost use Rattle.realtime_union.specs.Laws.{ChunksAreNear};
 ghost use Rattle.realtime_union.specs.Live.{union_rows};
 ghost use Rattle.realtime_union.specs.Whole.{passing};

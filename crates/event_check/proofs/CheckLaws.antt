@@ -14,8 +14,9 @@ use Rattle.ts_model.specs.Limits.{most_relations, last_position}
 use Rattle.ts_model.specs.Sound.{sound}
 use Rattle.ts_model.specs.Timely.{has_room, timely}
 use Rattle.ts_model.specs.Allowed.{allowed}
-use Rattle.ts_model.specs.Calls.{making, makes, committed, numbered, new_relation, refuses, refusal, finish_of, history_full, name_taken}
-use Rattle.event_check.specs.Checks.{refusal_in, call_refusal, event_refusal, no_number, IsAt, PendingIs, refused, room_refusal, relation_refusal, hyper_refusal, finish_refusal, refusal_by, sound_by}
+use Rattle.ts_model.specs.Calls.{making, makes, committed, numbered, new_relation, refuses, refusal, finish_of}
+use Rattle.ts_model.specs.Numbers.{no_number, name_taken, history_full}
+use Rattle.event_check.specs.Checks.{refusal_in, call_refusal, event_refusal, IsAt, PendingIs, refused, room_refusal, relation_refusal, hyper_refusal, finish_refusal, refusal_by, sound_by}
 
 -- ---- refusals of calls
 
@@ -47,6 +48,10 @@ refusal_at h (Mode v only) p is = room_is h (Mode v only) (suc (position h))
 refusal_at h (Commit ops) p is = room_is h (Commit ops) (committed ops h)
 refusal_at h (Cut v span) p is = room_is h (Cut v span) (suc (position h))
 refusal_at h (Built cut snap) p is = ap (λ q. finish_refusal q (position h)) is ∙ finish_is h cut snap (pending h cut)
+
+-- what refuses the call of an event, by what is looked at, refuses it at the history
+pub refused_as_call : (h : History) (e : Event) (r : Roster) (p : Pending) (at base : ℕ) (found : Option Refusal) → IsAt h e r p at base → found ≡ refusal_by r p at e → found ≡ call_refusal h e
+refused_as_call h e r p at base found is told = told ∙ (λ i. refusal_by (is.roster_is i) p (is.position_is i) e) ∙ refusal_at h e p is.pending_is
 
 -- ---- an event is timely exactly where no call refuses it
 

@@ -13,7 +13,8 @@ use Rattle.ts_model.specs.Limits.{most_relations, last_position, bytes_limit}
 use Rattle.ts_model.specs.Bytes.{event_bytes}
 use Rattle.ts_model.specs.Sound.{sound_in}
 use Rattle.ts_model.specs.Allowed.{allowed}
-use Rattle.ts_model.specs.Calls.{Act, refuses, returns, makes, making_table, making_hyper, making_view, setting_mode, committing, numbered, finishing, history_full, refusal, name_taken, too_many, no_refresh}
+use Rattle.ts_model.specs.Calls.{Act, refuses, returns, makes, making_table, making_hyper, making_view, setting_mode, committing, numbered, finishing, refusal}
+use Rattle.ts_model.specs.Numbers.{no_number, name_taken, no_refresh, too_many, history_full}
 
 -- ---- why an event isn't allowed next
 
@@ -33,10 +34,6 @@ call_refusal h (Mode v only) = refusal_in (setting_mode v only h)
 call_refusal h (Commit ops) = refusal_in (committing ops h)
 call_refusal h (Cut v span) = refusal_in (numbered h (Cut v span))
 call_refusal h (Built cut snap) = refusal_in (finishing cut snap h)
-
--- the number of a refusal that has none
-abbrev pub no_number : ℕ
-no_number = 0
 
 -- why an event isn't allowed next, if it isn't: as the call that makes it is refused, and else without a number
 abbrev pub event_refusal : History → Event → Option Refusal

@@ -5,14 +5,9 @@ ghost use Rattle.ts_model.specs.Roster.{same_name};
 ghost use Rattle.ts_model.specs.Sound.{are_names, columns_fit, hyper_fits};
 
 use crate::laws::name_law;
+use ts_model::limits::{MOST_COLUMNS, MOST_INTERVAL};
 use ts_model::{Hyper, TableInfo};
 use ts_schema::{Column, Name, Seq};
-
-/// The most columns of a table, and of an output.
-pub(crate) const MOST_COLUMNS: usize = 16;
-
-/// The longest interval.
-const MOST_INTERVAL: i64 = 1_125_899_906_842_624;
 
 /// Whether this is one of these names.
 fn is_one_of(name: &Name, names: &[Name]) -> bool

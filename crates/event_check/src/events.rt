@@ -7,7 +7,8 @@ ghost use Rattle.ts_model.specs.Sound.{columns_fit, sound_in};
 ghost use Rattle.ts_model.specs.Timely.{timely_in};
 ghost use Rattle.ts_model.specs.Valid.{may_follow};
 ghost use Rattle.ts_schema.specs.Names.{is_name};
-ghost use Rattle.event_check.specs.Checks.{IsAt, event_refusal, finish_refusal, fits_by, hyper_refusal, no_number, refusal_by, refused, relation_refusal, room_refusal, sound_by};
+ghost use Rattle.event_check.specs.Checks.{IsAt, event_refusal, finish_refusal, fits_by, hyper_refusal, refusal_by, refused, relation_refusal, room_refusal, sound_by};
+ghost use Rattle.ts_model.specs.Numbers.{no_number};
 
 use crate::bytes::bytes_of;
 use crate::columns::{columns_are_fit, hyper_is_fit};
@@ -16,28 +17,9 @@ use crate::folds::view_is_fit_in;
 use crate::laws::name_law;
 use crate::operations::ops_are_fit;
 use crate::relations::{hyper_in, is_named, table_in, view_in};
+use ts_model::codes::{HISTORY_FULL, NAME_TAKEN, NO_NUMBER, NO_REFRESH, TOO_MANY};
+use ts_model::limits::{LAST_POSITION, MOST_RELATIONS};
 use ts_model::{Event, Pending, Refusal, Roster, TableDef};
-
-/// The number of a refusal that has none.
-const NO_NUMBER: u8 = 0;
-
-/// A name is taken, or a table is a hypertable.
-const NAME_TAKEN: u8 = 7;
-
-/// No refresh of this number waits.
-const NO_REFRESH: u8 = 19;
-
-/// There are as many as there may be.
-const TOO_MANY: u8 = 21;
-
-/// The history is at its end.
-const HISTORY_FULL: u8 = 30;
-
-/// No event comes after this position.
-const LAST_POSITION: u64 = 4_611_686_018_427_387_904;
-
-/// The most tables, and the most aggregates.
-const MOST_RELATIONS: usize = 64;
 
 /// An event takes fewer bytes than this.
 const BYTES_LIMIT: u64 = 4_294_967_296;
@@ -95,8 +77,17 @@ fn finish_refusal(pending: Pending, position: u64) -> Option<Refusal>
     }
 }
 
-/// Why the call that makes this event is refused.
-fn call_refusal(roster: &Roster, pending: Pending, position: u64, event: &Event) -> Option<Refusal>
+/// Why the call of a store that makes this event is refused at a history with this roster and position, if
+/// it is: as `E07`, `E21`, `E19` or `E30`. The rows and the tests of an event aren't looked at.
+///
+/// `pending` is what became of the refresh that the event finishes. At an event that finishes none it
+/// plays no part.
+pub fn call_refusal(
+    roster: &Roster,
+    pending: Pending,
+    position: u64,
+    event: &Event,
+) -> Option<Refusal>
     ensures { result ≡ refusal_by roster.now pending position event.now }
 {
     match event {

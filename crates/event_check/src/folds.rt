@@ -5,9 +5,10 @@ ghost use Rattle.event_check.specs.Outputs.{outputs_fit};
 ghost use Rattle.ts_model.specs.Roster.{of_table};
 ghost use Rattle.ts_model.specs.Sound.{agg_fits, fold_fits, is_count_all, view_fits};
 
-use crate::columns::{MOST_COLUMNS, names_apart};
+use crate::columns::names_apart;
 use crate::conditions::tests_are_fit;
 use crate::laws::{name_law, width_law};
+use ts_model::limits::MOST_COLUMNS;
 use ts_model::{Agg, Fold, Hyper, TableDef, TableInfo, ViewDef};
 use ts_num::Fun;
 use ts_schema::Seq;

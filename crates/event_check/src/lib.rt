@@ -17,7 +17,7 @@ mod windows;
 
 pub use bytes::bytes_of;
 pub use cuts::span_is_fit;
-pub use events::{may_follow, refusal_of};
+pub use events::{call_refusal, may_follow, refusal_of};
 pub use operations::op_is_fit;
 pub use relations::{table_in, view_in};
 pub use rosters::after_event;

@@ -10,11 +10,9 @@ use crate::fields::{Field, put_few, put_many};
 use crate::numbers::{put_four, put_signed};
 use crate::reader::Reader;
 use ts_bucket::{Span, Width};
+use ts_model::limits::MOST_STEP;
 use ts_model::{Fold, ViewDef};
 use ts_schema::NoMemory;
-
-/// The greatest step.
-const MAX_STEP: i64 = 1_099_511_627_776;
 
 impl Field for u32 {
     ghost spelling = { four };
@@ -47,7 +45,7 @@ impl Field for Width {
 
     #[tactic(auto, unfolding(crate::specs::Reading::width_at))]
     fn read(reader: &mut Reader<'_>) -> Result<Width, ReadError> {
-        let step = reader.between(1, MAX_STEP)?;
+        let step = reader.between(1, MOST_STEP)?;
         let shift = reader.between(0, step - 1)?;
         Ok(Width { step, shift })
     }

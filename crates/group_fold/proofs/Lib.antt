@@ -8,5 +8,6 @@ pub mod Merges
 pub mod Occurring
 pub mod Parts
 pub mod RowGroups
+pub mod ScanLaws
 pub mod Scratches
 pub mod Steps

@@ -3,3 +3,4 @@ pub mod Gathering
 pub mod Grouping
 pub mod Laws
 pub mod Merging
+pub mod Spans

@@ -9,6 +9,8 @@
 //! - `orders`: groups put in order.
 //! - `joins`: two lists of groups put together.
 //! - `pieces`: the groups of many lists of rows, in as many threads as serve.
+//! - `scans`: the rows of some spans, in pieces.
+//! - `spans`: the groups of the rows of some spans: one scan for each span, folded in pieces.
 //! - `results`: what a group shows.
 //! - `laws`: groups of some of the rows, and of some of the buckets.
 #![tactic(auto)]
@@ -23,9 +25,12 @@ mod near_places;
 mod orders;
 mod pieces;
 mod results;
+mod scans;
+mod spans;
 
 pub use foldings::Folding;
 pub use folds::fold;
 pub use joins::join_parts;
 pub use pieces::fold_pieces;
 pub use results::{put_cells, put_values};
+pub use spans::fold_spans;

@@ -5,7 +5,7 @@ use Rattle.std.specs.Ordering.{int_eq}
 use Rattle.ts_num.specs.declared.values.Fun.{Fun}
 use Rattle.ts_num.specs.declared.values.Fun.TheVariants.{CountAll, Count, Sum, Min, Max, Avg}
 use Rattle.ts_schema.specs.Counts.{raised_by}
-use Rattle.ts_model.specs.Calls.{too_many}
+use Rattle.ts_model.specs.Numbers.{no_column, bad_width, too_many}
 use Rattle.ts_model.specs.Limits.{most_columns}
 use Rattle.ts_model.specs.declared.outcomes.Refusal.{Refusal}
 use Rattle.ts_model.specs.declared.views.ViewDef.{ViewDef}
@@ -13,7 +13,6 @@ use Rattle.ts_catalog.specs.Columns.{view_column_of}
 use Rattle.stmt_reader.specs.declared.statements.NamedAgg.{NamedAgg}
 use Rattle.stmt_reader.specs.declared.statements.NamedFold.{NamedFold}
 use Rattle.stmt_reader.specs.declared.statements.NamedTest.{NamedTest}
-use Rattle.stmt_check.specs.Codes.{bad_width, no_column}
 use Rattle.stmt_check.specs.Folds.{columns_before, is_shift, is_step, output_count}
 use Rattle.stmt_check.specs.Queries.{is_bucket_column}
 use Rattle.stmt_check.specs.Refusals.{◌⊳◌, marked, missing, refused}

@@ -4,16 +4,15 @@ ghost use Rattle.hier_agg.specs.Reads.{Checks, argument_of, arguments_of, key_nu
 ghost use Rattle.hier_agg.specs.Refusals.{agg_place, agg_refusal, aggs_refusal, argument_refusal, fits, key_place, key_refusal, keys_refusal, tests_refusal};
 
 use crate::answers::function_at;
-use crate::stops::{BAD_ROLLUP, Stop, TOO_MANY, present, refuse_marked};
+use crate::stops::{Stop, present, refuse_marked};
 use std::alloc::Global;
 use stmt_reader::{NamedAgg, NamedTest};
 use ts_catalog::view_column;
+use ts_model::codes::{BAD_ROLLUP, TOO_MANY};
+use ts_model::limits::MOST_COLUMNS;
 use ts_model::{Refusal, ViewDef};
 use ts_num::Fun;
 use ts_schema::{Name, Seq, Test};
-
-/// The most columns of an output.
-const MAX_COLUMNS: u64 = 16;
 
 /// The number of a key by its place among the output columns.
 fn key_of(def: &ViewDef, place: Option<u32>) -> Option<u32>
@@ -61,7 +60,7 @@ fn check_key(pos: u64, def: &ViewDef, count: u64, others: u64, name: &Name) -> R
     ensures { Checks (key_refusal pos def.now count others name.now) (key_number def.now name.now) result }
 {
     let key = present(pos, key_of(def, view_column(def, name)))?;
-    refuse_marked(pos, TOO_MANY, count, others >= MAX_COLUMNS)?;
+    refuse_marked(pos, TOO_MANY, count, others >= MOST_COLUMNS as u64)?;
     Ok(key)
 }
 
@@ -90,7 +89,7 @@ fn check_agg(pos: u64, def: &ViewDef, count: u64, others: u64, agg: &NamedAgg) -
     requires { length def.now.names < 2 ^ 32 }
     ensures { Checks (agg_refusal pos def.now count others agg.now) (argument_of def.now agg.now.col) result }
 {
-    refuse_marked(pos, TOO_MANY, count, others >= MAX_COLUMNS)?;
+    refuse_marked(pos, TOO_MANY, count, others >= MOST_COLUMNS as u64)?;
     check_argument(pos, def, agg.fun, &agg.col)
 }
 

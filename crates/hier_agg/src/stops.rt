@@ -1,22 +1,12 @@
 //! Why the reading of a roll-up ends early.
 ghost use Rattle.std.specs.Prelude.{unwrap_or};
+ghost use Rattle.ts_model.specs.Numbers.{no_column};
 ghost use Rattle.stmt_check.specs.Refusals.{marked, missing};
 ghost use Rattle.hier_agg.specs.Reads.{Checks};
 
 use ts_model::Refusal;
+use ts_model::codes::NO_COLUMN;
 use ts_schema::NoMemory;
-
-/// No column has this name, or it isn't of the kind that is wanted.
-pub(crate) const NO_COLUMN: u8 = 8;
-
-/// A width or an offset is out of its range, or doesn't fit that of the aggregate.
-pub(crate) const BAD_WIDTH: u8 = 14;
-
-/// There would be more columns than there may be.
-pub(crate) const TOO_MANY: u8 = 21;
-
-/// A function doesn't fit the column that it is to add up.
-pub(crate) const BAD_ROLLUP: u8 = 28;
 
 /// Why the reading ended early.
 #[derive(Clone, Copy, Debug, PartialEq, Eq)]
@@ -50,7 +40,7 @@ pub(crate) fn refuse_marked(pos: u64, code: u8, mark: u64, wrong: bool) -> Resul
 
 /// What has to be there, or the refusal of a column.
 pub(crate) fn present(pos: u64, found: Option<u32>) -> Result<u32, Stop>
-    ensures { Checks (missing pos 8 found) (unwrap_or found 0) result }
+    ensures { Checks (missing pos no_column found) (unwrap_or found 0) result }
 {
     match found {
         Some(number) => Ok(number),

@@ -5,14 +5,13 @@ ghost use Rattle.stmt_check.specs.Queries.{is_bucket_column};
 ghost use Rattle.hier_agg.specs.Reads.{Checks};
 ghost use Rattle.hier_agg.specs.Refusals.{divided, width_refusal};
 
-use crate::stops::{BAD_WIDTH, NO_COLUMN, Stop, refuse_marked};
+use crate::stops::{Stop, refuse_marked};
 use stmt_reader::NamedFold;
 use ts_bucket::{Width, width};
 use ts_catalog::view_column;
+use ts_model::codes::{BAD_WIDTH, NO_COLUMN};
+use ts_model::limits::MOST_STEP;
 use ts_model::{Refusal, ViewDef};
-
-/// The greatest step of a width.
-const MAX_STEP: i64 = 1_099_511_627_776;
 
 /// The width, where it fits that of the aggregate and the column is the bucket column.
 pub(crate) fn check_width(pos: u64, def: &ViewDef, fold: &NamedFold) -> Result<Width, Stop>
@@ -40,7 +39,7 @@ pub(crate) fn check_width(pos: u64, def: &ViewDef, fold: &NamedFold) -> Result<W
 fn is_step_in_range(step: i64) -> bool
     ensures { result ≡ is_step step }
 {
-    0 < step && step <= MAX_STEP
+    0 < step && step <= MOST_STEP
 }
 
 /// Whether the step of a width divides a number.

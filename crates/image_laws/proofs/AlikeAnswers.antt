@@ -33,7 +33,8 @@ use Rattle.ts_model.specs.Windows.{last_end, window_up_to, window}
 use Rattle.ts_model.specs.declared.outcomes.CutDone.TheVariants.{Cut as CutMade, Nothing as NothingDone}
 use Rattle.ts_model.specs.Effect.{appended_count, taken_count}
 use Rattle.ts_model.specs.Limits.{most_relations, last_position}
-use Rattle.ts_model.specs.Calls.{history_full, making, Act, refuses, returns, makes, no_bucket, no_refresh, too_many, new_relation, numbered, refusal, name_taken, making_table, making_hyper, making_view, setting_mode, committed, committing, cut_over, cut_of_view, cutting, finish_of, finishing}
+use Rattle.ts_model.specs.Calls.{making, Act, refuses, returns, makes, new_relation, numbered, refusal, making_table, making_hyper, making_view, setting_mode, committed, committing, cut_over, cut_of_view, cutting, finish_of, finishing}
+use Rattle.ts_model.specs.Numbers.{name_taken, no_bucket, no_refresh, too_many, history_full}
 use Rattle.image_laws.specs.Alike.{AlikeView, Alike, AlikeAnswers}
 use Rattle.ts_model.proofs.RangeLaws.{RisingBuckets, rising-buckets_in}
 use Rattle.ts_model.proofs.RosterLaws.{is_of_itself}

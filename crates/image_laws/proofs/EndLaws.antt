@@ -3,7 +3,8 @@ use Rattle.std.proofs.Common.{◌≡◌, ℕ, ◌≤◌, ◌<◌, ◌^◌, true,
 use Rattle.std.proofs.lemmas.Bool.{and_parts, and_right, cond-true, cond-false, leb-true, ltb-true, lt-ltb, le-ltb}
 use Rattle.ts_model.specs.declared.events.Event.{Event}
 use Rattle.ts_model.specs.Allowed.{allowed, all_allowed}
-use Rattle.ts_model.specs.Calls.{makes, refuses, refusal, history_full}
+use Rattle.ts_model.specs.Calls.{makes, refuses, refusal}
+use Rattle.ts_model.specs.Numbers.{history_full}
 use Rattle.ts_model.specs.History.{History, start, resumed, ◌▸◌, position}
 use Rattle.ts_model.specs.Limits.{last_position}
 use Rattle.ts_model.specs.Sound.{sound}

@@ -14,7 +14,8 @@ use Rattle.ts_model.specs.declared.outcomes.Refusal.{Refusal}
 use Rattle.ts_model.specs.declared.refreshes.Pending.{Pending}
 use Rattle.ts_model.specs.declared.refreshes.Pending.TheVariants.{Waiting, Finished, Unknown}
 use Rattle.ts_model.specs.Allowed.{all_allowed}
-use Rattle.ts_model.specs.Calls.{cutting, finish_of, finishing, no_refresh}
+use Rattle.ts_model.specs.Calls.{cutting, finish_of, finishing}
+use Rattle.ts_model.specs.Numbers.{no_refresh, no_snapshot}
 use Rattle.ts_model.specs.History.{History, ◌▸▸◌, position, base_position}
 use Rattle.ts_model.specs.Laws.{MakesAllowed}
 use Rattle.ts_model.specs.Pending.{is_known, pending}
@@ -31,7 +32,6 @@ use Rattle.stmt_reader.specs.Limits.{longest_input}
 use Rattle.ts_sessions.specs.Places.{Places, Turn, cuts, held_for, holds, turns}
 use Rattle.ts_sessions.specs.Procedures.{Procedure, followed_by, tries_at}
 use Rattle.ts_sessions.specs.Step.{after_cut, after_snapshot, finish_turn, finishes, finishes_held, refreshed, refreshes, snap_turn, snaps, taken, taken_of, unfinished}
-use Rattle.result_text.specs.declared.codes.TheConstants.{NO_SNAPSHOT}
 use Rattle.image_runs.proofs.PlaceLaws.{IsFrom, IsHeld, PlacesFit, gone_held, held_there, places_on, put_held}
 use Rattle.image_runs.proofs.TwinLaws.{Alongside, Same, Twins, along_as, along_call, along_ends, along_sees, along_then, along_tries, twins_alike, twins_base, twins_on}
 
@@ -150,7 +150,7 @@ module _ (h : History) (i : Image) (ok : all_allowed h ≡ true) (is : IsImage h
   held_along p c None g k t fit e =
       let alike = twins_alike h i ok is g k t in
       along_ends (SameTurn i.pos used) g k _ _ t.allowed
-      (same_turns i.pos used k p _ _ (ap said.Fault (ap (unfinished NO_SNAPSHOT g) (alike.refreshes c) ∙ unfinished_same NO_SNAPSHOT g k (pending k c) alike.places)) fit)
+      (same_turns i.pos used k p _ _ (ap said.Fault (ap (unfinished no_snapshot g) (alike.refreshes c) ∙ unfinished_same no_snapshot g k (pending k c) alike.places)) fit)
   held_along p c (Some at) g k t fit e =
       along_call (SameTurn i.pos used) g k (finishing c at g) (finishing c at k) (finish_turn p c at) (alike_answers.finishes c at g k (twins_alike h i ok is g k t)) t.allowed
       (finish_allowed i.pos k c at (twins_base h i g k t) (held_there i.pos k p.held c at fit.held e))

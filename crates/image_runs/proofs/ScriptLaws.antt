@@ -14,12 +14,13 @@ use Rattle.stmt_reader.specs.Lines.{line_kind, session_name}
 use Rattle.stmt_reader.specs.declared.lines.LineKind.{LineKind}
 use Rattle.stmt_reader.specs.declared.lines.LineKind.TheVariants.{Blank, NotAscii, NoSession, Stmt}
 use Rattle.stmt_reader.proofs.StatementLines.{statement_line}
-use Rattle.result_text.specs.declared.codes.TheConstants.{LINE_LONG, TOO_MANY_SESSIONS}
+use Rattle.ts_model.specs.Numbers.{line_long, too_many_sessions}
 use Rattle.result_text.specs.declared.replies.Said.TheVariants as said
 use Rattle.result_text.specs.Replies.{reply_text}
 use Rattle.ts_sessions.specs.Places.{Places, Turn, no_places}
 use Rattle.ts_sessions.specs.Procedures.{Procedure}
-use Rattle.ts_sessions.specs.Script.{LineResult, ScriptState, executes, executes_as, executes_kind, final_script_state, has_fault, is_refused, line_limit, most_sessions, output, places_of, refused, refused_line, session_semantics, takes_turn, text_of, with_places}
+use Rattle.ts_sessions.specs.Script.{LineResult, ScriptState, executes, executes_as, executes_kind, final_script_state, has_fault, is_refused, line_limit, output, places_of, refused, refused_line, session_semantics, takes_turn, text_of, with_places}
+use Rattle.ts_model.specs.Limits.{most_sessions}
 use Rattle.ts_sessions.specs.Step.{bare, step}
 use Rattle.ts_sessions.specs.Walks.{ending, history_after}
 use Rattle.image_runs.specs.Laws.{ScriptsGoOn}
@@ -88,8 +89,8 @@ module _ (h : History) (i : Image) (ok : all_allowed h ≡ true) (is : IsImage h
     session_same : (name text : List ℕ) (skip : ℕ) (o : Option Places) → used + length text ≤ more → length text ≤ 65536 → skip ≤ length text → places_of name z.sessions ≡ o → SameLine h i more s z (executes_as session_semantics s name text skip o) (executes_as session_semantics z name text skip o)
     session_same name text skip (Some p) le short within e = step_same name text skip more p le few short within (places_there i.pos used z.history name z.sessions p a.fit e)
     session_same name text skip None le short within e =
-        subst (λ n. SameLine h i more s z (cond (nat_lt n most_sessions) (takes_turn s name (step no_places text skip)) (refused s (reply_text name (said.Fault (bare TOO_MANY_SESSIONS))))) (executes_as session_semantics z name text skip None)) (sym (ap length a.sessions))
-        (elim (nat_lt (length z.sessions) most_sessions) as (λ c. SameLine h i more s z (cond c (takes_turn s name (step no_places text skip)) (refused s (reply_text name (said.Fault (bare TOO_MANY_SESSIONS))))) (cond c (takes_turn z name (step no_places text skip)) (refused z (reply_text name (said.Fault (bare TOO_MANY_SESSIONS)))))) [
+        subst (λ n. SameLine h i more s z (cond (nat_lt n most_sessions) (takes_turn s name (step no_places text skip)) (refused s (reply_text name (said.Fault (bare too_many_sessions))))) (executes_as session_semantics z name text skip None)) (sym (ap length a.sessions))
+        (elim (nat_lt (length z.sessions) most_sessions) as (λ c. SameLine h i more s z (cond c (takes_turn s name (step no_places text skip)) (refused s (reply_text name (said.Fault (bare too_many_sessions))))) (cond c (takes_turn z name (step no_places text skip)) (refused z (reply_text name (said.Fault (bare too_many_sessions)))))) [
           | true ↦ step_same name text skip more no_places le few short within (record { block = tt; held = tt })
           | false ↦ nothing h i used more s z _ _ _ (omega (arith, le)) (omega (arith, le, few)) a
         ])
@@ -110,7 +111,7 @@ module _ (h : History) (i : Image) (ok : all_allowed h ≡ true) (is : IsImage h
 
     line_same : (n : ℕ) (line : List ℕ) → used + length line ≤ more → SameLine h i more s z (executes session_semantics s n line) (executes session_semantics z n line)
     line_same n line le =
-        elim (nat_lt line_limit (length line)) as (λ c. nat_lt line_limit (length line) ≡ c → SameLine h i more s z (cond c (refused_line s n LINE_LONG) (executes_kind session_semantics s n line (line_kind line))) (cond c (refused_line z n LINE_LONG) (executes_kind session_semantics z n line (line_kind line)))) [
+        elim (nat_lt line_limit (length line)) as (λ c. nat_lt line_limit (length line) ≡ c → SameLine h i more s z (cond c (refused_line s n line_long) (executes_kind session_semantics s n line (line_kind line))) (cond c (refused_line z n line_long) (executes_kind session_semantics z n line (line_kind line)))) [
           | true ↦ λ _. nothing h i used more s z _ _ _ (omega (arith, le)) (omega (arith, le, few)) a
           | false ↦ λ e. kind_same n line (line_kind line) le (ltb-false line_limit (length line) e) refl
         ] refl

@@ -6,10 +6,11 @@ use Rattle.std.proofs.lemmas.List.Folds.{list_any_at}
 use Rattle.std.proofs.lemmas.List.Quantifiers.{position-Some}
 use Rattle.std.proofs.Math.Bool.{or-true}
 use Rattle.ts_model.specs.Roster.{same_name}
-use Rattle.result_text.specs.declared.codes.TheConstants.{TOO_MANY_SESSIONS}
+use Rattle.ts_model.specs.Numbers.{too_many_sessions}
 use Rattle.result_text.specs.declared.replies.Said.TheVariants as said
 use Rattle.result_text.specs.Replies.{reply_text}
-use Rattle.ts_sessions.specs.Script.{SessionLine, SessionScript, most_sessions}
+use Rattle.ts_sessions.specs.Script.{SessionLine, SessionScript}
+use Rattle.ts_model.specs.Limits.{most_sessions}
 use Rattle.ts_sessions.specs.Step.{bare}
 use Rattle.par_lines.specs.declared.sessions.LinePlace.{LinePlace}
 use Rattle.par_lines.specs.declared.sessions.SessionLines.{SessionLines}
@@ -44,7 +45,7 @@ module _ (name : List ℕ) (line : SessionLine) where
     taken = record s { sessions = with_line name line s.sessions }
 
     abbrev refused : Sorted
-    refused = refuses (reply_text name (said.Fault (bare TOO_MANY_SESSIONS))) s
+    refused = refuses (reply_text name (said.Fault (bare too_many_sessions))) s
 
     -- of a session that has appeared
     as_known : appears_in name s.sessions ≡ true → sorts_as name line s ≡ taken
@@ -109,7 +110,7 @@ module _ (name input : List ℕ) (place : LinePlace) where
       ∙ sym (as_new name line (state refusals scripts) (omega (arith, length-map sessions (script_of input))))
 
   pub refused_new : (refusals after : List ℕ) (sessions : List SessionLines) → list_any (has_name name) sessions ≡ false → most_sessions ≤ length sessions
-      → after ≡ refusals ++ reply_text name (said.Fault (bare TOO_MANY_SESSIONS)) → state after (scripts_of input sessions) ≡ sorts_as name line (state refusals (scripts_of input sessions))
+      → after ≡ refusals ++ reply_text name (said.Fault (bare too_many_sessions)) → state after (scripts_of input sessions) ≡ sorts_as name line (state refusals (scripts_of input sessions))
   refused_new refusals after sessions absent many put =
       ap (λ text. state text (scripts_of input sessions)) put
       ∙ sym (as_refused name line (state refusals (scripts_of input sessions)) (appears_same sessions ∙ absent) (omega (arith, length-map sessions (script_of input))))

@@ -5,3 +5,4 @@ pub mod Extents
 pub mod NameLaws
 pub mod PhaseLaws
 pub mod SortedLaws
+pub mod Numbering

@@ -12,10 +12,11 @@ use Rattle.ts_model.specs.Roster.{same_name}
 use Rattle.stmt_reader.specs.declared.lines.LineKind.{LineKind}
 use Rattle.stmt_reader.specs.declared.lines.LineKind.TheVariants.{Blank, NotAscii, NoSession, Stmt}
 use Rattle.stmt_reader.specs.Lines.{line_kind, session_name}
-use Rattle.result_text.specs.declared.codes.TheConstants.{LINE_LONG, TOO_MANY_SESSIONS}
+use Rattle.ts_model.specs.Numbers.{line_long, too_many_sessions}
 use Rattle.result_text.specs.declared.replies.Said.TheVariants as said
 use Rattle.result_text.specs.Replies.{line_fault_text, reply_text}
-use Rattle.ts_sessions.specs.Script.{SessionLine, SessionScript, line_limit, most_sessions}
+use Rattle.ts_sessions.specs.Script.{SessionLine, SessionScript, line_limit}
+use Rattle.ts_model.specs.Limits.{most_sessions}
 use Rattle.ts_sessions.specs.Step.{bare}
 use Rattle.par_lines.specs.declared.sessions.SessionLines.{SessionLines}
 use Rattle.par_lines.specs.Sorted.{Sorted, appears_in, refuses, sorted, sorts, sorts_all, sorts_as, sorts_kind, with_line}
@@ -74,7 +75,7 @@ named_as name line s good all = by (appears_in name s.sessions) (nat_lt (length 
     names b e = names_with name line s.sessions ∙ ap (and_one name (map name_of s.sessions)) e
 
     by : (a b : Bool) → appears_in name s.sessions ≡ a → nat_lt (length s.sessions) most_sessions ≡ b
-        → Named (cond (a || b) (record s { sessions = with_line name line s.sessions }) (refuses (reply_text name (said.Fault (bare TOO_MANY_SESSIONS))) s))
+        → Named (cond (a || b) (record s { sessions = with_line name line s.sessions }) (refuses (reply_text name (said.Fault (bare too_many_sessions))) s))
     by true b e f = subst AreNames (sym (names true e)) all
     by false true e f =
         let room = ltb-true (length s.sessions) most_sessions f in
@@ -91,7 +92,7 @@ named_kind n line s (Stmt len skip end) e all = named_as (session_name line len 
 named_line : (n : ℕ) (line : List ℕ) (s : Sorted) → Named s → Named (sorts n line s)
 named_line n line s all = by (nat_lt line_limit (length line))
   where
-    by : (b : Bool) → Named (cond b (refuses (line_fault_text n (bare LINE_LONG)) s) (sorts_kind n line s (line_kind line)))
+    by : (b : Bool) → Named (cond b (refuses (line_fault_text n (bare line_long)) s) (sorts_kind n line s (line_kind line)))
     by true = all
     by false = named_kind n line s (line_kind line) refl all
 

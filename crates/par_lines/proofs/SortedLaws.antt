@@ -6,7 +6,7 @@ use Rattle.ts_model.specs.declared.outcomes.Refusal.{Refusal}
 use Rattle.stmt_reader.specs.declared.lines.LineKind.{LineKind}
 use Rattle.stmt_reader.specs.declared.lines.LineKind.TheVariants.{Stmt}
 use Rattle.stmt_reader.specs.Lines.{line_kind, session_name, IsStatementLine}
-use Rattle.result_text.specs.declared.codes.TheConstants.{LINE_LONG}
+use Rattle.ts_model.specs.Numbers.{line_long}
 use Rattle.result_text.specs.Replies.{line_fault_text}
 use Rattle.ts_sessions.specs.Script.{SessionLine, line_limit}
 use Rattle.ts_sessions.specs.Step.{bare}
@@ -38,7 +38,7 @@ module _ (input : List ℕ) (from len n : ℕ) (short : len ≤ line_limit) (ref
       let few : length line ≤ line_limit = omega (arith, length-take len (drop from input)) in
       let fits : nat_lt line_limit (length line) ≡ false = le-ltb line_limit (length line) few in
       h ∙ ap (sorts_kind n line before) (e ∙ ap line_kind cut_is)
-      ∙ sym (ap (λ b. cond b (refuses (line_fault_text n (bare LINE_LONG)) before) (sorts_kind n line before (line_kind line))) fits)
+      ∙ sym (ap (λ b. cond b (refuses (line_fault_text n (bare line_long)) before) (sorts_kind n line before (line_kind line))) fits)
 
   pub sorted_refusal : (kind : LineKind) (code : ℕ) (refusal : Refusal) (after : List ℕ) → kind ≡ line_kind cut → refuses (line_fault_text n (bare code)) before ≡ sorts_kind n line before kind
       → refusal ≡ bare code → after ≡ refusals ++ line_fault_text n refusal → state after (scripts_of input sessions) ≡ sorts n line before

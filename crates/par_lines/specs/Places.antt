@@ -1,6 +1,6 @@
 -- What stands at the places of sorted lines.
-use Rattle.std.specs.Prelude.{ℕ, ◌+◌, ◌≤◌, List, map, take, drop, sum_by}
-use Rattle.std.specs.List.{All}
+use Rattle.std.specs.Prelude.{◌≡◌, ℕ, ◌+◌, ◌≤◌, List, length, map, take, drop, sum_by}
+use Rattle.std.specs.List.{All, range_with_len}
 use Rattle.std.specs.Option.{IfSome}
 use Rattle.ts_sessions.specs.Script.{SessionLine, SessionScript, line_limit}
 use Rattle.par_lines.specs.declared.sessions.LinePlace.{LinePlace}
@@ -26,6 +26,10 @@ scripts_of input sessions = map (script_of input) sessions
 -- all that was sorted
 abbrev pub sorted_of : List ℕ → SortedLines → Sorted
 sorted_of input lines = record { refusals = lines.refusals.items; sessions = scripts_of input lines.sessions.items }
+
+-- sessions are numbered from 0 in order
+abbrev pub AreNumbered : List SessionLines → Type 0
+AreNumbered sessions = map (λ session. session.number) sessions ≡ range_with_len 0 (length sessions)
 
 -- ---- how much it is
 

@@ -6,10 +6,11 @@ use Rattle.ts_model.specs.Roster.{same_name}
 use Rattle.stmt_reader.specs.declared.lines.LineKind.{LineKind}
 use Rattle.stmt_reader.specs.declared.lines.LineKind.TheVariants.{Blank, NotAscii, NoSession, Stmt}
 use Rattle.stmt_reader.specs.Lines.{line_kind, session_name}
-use Rattle.result_text.specs.declared.codes.TheConstants.{LINE_LONG, NOT_ASCII, NO_SESSION, TOO_MANY_SESSIONS}
+use Rattle.ts_model.specs.Numbers.{line_long, not_ascii, no_session, too_many_sessions}
 use Rattle.result_text.specs.declared.replies.Said.TheVariants as said
 use Rattle.result_text.specs.Replies.{line_fault_text, reply_text}
-use Rattle.ts_sessions.specs.Script.{SessionLine, SessionScript, line_limit, most_sessions}
+use Rattle.ts_sessions.specs.Script.{SessionLine, SessionScript, line_limit}
+use Rattle.ts_model.specs.Limits.{most_sessions}
 use Rattle.ts_sessions.specs.Step.{bare}
 
 -- an input, sorted: the refusals of lines that no session answers, in order, and the sessions in order of appearance.
@@ -40,20 +41,20 @@ abbrev pub sorts_as : List ℕ → SessionLine → Sorted → Sorted
 sorts_as name line s =
     cond (appears_in name s.sessions || nat_lt (length s.sessions) most_sessions)
     (record s { sessions = with_line name line s.sessions })
-    (refuses (reply_text name (said.Fault (bare TOO_MANY_SESSIONS))) s)
+    (refuses (reply_text name (said.Fault (bare too_many_sessions))) s)
 
 -- a line of this kind, which has this number
 abbrev pub sorts_kind : ℕ → List ℕ → Sorted → LineKind → Sorted
 sorts_kind n line s Blank = s
-sorts_kind n line s NotAscii = refuses (line_fault_text n (bare NOT_ASCII)) s
-sorts_kind n line s NoSession = refuses (line_fault_text n (bare NO_SESSION)) s
+sorts_kind n line s NotAscii = refuses (line_fault_text n (bare not_ascii)) s
+sorts_kind n line s NoSession = refuses (line_fault_text n (bare no_session)) s
 sorts_kind n line s (Stmt len skip end) =
     sorts_as (session_name line len skip) (record { text = take end line; skip = skip }) s
 
 -- a line, which has this number
 abbrev pub sorts : ℕ → List ℕ → Sorted → Sorted
 sorts n line s =
-    cond (nat_lt line_limit (length line)) (refuses (line_fault_text n (bare LINE_LONG)) s)
+    cond (nat_lt line_limit (length line)) (refuses (line_fault_text n (bare line_long)) s)
     (sorts_kind n line s (line_kind line))
 
 -- ---- all lines

@@ -4,22 +4,21 @@ ghost use Rattle.std.specs.List.{All, AllPairs, list_any};
 ghost use Rattle.ts_schema.specs.Names.{is_name};
 ghost use Rattle.ts_io.specs.declared.limits.TheConstants.{INPUT_LIMIT};
 ghost use Rattle.ts_model.specs.Roster.{same_name};
-ghost use Rattle.ts_sessions.specs.Script.{most_sessions};
+ghost use Rattle.ts_model.specs.Limits.{most_sessions};
 ghost use Rattle.par_lines.specs.Sorted.{sorts, sorts_as, sorted};
-ghost use Rattle.par_lines.specs.Places.{line_at, sorted_of, IsLineWithin, IsWithin};
+ghost use Rattle.par_lines.specs.Places.{line_at, sorted_of, AreNumbered, IsLineWithin, IsWithin};
 
 use crate::line_ends::first_line_len;
 use crate::names::{name_in, name_of};
 use crate::sessions::{LinePlace, SessionLines, place_of};
-use result_text::{Said, codes, put_line_fault, put_reply};
+use result_text::{Said, put_line_fault, put_reply};
 use std::alloc::Global;
 use stmt_reader::{LineKind, split_line};
 use ts_io::LINE_LIMIT;
+use ts_model::codes;
+use ts_model::limits::MOST_SESSIONS;
 use ts_schema::NoMemory;
 use ts_sessions::bare;
-
-/// How many sessions an input may have.
-const MOST_SESSIONS: usize = 64;
 
 /// The lines of an input, sorted.
 #[derive(Drop, Debug)]
@@ -37,6 +36,7 @@ pub fn sort_lines(alloc: Global, input: &[u8]) -> Result<SortedLines, NoMemory>
     ensures few { IfOk result (λ lines. length lines.sessions.items ≤ most_sessions) }
     ensures named { IfOk result (λ lines. All (λ session. IsTrue (is_name session.name)) lines.sessions.items) }
     ensures apart { IfOk result (λ lines. AllPairs (λ one other. one.name ≢ other.name) lines.sessions.items) }
+    ensures numbered { IfOk result (λ lines. AreNumbered lines.sessions.items) }
     ensures within { IfOk result (λ lines. All (IsWithin (length input.now)) lines.sessions.items) }
 {
     let mut lines = SortedLines {
@@ -68,6 +68,7 @@ impl SortedLines {
         requires inside { from + len ≤ length input.now }
         ensures sorted { OnOk result (sorted_of input.now self.new
             ≡ sorts number (take len (drop from input.now)) (sorted_of input.now self.old)) }
+        ensures numbered { OnOk result (AreNumbered self.old.sessions.items → AreNumbered self.new.sessions.items) }
         ensures within { OnOk result (All (IsWithin from) self.old.sessions.items
             → All (IsWithin (from + len)) self.new.sessions.items) }
     {
@@ -103,6 +104,7 @@ impl SortedLines {
         requires name { IsTrue (is_name name.now) }
         ensures sorted { OnOk result ((input : List ℕ) → sorted_of input self.new
             ≡ sorts_as name.now (line_at input line) (sorted_of input self.old)) }
+        ensures numbered { OnOk result (AreNumbered self.old.sessions.items → AreNumbered self.new.sessions.items) }
         ensures within { OnOk result ((n : ℕ) → IsLineWithin n line
             → All (IsWithin line.from) self.old.sessions.items → All (IsWithin n) self.new.sessions.items) }
     {
@@ -122,6 +124,7 @@ impl SortedLines {
         requires absent { list_any (λ session. same_name session.name name.now) self.old.sessions.items ≡ false }
         ensures sorted { OnOk result ((input : List ℕ) → sorted_of input self.new
             ≡ sorts_as name.now (line_at input line) (sorted_of input self.old)) }
+        ensures numbered { OnOk result (AreNumbered self.old.sessions.items → AreNumbered self.new.sessions.items) }
         ensures within { OnOk result ((n : ℕ) → IsLineWithin n line
             → All (IsWithin line.from) self.old.sessions.items → All (IsWithin n) self.new.sessions.items) }
     {

@@ -5,7 +5,8 @@ use Rattle.ts_model.specs.States.{State}
 use Rattle.par_workers.specs.Slots.{Slot, workers_of}
 use Rattle.ts_sessions.specs.Places.{Turn}
 use Rattle.ts_sessions.specs.Procedures.{Procedure}
-use Rattle.ts_sessions.specs.Script.{SessionScript, most_sessions}
+use Rattle.ts_sessions.specs.Script.{SessionScript}
+use Rattle.ts_model.specs.Limits.{most_sessions}
 use Rattle.par_laws.specs.Parallel.{RanInParallel, SessionReplies}
 use Rattle.par_lines.specs.Sorted.{Sorted, at_once, final, only, setup}
 use Rattle.par_run.specs.declared.crews.Crews.{Crews}

@@ -9,7 +9,8 @@ use Rattle.ts_model.specs.declared.events.Event.{Event}
 use Rattle.ts_model.specs.declared.outcomes.Refusal.{Refusal}
 use Rattle.ts_model.specs.declared.rosters.Roster.{Roster}
 use Rattle.ts_model.specs.Allowed.{all_allowed}
-use Rattle.ts_model.specs.Calls.{refusal, stopped}
+use Rattle.ts_model.specs.Calls.{refusal}
+use Rattle.ts_model.specs.Numbers.{bad_time, stopped, bad_policy, too_many_policies}
 use Rattle.ts_model.specs.History.{History, position, prefix, Begins, base_position}
 use Rattle.ts_model.specs.Roster.{roster}
 use Rattle.ts_model.specs.States.{State, stop_of}
@@ -21,7 +22,6 @@ use Rattle.stmt_reader.specs.declared.faults.Fault.{Fault}
 use Rattle.stmt_reader.specs.declared.faults.Fault.TheVariants as faults
 use Rattle.stmt_reader.specs.Streams.{Stream, stream}
 use Rattle.stmt_check.specs.Refusals.{◌⊳◌, hypertable_refusal, marked, refused, view_refusal}
-use Rattle.result_text.specs.declared.codes.TheConstants.{BAD_POLICY, BAD_TIME, TOO_MANY_POLICIES}
 use Rattle.result_text.specs.declared.replies.Said.{Said}
 use Rattle.result_text.specs.declared.replies.Said.TheVariants as said
 use Rattle.ts_sessions.specs.declared.kinds.Kind.TheVariants.{Defines}
@@ -139,9 +139,9 @@ relation_not_stop at r (jobs.Drop table after) = hyper_not_stop at (found_in r t
 adding_not_stop : (at : ℕ) (r : Roster) (many : ℕ) (job : Job) (every : ℤ) → NotStop (adding_refusal at r many job every)
 adding_not_stop at r many job every =
     let good = not (has_offsets job && is_interval every && fits_step r job) in
-    or_not_stop (relation_refusal at r job) (refused at BAD_POLICY good ⊳ marked at TOO_MANY_POLICIES (suc most_policies) (nat_le most_policies many)) (relation_not_stop at r job)
-    (or_not_stop (refused at BAD_POLICY good) (marked at TOO_MANY_POLICIES (suc most_policies) (nat_le most_policies many)) (marked_not_stop at BAD_POLICY 0 good (λ e. omega (arith, e)))
-    (marked_not_stop at TOO_MANY_POLICIES (suc most_policies) (nat_le most_policies many) (λ e. omega (arith, e))))
+    or_not_stop (relation_refusal at r job) (refused at bad_policy good ⊳ marked at too_many_policies (suc most_policies) (nat_le most_policies many)) (relation_not_stop at r job)
+    (or_not_stop (refused at bad_policy good) (marked at too_many_policies (suc most_policies) (nat_le most_policies many)) (marked_not_stop at bad_policy 0 good (λ e. omega (arith, e)))
+    (marked_not_stop at too_many_policies (suc most_policies) (nat_le most_policies many) (λ e. omega (arith, e))))
 
 barred_not_stop : (b : Block) → NotStop (block_refusal b Defines)
 barred_not_stop none = tt
@@ -237,7 +237,7 @@ module _ {P : Type 0} (within : P → Block) (does reply : P → List ℕ → �
       let line = turns p.inner (said.Tick now (length (due now p.policies))) in
       elim (is_time now) as (λ t. InnerBegun (cond t (ending_as (beside (ticked now p.policies)) (runs_due does now p.inner p.policies)) (misses_time p))) [
         | true ↦ inner_beside (ticked now p.policies) (runs_due does now p.inner p.policies) (begun_all (due_texts now p.policies) (ends line) (begun_end line begun))
-        | false ↦ inner_look p.inner (λ h. refuses p (refusal BAD_TIME h 0)) (λ h. refl) begun
+        | false ↦ inner_look p.inner (λ h. refuses p (refusal bad_time h 0)) (λ h. refl) begun
       ]
 
   inner_performs : (p : PolicyPlaces P) (stmt : PolicyStmt) → HadBegun within p.inner old.history → InnerBegun (performs does p stmt)
@@ -295,7 +295,7 @@ module _ {P : Type 0} (within : P → Block) (does reply : P → List ℕ → �
         let line = turns p.inner (said.Tick now (length (due now p.policies))) in
         elim (is_time now) as (λ t. Told (cond t (ending_as (beside (ticked now p.policies)) (runs_due does now p.inner p.policies)) (misses_time p)) (cond t (ending_as (beside (ticked now p.policies)) (runs_due reply now p.inner p.policies)) (misses_time p))) [
           | true ↦ told_as (beside (ticked now p.policies)) (runs_due does now p.inner p.policies) (runs_due reply now p.inner p.policies) (told_all (due_texts now p.policies) (ends line) (ends line) (begun_end line begun) (told_same (ends line) tt))
-          | false ↦ told_same (misses_time p) (steady_look old.history (λ h. refuses p (refusal BAD_TIME h 0)))
+          | false ↦ told_same (misses_time p) (steady_look old.history (λ h. refuses p (refusal bad_time h 0)))
         ]
 
     told_performs : (p : PolicyPlaces P) (stmt : PolicyStmt) → HadBegun within p.inner old.history → Told (performs does p stmt) (performs reply p stmt)
@@ -347,7 +347,7 @@ module _ {P : Type 0} (within : P → Block) (does reply : P → List ℕ → �
       let line = said.Tick now (length (due now p.policies)) in
       elim (is_time now) as (λ t. AllGood all stop at (cond t (ending_as (beside (ticked now p.policies)) (runs_due reply now p.inner p.policies)) (misses_time p))) [
         | true ↦ good_beside at (ticked now p.policies) (runs_due reply now p.inner p.policies) (good_all at (due_texts now p.policies) (ends (turns p.inner line)) low (good_line all stop at p.inner line tt refl))
-        | false ↦ good_look all stop at (λ h. refuses p (refusal BAD_TIME h 0)) (λ h k. good_line all stop k p (said.Fault (refusal BAD_TIME h 0)) (λ e. absurd (omega (arith, e))) refl)
+        | false ↦ good_look all stop at (λ h. refuses p (refusal bad_time h 0)) (λ h k. good_line all stop k p (said.Fault (refusal bad_time h 0)) (λ e. absurd (omega (arith, e))) refl)
       ]
 
   good_performs : (at : ℕ) (p : PolicyPlaces P) (stmt : PolicyStmt) → base_position all ≤ at → AllGood all stop at (performs reply p stmt)

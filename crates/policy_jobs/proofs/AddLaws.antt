@@ -8,7 +8,7 @@ use Rattle.ts_model.specs.History.{History, position}
 use Rattle.ts_model.specs.Roster.{roster}
 use Rattle.ts_model.specs.States.{State}
 use Rattle.stmt_check.specs.Refusals.{◌⊳◌, marked, refused}
-use Rattle.result_text.specs.declared.codes.TheConstants.{BAD_POLICY, TOO_MANY_POLICIES}
+use Rattle.ts_model.specs.Numbers.{bad_policy, too_many_policies}
 use Rattle.result_text.specs.declared.replies.Said.TheVariants as said
 use Rattle.ts_sessions.specs.Procedures.{ends}
 use Rattle.ts_sessions.specs.Sessions.{AnswersSo, IfAnswered, Reports, Stepped}
@@ -43,10 +43,10 @@ not_wrong at code false e = absurd cc
 -- the numbers of a policy that passed are within bounds
 numbers_passed : (at : ℕ) (r : Roster) (many : ℕ) (job : Job) (every : ℤ) → adding_refusal at r many job every ≡ None → (has_offsets job ≡ true) × (is_interval every ≡ true)
 numbers_passed at r many job every e =
-    let wrong = refused at BAD_POLICY (not (has_offsets job && is_interval every && fits_step r job)) in
-    let full = marked at TOO_MANY_POLICIES (suc most_policies) (nat_le most_policies many) in
+    let wrong = refused at bad_policy (not (has_offsets job && is_interval every && fits_step r job)) in
+    let full = marked at too_many_policies (suc most_policies) (nat_le most_policies many) in
     let passed = first_none wrong full (second_none (relation_refusal at r job) (wrong ⊳ full) e) in
-    let good = not_wrong at BAD_POLICY (has_offsets job && is_interval every && fits_step r job) passed in
+    let good = not_wrong at bad_policy (has_offsets job && is_interval every && fits_step r job) passed in
     and_parts (has_offsets job) (is_interval every) (and_parts (has_offsets job && is_interval every) (fits_step r job) good).0
 
 pub offsets_passed : (at : ℕ) (r : Roster) (many : ℕ) (job : Job) (every : ℤ) → adding_refusal at r many job every ≡ None → has_offsets job ≡ true

@@ -21,7 +21,7 @@ use Rattle.stmt_reader.specs.declared.tokens.Mark.TheVariants as marks
 use Rattle.stmt_reader.proofs.Holds.{Holds, holds_any, holds_either, holds_means, holds_quoted, holds_then, past}
 use Rattle.stmt_reader.proofs.ProperLaws.{stream_proper}
 use Rattle.stmt_reader.proofs.Verdict.{fit_statement, reads_by_the_grammar as any_by_the_grammar}
-use Rattle.result_text.specs.declared.codes.TheConstants.{BAD_TIME}
+use Rattle.ts_model.specs.Numbers.{bad_time}
 use Rattle.result_text.specs.declared.replies.Said.TheVariants as said
 use Rattle.ts_sessions.specs.declared.kinds.Kind.TheVariants.{Defines}
 use Rattle.ts_sessions.specs.Places.{Block, Turn, refuses, turns}
@@ -183,7 +183,7 @@ module _ {P : Type 0} (alone : Bool) (R : List Policy → Type 0) where
     leaves_ticks now marked =
         elim (is_time now) as (λ t. (t ≡ true → R (ticked now p.policies)) → Leaves (cond t (ending_as (beside (ticked now p.policies)) (runs_due does now p.inner p.policies)) (misses_time p))) [
           | true ↦ λ m. leaves_beside (ticked now p.policies) (runs_due does now p.inner p.policies) (m refl)
-          | false ↦ λ _. leaves_look (λ h. refuses p (refusal BAD_TIME h 0)) (λ h. same)
+          | false ↦ λ _. leaves_look (λ h. refuses p (refusal bad_time h 0)) (λ h. same)
         ] marked
 
     -- of a statement: what adding it leaves, or what its tick does

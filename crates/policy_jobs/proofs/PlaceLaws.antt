@@ -8,12 +8,13 @@ use Rattle.ts_model.specs.Roster.{same_name}
 use Rattle.stmt_reader.specs.Lines.{line_kind, session_name}
 use Rattle.stmt_reader.specs.declared.lines.LineKind.{LineKind}
 use Rattle.stmt_reader.specs.declared.lines.LineKind.TheVariants.{Blank, NotAscii, NoSession, Stmt}
-use Rattle.result_text.specs.declared.codes.TheConstants.{LINE_LONG, TOO_MANY_SESSIONS}
+use Rattle.ts_model.specs.Numbers.{line_long, too_many_sessions}
 use Rattle.result_text.specs.declared.replies.Said.TheVariants as said
 use Rattle.result_text.specs.Replies.{reply_text}
 use Rattle.ts_sessions.specs.Procedures.{Procedure}
 use Rattle.ts_sessions.specs.Places.{Turn}
-use Rattle.ts_sessions.specs.Script.{LineResult, ScriptState, Semantics, executes, executes_as, executes_kind, final_script_state, is_refused, line_limit, most_sessions, output, places_of, reads_in, refused, refused_line, takes_turn, with_places}
+use Rattle.ts_sessions.specs.Script.{LineResult, ScriptState, Semantics, executes, executes_as, executes_kind, final_script_state, is_refused, line_limit, output, places_of, reads_in, refused, refused_line, takes_turn, with_places}
+use Rattle.ts_model.specs.Limits.{most_sessions}
 use Rattle.ts_sessions.specs.Step.{bare}
 use Rattle.ts_sessions.specs.Walks.{ending}
 use Rattle.policy_jobs.specs.Laws.{LinesSeeTheirOwnPlaces, OthersSeeNoPlaces, is_line_of, is_of_kind, with_session}
@@ -128,7 +129,7 @@ module _ {P : Type 0} (semantics : Semantics P) (other : List ℕ) (p q : P) whe
   as_found s name text skip (Some r) apart there = takes s name (semantics.does r text skip) apart there
   as_found s name text skip None apart there =
       let t = with_session s other q in
-      let full : List ℕ = reply_text name (said.Fault (bare TOO_MANY_SESSIONS)) in
+      let full : List ℕ = reply_text name (said.Fault (bare too_many_sessions)) in
       subst (λ many. Moves (cond (nat_lt many most_sessions) (takes_turn t name (semantics.does (semantics.opening many) text skip)) (refused t full)) (executes_as semantics s name text skip None))
       (sym (as_many other p q s.sessions there))
       (elim (nat_lt (length s.sessions) most_sessions) as (λ b. Moves (cond b (takes_turn t name (semantics.does (semantics.opening (length s.sessions)) text skip)) (refused t full)) (cond b (takes_turn s name (semantics.does (semantics.opening (length s.sessions)) text skip)) (refused s full))) [
@@ -151,7 +152,7 @@ module _ {P : Type 0} (semantics : Semantics P) (other : List ℕ) (p q : P) whe
       → Moves (executes semantics (with_session s other q) n line) (executes semantics s n line)
   one_line s n line apart there =
       let t = with_session s other q in
-      elim (nat_lt line_limit (length line)) as (λ b. Moves (cond b (refused_line t n LINE_LONG) (executes_kind semantics t n line (line_kind line))) (cond b (refused_line s n LINE_LONG) (executes_kind semantics s n line (line_kind line)))) [
+      elim (nat_lt line_limit (length line)) as (λ b. Moves (cond b (refused_line t n line_long) (executes_kind semantics t n line (line_kind line))) (cond b (refused_line s n line_long) (executes_kind semantics s n line (line_kind line)))) [
         | true ↦ record { moves = refl; keeps = there }
         | false ↦ by_kind s n line (line_kind line) apart there
       ]

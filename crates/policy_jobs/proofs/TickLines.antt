@@ -11,7 +11,7 @@ use Rattle.ts_model.specs.States.{State}
 use Rattle.stmt_reader.specs.Lines.{line_kind, session_name}
 use Rattle.stmt_reader.specs.Reading.{statement as any_statement}
 use Rattle.stmt_reader.specs.Streams.{Stream, stream}
-use Rattle.result_text.specs.declared.codes.TheConstants.{LINE_LONG}
+use Rattle.ts_model.specs.Numbers.{line_long}
 use Rattle.result_text.specs.declared.replies.Said.TheVariants as said
 use Rattle.result_text.specs.Replies.{reply_text}
 use Rattle.ts_sessions.specs.declared.kinds.Kind.TheVariants.{Defines}
@@ -201,7 +201,7 @@ module _ (stays : StaysOutside (λ (p : Places). p.block) step) (name : List ℕ
         let skip = length name + 1 in
         let s = script_at c in
         let short : length line ≤ line_limit = omega (arith, is.said_so.bytes) in
-        ap (λ t. cond t (refused_line s n LINE_LONG) (executes_kind policy_sessions s n line (line_kind line))) (le-ltb line_limit (length line) short)
+        ap (λ t. cond t (refused_line s n line_long) (executes_kind policy_sessions s n line (line_kind line))) (le-ltb line_limit (length line) short)
         ∙ ap (executes_kind policy_sessions s n line) is.said_so.kind
         ∙ ap (λ t. executes_as policy_sessions s (session_name line (length name) skip) t skip (places_of (session_name line (length name) skip) s.sessions)) (take-length line)
         ∙ ap (λ who. executes_as policy_sessions s who line skip (places_of who s.sessions)) is.said_so.session
@@ -262,7 +262,7 @@ module _ (s : ScriptState (PolicyPlaces Places)) (n : ℕ) (name line : List ℕ
 
   tick_taken : executes policy_sessions s n line ≡ takes_turn s name procedure
   tick_taken =
-      ap (λ t. cond t (refused_line s n LINE_LONG) (executes_kind policy_sessions s n line (line_kind line))) (le-ltb line_limit (length line) is.short)
+      ap (λ t. cond t (refused_line s n line_long) (executes_kind policy_sessions s n line (line_kind line))) (le-ltb line_limit (length line) is.short)
       ∙ ap (executes_kind policy_sessions s n line) is.kind
       ∙ ap (λ who. executes_as policy_sessions s who (take is.end line) is.skip (places_of who s.sessions)) is.session
       ∙ ap (executes_as policy_sessions s name (take is.end line) is.skip) there

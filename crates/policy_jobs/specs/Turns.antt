@@ -7,7 +7,7 @@ use Rattle.ts_model.specs.History.{position}
 use Rattle.ts_model.specs.Roster.{roster}
 use Rattle.stmt_reader.specs.declared.faults.Fault.{Fault}
 use Rattle.stmt_reader.specs.Streams.{Stream, stream}
-use Rattle.result_text.specs.declared.codes.TheConstants.{BAD_TIME}
+use Rattle.ts_model.specs.Numbers.{bad_time}
 use Rattle.result_text.specs.declared.replies.Said.TheVariants as said
 use Rattle.ts_sessions.specs.declared.kinds.Kind.TheVariants.{Defines}
 use Rattle.ts_sessions.specs.Places.{Block, Turn, turns, refuses}
@@ -53,7 +53,7 @@ adds_policy p job every =
 
 -- a time out of range
 abbrev pub misses_time : {P : Type 0} → PolicyPlaces P → Procedure (Turn (PolicyPlaces P))
-misses_time p = looks (λ h. ends (refuses p (refusal BAD_TIME h 0)))
+misses_time p = looks (λ h. ends (refuses p (refusal bad_time h 0)))
 
 -- what the lines of the actor do
 module _ {P : Type 0} (does : P → List ℕ → ℕ → Procedure (Turn P)) where

@@ -5,9 +5,8 @@ ghost use Rattle.stmt_check.specs.Refusals.{hypertable_refusal, view_refusal};
 ghost use Rattle.policy_jobs.specs.Adding.{adding_refusal as refusal_of, fits_step as fits, has_offsets, is_from, is_offset as offset_is, is_wide as wide, relation_refusal as refusal_of_relation, view_found as found_view};
 
 use crate::jobs::Job;
-use result_text::codes;
 use ts_catalog::{Found, find};
-use ts_model::{Refusal, Roster, ViewDef};
+use ts_model::{Refusal, Roster, ViewDef, codes};
 
 /// The most policies of a session.
 pub(crate) const MOST_POLICIES: usize = 64;

@@ -8,6 +8,7 @@ ghost use Rattle.ts_sessions.specs.Held.{GoesOn};
 ghost use Rattle.ts_sessions.specs.Places.{Block as BlockPlace, block_kind, none};
 ghost use Rattle.ts_sessions.specs.Sessions.{AnswersSo, IfAnswered, IsReply, Stepped};
 ghost use Rattle.ts_sessions.specs.Step.{block_refusal, misread as misread_as};
+ghost use Rattle.ts_model.specs.Numbers.{bad_time};
 ghost use Rattle.policy_jobs.specs.Policies.{ticked};
 ghost use Rattle.policy_jobs.specs.Runs.{RunsTo};
 ghost use Rattle.policy_jobs.specs.Sessions.{HoldsOf, places_in};
@@ -20,12 +21,12 @@ use crate::policies::{Policy, due_texts};
 use crate::reading::{PolicyRead, read_policy};
 use crate::runs::{Run, run_all};
 use crate::statements::PolicyStmt;
-use result_text::{Said, codes};
+use result_text::Said;
 use std::alloc::Global;
 use std::thread::Threads;
 use stmt_reader::Fault;
 use ts_bucket::{MAX_TIME, MIN_TIME};
-use ts_model::{Backend, Gate, Refusal, Shown};
+use ts_model::{Backend, Gate, Refusal, Shown, codes};
 use ts_schema::{Name, NoMemory, Steps};
 use ts_sessions::{Actor, Block, Reply, StepEnd, bare, placed, replied, write_reply};
 
@@ -249,7 +250,7 @@ impl<A: Actor> PolicySession<A> {
 
 /// A time is out of range.
 fn bad_time(pos: u64) -> Refusal
-    ensures { result ≡ record { code = 9; pos = pos; mark = 0 } }
+    ensures { result ≡ record { code = bad_time; pos = pos; mark = 0 } }
 {
     Refusal {
         code: codes::BAD_TIME,

@@ -24,7 +24,7 @@ use Rattle.partial_agg.specs.declared.groups.Group.{Group}
 use Rattle.group_fold.specs.Grouping.{row_group}
 use Rattle.group_fold.proofs.RowGroups.{all-with_group, groups_of-more}
 use Rattle.group_fold.proofs.BucketGroups.{groups_of_some_buckets, order_plays_no_part}
-use Rattle.span_fold.specs.Spans.{HaveTimes, rows_in}
+use Rattle.group_fold.specs.Spans.{HaveTimes, rows_in}
 use Rattle.realtime_union.specs.Live.{IsLiveSpan, all_times, is_live}
 use Rattle.ts_schema.proofs.Cases.{by_test, int_le-true, le-int_le, lt-int_lt, and_first, and_second, all_weaker, filter_same}
 

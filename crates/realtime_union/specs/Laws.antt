@@ -16,7 +16,7 @@ use Rattle.ts_model.specs.declared.views.ViewDef.{ViewDef}
 use Rattle.ts_model.specs.Answers.{buckets_in}
 use Rattle.ts_model.specs.Groups.{cells_of, groups_in}
 use Rattle.ts_model.specs.Reads.{chunk_within, rows_near}
-use Rattle.span_fold.specs.Spans.{HaveTimes}
+use Rattle.group_fold.specs.Spans.{HaveTimes}
 use Rattle.realtime_union.specs.Live.{IsLiveSpan, all_times, union_rows}
 
 -- the groups that an aggregate shows of a bucket: below its mark the materialised ones, and else those of the rows,

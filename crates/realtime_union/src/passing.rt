@@ -4,7 +4,7 @@ ghost use Rattle.ts_schema.specs.Conditions.{passes_all};
 ghost use Rattle.ts_schema.specs.Counts.{Ticks};
 ghost use Rattle.ts_model.specs.Answers.{all_columns};
 ghost use Rattle.ts_model.specs.Rows.{in_order};
-ghost use Rattle.span_fold.specs.Spans.{HaveTimes};
+ghost use Rattle.group_fold.specs.Spans.{HaveTimes};
 ghost use Rattle.realtime_union.specs.Whole.{all_reads, passing};
 
 use crate::tables::whole_time;

@@ -4,14 +4,14 @@ ghost use Rattle.ts_schema.specs.Counts.{Ticks};
 ghost use Rattle.ts_model.specs.Groups.{cells_of};
 ghost use Rattle.ts_model.specs.Rows.{in_order};
 ghost use Rattle.ts_model.specs.Scratch.{fold_rows};
-ghost use Rattle.span_fold.specs.Spans.{HaveTimes};
+ghost use Rattle.group_fold.specs.Spans.{HaveTimes};
 ghost use Rattle.realtime_union.specs.Live.{all_times};
 ghost use Rattle.realtime_union.specs.Whole.{all_reads};
 
 use crate::shown::{make_room, show};
 use cell_rows::CellRows;
 use partial_agg::Group;
-use span_fold::fold_spans;
+use group_fold::fold_spans;
 use std::alloc::Global;
 use std::thread::Threads;
 use ts_bucket::{MAX_TIME, MIN_TIME, Span};

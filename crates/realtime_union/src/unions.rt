@@ -4,14 +4,14 @@ ghost use Rattle.ts_bucket.specs.Spans.{SpanValue};
 ghost use Rattle.ts_bucket.specs.WholeSpans.{IsWholeSpan};
 ghost use Rattle.ts_schema.specs.Counts.{Ticks};
 ghost use Rattle.ts_model.specs.Rows.{in_order};
-ghost use Rattle.span_fold.specs.Spans.{HaveTimes};
+ghost use Rattle.group_fold.specs.Spans.{HaveTimes};
 ghost use Rattle.realtime_union.specs.Live.{IsLiveSpan, live_groups, live_reads, union_rows};
 
 use crate::shown::{make_room, show, show_each};
 use block_list::Iter;
 use cell_rows::CellRows;
 use partial_agg::Group;
-use span_fold::fold_spans;
+use group_fold::fold_spans;
 use std::alloc::Global;
 use std::thread::Threads;
 use ts_bucket::Span;

@@ -21,8 +21,8 @@ use Rattle.ts_model.specs.Windows.{last_end}
 use Rattle.partial_agg.specs.declared.groups.Group.{Group}
 use Rattle.group_fold.specs.Laws.{end_of_last}
 use Rattle.group_fold.proofs.BucketGroups.{groups_of_some_buckets, groups_of_spans, last_group_ends}
-use Rattle.span_fold.specs.Spans.{AreApart, rows_in}
-use Rattle.span_fold.proofs.ScanLaws.{all-filter}
+use Rattle.group_fold.specs.Spans.{AreApart, rows_in}
+use Rattle.group_fold.proofs.ScanLaws.{all-filter}
 use Rattle.mat_log.proofs.RangeLaws.{out_below}
 use Rattle.ts_schema.proofs.Cases.{filter_same}
 

@@ -6,7 +6,7 @@ ghost use Rattle.ts_bucket.specs.WholeSpans.{IsWholeSpan};
 ghost use Rattle.ts_bucket.specs.declared.spans.Span.{Span};
 ghost use Rattle.ts_schema.specs.Counts.{Ticks};
 ghost use Rattle.mat_log.specs.Feeding.{AreWithin, is_dirty_with};
-ghost use Rattle.span_fold.specs.Spans.{AreApart, HaveTimes, near_each};
+ghost use Rattle.group_fold.specs.Spans.{AreApart, HaveTimes, near_each};
 ghost use Rattle.refresh_build.specs.Jobs.{IsFor, IsMadeOf};
 
 use crate::jobs::{Job, Refresh};
@@ -15,7 +15,7 @@ use block_list::BlockList;
 use inval_log::Entry;
 use mat_log::MatLog;
 use mat_rows::MatRows;
-use span_fold::fold_spans;
+use group_fold::fold_spans;
 use std::alloc::Global;
 use std::thread::Threads;
 use ts_bucket::Span;

@@ -1,7 +1,7 @@
 -- The texts of refusals: the number, the word, and the tail.
 use Rattle.std.specs.Prelude.{ℕ, zero, suc, ◌/◌, ◌%◌, ◌==◌, List, [], ◌++◌, codes, decimal, if◌then◌else◌}
 use Rattle.ts_model.specs.declared.outcomes.Refusal.{Refusal}
-use Rattle.result_text.specs.declared.codes.TheConstants.{LINE_LONG, NOT_ASCII, NO_SESSION, NO_TOKEN, SYNTAX, NO_RELATION, NAME_TAKEN, NO_COLUMN, BAD_TIME, BAD_NUMBER, VALUE_COUNT, NULL_VALUE, NOT_HYPERTABLE, BAD_WIDTH, NO_BUCKET, IN_WRITE_BLOCK, IN_READ_BLOCK, NO_BLOCK, NO_REFRESH, NO_SNAPSHOT, TOO_MANY, NOT_AGGREGATE, TOO_MANY_SESSIONS, STOPPED, IMAGE_LONG, BAD_POLICY, TOO_MANY_POLICIES, BAD_ROLLUP, BAD_UNIT, HISTORY_FULL}
+use Rattle.ts_model.specs.Numbers.{line_long, not_ascii, no_session, no_token, syntax, no_relation, name_taken, no_column, bad_time, bad_number, value_count, null_value, not_hypertable, bad_width, no_bucket, in_write_block, in_read_block, no_block, no_refresh, no_snapshot, too_many, not_aggregate, too_many_sessions, stopped, image_long, bad_policy, too_many_policies, bad_rollup, bad_unit, history_full}
 use Rattle.result_text.specs.declared.refusals.Tail.{Tail}
 use Rattle.result_text.specs.declared.refusals.Tail.TheVariants.{Bare, Place, Position, Finish, Count, Bytes}
 
@@ -16,36 +16,36 @@ named word tail = record { word = word; tail = tail }
 -- the table of refusals; a number that isn't in it has no word of its own
 abbrev pub entry_of : ℕ → Entry
 entry_of code =
-    if code == LINE_LONG then named (codes "line_long") Bare
-    else if code == NOT_ASCII then named (codes "not_ascii") Bare
-    else if code == NO_SESSION then named (codes "no_session") Bare
-    else if code == NO_TOKEN then named (codes "no_token") Place
-    else if code == SYNTAX then named (codes "syntax") Place
-    else if code == NO_RELATION then named (codes "no_relation") Position
-    else if code == NAME_TAKEN then named (codes "name_taken") Position
-    else if code == NO_COLUMN then named (codes "no_column") Position
-    else if code == BAD_TIME then named (codes "bad_time") Position
-    else if code == BAD_NUMBER then named (codes "bad_number") Place
-    else if code == VALUE_COUNT then named (codes "value_count") Position
-    else if code == NULL_VALUE then named (codes "null_value") Position
-    else if code == NOT_HYPERTABLE then named (codes "not_hypertable") Position
-    else if code == BAD_WIDTH then named (codes "bad_width") Position
-    else if code == NO_BUCKET then named (codes "no_bucket") Position
-    else if code == IN_WRITE_BLOCK then named (codes "in_write_block") Bare
-    else if code == IN_READ_BLOCK then named (codes "in_read_block") Bare
-    else if code == NO_BLOCK then named (codes "no_block") Bare
-    else if code == NO_REFRESH then named (codes "no_refresh") Finish
-    else if code == NO_SNAPSHOT then named (codes "no_snapshot") Position
-    else if code == TOO_MANY then named (codes "too_many") Count
-    else if code == NOT_AGGREGATE then named (codes "not_aggregate") Position
-    else if code == TOO_MANY_SESSIONS then named (codes "too_many_sessions") Bare
-    else if code == STOPPED then named (codes "stopped") Position
-    else if code == IMAGE_LONG then named (codes "image_long") Bytes
-    else if code == BAD_POLICY then named (codes "bad_policy") Position
-    else if code == TOO_MANY_POLICIES then named (codes "too_many_policies") Count
-    else if code == BAD_ROLLUP then named (codes "bad_rollup") Position
-    else if code == BAD_UNIT then named (codes "bad_unit") Position
-    else if code == HISTORY_FULL then named (codes "history_full") Position
+    if code == line_long then named (codes "line_long") Bare
+    else if code == not_ascii then named (codes "not_ascii") Bare
+    else if code == no_session then named (codes "no_session") Bare
+    else if code == no_token then named (codes "no_token") Place
+    else if code == syntax then named (codes "syntax") Place
+    else if code == no_relation then named (codes "no_relation") Position
+    else if code == name_taken then named (codes "name_taken") Position
+    else if code == no_column then named (codes "no_column") Position
+    else if code == bad_time then named (codes "bad_time") Position
+    else if code == bad_number then named (codes "bad_number") Place
+    else if code == value_count then named (codes "value_count") Position
+    else if code == null_value then named (codes "null_value") Position
+    else if code == not_hypertable then named (codes "not_hypertable") Position
+    else if code == bad_width then named (codes "bad_width") Position
+    else if code == no_bucket then named (codes "no_bucket") Position
+    else if code == in_write_block then named (codes "in_write_block") Bare
+    else if code == in_read_block then named (codes "in_read_block") Bare
+    else if code == no_block then named (codes "no_block") Bare
+    else if code == no_refresh then named (codes "no_refresh") Finish
+    else if code == no_snapshot then named (codes "no_snapshot") Position
+    else if code == too_many then named (codes "too_many") Count
+    else if code == not_aggregate then named (codes "not_aggregate") Position
+    else if code == too_many_sessions then named (codes "too_many_sessions") Bare
+    else if code == stopped then named (codes "stopped") Position
+    else if code == image_long then named (codes "image_long") Bytes
+    else if code == bad_policy then named (codes "bad_policy") Position
+    else if code == too_many_policies then named (codes "too_many_policies") Count
+    else if code == bad_rollup then named (codes "bad_rollup") Position
+    else if code == bad_unit then named (codes "bad_unit") Position
+    else if code == history_full then named (codes "history_full") Position
     else named (codes "unnamed") Bare
 
 -- the position looked at

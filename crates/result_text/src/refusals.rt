@@ -2,9 +2,8 @@
 ghost use Rattle.std.specs.Prelude.{◌≡◌, ◌++◌, decimal, OnErr, OnOk};
 ghost use Rattle.result_text.specs.Refusals.{entry_of, finish_text, number_text, position_text, refusal_text, tail_text};
 
-use crate::codes;
 use crate::pieces::Text;
-use ts_model::Refusal;
+use ts_model::{Refusal, codes};
 use ts_schema::NoMemory;
 
 /// What a refusal's reply ends with.

@@ -11,10 +11,11 @@ use Rattle.ts_model.specs.Roster.{same_name}
 use Rattle.stmt_reader.specs.declared.lines.LineKind.{LineKind}
 use Rattle.stmt_reader.specs.declared.lines.LineKind.TheVariants.{Blank, NotAscii, NoSession, Stmt}
 use Rattle.stmt_reader.specs.Lines.{line_kind, session_name}
-use Rattle.result_text.specs.declared.codes.TheConstants.{LINE_LONG, TOO_MANY_SESSIONS}
+use Rattle.ts_model.specs.Numbers.{line_long, too_many_sessions}
 use Rattle.result_text.specs.declared.replies.Said.TheVariants as said
 use Rattle.result_text.specs.Replies.{line_fault_text, reply_text}
-use Rattle.ts_sessions.specs.Script.{SessionLine, SessionScript, line_limit, most_sessions}
+use Rattle.ts_sessions.specs.Script.{SessionLine, SessionScript, line_limit}
+use Rattle.ts_model.specs.Limits.{most_sessions}
 use Rattle.ts_sessions.specs.Step.{bare}
 use Rattle.par_lines.specs.Sorted.{Sorted, appears_in, at_once, final, only, refuses, setup, sorted, sorts, sorts_all, sorts_as, sorts_kind, with_line}
 use Rattle.transcript.specs.Shape.{are_apart, is_among}
@@ -86,7 +87,7 @@ AreApart s = Apart (names_of s.sessions)
 apart_as : (name : List ℕ) (line : SessionLine) (s : Sorted) → AreApart s → AreApart (sorts_as name line s)
 apart_as name line s all = by (appears_in name s.sessions || nat_lt (length s.sessions) most_sessions)
   where
-    by : (b : Bool) → AreApart (cond b (record s { sessions = with_line name line s.sessions }) (refuses (reply_text name (said.Fault (bare TOO_MANY_SESSIONS))) s))
+    by : (b : Bool) → AreApart (cond b (record s { sessions = with_line name line s.sessions }) (refuses (reply_text name (said.Fault (bare too_many_sessions))) s))
     by true = apart_with name line s.sessions all
     by false = all
 
@@ -99,7 +100,7 @@ apart_kind n line s (Stmt len skip end) all = apart_as (session_name line len sk
 apart_line : (n : ℕ) (line : List ℕ) (s : Sorted) → AreApart s → AreApart (sorts n line s)
 apart_line n line s all = by (nat_lt line_limit (length line))
   where
-    by : (b : Bool) → AreApart (cond b (refuses (line_fault_text n (bare LINE_LONG)) s) (sorts_kind n line s (line_kind line)))
+    by : (b : Bool) → AreApart (cond b (refuses (line_fault_text n (bare line_long)) s) (sorts_kind n line s (line_kind line)))
     by true = all
     by false = apart_kind n line s (line_kind line) all
 

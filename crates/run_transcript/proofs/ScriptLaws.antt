@@ -12,10 +12,11 @@ use Rattle.stmt_reader.specs.declared.lines.LineKind.{LineKind}
 use Rattle.stmt_reader.specs.declared.lines.LineKind.TheVariants.{Blank, NotAscii, NoSession, Stmt}
 use Rattle.stmt_reader.specs.Limits.{longest_line}
 use Rattle.stmt_reader.specs.Lines.{line_kind, session_name}
-use Rattle.result_text.specs.declared.codes.TheConstants.{LINE_LONG, TOO_MANY_SESSIONS}
+use Rattle.ts_model.specs.Numbers.{line_long, too_many_sessions}
 use Rattle.result_text.specs.declared.replies.Said.TheVariants as said
 use Rattle.result_text.specs.Replies.{line_fault_text, reply_text}
-use Rattle.ts_sessions.specs.Script.{SessionLine, SessionScript, line_limit, most_sessions}
+use Rattle.ts_sessions.specs.Script.{SessionLine, SessionScript, line_limit}
+use Rattle.ts_model.specs.Limits.{most_sessions}
 use Rattle.ts_sessions.specs.Step.{bare}
 use Rattle.par_lines.specs.Sorted.{Sorted, appears_in, refuses, sorted, sorts, sorts_all, sorts_as, sorts_kind, with_line}
 use Rattle.transcript.specs.Ascii.{is_ascii_text}
@@ -62,7 +63,7 @@ AreSound s = AllByRecursion IsSoundScript s.sessions
 sound_as : (name : List ℕ) (line : SessionLine) (s : Sorted) → is_session_name name ≡ true → IsOwn name line → AreSound s → AreSound (sorts_as name line s)
 sound_as name line s good is_own all = by (appears_in name s.sessions || nat_lt (length s.sessions) most_sessions)
   where
-    by : (b : Bool) → AreSound (cond b (record s { sessions = with_line name line s.sessions }) (refuses (reply_text name (said.Fault (bare TOO_MANY_SESSIONS))) s))
+    by : (b : Bool) → AreSound (cond b (record s { sessions = with_line name line s.sessions }) (refuses (reply_text name (said.Fault (bare too_many_sessions))) s))
     by true = sound_with name good line is_own s.sessions all
     by false = all
 
@@ -78,7 +79,7 @@ sound_kind n line s (Stmt len skip end) short one e all =
 sound_line : (n : ℕ) (line : List ℕ) (s : Sorted) → is_one_line line ≡ true → AreSound s → AreSound (sorts n line s)
 sound_line n line s one all = by (nat_lt line_limit (length line)) refl
   where
-    by : (b : Bool) → nat_lt line_limit (length line) ≡ b → AreSound (cond b (refuses (line_fault_text n (bare LINE_LONG)) s) (sorts_kind n line s (line_kind line)))
+    by : (b : Bool) → nat_lt line_limit (length line) ≡ b → AreSound (cond b (refuses (line_fault_text n (bare line_long)) s) (sorts_kind n line s (line_kind line)))
     by true e = all
     by false e = sound_kind n line s (line_kind line) (ltb-false line_limit (length line) e) one refl all
 

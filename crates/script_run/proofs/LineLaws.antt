@@ -10,7 +10,7 @@ use Rattle.ts_model.specs.States.{State, stands_still}
 use Rattle.stmt_reader.specs.declared.lines.LineKind.{LineKind}
 use Rattle.stmt_reader.specs.declared.lines.LineKind.TheVariants.{Blank, NotAscii, NoSession, Stmt}
 use Rattle.stmt_reader.specs.Lines.{line_kind, session_name}
-use Rattle.result_text.specs.declared.codes.TheConstants.{LINE_LONG, TOO_MANY_SESSIONS}
+use Rattle.ts_model.specs.Numbers.{line_long, too_many_sessions}
 use Rattle.result_text.specs.declared.replies.Said.TheVariants as said
 use Rattle.result_text.specs.Replies.{reply_text}
 use Rattle.ts_sessions.specs.declared.actors.Actor.{Ghosts as Actor}
@@ -21,7 +21,8 @@ use Rattle.ts_sessions.specs.Procedures.{Procedure}
 use Rattle.ts_sessions.specs.Held.{GoesOn}
 use Rattle.ts_sessions.specs.Places.{Turn}
 use Rattle.ts_sessions.specs.Step.{bare}
-use Rattle.ts_sessions.specs.Script.{Semantics, LineResult, ScriptState, text_of, has_fault, takes_turn, with_places, places_of, executes, executes_kind, executes_as, refused, refused_line, line_limit, most_sessions}
+use Rattle.ts_sessions.specs.Script.{Semantics, LineResult, ScriptState, text_of, has_fault, takes_turn, with_places, places_of, executes, executes_kind, executes_as, refused, refused_line, line_limit}
+use Rattle.ts_model.specs.Limits.{most_sessions}
 use Rattle.ts_sessions.specs.Sessions.{IfAnswered, Stepped}
 use Rattle.ts_sessions.proofs.WalkLaws.{goes_walks, goes_breaks}
 use Rattle.script_run.specs.Executing.{AreReady, HaveTaken}
@@ -122,16 +123,16 @@ module _ {P : Type 0} (end : StepEnd) (old new : State) (script_state : ScriptSt
   as_missing semantics s name text skip o missing l = subst (λ o. Comes (executes_as semantics s name text skip o)) (sym missing) l
 
   -- a new session where there is no room for it
-  pub as_many : (semantics : Semantics P) (s : ScriptState P) (name text : List ℕ) (skip : ℕ) → most_sessions ≤ length s.sessions → Comes (refused s (reply_text name (said.Fault (bare TOO_MANY_SESSIONS)))) → Comes (executes_as semantics s name text skip None)
+  pub as_many : (semantics : Semantics P) (s : ScriptState P) (name text : List ℕ) (skip : ℕ) → most_sessions ≤ length s.sessions → Comes (refused s (reply_text name (said.Fault (bare too_many_sessions)))) → Comes (executes_as semantics s name text skip None)
   as_many semantics s name text skip many l =
       let full : nat_lt (length s.sessions) most_sessions ≡ false = le-ltb (length s.sessions) most_sessions many in
-      subst (λ b. Comes (cond b (takes_turn s name (semantics.does (semantics.opening (length s.sessions)) text skip)) (refused s (reply_text name (said.Fault (bare TOO_MANY_SESSIONS)))))) (sym full) l
+      subst (λ b. Comes (cond b (takes_turn s name (semantics.does (semantics.opening (length s.sessions)) text skip)) (refused s (reply_text name (said.Fault (bare too_many_sessions)))))) (sym full) l
 
   -- and where there is
   pub as_few : (semantics : Semantics P) (s : ScriptState P) (name own text : List ℕ) (skip : ℕ) → own ≡ name → length s.sessions < most_sessions → Comes (takes_turn s own (semantics.does (semantics.opening (length s.sessions)) text skip)) → Comes (executes_as semantics s name text skip None)
   as_few semantics s name own text skip named few l =
       let room : nat_lt (length s.sessions) most_sessions ≡ true = lt-ltb (length s.sessions) most_sessions few in
-      subst (λ b. Comes (cond b (takes_turn s name (semantics.does (semantics.opening (length s.sessions)) text skip)) (refused s (reply_text name (said.Fault (bare TOO_MANY_SESSIONS)))))) (sym room)
+      subst (λ b. Comes (cond b (takes_turn s name (semantics.does (semantics.opening (length s.sessions)) text skip)) (refused s (reply_text name (said.Fault (bare too_many_sessions)))))) (sym room)
       (subst (λ n. Comes (takes_turn s n (semantics.does (semantics.opening (length s.sessions)) text skip))) named l)
 
   -- a line of a kind that has at most 65,536 bytes
@@ -139,13 +140,13 @@ module _ {P : Type 0} (end : StepEnd) (old new : State) (script_state : ScriptSt
   as_kind semantics s n line kind few e l =
       let short : nat_lt line_limit (length line) ≡ false = le-ltb line_limit (length line) few in
       let whole = subst (λ k. Comes (executes_kind semantics s n line k)) e l in
-      subst (λ b. Comes (cond b (refused_line s n LINE_LONG) (executes_kind semantics s n line (line_kind line)))) (sym short) whole
+      subst (λ b. Comes (cond b (refused_line s n line_long) (executes_kind semantics s n line (line_kind line)))) (sym short) whole
 
 -- a line that is longer
-pub long_line : {P : Type 0} (semantics : Semantics P) (s : ScriptState P) (n : ℕ) (line : List ℕ) → line_limit < length line → executes semantics s n line ≡ refused_line s n LINE_LONG
+pub long_line : {P : Type 0} (semantics : Semantics P) (s : ScriptState P) (n : ℕ) (line : List ℕ) → line_limit < length line → executes semantics s n line ≡ refused_line s n line_long
 long_line semantics s n line many =
     let long : nat_lt line_limit (length line) ≡ true = lt-ltb line_limit (length line) many in
-    ap (λ b. cond b (refused_line s n LINE_LONG) (executes_kind semantics s n line (line_kind line))) long
+    ap (λ b. cond b (refused_line s n line_long) (executes_kind semantics s n line (line_kind line))) long
 
 -- ---- each line goes on from its script state
 
@@ -159,7 +160,7 @@ either_begins false h x y p q = q
 pub session_begins : {P : Type 0} (semantics : Semantics P) (s : ScriptState P) (name text : List ℕ) (skip : ℕ) (o : Option P) → Begins s.history (executes_as semantics s name text skip o).script_state.history
 session_begins semantics s name text skip (Some p) = turn_begins s name (semantics.does p text skip)
 session_begins semantics s name text skip None =
-    either_begins (nat_lt (length s.sessions) most_sessions) s.history (takes_turn s name (semantics.does (semantics.opening (length s.sessions)) text skip)) (refused s (reply_text name (said.Fault (bare TOO_MANY_SESSIONS))))
+    either_begins (nat_lt (length s.sessions) most_sessions) s.history (takes_turn s name (semantics.does (semantics.opening (length s.sessions)) text skip)) (refused s (reply_text name (said.Fault (bare too_many_sessions))))
     (turn_begins s name (semantics.does (semantics.opening (length s.sessions)) text skip)) same
 
 kind_begins : {P : Type 0} (semantics : Semantics P) (s : ScriptState P) (n : ℕ) (line : List ℕ) (kind : LineKind) → Begins s.history (executes_kind semantics s n line kind).script_state.history
@@ -170,7 +171,7 @@ kind_begins semantics s n line (Stmt len skip end) = session_begins semantics s 
 
 pub line_begins : {P : Type 0} (semantics : Semantics P) (s : ScriptState P) (n : ℕ) (line : List ℕ) → Begins s.history (executes semantics s n line).script_state.history
 line_begins semantics s n line =
-    either_begins (nat_lt line_limit (length line)) s.history (refused_line s n LINE_LONG) (executes_kind semantics s n line (line_kind line)) same (kind_begins semantics s n line (line_kind line))
+    either_begins (nat_lt line_limit (length line)) s.history (refused_line s n line_long) (executes_kind semantics s n line (line_kind line)) same (kind_begins semantics s n line (line_kind line))
 
 -- ---- what a line leaves
 

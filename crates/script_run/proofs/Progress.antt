@@ -7,7 +7,7 @@ use Rattle.ts_schema.specs.Counts.{raised_by}
 use Rattle.ts_io.specs.declared.limits.TheConstants.{LINE_LIMIT}
 use Rattle.ts_model.specs.History.{History, Begins, same}
 use Rattle.ts_model.specs.States.{State}
-use Rattle.result_text.specs.declared.codes.TheConstants.{LINE_LONG}
+use Rattle.ts_model.specs.Numbers.{line_long}
 use Rattle.result_text.specs.Replies.{line_fault_text}
 use Rattle.ts_sessions.specs.Script.{Semantics, LineResult, ScriptState, executes, opening_script_state, refused_line}
 use Rattle.ts_sessions.specs.Step.{bare}
@@ -217,18 +217,18 @@ end_ran false semantics h input rest left whole done fault = (whole, done, fault
 -- ---- a line that is too long
 
 module _ {P : Type 0} (semantics : Semantics P) (script_state : ScriptState P) (k : ℕ) (line : List ℕ) (long : LINE_LIMIT < length line) where
-  pub refused_written : (next : ScriptState P) (w v : Option (List ℕ)) (was is : Bool) (read : ℕ) → read < 2 ^ 64 → next ≡ script_state → Appends w v (line_fault_text k (bare LINE_LONG)) → is ≡ true
+  pub refused_written : (next : ScriptState P) (w v : Option (List ℕ)) (was is : Bool) (read : ℕ) → read < 2 ^ 64 → next ≡ script_state → Appends w v (line_fault_text k (bare line_long)) → is ≡ true
       → LineWritten (executes semantics script_state k line) next w v was is read read
   refused_written next w v was is read small kept wrote refused =
-      let written : LineWritten (refused_line script_state k LINE_LONG) next w v was is read read = record { reached = kept; wrote = wrote; refused = refused ∙ sym (or-true was); counted = unraised read small } in
+      let written : LineWritten (refused_line script_state k line_long) next w v was is read read = record { reached = kept; wrote = wrote; refused = refused ∙ sym (or-true was); counted = unraised read small } in
       subst (λ p. LineWritten p next w v was is read read) (sym (long_line semantics script_state k line long)) written
 
-  pub refused_cut : (stop : Stop) (s : State) (next : ScriptState P) (w v : Option (List ℕ)) (read : ℕ) → read < 2 ^ 64 → script_state.history ≡ s.history → next ≡ script_state → RefusalCut stop w v (line_fault_text k (bare LINE_LONG))
+  pub refused_cut : (stop : Stop) (s : State) (next : ScriptState P) (w v : Option (List ℕ)) (read : ℕ) → read < 2 ^ 64 → script_state.history ≡ s.history → next ≡ script_state → RefusalCut stop w v (line_fault_text k (bare line_long))
       → LineCut stop (executes semantics script_state k line) s s next w v read read
   refused_cut WriteFault s next w v read small there kept part =
-      let cut : ReplyCut (refused_line script_state k LINE_LONG) next w v read read = record { reached = kept; wrote = part; counted = unraised read small } in
+      let cut : ReplyCut (refused_line script_state k line_long) next w v read read = record { reached = kept; wrote = part; counted = unraised read small } in
       subst (λ p. ReplyCut p next w v read read) (sym (long_line semantics script_state k line long)) cut
   refused_cut DiskFault s next w v read small there kept part = absurd part
   refused_cut NoMemory s next w v read small there kept part =
-      let cut : LineGivenUp (refused_line script_state k LINE_LONG) s s w v read read = record { between = record { began = same; within = subst (λ g. Begins s.history g) (sym there) same }; wrote = part; counted = omega arith } in
+      let cut : LineGivenUp (refused_line script_state k line_long) s s w v read read = record { between = record { began = same; within = subst (λ g. Begins s.history g) (sym there) same }; wrote = part; counted = omega arith } in
       subst (λ p. LineGivenUp p s s w v read read) (sym (long_line semantics script_state k line long)) cut

@@ -8,11 +8,10 @@ ghost use Rattle.stmt_reader.specs.Lines.{session_name, IsStatementLine};
 
 use crate::replies::{ending, refuse_line, silence};
 use crate::sessions::{Sessions, execute_in_session};
-use result_text::codes;
 use std::alloc::Global;
 use std::thread::Threads;
 use stmt_reader::{LineKind, split_line};
-use ts_model::Backend;
+use ts_model::{Backend, codes};
 use ts_schema::Steps;
 use ts_sessions::{Actor, StepEnd};
 

@@ -6,7 +6,7 @@ ghost use Rattle.ts_io.specs.Faults.{Counted};
 ghost use Rattle.ts_io.specs.Whole.{AppendsPart};
 ghost use Rattle.ts_model.specs.States.{stands_still};
 ghost use Rattle.result_text.specs.Replies.{line_fault_text};
-ghost use Rattle.result_text.specs.declared.codes.TheConstants.{LINE_LONG};
+ghost use Rattle.ts_model.specs.Numbers.{line_long};
 ghost use Rattle.ts_sessions.specs.Script.{executes};
 ghost use Rattle.ts_sessions.specs.Step.{bare};
 ghost use Rattle.script_run.specs.Executing.{AreReady};
@@ -19,11 +19,10 @@ use crate::lines::execute_line;
 use crate::replies::refuse_line;
 use crate::sessions::Sessions;
 use indexmap::IndexMap;
-use result_text::codes;
 use std::alloc::Global;
 use std::thread::Threads;
 use ts_io::{Sink, WriteFault, write_whole};
-use ts_model::Backend;
+use ts_model::{Backend, codes};
 use ts_schema::{NoMemory, Steps};
 use ts_sessions::{Actor, Reply, StepEnd};
 
@@ -118,10 +117,10 @@ impl<A> Script<A> {
     pub fn refuse_long<K: Sink>(&mut self, alloc: Global, sink: &mut K) -> Result<(), Stop>
         requires room { self.old.line + 1 < 2 ^ 64 }
         ensures wrote { OnOk result (Appends (K.written sink.old) (K.written sink.new)
-            (line_fault_text self.old.line (bare LINE_LONG))) }
+            (line_fault_text self.old.line (bare line_long))) }
         ensures refused { OnOk result (self.new.refused ≡ true) }
         ensures cut { IfErr result (λ stop. RefusalCut stop (K.written sink.old) (K.written sink.new)
-            (line_fault_text self.old.line (bare LINE_LONG))) }
+            (line_fault_text self.old.line (bare line_long))) }
         ensures numbered { OnOk result (self.new.line ≡ self.old.line + 1) }
         ensures sessions { self.new.sessions ≡ self.old.sessions }
         ensures writes { Counted (K.faults sink.old) (K.faults sink.new) (stops_by is_write_stop result) }

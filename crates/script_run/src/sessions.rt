@@ -11,15 +11,12 @@ ghost use Rattle.script_run.specs.Sessions.{sessions_of, script_over};
 
 use crate::replies::{ending, refuse_session};
 use indexmap::IndexMap;
-use result_text::codes;
 use std::alloc::Global;
 use std::thread::Threads;
-use ts_model::{Backend, Gate, NoGate};
+use ts_model::limits::MOST_SESSIONS;
+use ts_model::{Backend, Gate, NoGate, codes};
 use ts_schema::{Name, NoMemory, Steps};
 use ts_sessions::{Actor, StepEnd};
-
-/// How many sessions a script may have.
-pub(crate) const MOST_SESSIONS: usize = 64;
 
 /// The sessions that have appeared, by their names, in order of appearance.
 pub(crate) type Sessions<A> = IndexMap<Vec<u8>, A>;

@@ -17,7 +17,7 @@ use Rattle.stmt_check.specs.Subject.{value_named, value_written, ValuesArrive}
 use Rattle.stmt_check.proofs.PassedLaws.{neither, not_wrong, has_to_be}
 use Rattle.stmt_check.proofs.RowLaws.{by_rule, rule_there}
 use Rattle.stmt_check.proofs.TableLaws.{columns_apart}
-use Rattle.stmt_check.specs.Codes.{most_rows}
+use Rattle.stmt_check.specs.Limits.{most_rows}
 
 -- ---- the value that is written
 

@@ -8,7 +8,7 @@ use Rattle.ts_model.specs.declared.rosters.Roster.{Roster}
 use Rattle.ts_model.specs.declared.tables.TableInfo.{TableInfo}
 use Rattle.ts_model.specs.declared.views.ViewDef.{ViewDef}
 use Rattle.ts_model.specs.Allowed.{all_allowed}
-use Rattle.ts_model.specs.Calls.{name_taken, too_many}
+use Rattle.ts_model.specs.Numbers.{name_taken, no_column, value_count, null_value, bad_width, too_many, bad_unit}
 use Rattle.ts_model.specs.History.{History, Begins}
 use Rattle.ts_model.specs.Roster.{roster}
 use Rattle.ts_catalog.specs.Columns.{column_from, column_of}
@@ -21,7 +21,7 @@ use Rattle.stmt_reader.specs.declared.statements.NamedFold.{NamedFold}
 use Rattle.stmt_reader.specs.declared.statements.NamedTest.{NamedTest}
 use Rattle.stmt_reader.specs.declared.statements.Stmt.{Stmt}
 use Rattle.stmt_reader.specs.declared.statements.Stmt.TheVariants as stmts
-use Rattle.stmt_check.specs.Codes.{bad_unit, bad_width, most_rows, no_column, null_value, value_count}
+use Rattle.stmt_check.specs.Limits.{most_rows}
 use Rattle.stmt_check.specs.declared.actions.Action.TheVariants as actions
 use Rattle.stmt_check.specs.declared.inserts.Rule.{Rule}
 use Rattle.stmt_check.specs.declared.inserts.Shape.{Shape}

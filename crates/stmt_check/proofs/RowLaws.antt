@@ -24,7 +24,7 @@ use Rattle.stmt_check.specs.Refusals.{marked, refused}
 use Rattle.stmt_check.specs.Rows.{insert_refusal, inserted_rows, leaves_out, list_refusal_of, blank_column, other_places, picked, place_in, row_of, row_refusal, rows_of, rows_refusal, rule_at, rule_of, rules_from, shape_of, time_place, value_refusal, value_rules, values_refusal}
 use Rattle.stmt_check.proofs.RosterLaws.{all_at}
 use Rattle.stmt_check.proofs.PassedLaws.{neither, not_wrong, has_to_be}
-use Rattle.stmt_check.specs.Codes.{most_rows}
+use Rattle.stmt_check.specs.Limits.{most_rows}
 
 -- ---- the value of a column
 

@@ -3,9 +3,8 @@ use Rattle.std.specs.Prelude.{ℕ, ◌==◌, Bool, false, not, ◌||◌, ◌&&�
 use Rattle.ts_num.specs.declared.values.Fun.{Fun}
 use Rattle.ts_num.specs.declared.values.Fun.TheVariants.{CountAll, Count, Sum, Min, Max, Avg}
 use Rattle.ts_bucket.specs.Bucket.{max_step}
-use Rattle.stmt_check.specs.Codes.{bad_unit, bad_width, no_column}
+use Rattle.ts_model.specs.Numbers.{name_taken, no_column, bad_width, too_many, bad_unit}
 use Rattle.ts_model.specs.Limits.{most_columns}
-use Rattle.ts_model.specs.Calls.{name_taken, too_many}
 use Rattle.ts_model.specs.declared.outcomes.Refusal.{Refusal}
 use Rattle.ts_model.specs.declared.tables.TableInfo.{TableInfo}
 use Rattle.ts_model.specs.declared.views.Agg.{Agg}

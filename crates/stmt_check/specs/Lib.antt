@@ -1,5 +1,5 @@
 pub mod Check
-pub mod Codes
+pub mod Limits
 pub mod Folds
 pub mod Queried
 pub mod Queries

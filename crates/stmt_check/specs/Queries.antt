@@ -5,7 +5,7 @@ use Rattle.ts_bucket.specs.WholeSpans.{least, greatest}
 use Rattle.ts_bucket.specs.Chunks.{chunk_start}
 use Rattle.ts_bucket.specs.Bucket.{is_time}
 use Rattle.ts_bucket.specs.Spans.{SpanValue}
-use Rattle.stmt_check.specs.Codes.{bad_time, no_column}
+use Rattle.ts_model.specs.Numbers.{no_column, bad_time}
 use Rattle.ts_model.specs.declared.outcomes.Refusal.{Refusal}
 use Rattle.ts_model.specs.declared.views.ViewDef.{ViewDef}
 use Rattle.ts_schema.specs.declared.conditions.Cmp.{Cmp}

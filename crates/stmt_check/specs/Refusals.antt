@@ -1,8 +1,7 @@
 -- Refusals in the order of the things looked at.
 use Rattle.std.specs.Prelude.{ℕ, suc, Bool, true, false, not, nat_le, List, Option, Some, None, if◌then◌else◌, is_none}
-use Rattle.stmt_check.specs.Codes.{no_relation, not_aggregate, not_hypertable}
+use Rattle.ts_model.specs.Numbers.{no_relation, name_taken, not_hypertable, too_many, not_aggregate}
 use Rattle.ts_model.specs.Limits.{most_relations}
-use Rattle.ts_model.specs.Calls.{name_taken, too_many}
 use Rattle.ts_model.specs.declared.outcomes.Refusal.{Refusal}
 use Rattle.ts_model.specs.declared.rosters.Roster.{Roster}
 use Rattle.ts_catalog.specs.declared.relations.Found.{Found}

@@ -1,8 +1,8 @@
 -- Rows to be inserted.
 use Rattle.std.specs.Prelude.{ℕ, ◌+◌, ◌==◌, Bool, false, not, ◌||◌, ◌&&◌, nat_le, ℤ, pos as nonneg, List, [], ◌∷◌, ◌++◌, length, map, slice_index_or, Option, Some, None, is_none, unwrap_or, if◌then◌else◌, Result}
 use Rattle.ts_bucket.specs.Bucket.{is_time}
-use Rattle.stmt_check.specs.Codes.{most_rows, bad_time, no_column, null_value, value_count}
-use Rattle.ts_model.specs.Calls.{name_taken, too_many}
+use Rattle.stmt_check.specs.Limits.{most_rows}
+use Rattle.ts_model.specs.Numbers.{name_taken, no_column, bad_time, value_count, null_value, too_many}
 use Rattle.ts_model.specs.declared.outcomes.Refusal.{Refusal}
 use Rattle.ts_schema.specs.declared.columns.Column.{Column}
 use Rattle.ts_schema.specs.declared.rows.Row.{Row}

@@ -1,10 +1,9 @@
 -- Tables and hypertables to be made.
 use Rattle.std.specs.Prelude.{ℕ, Bool, not, nat_le, ℤ, pos as nonneg, List, [], ◌∷◌, ◌++◌, length, Option, None, int_le, ◌&&◌, Result, unwrap_or}
 use Rattle.std.specs.List.{list_any}
-use Rattle.stmt_check.specs.Codes.{bad_width, no_column}
+use Rattle.ts_model.specs.Numbers.{name_taken, no_column, bad_width, too_many}
 use Rattle.ts_bucket.specs.Chunks.{max_interval}
 use Rattle.ts_model.specs.Limits.{most_columns}
-use Rattle.ts_model.specs.Calls.{name_taken, too_many}
 use Rattle.ts_model.specs.declared.outcomes.Refusal.{Refusal}
 use Rattle.ts_model.specs.declared.rosters.Roster.{Roster}
 use Rattle.ts_schema.specs.declared.columns.Column.{Column}

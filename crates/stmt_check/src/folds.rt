@@ -8,12 +8,13 @@ ghost use Rattle.stmt_check.specs.Results.{Checks};
 ghost use Rattle.stmt_check.specs.Tables.{is_among};
 
 use crate::actions::Stop;
-use crate::codes::{BAD_UNIT, BAD_WIDTH, MAX_COLUMNS, NAME_TAKEN, NO_COLUMN, TOO_MANY};
 use crate::refusals::{present, refuse_if, refuse_marked};
 use std::alloc::Global;
 use stmt_reader::{NamedAgg, NamedFold, NamedTest};
 use ts_bucket::{Width, width};
 use ts_catalog::column;
+use ts_model::codes::{BAD_UNIT, BAD_WIDTH, NAME_TAKEN, NO_COLUMN, TOO_MANY};
+use ts_model::limits::{MOST_COLUMNS, MOST_STEP};
 use ts_model::{Agg, Fold, Refusal, TableInfo};
 use ts_num::Fun;
 use ts_schema::{Name, NoMemory, Seq, Test};
@@ -23,9 +24,6 @@ const BUCKET_NAME: &[u8] = b"time_bucket";
 
 /// The name of the column of a bucket of the calendar where no other is given.
 const CALENDAR_NAME: &[u8] = b"calendar_bucket";
-
-/// The greatest step of a width.
-const MAX_STEP: i64 = 1_099_511_627_776;
 
 /// The tests with the numbers of their columns.
 pub(crate) fn check_tests(
@@ -192,7 +190,7 @@ fn check_width(pos: u64, info: &TableInfo, fold: &NamedFold) -> Result<Width, St
 fn is_step_in_range(step: i64) -> bool
     ensures { result ≡ is_step step }
 {
-    0 < step && step <= MAX_STEP
+    0 < step && step <= MOST_STEP
 }
 
 /// Whether a column is the time column.
@@ -250,7 +248,7 @@ fn check_key(
 {
     refuse_if(pos, NAME_TAKEN, repeats)?;
     let number = present(pos, NO_COLUMN, column(info, key))?;
-    refuse_marked(pos, TOO_MANY, count, others >= MAX_COLUMNS as u64)?;
+    refuse_marked(pos, TOO_MANY, count, others >= MOST_COLUMNS as u64)?;
     Ok(number)
 }
 
@@ -293,7 +291,7 @@ fn check_aggregate(
     ensures { ChecksAggregate pos count info.now others repeats agg.now result }
 {
     refuse_if(pos, NAME_TAKEN, agg.name.is_none() && repeats)?;
-    refuse_marked(pos, TOO_MANY, count, others >= MAX_COLUMNS as u64)?;
+    refuse_marked(pos, TOO_MANY, count, others >= MOST_COLUMNS as u64)?;
     let col = check_argument(pos, info, &agg.col)?;
     refuse_if(pos, NAME_TAKEN, agg.name.is_some() && repeats)?;
     Ok(Agg { fun: agg.fun, col })

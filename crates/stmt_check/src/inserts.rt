@@ -6,12 +6,13 @@ ghost use Rattle.stmt_check.specs.Rows.{blank_column, leaves_out, list_refusal, 
 ghost use Rattle.stmt_check.specs.Tables.{is_among};
 
 use crate::actions::Stop;
-use crate::codes::{MAX_ROWS, NAME_TAKEN, NO_COLUMN, NULL_VALUE, TOO_MANY, VALUE_COUNT};
+use crate::limits::MAX_ROWS;
 use crate::refusals::{present, refuse_if, refuse_marked};
 use cell_rows::CellRows;
 use std::alloc::Global;
 use ts_bucket::{MAX_TIME, MIN_TIME};
 use ts_catalog::column_place;
+use ts_model::codes::{NAME_TAKEN, NO_COLUMN, NULL_VALUE, TOO_MANY, VALUE_COUNT};
 use ts_schema::{Column, Name, NoMemory, Row, Seq, SharedSlice};
 
 /// What a value has to meet.

@@ -2,10 +2,10 @@
 #![tactic(auto)]
 
 mod actions;
-mod codes;
 mod folds;
 mod inserts;
 mod laws;
+mod limits;
 mod queries;
 mod refusals;
 mod relations;
@@ -13,9 +13,9 @@ mod statements;
 mod tables;
 
 pub use actions::{Action, Checked};
-pub use codes::numbers_law;
 pub use laws::{
     actions_are_sound_law, allowed_is_ready_law, drops_whole_chunks_law, queues_are_sound_law,
     rosters_are_numbered_law, starts_pass_each_law, values_arrive_law,
 };
+pub use limits::rows_law;
 pub use statements::check;

@@ -7,12 +7,12 @@ ghost use Rattle.stmt_check.specs.Results.{Checks, Passes};
 ghost use Rattle.stmt_check.specs.Tables.{is_interval};
 
 use crate::actions::Stop;
-use crate::codes::{BAD_TIME, NO_COLUMN};
 use crate::refusals::refuse_if;
 use stmt_reader::NamedTest;
 use ts_bucket::{MAX_TIME, MIN_TIME, Span, chunk_start};
 use ts_catalog::view_column;
 use ts_model::ViewDef;
+use ts_model::codes::{BAD_TIME, NO_COLUMN};
 use ts_schema::{Cmp, Test};
 
 /// The starts that all tests let pass, where each is on the bucket column and bounds it.

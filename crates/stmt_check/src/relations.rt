@@ -8,11 +8,10 @@ ghost use Rattle.stmt_check.specs.Tables.{is_interval};
 ghost use Rattle.stmt_check.specs.Results.{Passes};
 
 use crate::actions::Stop;
-use crate::codes::{
-    MAX_RELATIONS, NAME_TAKEN, NO_RELATION, NOT_AGGREGATE, NOT_HYPERTABLE, TOO_MANY,
-};
 use crate::refusals::{refuse_if, refuse_marked};
 use ts_catalog::{Found, find};
+use ts_model::codes::{NAME_TAKEN, NO_RELATION, NOT_AGGREGATE, NOT_HYPERTABLE, TOO_MANY};
+use ts_model::limits::MOST_RELATIONS;
 use ts_model::{Refusal, Roster, TableInfo, ViewDef};
 use ts_schema::Name;
 
@@ -32,8 +31,8 @@ pub(crate) fn new_name(pos: u64, roster: &Roster, name: &Name, there: usize) -> 
     refuse_marked(
         pos,
         TOO_MANY,
-        MAX_RELATIONS as u64 + 1,
-        there >= MAX_RELATIONS,
+        MOST_RELATIONS as u64 + 1,
+        there >= MOST_RELATIONS,
     )
 }
 

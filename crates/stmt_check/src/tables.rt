@@ -4,13 +4,11 @@ ghost use Rattle.stmt_check.specs.Results.{Passes};
 ghost use Rattle.stmt_check.specs.Tables.{columns_refusal, is_column, is_interval, ChecksHyper};
 
 use crate::actions::Stop;
-use crate::codes::{BAD_WIDTH, MAX_COLUMNS, NAME_TAKEN, NO_COLUMN, TOO_MANY};
 use crate::refusals::{present, refuse_if, refuse_marked};
 use ts_catalog::column_place;
+use ts_model::codes::{BAD_WIDTH, NAME_TAKEN, NO_COLUMN, TOO_MANY};
+use ts_model::limits::{MOST_COLUMNS, MOST_INTERVAL};
 use ts_schema::{Column, Name};
-
-/// The greatest interval of a hypertable.
-const MAX_INTERVAL: i64 = 1_125_899_906_842_624;
 
 /// Whether a name is among those of these columns.
 fn has_column(columns: &[Column], name: &Name) -> bool
@@ -26,7 +24,7 @@ pub(crate) fn check_columns(pos: u64, columns: &[Column]) -> Result<(), Stop>
 {
     for (place, column) in columns.iter().enumerate() {
         refuse_if(pos, NAME_TAKEN, has_column(&columns[..place], &column.name))?;
-        refuse_marked(pos, TOO_MANY, columns.len() as u64, place >= MAX_COLUMNS)?;
+        refuse_marked(pos, TOO_MANY, columns.len() as u64, place >= MOST_COLUMNS)?;
     }
     Ok(())
 }
@@ -50,5 +48,5 @@ pub(crate) fn check_hyper(
 fn is_in_range(interval: i64) -> bool
     ensures { result ≡ is_interval interval }
 {
-    1 <= interval && interval <= MAX_INTERVAL
+    1 <= interval && interval <= MOST_INTERVAL
 }

@@ -31,7 +31,8 @@ use Rattle.ts_model.specs.declared.outcomes.CutDone.TheVariants.{Cut as CutMade}
 use Rattle.ts_model.specs.Sound.{sound, span_fits}
 use Rattle.ts_model.specs.Pending.{is_waiting, pending}
 use Rattle.ts_model.specs.Windows.{whole_or, window_up_to, window, last_end}
-use Rattle.ts_model.specs.Calls.{name_taken, too_many, history_full, making, numbered, committed, Act, refuses, returns, makes, refusal, new_relation, cut_over, cut_of_view, cutting, finish_of, Answered}
+use Rattle.ts_model.specs.Calls.{making, numbered, committed, Act, refuses, returns, makes, refusal, new_relation, cut_over, cut_of_view, cutting, finish_of, Answered}
+use Rattle.ts_model.specs.Numbers.{name_taken, too_many, history_full}
 use Rattle.ts_model.specs.States.{State}
 use Rattle.ts_model.specs.Laws.{SoundCut, MakesAllowed, CallsMakeAllowed}
 use Rattle.ts_bucket.specs.WholeSpans.{IsMark}

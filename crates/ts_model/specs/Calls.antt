@@ -22,6 +22,7 @@ use Rattle.ts_model.specs.Roster.{roster, hyper_of, view_of, is_taken}
 use Rattle.ts_model.specs.Rows.{rows}
 use Rattle.ts_model.specs.Effect.{appended_count, taken_count}
 use Rattle.ts_model.specs.Limits.{most_relations}
+use Rattle.ts_model.specs.Numbers.{name_taken, no_bucket, no_refresh, too_many, stopped, history_full}
 use Rattle.ts_model.specs.Timely.{has_room}
 use Rattle.ts_model.specs.Pending.{pending}
 use Rattle.ts_model.specs.Windows.{window}
@@ -32,32 +33,6 @@ pub data Act (A : Type 0) : Type 0 where
   refuses : Refusal → Act A
   returns : A → Act A
   makes : Event → A → Act A
-
--- ---- the numbers of refusals
-
--- the name of a relation to be made is taken, or a table to be made a hypertable is one
-abbrev pub name_taken : ℕ
-name_taken = 7
-
--- a window with a given end holds no whole bucket
-abbrev pub no_bucket : ℕ
-no_bucket = 15
-
--- no refresh of this number is pending
-abbrev pub no_refresh : ℕ
-no_refresh = 19
-
--- there are as many as there may be
-abbrev pub too_many : ℕ
-too_many = 21
-
--- an event would be made, and the store stands still
-abbrev pub stopped : ℕ
-stopped = 24
-
--- an event would be made, and the history is at its end
-abbrev pub history_full : ℕ
-history_full = 30
 
 -- ---- what each call does
 

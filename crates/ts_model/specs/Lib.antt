@@ -10,6 +10,7 @@ pub mod Answers
 pub mod Windows
 pub mod Pending
 pub mod Limits
+pub mod Numbers
 pub mod Bytes
 pub mod Fields
 pub mod Sound

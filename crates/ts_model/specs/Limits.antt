@@ -1,4 +1,4 @@
--- Limits of what events hold.
+-- Limits of what events hold, and of how many sessions a script has.
 use Rattle.std.specs.Prelude.{ℕ, Bool, ◌&&◌, ◌-◌, ◌^◌, ℤ, int_le}
 use Rattle.ts_bucket.specs.WholeSpans.{least, greatest}
 
@@ -9,6 +9,10 @@ most_relations = 64
 -- the most columns of a table, and of an output
 abbrev pub most_columns : ℕ
 most_columns = 16
+
+-- the most sessions of a script
+abbrev pub most_sessions : ℕ
+most_sessions = 64
 
 -- no event comes after this position
 abbrev pub last_position : ℕ

@@ -4,10 +4,12 @@
 #![tactic(auto)]
 
 mod backends;
+pub mod codes;
 mod events;
 mod gates;
 mod images;
 pub mod laws;
+pub mod limits;
 mod outcomes;
 mod queries;
 mod refreshes;

@@ -21,7 +21,7 @@ use Rattle.ts_sessions.specs.Places.{Places, Turn, held_for, refuses}
 use Rattle.ts_sessions.specs.Procedures.{Procedure, ends, looks}
 use Rattle.ts_sessions.specs.Step.{finishes, finishes_held, lost_code, refresh_meant, unfinished}
 use Rattle.ts_sessions.specs.Walks.{Breaks}
-use Rattle.result_text.specs.declared.codes.TheConstants.{NO_SNAPSHOT}
+use Rattle.ts_model.specs.Numbers.{no_snapshot}
 use Rattle.ts_sessions.proofs.JobLaws.{held_holds, lost_at}
 use Rattle.ts_sessions.proofs.SessionLaws.{carried_held, carried_places, forgotten_held, forgotten_places, kept_held, same_places, spared, spares_meant, taken_held, taken_none, taken_places}
 use Rattle.ts_sessions.proofs.StateLaws.{goes_seen}
@@ -38,9 +38,9 @@ meant p number m alone s left e k = subst (λ x. Leads alone false s (looks (λ 
 at_held : (p : Places) (c : ℕ) (o : Option ℕ) (alone : Bool) (s : State) (left : Procedure (Turn Places)) → held_for c p.held ≡ o → Leads alone false s (looks (λ h. finishes_held p h c o)) s left → Leads alone false s (looks (λ h. finishes p h (Some c))) s left
 at_held p c o alone s left e k = subst (λ x. Leads alone false s (looks (λ h. finishes_held p h c x)) s left) (sym e) k
 
-pub stands_unheld : (p : Places) (number : Option ℤ) (c : ℕ) (s : State) → refresh_meant p number ≡ Some c → held_for c p.held ≡ None → (alone : Bool) → Leads alone false s (finishes_meant p number) s (looks (λ h. ends (refuses p (unfinished NO_SNAPSHOT h (pending h c)))))
+pub stands_unheld : (p : Places) (number : Option ℤ) (c : ℕ) (s : State) → refresh_meant p number ≡ Some c → held_for c p.held ≡ None → (alone : Bool) → Leads alone false s (finishes_meant p number) s (looks (λ h. ends (refuses p (unfinished no_snapshot h (pending h c)))))
 stands_unheld p number c s e f alone =
-    meant p number (Some c) alone s _ e (at_held p c None alone s _ f (leads_same alone s (looks (λ h. ends (refuses p (unfinished NO_SNAPSHOT h (pending h c)))))))
+    meant p number (Some c) alone s _ e (at_held p c None alone s _ f (leads_same alone s (looks (λ h. ends (refuses p (unfinished no_snapshot h (pending h c)))))))
 
 pub stands_held : (p : Places) (number : Option ℤ) (c at : ℕ) (s : State) → refresh_meant p number ≡ Some c → held_for c p.held ≡ Some at → (alone : Bool) → Leads alone false s (finishes_meant p number) s (looks (λ h. finishes_held p h c (Some at)))
 stands_held p number c at s e f alone =

@@ -17,7 +17,8 @@ use Rattle.ts_model.specs.States.{State, stands_still}
 use Rattle.ts_model.specs.Pending.{finished_by, is_known, pending}
 use Rattle.ts_model.specs.Sound.{finish_fits, sound, sound_at}
 use Rattle.ts_model.specs.Timely.{has_room}
-use Rattle.ts_model.specs.Calls.{finish_of, stopped, history_full, makes, refusal, refuses as refuses_call}
+use Rattle.ts_model.specs.Calls.{finish_of, makes, refusal, refuses as refuses_call}
+use Rattle.ts_model.specs.Numbers.{stopped, history_full}
 use Rattle.ts_model.proofs.AllowedLaws.{known_stays}
 use Rattle.ts_sessions.specs.declared.sessions.Snapshot.{Snapshot}
 use Rattle.ts_sessions.specs.Procedures.{ending_as, tries_at}

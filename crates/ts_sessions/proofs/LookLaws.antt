@@ -21,7 +21,8 @@ use Rattle.ts_model.specs.declared.rosters.Roster.{Roster}
 use Rattle.ts_model.specs.declared.tables.Hyper.{Hyper}
 use Rattle.ts_model.specs.declared.views.ViewDef.{ViewDef}
 use Rattle.ts_model.specs.Timely.{has_room}
-use Rattle.ts_model.specs.Calls.{Act, committed as calls_committed, history_full, making, refuses as is_refused, returns, makes, committing, cut_of_view, cut_over, cutting, finish_of, finishing, making_hyper, making_table, making_view, name_taken, new_relation, numbered, no_bucket, no_refresh, refusal, setting_mode, too_many}
+use Rattle.ts_model.specs.Calls.{Act, committed as calls_committed, making, refuses as is_refused, returns, makes, committing, cut_of_view, cut_over, cutting, finish_of, finishing, making_hyper, making_table, making_view, new_relation, numbered, refusal, setting_mode}
+use Rattle.ts_model.specs.Numbers.{name_taken, no_bucket, no_refresh, no_snapshot, too_many, history_full}
 use Rattle.ts_model.specs.History.{History, base_position, position, prefix}
 use Rattle.ts_model.proofs.HistoryLaws.{begins_prefix, position_begins}
 use Rattle.ts_model.specs.Limits.{most_relations}
@@ -38,7 +39,6 @@ use Rattle.stmt_reader.specs.Streams.{stream}
 use Rattle.stmt_check.specs.declared.actions.Action.{Action}
 use Rattle.stmt_check.specs.declared.actions.Action.TheVariants as actions
 use Rattle.stmt_check.specs.Check.{action_of, refusal_of}
-use Rattle.result_text.specs.declared.codes.TheConstants.{NO_SNAPSHOT}
 use Rattle.result_text.specs.declared.replies.Said.TheVariants as said
 use Rattle.ts_sessions.specs.declared.kinds.Kind.{Kind}
 use Rattle.ts_sessions.specs.declared.kinds.Kind.TheVariants as kinds
@@ -429,13 +429,13 @@ tells_snaps : (p : Places) (h : History) (o : Option ℕ) → TellsLooks (positi
 tells_snaps p h None = tells_fault h p (refusal no_refresh h 0) (looked (position h) no_refresh 0 refl)
 tells_snaps p h (Some c) = tells_taken p h c (pending h c)
 
-unfinished_looked : (h : History) (o : Pending) → IsLooked (position h) (unfinished NO_SNAPSHOT h o)
-unfinished_looked h (Waiting n) = looked (position h) NO_SNAPSHOT 0 refl
+unfinished_looked : (h : History) (o : Pending) → IsLooked (position h) (unfinished no_snapshot h o)
+unfinished_looked h (Waiting n) = looked (position h) no_snapshot 0 refl
 unfinished_looked h (Finished f) = looked (position h) no_refresh f refl
 unfinished_looked h Unknown = looked (position h) no_refresh 0 refl
 
 tells_held : (p : Places) (h : History) (c : ℕ) (o : Option ℕ) → TellsLooks (position h ∷ []) (finishes_held p h c o)
-tells_held p h c None = tells_fault h p (unfinished NO_SNAPSHOT h (pending h c)) (unfinished_looked h (pending h c))
+tells_held p h c None = tells_fault h p (unfinished no_snapshot h (pending h c)) (unfinished_looked h (pending h c))
 tells_held p h c (Some at) = tells_said before h (finishing c at h) p (finish_turn p c at) (finish_finds c at h) (λ r. refl) (λ k. refl)
 
 tells_finishes : (p : Places) (h : History) (o : Option ℕ) → TellsLooks (position h ∷ []) (finishes p h o)

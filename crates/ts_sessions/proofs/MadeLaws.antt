@@ -24,7 +24,8 @@ use Rattle.ts_model.specs.Roster.{roster, hyper_of, is_taken, view_of}
 use Rattle.ts_model.specs.Pending.{pending}
 use Rattle.ts_model.specs.Windows.{window}
 use Rattle.ts_model.specs.Timely.{has_room}
-use Rattle.ts_model.specs.Calls.{Act, committed as calls_committed, history_full, making, refuses as refuses_call, returns as completes_call, makes, committing, cut_of_view, cut_over, cutting, finish_of, finishing, making_hyper, making_table, making_view, name_taken, new_relation, numbered, refusal, setting_mode, too_many}
+use Rattle.ts_model.specs.Calls.{Act, committed as calls_committed, making, refuses as refuses_call, returns as completes_call, makes, committing, cut_of_view, cut_over, cutting, finish_of, finishing, making_hyper, making_table, making_view, new_relation, numbered, refusal, setting_mode}
+use Rattle.ts_model.specs.Numbers.{name_taken, too_many, history_full}
 use Rattle.stmt_reader.specs.declared.faults.Fault.{Fault}
 use Rattle.stmt_reader.specs.declared.statements.Stmt.{Stmt}
 use Rattle.stmt_reader.specs.declared.statements.Stmt.TheVariants as stmts

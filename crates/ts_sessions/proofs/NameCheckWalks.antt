@@ -7,7 +7,8 @@ use Rattle.ts_model.specs.declared.refreshes.Pending.TheVariants.{Waiting, Finis
 use Rattle.ts_model.specs.History.{History, position}
 use Rattle.ts_model.specs.States.{State}
 use Rattle.ts_model.specs.Pending.{pending}
-use Rattle.ts_model.specs.Calls.{Looked, no_refresh}
+use Rattle.ts_model.specs.Calls.{Looked}
+use Rattle.ts_model.specs.Numbers.{no_refresh}
 use Rattle.ts_model.specs.Reads.{job_reads}
 use Rattle.ts_sessions.specs.declared.refreshes.Snapped.{Snapped}
 use Rattle.ts_sessions.specs.declared.refreshes.Snapped.TheVariants as snapped

@@ -3,7 +3,7 @@ use Rattle.std.proofs.Common.{◌≡◌, ℕ, suc, ◌+◌, ◌<◌, ◌==◌, B
 use Rattle.std.specs.Prelude.{ℤ, not, nat_le, is_none, is_some, ◌&&◌, ⊤}
 use Rattle.std.proofs.lemmas.Bool.{and_parts, eqb-false, not-true}
 use Rattle.ts_bucket.specs.Bucket.{is_time}
-use Rattle.ts_model.specs.Calls.{name_taken, too_many, stopped}
+use Rattle.ts_model.specs.Numbers.{no_relation, name_taken, no_column, bad_time, value_count, null_value, not_hypertable, bad_width, too_many, not_aggregate, stopped, bad_unit}
 use Rattle.ts_model.specs.Limits.{most_columns, most_relations}
 use Rattle.ts_model.specs.declared.outcomes.Refusal.{Refusal}
 use Rattle.ts_model.specs.declared.rosters.Roster.{Roster}
@@ -21,7 +21,7 @@ use Rattle.stmt_reader.specs.declared.statements.Stmt.{Stmt}
 use Rattle.stmt_reader.specs.declared.statements.Stmt.TheVariants as stmts
 use Rattle.stmt_reader.specs.Words.{calendar_word}
 use Rattle.stmt_check.specs.Check.{refusal_of, rows_query_refusal, table_at, time_of, view_at}
-use Rattle.stmt_check.specs.Codes.{bad_time, bad_unit, bad_width, most_rows, no_column, no_relation, not_aggregate, not_hypertable, null_value, value_count}
+use Rattle.stmt_check.specs.Limits.{most_rows}
 use Rattle.stmt_check.specs.Folds.{aggregate_name, columns_before, is_key, is_shift, is_step, is_taken, is_time_column, aggregate_refusal, aggregates_refusal, argument_refusal, fold_refusal, key_refusal, keys_refusal, tests_refusal, width_refusal, bucket_column, calendar_refusal, head_name, is_unit, output_count, rest_refusal, unit_count, units_refusal}
 use Rattle.stmt_check.specs.Queries.{bound_refusal, bounds_start, is_bucket_column, starts_refusal}
 use Rattle.stmt_check.specs.Refusals.{◌⊳◌, finds_nothing, hypertable_refusal, marked, missing, name_refusal, plain_refusal, refused, query_refusal, view_refusal}

@@ -9,7 +9,8 @@ use Rattle.ts_model.specs.declared.outcomes.Refusal.{Refusal}
 use Rattle.ts_model.specs.declared.rosters.Roster.{Roster}
 use Rattle.ts_model.specs.declared.views.ViewDef.{ViewDef}
 use Rattle.ts_model.specs.Allowed.{all_allowed}
-use Rattle.ts_model.specs.Calls.{name_taken, numbered, refusal, refuses as is_refused, too_many}
+use Rattle.ts_model.specs.Calls.{numbered, refusal, refuses as is_refused}
+use Rattle.ts_model.specs.Numbers.{name_taken, too_many}
 use Rattle.ts_model.specs.History.{History, position, Begins}
 use Rattle.ts_model.specs.Limits.{most_relations}
 use Rattle.ts_model.specs.Roster.{roster, hyper_of, is_taken}

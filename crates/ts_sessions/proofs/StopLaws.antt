@@ -16,7 +16,8 @@ use Rattle.ts_model.specs.declared.refreshes.Window.TheVariants.{Whole, NoBucket
 use Rattle.ts_model.specs.declared.tables.Hyper.{Hyper}
 use Rattle.ts_model.specs.declared.views.ViewDef.{ViewDef}
 use Rattle.ts_model.specs.Timely.{has_room}
-use Rattle.ts_model.specs.Calls.{Act, committed as calls_committed, history_full, making, refuses as is_refused, returns, makes, committing, cut_of_view, cut_over, cutting, finish_of, finishing, making_hyper, making_table, making_view, name_taken, new_relation, numbered, no_bucket, no_refresh, refusal, setting_mode, stopped, too_many}
+use Rattle.ts_model.specs.Calls.{Act, committed as calls_committed, making, refuses as is_refused, returns, makes, committing, cut_of_view, cut_over, cutting, finish_of, finishing, making_hyper, making_table, making_view, new_relation, numbered, refusal, setting_mode}
+use Rattle.ts_model.specs.Numbers.{no_token, syntax, name_taken, bad_number, no_bucket, in_write_block, in_read_block, no_block, no_refresh, no_snapshot, too_many, stopped, history_full}
 use Rattle.ts_model.specs.History.{History, start, resumed, ◌▸◌, base_position, position, prefix}
 use Rattle.ts_model.specs.Limits.{most_relations}
 use Rattle.ts_model.specs.Pending.{pending}
@@ -31,7 +32,6 @@ use Rattle.stmt_reader.specs.Streams.{stream}
 use Rattle.stmt_check.specs.declared.actions.Action.{Action}
 use Rattle.stmt_check.specs.declared.actions.Action.TheVariants as actions
 use Rattle.stmt_check.specs.Check.{action_of, refusal_of}
-use Rattle.result_text.specs.declared.codes.TheConstants.{BAD_NUMBER, IN_READ_BLOCK, IN_WRITE_BLOCK, NO_BLOCK, NO_SNAPSHOT, NO_TOKEN, SYNTAX}
 use Rattle.result_text.specs.declared.replies.Said.TheVariants as said
 use Rattle.ts_sessions.specs.declared.kinds.Kind.{Kind}
 use Rattle.ts_sessions.specs.declared.kinds.Kind.TheVariants as kinds
@@ -237,13 +237,13 @@ given_up_so stop none = tt
 given_up_so stop (writing ops n) = tt
 given_up_so stop (reading at) = tt
 
-unfinished_other : (h : History) (p : Pending) → IsOther (unfinished NO_SNAPSHOT h p).code
-unfinished_other h (Waiting n) = below NO_SNAPSHOT (omega arith)
+unfinished_other : (h : History) (p : Pending) → IsOther (unfinished no_snapshot h p).code
+unfinished_other h (Waiting n) = below no_snapshot (omega arith)
 unfinished_other h (Finished f) = below no_refresh (omega arith)
 unfinished_other h Unknown = below no_refresh (omega arith)
 
 meets_held : (h : History) (p : Places) (c : ℕ) (o : Option ℕ) → Meets ReplyStopsAt (Some (position h)) (finishes_held p h c o)
-meets_held h p c None = λ stop. (other_fault stop (unfinished NO_SNAPSHOT h (pending h c)) (unfinished_other h (pending h c)), tt)
+meets_held h p c None = λ stop. (other_fault stop (unfinished no_snapshot h (pending h c)) (unfinished_other h (pending h c)), tt)
 meets_held h p c (Some at) = meets_said h (finishing c at h) (finish_turn p c at) (finishing_plain c at h) (λ stop k. (tt, tt)) (λ stop r so. (so, tt))
 
 meets_finishes : (h : History) (p : Places) (o : Option ℕ) → Meets ReplyStopsAt (Some (position h)) (finishes p h o)
@@ -392,31 +392,31 @@ block_other none kinds.Snaps = tt
 block_other none kinds.Finishes = tt
 block_other none kinds.Begins = tt
 block_other none kinds.BeginsRead = tt
-block_other none kinds.Commits = below NO_BLOCK (omega arith)
-block_other none kinds.RollsBack = below NO_BLOCK (omega arith)
-block_other (writing ops n) kinds.Defines = below IN_WRITE_BLOCK (omega arith)
+block_other none kinds.Commits = below no_block (omega arith)
+block_other none kinds.RollsBack = below no_block (omega arith)
+block_other (writing ops n) kinds.Defines = below in_write_block (omega arith)
 block_other (writing ops n) kinds.Changes = tt
 block_other (writing ops n) kinds.Asks = tt
-block_other (writing ops n) kinds.Snaps = below IN_WRITE_BLOCK (omega arith)
-block_other (writing ops n) kinds.Finishes = below IN_WRITE_BLOCK (omega arith)
-block_other (writing ops n) kinds.Begins = below IN_WRITE_BLOCK (omega arith)
-block_other (writing ops n) kinds.BeginsRead = below IN_WRITE_BLOCK (omega arith)
+block_other (writing ops n) kinds.Snaps = below in_write_block (omega arith)
+block_other (writing ops n) kinds.Finishes = below in_write_block (omega arith)
+block_other (writing ops n) kinds.Begins = below in_write_block (omega arith)
+block_other (writing ops n) kinds.BeginsRead = below in_write_block (omega arith)
 block_other (writing ops n) kinds.Commits = tt
 block_other (writing ops n) kinds.RollsBack = tt
-block_other (reading at) kinds.Defines = below IN_READ_BLOCK (omega arith)
-block_other (reading at) kinds.Changes = below IN_READ_BLOCK (omega arith)
+block_other (reading at) kinds.Defines = below in_read_block (omega arith)
+block_other (reading at) kinds.Changes = below in_read_block (omega arith)
 block_other (reading at) kinds.Asks = tt
-block_other (reading at) kinds.Snaps = below IN_READ_BLOCK (omega arith)
-block_other (reading at) kinds.Finishes = below IN_READ_BLOCK (omega arith)
-block_other (reading at) kinds.Begins = below IN_READ_BLOCK (omega arith)
-block_other (reading at) kinds.BeginsRead = below IN_READ_BLOCK (omega arith)
+block_other (reading at) kinds.Snaps = below in_read_block (omega arith)
+block_other (reading at) kinds.Finishes = below in_read_block (omega arith)
+block_other (reading at) kinds.Begins = below in_read_block (omega arith)
+block_other (reading at) kinds.BeginsRead = below in_read_block (omega arith)
 block_other (reading at) kinds.Commits = tt
 block_other (reading at) kinds.RollsBack = tt
 
 misread_other : (f : Fault) → IsOther (misread f).code
-misread_other (faults.NoToken place) = below NO_TOKEN (omega arith)
-misread_other (faults.Syntax place) = below SYNTAX (omega arith)
-misread_other (faults.BadNumber place) = below BAD_NUMBER (omega arith)
+misread_other (faults.NoToken place) = below no_token (omega arith)
+misread_other (faults.Syntax place) = below syntax (omega arith)
+misread_other (faults.BadNumber place) = below bad_number (omega arith)
 
 meets_block : (last : Option ℕ) (p : Places) (bytes : ℕ) (stmt : Stmt) (b : Block) → block_refusal b (kind_of stmt) ≡ None → Meets ReplyStopsAt last (named_here (enters b p) bytes stmt)
 meets_block last p bytes stmt none e = meets_outside last p bytes stmt

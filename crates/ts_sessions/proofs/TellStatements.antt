@@ -8,7 +8,8 @@ use Rattle.ts_model.specs.declared.events.Op.{Op}
 use Rattle.ts_model.specs.declared.outcomes.Refusal.{Refusal}
 use Rattle.ts_model.specs.declared.snapshots.Shown.{Ghosts as Shown}
 use Rattle.ts_model.specs.Allowed.{all_allowed}
-use Rattle.ts_model.specs.Calls.{refusal, no_refresh, finishing}
+use Rattle.ts_model.specs.Calls.{refusal, finishing}
+use Rattle.ts_model.specs.Numbers.{no_refresh}
 use Rattle.ts_model.specs.History.{History, position, prefix}
 use Rattle.ts_model.specs.Pending.{pending}
 use Rattle.ts_model.specs.Roster.{roster}

@@ -3,7 +3,7 @@ use Rattle.std.proofs.Common.{◌≡◌, ℕ, Bool, true, false, List, [], ◌�
 use Rattle.std.specs.Prelude.{not, nat_le, is_none, unwrap_or, ◌-ℤ◌, ⊤}
 use Rattle.ts_num.specs.declared.values.Fun.{Fun}
 use Rattle.ts_schema.specs.Counts.{raised_by}
-use Rattle.ts_model.specs.Calls.{too_many}
+use Rattle.ts_model.specs.Numbers.{no_column, bad_width, too_many}
 use Rattle.ts_model.specs.Limits.{most_columns}
 use Rattle.ts_model.specs.declared.outcomes.Refusal.{Refusal}
 use Rattle.ts_model.specs.declared.rosters.Roster.{Roster}
@@ -17,7 +17,6 @@ use Rattle.stmt_reader.specs.declared.statements.NamedFold.{NamedFold}
 use Rattle.stmt_reader.specs.declared.statements.NamedTest.{NamedTest}
 use Rattle.stmt_reader.specs.declared.statements.Stmt.{Stmt}
 use Rattle.stmt_reader.specs.declared.statements.Stmt.TheVariants as stmts
-use Rattle.stmt_check.specs.Codes.{bad_width, no_column}
 use Rattle.stmt_check.specs.Folds.{columns_before, is_shift, is_step, output_count}
 use Rattle.stmt_check.specs.Queries.{is_bucket_column}
 use Rattle.stmt_check.specs.Refusals.{◌⊳◌, marked, missing, refused}

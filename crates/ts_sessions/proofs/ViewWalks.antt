@@ -20,7 +20,8 @@ use Rattle.ts_model.specs.States.{State, Makes}
 use Rattle.ts_model.specs.Roster.{roster, roster_after, is_taken, same_name, table_named, view_named, view_of}
 use Rattle.ts_model.specs.Limits.{most_relations}
 use Rattle.ts_model.specs.Timely.{has_room}
-use Rattle.ts_model.specs.Calls.{refuses, makes as makes_call, history_full, refusal, Answered, Called, making_view, new_relation, numbered, too_many}
+use Rattle.ts_model.specs.Calls.{refuses, makes as makes_call, refusal, Answered, Called, making_view, new_relation, numbered}
+use Rattle.ts_model.specs.Numbers.{too_many, history_full}
 use Rattle.ts_model.specs.Laws.{KeepsView}
 use Rattle.ts_model.proofs.RosterLaws.{relations_stay}
 use Rattle.result_text.specs.declared.replies.Said.{Said}

@@ -9,7 +9,7 @@ use Rattle.ts_schema.specs.declared.memory.NoMemory.{NoMemory}
 use Rattle.ts_bucket.specs.Bucket.{first_of, is_time}
 use Rattle.ts_model.specs.declared.events.Event.{Event}
 use Rattle.ts_model.specs.declared.events.Event.TheVariants as events
-use Rattle.result_text.specs.declared.codes.TheConstants.{NO_SNAPSHOT}
+use Rattle.ts_model.specs.Numbers.{no_refresh, no_snapshot}
 use Rattle.result_text.specs.declared.replies.Said.{Said}
 use Rattle.result_text.specs.declared.replies.Said.TheVariants as said
 use Rattle.ts_model.specs.declared.outcomes.Refusal.{Refusal}
@@ -18,7 +18,7 @@ use Rattle.ts_model.specs.declared.rosters.Roster.{Roster}
 use Rattle.ts_model.specs.declared.snapshots.Shown.{Ghosts as Shown}
 use Rattle.ts_model.specs.History.{History, position}
 use Rattle.ts_model.specs.States.{State}
-use Rattle.ts_model.specs.Calls.{Act, committing, making_hyper, making_table, making_view, no_refresh, refusal, setting_mode}
+use Rattle.ts_model.specs.Calls.{Act, committing, making_hyper, making_table, making_view, refusal, setting_mode}
 use Rattle.ts_model.specs.Sound.{sound}
 use Rattle.ts_model.specs.Pending.{pending}
 use Rattle.ts_model.specs.Roster.{roster, hyper_of, view_of}
@@ -112,7 +112,7 @@ view_leaves p n min filled (Err r) = ends (refuses p r)
 
 -- why a refresh that waits can't be finished, where its session lacks this
 abbrev pub lack_code : Lacks → History → ℕ
-lack_code lacks.Snapshot h = NO_SNAPSHOT
+lack_code lacks.Snapshot h = no_snapshot
 lack_code lacks.Job h = lost_code h
 
 -- the end of a statement that says one line

@@ -3,7 +3,8 @@ use Rattle.std.specs.Prelude.{Bool, true, Result, Ok, Err}
 use Rattle.ts_model.specs.declared.events.Event.{Event}
 use Rattle.ts_model.specs.declared.outcomes.Refusal.{Refusal}
 use Rattle.ts_model.specs.History.{History}
-use Rattle.ts_model.specs.Calls.{Act, refuses, returns, makes, refusal, stopped}
+use Rattle.ts_model.specs.Calls.{Act, refuses, returns, makes, refusal}
+use Rattle.ts_model.specs.Numbers.{stopped}
 
 -- what a statement does, up to what it ends with
 pub data Procedure (A : Type 0) : Type 0 where

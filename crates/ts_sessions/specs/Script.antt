@@ -6,7 +6,8 @@ use Rattle.ts_model.specs.Roster.{same_name}
 use Rattle.stmt_reader.specs.declared.lines.LineKind.{LineKind}
 use Rattle.stmt_reader.specs.declared.lines.LineKind.TheVariants.{Blank, NotAscii, NoSession, Stmt}
 use Rattle.stmt_reader.specs.Lines.{line_kind, session_name}
-use Rattle.result_text.specs.declared.codes.TheConstants.{LINE_LONG, NOT_ASCII, NO_SESSION, TOO_MANY_SESSIONS}
+use Rattle.ts_model.specs.Limits.{most_sessions}
+use Rattle.ts_model.specs.Numbers.{line_long, not_ascii, no_session, too_many_sessions}
 use Rattle.result_text.specs.declared.replies.Said.{Said}
 use Rattle.result_text.specs.declared.replies.Said.TheVariants as said
 use Rattle.result_text.specs.Replies.{line_fault_text, reply_text}
@@ -18,10 +19,6 @@ use Rattle.ts_sessions.specs.Walks.{history_after, ending}
 -- the most bytes of a line
 abbrev pub line_limit : ℕ
 line_limit = 65536
-
--- the most sessions of a script
-abbrev pub most_sessions : ℕ
-most_sessions = 64
 
 -- a line that a session executes: its bytes before the comment, and how many of them stand before its statement
 pub record SessionLine : Type 0 where
@@ -114,13 +111,13 @@ executes_as semantics s name text skip (Some p) = takes_turn s name (semantics.d
 executes_as semantics s name text skip None =
     cond (nat_lt (length s.sessions) most_sessions)
     (takes_turn s name (semantics.does (semantics.opening (length s.sessions)) text skip))
-    (refused s (reply_text name (said.Fault (bare TOO_MANY_SESSIONS))))
+    (refused s (reply_text name (said.Fault (bare too_many_sessions))))
 
 -- a line of this kind, which has this number
 abbrev pub executes_kind : {P : Type 0} → Semantics P → ScriptState P → ℕ → List ℕ → LineKind → LineResult P
 executes_kind semantics s n line Blank = record { script_state = s; text = []; fault = false; reads = 0 }
-executes_kind semantics s n line NotAscii = refused_line s n NOT_ASCII
-executes_kind semantics s n line NoSession = refused_line s n NO_SESSION
+executes_kind semantics s n line NotAscii = refused_line s n not_ascii
+executes_kind semantics s n line NoSession = refused_line s n no_session
 executes_kind semantics s n line (Stmt len skip end) =
     executes_as semantics s (session_name line len skip) (take end line) skip
     (places_of (session_name line len skip) s.sessions)
@@ -128,7 +125,7 @@ executes_kind semantics s n line (Stmt len skip end) =
 -- a line, which has this number
 abbrev pub executes : {P : Type 0} → Semantics P → ScriptState P → ℕ → List ℕ → LineResult P
 executes semantics s n line =
-    cond (nat_lt line_limit (length line)) (refused_line s n LINE_LONG)
+    cond (nat_lt line_limit (length line)) (refused_line s n line_long)
     (executes_kind semantics s n line (line_kind line))
 
 -- ---- a script: the lines from line n on, from a script state on

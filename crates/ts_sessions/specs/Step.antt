@@ -20,7 +20,8 @@ use Rattle.ts_model.specs.Answers.{answer, with_queue}
 use Rattle.ts_model.specs.Pending.{pending}
 use Rattle.ts_model.specs.Reads.{reads as reads_of, job_reads}
 use Rattle.ts_model.specs.Timely.{has_room}
-use Rattle.ts_model.specs.Calls.{stopped, history_full, refusal, no_refresh, making_table, making_hyper, making_view, setting_mode, committing, cutting, finishing}
+use Rattle.ts_model.specs.Calls.{refusal, making_table, making_hyper, making_view, setting_mode, committing, cutting, finishing}
+use Rattle.ts_model.specs.Numbers.{no_token, syntax, bad_number, in_write_block, in_read_block, no_block, no_refresh, no_snapshot, stopped, history_full}
 use Rattle.stmt_reader.specs.declared.faults.Fault.{Fault}
 use Rattle.stmt_reader.specs.declared.faults.Fault.TheVariants as faults
 use Rattle.stmt_reader.specs.declared.statements.Stmt.{Stmt}
@@ -40,7 +41,6 @@ use Rattle.cal_bucket.specs.declared.plans.CalPlan.{CalPlan}
 use Rattle.cal_bucket.specs.declared.plans.CalUnit.{CalUnit}
 use Rattle.cal_bucket.specs.declared.plans.CalUnit.TheVariants as units
 use Rattle.cal_bucket.specs.Answers.{plan_rows}
-use Rattle.result_text.specs.declared.codes.TheConstants.{NO_TOKEN, SYNTAX, BAD_NUMBER, IN_WRITE_BLOCK, IN_READ_BLOCK, NO_BLOCK, NO_SNAPSHOT}
 use Rattle.result_text.specs.declared.replies.Said.{Said}
 use Rattle.result_text.specs.declared.replies.Said.TheVariants as said
 use Rattle.ts_sessions.specs.declared.kinds.Kind.{Kind}
@@ -63,9 +63,9 @@ placed code place = record { code = code; pos = 0; mark = place }
 
 -- what can't be read is refused at its place
 abbrev pub misread : Fault → Refusal
-misread (faults.NoToken place) = placed NO_TOKEN place
-misread (faults.Syntax place) = placed SYNTAX place
-misread (faults.BadNumber place) = placed BAD_NUMBER place
+misread (faults.NoToken place) = placed no_token place
+misread (faults.Syntax place) = placed syntax place
+misread (faults.BadNumber place) = placed bad_number place
 
 -- the kind of a statement, as blocks let it pass or not
 abbrev pub kind_of : Stmt → Kind
@@ -90,8 +90,8 @@ kind_of (stmts.Rows table tests) = kinds.Asks
 
 -- why a statement of this kind may not be outside a block, where there is nothing to end
 abbrev pub refusal_outside : Kind → Option Refusal
-refusal_outside kinds.Commits = Some (bare NO_BLOCK)
-refusal_outside kinds.RollsBack = Some (bare NO_BLOCK)
+refusal_outside kinds.Commits = Some (bare no_block)
+refusal_outside kinds.RollsBack = Some (bare no_block)
 refusal_outside other = None
 
 -- and in a write block, which lets changes and queries pass, and what ends it
@@ -100,14 +100,14 @@ refusal_writing kinds.Changes = None
 refusal_writing kinds.Asks = None
 refusal_writing kinds.Commits = None
 refusal_writing kinds.RollsBack = None
-refusal_writing other = Some (bare IN_WRITE_BLOCK)
+refusal_writing other = Some (bare in_write_block)
 
 -- and in a read block, which lets queries pass, and what ends it
 abbrev pub refusal_reading : Kind → Option Refusal
 refusal_reading kinds.Asks = None
 refusal_reading kinds.Commits = None
 refusal_reading kinds.RollsBack = None
-refusal_reading other = Some (bare IN_READ_BLOCK)
+refusal_reading other = Some (bare in_read_block)
 
 -- and in any block
 abbrev pub block_refusal : Block → Kind → Option Refusal
@@ -237,7 +237,7 @@ finish_turn p c at (Err r) = refuses p r
 
 -- a refresh is finished with the snapshot at this position, if the session holds one for it
 abbrev pub finishes_held : Places → History → ℕ → Option ℕ → Procedure (Turn Places)
-finishes_held p h c None = ends (refuses p (unfinished NO_SNAPSHOT h (pending h c)))
+finishes_held p h c None = ends (refuses p (unfinished no_snapshot h (pending h c)))
 finishes_held p h c (Some at) = ending_as (finish_turn p c at) (tries_at h (finishing c at h))
 
 -- the refresh that is meant is finished, if one is

@@ -1,7 +1,7 @@
 -- Replies that the store stands still.
 use Rattle.std.specs.Prelude.{◌≡◌, ◌≤◌, ℕ, List, [], Option, Some, ⊤}
 use Rattle.std.specs.List.{AllByRecursion}
-use Rattle.ts_model.specs.Calls.{stopped}
+use Rattle.ts_model.specs.Numbers.{stopped}
 use Rattle.ts_model.specs.declared.events.Event.{Event}
 use Rattle.ts_model.specs.History.{History, base_position}
 use Rattle.result_text.specs.declared.replies.Said.{Said}

@@ -4,7 +4,7 @@ use Rattle.ts_schema.specs.declared.memory.NoMemory.{NoMemory}
 use Rattle.ts_model.specs.declared.outcomes.Outcome.{Outcome}
 use Rattle.ts_model.specs.declared.outcomes.Outcome.TheVariants as outcomes
 use Rattle.ts_model.specs.declared.outcomes.Refusal.{Refusal}
-use Rattle.ts_model.specs.Calls.{stopped}
+use Rattle.ts_model.specs.Numbers.{stopped}
 use Rattle.ts_sessions.specs.declared.tries.Tried.{Tried}
 use Rattle.ts_sessions.specs.declared.tries.Tried.TheVariants as tried
 

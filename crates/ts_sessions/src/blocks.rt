@@ -7,8 +7,8 @@ ghost use Rattle.ts_sessions.specs.Step.{block_refusal, given_up as given_up_of,
 
 use crate::kinds::Kind;
 use crate::refusals::bare;
-use result_text::{Said, codes};
-use ts_model::{Op, Refusal};
+use result_text::Said;
+use ts_model::{Op, Refusal, codes};
 use ts_schema::{NoMemory, Seq};
 
 /// The block that a session is in.

@@ -18,11 +18,11 @@ use crate::follows::{
 use crate::refreshes::{Asked, cut, finish, take_snapshot};
 use crate::refusals::lost_code;
 use crate::tries::{Tried, answered};
-use result_text::{Said, codes};
+use result_text::Said;
 use std::alloc::Global;
 use std::thread::Threads;
 use ts_bucket::Span;
-use ts_model::{Backend, Gate, Hyper, Op, Pending, Shown, TableDef, ViewDef};
+use ts_model::{Backend, Gate, Hyper, Op, Pending, Shown, TableDef, ViewDef, codes};
 use ts_schema::{NoMemory, Seq, Steps};
 
 /// A refresh that was cut.

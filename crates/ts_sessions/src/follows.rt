@@ -18,9 +18,9 @@ use crate::deeds::{Begun, Deed, Finishing, Lacks, Line, Next};
 use crate::events::NewView;
 use crate::refreshes::{Asked, Snapped};
 use crate::refusals::at;
-use result_text::{Said, codes};
+use result_text::Said;
 use std::alloc::Global;
-use ts_model::{Committed, CutDone, Pending, Refusal, Shown};
+use ts_model::{Committed, CutDone, Pending, Refusal, Shown, codes};
 use ts_schema::{NoMemory, Seq};
 
 /// Ends after a relation was made or set, or not.

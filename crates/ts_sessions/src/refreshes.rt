@@ -10,9 +10,8 @@ ghost use Rattle.ts_sessions.specs.Step.{cuts_refresh, finishes_refresh};
 
 use crate::refusals::at;
 use crate::tries::{Tried, answered};
-use result_text::codes;
 use std::thread::Threads;
-use ts_model::{Backend, CutDone, Gate, Pending, Refusal, Shown};
+use ts_model::{Backend, CutDone, Gate, Pending, Refusal, Shown, codes};
 use ts_schema::{NoMemory, Steps};
 
 /// What came of a snapshot for a refresh.

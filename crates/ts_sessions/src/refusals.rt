@@ -1,11 +1,12 @@
 //! Refusals of the text, of the block, and of refreshes.
 ghost use Rattle.std.specs.Prelude.{◌≡◌, cond, nat_lt};
-ghost use Rattle.ts_model.specs.Calls.{history_full, refusal as refusal_at, stopped};
+ghost use Rattle.ts_model.specs.Calls.{refusal as refusal_at};
+ghost use Rattle.ts_model.specs.Numbers.{stopped, history_full};
 ghost use Rattle.ts_model.specs.Limits.{last_position};
 ghost use Rattle.ts_sessions.specs.Step.{bare as bare_refusal, placed as placed_refusal};
 
-use result_text::codes;
-use ts_model::Refusal;
+use ts_model::limits::LAST_POSITION;
+use ts_model::{Refusal, codes};
 
 /// A refusal without a position.
 pub fn bare(code: u8) -> Refusal
@@ -36,12 +37,6 @@ pub(crate) fn at(code: u8, pos: u64, mark: u64) -> Refusal
     Refusal { code, pos, mark }
 }
 
-/// No event comes after this position.
-const LAST_POSITION: u64 = 4_611_686_018_427_387_904;
-
-/// The history is at its end.
-const HISTORY_FULL: u8 = 30;
-
 /// Why a refresh whose job is gone can't be finished.
 pub(crate) fn lost_code(position: u64) -> u8
     ensures { result ≡ cond (nat_lt position last_position) stopped history_full }
@@ -49,6 +44,6 @@ pub(crate) fn lost_code(position: u64) -> u8
     if position < LAST_POSITION {
         codes::STOPPED
     } else {
-        HISTORY_FULL
+        codes::HISTORY_FULL
     }
 }

@@ -15,11 +15,10 @@ use crate::kinds::kind_of;
 use crate::refusals::placed;
 use crate::replies::{Reply, StepEnd, replied, write_reply};
 use crate::sessions::Session;
-use result_text::codes;
 use std::alloc::Global;
 use std::thread::Threads;
 use stmt_reader::{ReadStmt, Stmt, read_stmt};
-use ts_model::{Backend, Gate, Shown};
+use ts_model::{Backend, Gate, Shown, codes};
 use ts_schema::{NoMemory, Steps};
 
 impl<T: Shown + Drop> Session<T>

@@ -18,11 +18,10 @@ use crate::pasts::Past;
 use crate::refusals::placed;
 use crate::replies::{Reply, StepEnd};
 use crate::sessions::Session;
-use result_text::codes;
 use std::alloc::Global;
 use std::thread::Threads;
 use stmt_reader::{ReadStmt, read_stmt};
-use ts_model::Shown;
+use ts_model::{Shown, codes};
 use ts_schema::{NoMemory, Steps};
 
 /// What a line came to over a past.

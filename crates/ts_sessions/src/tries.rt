@@ -4,8 +4,7 @@ ghost use Rattle.ts_sessions.specs.Tried.{IsTried};
 ghost use Rattle.ts_sessions.specs.Sessions.{came as came_of, has_failed};
 
 use crate::refusals::at;
-use result_text::codes;
-use ts_model::{Outcome, Refusal};
+use ts_model::{Outcome, Refusal, codes};
 use ts_schema::NoMemory;
 
 /// What came of a call that may make an event.

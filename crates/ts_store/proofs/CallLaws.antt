@@ -9,7 +9,8 @@ use Rattle.ts_model.specs.declared.outcomes.Outcome.{Outcome}
 use Rattle.ts_model.specs.declared.outcomes.Outcome.TheVariants.{Done, DiskFault, NoMemory, Refused}
 use Rattle.ts_model.specs.declared.outcomes.Refusal.{Refusal}
 use Rattle.ts_model.specs.Allowed.{allowed}
-use Rattle.ts_model.specs.Calls.{Act, Answered, Looked, history_full, making, makes, refusal, refuses, returns, stopped}
+use Rattle.ts_model.specs.Calls.{Act, Answered, Looked, making, makes, refusal, refuses, returns}
+use Rattle.ts_model.specs.Numbers.{stopped, history_full}
 use Rattle.ts_model.specs.History.{History, ◌▸◌, position, prefix, same}
 use Rattle.ts_model.specs.Timely.{has_room}
 use Rattle.ts_model.specs.States.{State, Found, Keeps, Makes, Fails, stands_still}

@@ -1,7 +1,8 @@
 //! An engine with the journal of its events.
 ghost use Rattle.std.specs.Prelude.{◌≡◌, ◌≢◌, ◌<◌, None, is_some, IsTrue};
 ghost use Rattle.ts_model.specs.Allowed.{allowed};
-ghost use Rattle.ts_model.specs.Calls.{refusal, stopped};
+ghost use Rattle.ts_model.specs.Calls.{refusal};
+ghost use Rattle.ts_model.specs.Numbers.{stopped};
 ghost use Rattle.ts_model.specs.Sound.{sound};
 ghost use Rattle.refresh_build.specs.Fitting.{JobIsFor};
 ghost use Rattle.engine_core.specs.Acts.{making_event};
@@ -20,12 +21,10 @@ use engine_core::Engine;
 use refresh_build::Job;
 use std::alloc::Global;
 use ts_disk::Disk;
+use ts_model::codes::STOPPED;
 use ts_model::{Committed, Event, Outcome, Refusal};
 use ts_schema::NoMemory;
 use txn_journal::{Append, Journal};
-
-/// An event would be made, and the store stands still.
-const STOPPED: u8 = 24;
 
 /// An engine, the journal of its events, and the event at whose append the disk failed, if it did.
 #[derive(Drop)]
@@ -75,7 +74,7 @@ impl<D: Disk> Recorder<D> {
         ensures kept { StaysKept D.bytes D.may_leave D.moment D.left_since D.faults self.old self.new }
         ensures safe { IsSafeIn D.bytes D.may_leave D.moment D.left_since self.old self.new }
     {
-        match self.engine.check(&event) {
+        match self.engine.check_sound(&event) {
             Err(refusal) => Outcome::Refused(refusal),
             Ok(()) => self.make_allowed(alloc, event, job),
         }

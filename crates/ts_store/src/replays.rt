@@ -148,6 +148,7 @@ fn take_event<R: Threads + Sync>(rt: &R, engine: &mut Engine, event: Event) -> T
     requires sync { IsSync R.row }
     requires formed { IsFormed event }
     ensures taken { Takes result (spelling.event event) engine.old.past engine.new.past }
+    ensures memory { result ≡ Taken.NoMemory → IsTrue (allowed (history_of engine.old.past) event) }
 {
     match engine.check(&event) {
         Ok(()) => match install(rt, engine, event) {

@@ -4,7 +4,7 @@ use Rattle.std.specs.Io.KnownBytes.{Appends}
 use Rattle.ts_io.specs.Whole.{AppendsPart}
 use Rattle.ts_model.specs.History.{History, events_of, position}
 use Rattle.result_text.specs.Refusals.{refusal_text}
-use Rattle.result_text.specs.declared.codes.TheConstants.{IMAGE_LONG}
+use Rattle.ts_model.specs.Numbers.{image_long}
 use Rattle.ts_store.specs.Checkpoints.{HasImage, StandsForImage, StandsSaved}
 use Rattle.ts_store.specs.Stands.{Stands}
 use Rattle.ts_store.specs.declared.checkpoints.CheckEnd.{CheckEnd}
@@ -26,7 +26,7 @@ abbrev pub nothing_text : ℕ → List ℕ
 nothing_text pos = codes "NOTHING @" ++ decimal pos ++ codes "\n"
 
 abbrev pub too_long_text : ℕ → ℕ → List ℕ
-too_long_text pos bytes = refusal_text (record { code = IMAGE_LONG; pos = pos; mark = bytes })
+too_long_text pos bytes = refusal_text (record { code = image_long; pos = pos; mark = bytes })
 
 -- a line tells that the image of a history with events after its own image was saved
 pub record TellsSaved (h : History) (line : List ℕ) : Type 0 where

@@ -7,7 +7,7 @@ use Rattle.ts_model.specs.Reads.{rows_near}
 use Rattle.realtime_union.specs.Live.{all_times}
 use Rattle.realtime_union.specs.Whole.{passing}
 use Rattle.realtime_union.proofs.NearLaws.{all_times_read_all}
-use Rattle.span_fold.proofs.ScanLaws.{all-filter}
+use Rattle.group_fold.proofs.ScanLaws.{all-filter}
 use Rattle.engine_state.specs.Scans.{seen_rows, stored_rows, timed_rows}
 use Rattle.engine_state.proofs.ScanFacts.{passing_timed}
 use Rattle.engine_state.proofs.answers.passing.Goals as goal

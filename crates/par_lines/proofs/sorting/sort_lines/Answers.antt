@@ -32,6 +32,9 @@ returns-clause-within c =
     let place = c.loop-from.invariant.place in
     all_wider (c.loop-from.from - 1) (length c.args.input.now) (omega (arith, place)) c.loop-from.lines.sessions.items c.loop-from.invariant.within
 
+pub returns-clause-numbered : goal.returns-clause-numbered
+returns-clause-numbered c = c.loop-from.invariant.numbered
+
 pub loop-from-preserved : goal.loop-from-preserved
 loop-from-preserved c =
     let input = c.args.input.now in
@@ -48,4 +51,5 @@ loop-from-preserved c =
       within =
           all_wider (from + len) (from + (len + 1) - 1) (omega arith) new.sessions.items
           (c.in_ok-add.ensures.within (all_wider (from - 1) from (omega arith) old.sessions.items c.loop-from.invariant.within));
+      numbered = c.in_ok-add.ensures.numbered c.loop-from.invariant.numbered;
     }

@@ -6,7 +6,7 @@ use Rattle.ts_model.specs.Groups.{cells_of, groups_of}
 use Rattle.ts_model.specs.Reads.{rows_near}
 use Rattle.ts_model.specs.Rows.{in_order}
 use Rattle.ts_model.specs.Scratch.{fold_rows}
-use Rattle.span_fold.specs.Spans.{near_each, rows_in}
+use Rattle.group_fold.specs.Spans.{near_each, rows_in}
 use Rattle.realtime_union.specs.Live.{all_times}
 use Rattle.realtime_union.proofs.LiveLaws.{all_shown}
 use Rattle.realtime_union.proofs.tables.all_groups.Goals as goal

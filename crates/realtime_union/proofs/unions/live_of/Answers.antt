@@ -5,7 +5,7 @@ use Rattle.ts_schema.specs.Counts.{Ticks}
 use Rattle.ts_model.specs.Groups.{groups_of}
 use Rattle.ts_model.specs.Rows.{in_order}
 use Rattle.ts_model.specs.Reads.{rows_near}
-use Rattle.span_fold.specs.Spans.{near_each, rows_in}
+use Rattle.group_fold.specs.Spans.{near_each, rows_in}
 use Rattle.realtime_union.specs.Live.{IsLiveSpan, live_groups}
 use Rattle.realtime_union.proofs.LiveLaws.{live_are}
 use Rattle.realtime_union.proofs.unions.live_of.Goals as goal

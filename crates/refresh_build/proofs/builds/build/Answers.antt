@@ -6,7 +6,7 @@ use Rattle.ts_bucket.specs.declared.spans.Span.{Span}
 use Rattle.ts_schema.specs.Counts.{raised_by, RaisedUpTo}
 use Rattle.ts_model.proofs.SameRanges.{one_list_of_ranges}
 use Rattle.mat_log.specs.Feeding.{is_dirty_with}
-use Rattle.span_fold.specs.Spans.{near_each}
+use Rattle.group_fold.specs.Spans.{near_each}
 use Rattle.refresh_build.proofs.JobLaws.{ranges_apart}
 use Rattle.refresh_build.proofs.builds.build.Goals as goal
 

@@ -8,7 +8,7 @@ use Rattle.group_fold.specs.Laws.{end_of_last}
 use Rattle.group_fold.proofs.BucketGroups.{groups_of_times}
 use Rattle.group_fold.proofs.RowGroups.{sorted-groups_of}
 use Rattle.partial_agg.specs.Groups.{AreInOrder}
-use Rattle.span_fold.specs.Spans.{rows_in}
+use Rattle.group_fold.specs.Spans.{rows_in}
 use Rattle.refresh_build.proofs.JobLaws.{groups_of_ranges, top_of_groups, times_of_spans}
 use Rattle.refresh_build.proofs.builds.build_ranges.Goals as goal
 

@@ -1,6 +1,6 @@
 -- A new session is let in where there is room.
 use Rattle.std.proofs.Common.{true, None, arith, inl, length, refl, subst}
-use Rattle.result_text.specs.declared.codes.TheConstants.{TOO_MANY_SESSIONS}
+use Rattle.ts_model.specs.Numbers.{too_many_sessions}
 use Rattle.result_text.specs.declared.replies.Said.TheVariants.{Fault}
 use Rattle.result_text.specs.Replies.{reply_text}
 use Rattle.ts_sessions.specs.declared.replies.StepEnd.TheVariants.{NoMemory}
@@ -27,8 +27,8 @@ returns-else-len-lt-MOST_SESSIONS g c =
     let steps = c.args.steps.now in
     let entries = c.args.sessions.now.entries in
     let script_state = script_state_of g.A.Actor.places state.history entries in
-    let text = reply_text c.args.name.now (Fault (bare TOO_MANY_SESSIONS)) in
-    let replied = subst (λ n. Replies (reply_text n (Fault (bare TOO_MANY_SESSIONS))) true c.refuse_session.result) c.in-Ok.ensures c.refuse_session.ensures in
+    let text = reply_text c.args.name.now (Fault (bare too_many_sessions)) in
+    let replied = subst (λ n. Replies (reply_text n (Fault (bare too_many_sessions))) true c.refuse_session.result) c.in-Ok.ensures c.refuse_session.ensures in
     unchanged g.A.Actor g.B.Backend c.args.backend.now entries (length c.args.text.now) (executes_as g.A.Actor.semantics script_state c.args.name.now c.args.text.now c.args.skip None) c.ending.result g.B.Backend.alone steps c.requires.ready
     (as_many c.ending.result state state script_state steps steps g.A.Actor.semantics script_state c.args.name.now c.args.text.now c.args.skip (omega (arith, length-sessions g.A.Actor.places entries))
     (rw c.ending.ensures (refusal_executed c.refuse_session.result (refused script_state text) state script_state steps c.requires.ready.counts c.requires.ready.going replied refl refl refl)))

@@ -6,7 +6,8 @@ use Rattle.ts_sessions.specs.Places.{Places, Turn, enters, reading, refuses, tur
 use Rattle.ts_model.specs.History.{History, position}
 use Rattle.ts_sessions.proofs.HoldLaws.{whole_holds}
 use Rattle.ts_sessions.specs.Deeds.{DeedFits, NextFits, IsAsked, IsLostBy, Leads, MadeFits, led, view_leaves, at_in, cut_in, finished, lack_code, left_by, line_of, making_of, rest, rest_next, says, spent, spent_by}
-use Rattle.ts_model.specs.Calls.{committing, making_view, no_refresh, refusal}
+use Rattle.ts_model.specs.Calls.{committing, making_view, refusal}
+use Rattle.ts_model.specs.Numbers.{no_refresh}
 use Rattle.ts_model.specs.Roster.{roster}
 use Rattle.ts_sessions.specs.Procedures.{Procedure, ends, followed_by, looks, tries, tries_at}
 use Rattle.ts_sessions.specs.Sessions.{has_failed}

@@ -1,4 +1,5 @@
-use Rattle.ts_model.specs.Calls.{no_refresh, refusal}
+use Rattle.ts_model.specs.Calls.{refusal}
+use Rattle.ts_model.specs.Numbers.{no_refresh}
 use Rattle.ts_model.specs.History.{prefix}
 use Rattle.result_text.specs.declared.replies.Said.TheVariants as said
 use Rattle.ts_sessions.specs.declared.changes.Change.TheVariants as changes

@@ -3,7 +3,7 @@ use Rattle.std.proofs.Common.{◌+◌, sym, subst, refl, IsTrue, arith}
 use Rattle.std.proofs.lemmas.Result.{on_ok_weaker}
 use Rattle.ts_schema.specs.Names.{is_name}
 use Rattle.stmt_reader.specs.declared.lines.LineKind.TheVariants.{Blank, NotAscii, NoSession}
-use Rattle.result_text.specs.declared.codes.TheConstants.{NOT_ASCII, NO_SESSION}
+use Rattle.ts_model.specs.Numbers.{not_ascii, no_session}
 use Rattle.par_lines.specs.Places.{sorted_of}
 use Rattle.par_lines.proofs.SortedLaws.{sorted_kind, sorted_refusal, sorted_statement, statement, statement_within}
 use Rattle.par_lines.proofs.sorting.SortedLines.add.Goals as goal
@@ -28,7 +28,7 @@ returns-in-NotAscii-clause-sorted c =
     let s = c.args.self.now in
     let put = c.put_line_fault-in-NotAscii in
     on_ok_weaker put.result
-    (sorted_refusal c.args.input.now c.args.from c.args.len c.args.number c.if-len-gt-LINE_LIMIT.false s.refusals.items s.sessions.items NotAscii NOT_ASCII c.bare-in-NotAscii.result put.new.out.items c.in-NotAscii.ensures.kind refl c.bare-in-NotAscii.ensures)
+    (sorted_refusal c.args.input.now c.args.from c.args.len c.args.number c.if-len-gt-LINE_LIMIT.false s.refusals.items s.sessions.items NotAscii not_ascii c.bare-in-NotAscii.result put.new.out.items c.in-NotAscii.ensures.kind refl c.bare-in-NotAscii.ensures)
     put.ensures.appended
 
 pub returns-in-NoSession-clause-sorted : goal.returns-in-NoSession-clause-sorted
@@ -36,7 +36,7 @@ returns-in-NoSession-clause-sorted c =
     let s = c.args.self.now in
     let put = c.put_line_fault-in-NoSession in
     on_ok_weaker put.result
-    (sorted_refusal c.args.input.now c.args.from c.args.len c.args.number c.if-len-gt-LINE_LIMIT.false s.refusals.items s.sessions.items NoSession NO_SESSION c.bare-in-NoSession.result put.new.out.items c.in-NoSession.ensures.kind refl c.bare-in-NoSession.ensures)
+    (sorted_refusal c.args.input.now c.args.from c.args.len c.args.number c.if-len-gt-LINE_LIMIT.false s.refusals.items s.sessions.items NoSession no_session c.bare-in-NoSession.result put.new.out.items c.in-NoSession.ensures.kind refl c.bare-in-NoSession.ensures)
     put.ensures.appended
 
 pub returns-in-Stmt-clause-sorted : goal.returns-in-Stmt-clause-sorted

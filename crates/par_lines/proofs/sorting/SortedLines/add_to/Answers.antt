@@ -4,6 +4,7 @@ use Rattle.std.specs.List.{position}
 use Rattle.std.proofs.lemmas.List.Quantifiers.{position-Some}
 use Rattle.par_lines.proofs.Adding.{added_known, has_name}
 use Rattle.par_lines.proofs.Extents.{within_set}
+use Rattle.par_lines.proofs.Numbering.{numbered_set}
 use Rattle.par_lines.proofs.Passing.{position_none}
 use Rattle.par_lines.proofs.sorting.SortedLines.add_to.Goals as goal
 
@@ -30,3 +31,8 @@ returns-in_ok-push-in-Some-clause-within c = λ n h all.
     let first = position-Some (has_name name) sessions c.in-Some.place session found in
     within_set n c.args.line sessions c.in-Some.place session (record { name = session.name; number = session.number; lines = c.push.new.self }) h all first.0 c.index_mut-session.ensures.value
     c.in_ok-push-in-Some.ensures.items
+
+pub returns-in_ok-push-in-Some-clause-numbered : goal.returns-in_ok-push-in-Some-clause-numbered
+returns-in_ok-push-in-Some-clause-numbered c = λ are.
+    let session = c.index_mut-session.result.now in
+    numbered_set c.args.self.now.sessions.items c.in-Some.place session (record { name = session.name; number = session.number; lines = c.push.new.self }) c.index_mut-session.ensures.value refl are

@@ -1,6 +1,4 @@
-use Rattle.std.proofs.Common.{refl, sym, ◌∙◌}
-use Rattle.engine_core.specs.Histories.{history_of}
-use Rattle.engine_core.proofs.ActLaws.{as_call}
+use Rattle.std.proofs.Common.{refl}
 use Rattle.ts_store.specs.Recorders.{store_of}
 use Rattle.ts_store.proofs.CallLaws.{does_refused}
 use Rattle.ts_store.proofs.KeptLaws.{safe_same}
@@ -9,7 +7,7 @@ use Rattle.ts_store.proofs.recorders.Recorder.make.Goals as goal
 pub returns-in-Err-clause-does : goal.returns-in-Err-clause-does
 returns-in-Err-clause-does g c = λ begun opened armed kept.
     does_refused g.D.Disk.bytes g.D.Disk.may_leave g.D.Disk.moment g.D.Disk.left_since g.D.Disk.faults (store_of c.args.self.now begun opened armed) (store_of c.args.self.now begun opened armed)
-    c.args.event c.in-Err.refusal kept (sym (as_call (history_of c.args.self.now.engine.past) c.args.event c.requires.sound) ∙ c.in-Err.ensures.refused)
+    c.args.event c.in-Err.refusal kept c.in-Err.ensures.refused
     (record { past = refl; failed = refl; counted = refl; begun = refl; opened = refl })
 
 pub returns-in-Err-clause-safe : goal.returns-in-Err-clause-safe

@@ -2,9 +2,9 @@ use Rattle.std.proofs.Common.{◌≡◌, ◌∙◌, arith}
 use Rattle.std.proofs.lemmas.Result.{IfOk-weaker}
 use Rattle.ts_model.specs.Groups.{groups_of}
 use Rattle.group_fold.specs.Grouping.{all_rows}
-use Rattle.span_fold.specs.Spans.{near_each, rows_in}
-use Rattle.span_fold.proofs.ScanLaws.{found_groups, found_times, pieces_are_times, ended, raised_whole}
-use Rattle.span_fold.proofs.folds.fold_spans.Goals as goal
+use Rattle.group_fold.specs.Spans.{near_each, rows_in}
+use Rattle.group_fold.proofs.ScanLaws.{found_groups, found_times, pieces_are_times, ended, raised_whole}
+use Rattle.group_fold.proofs.spans.fold_spans.Goals as goal
 
 pub fold_pieces-requires-after_bounds : goal.fold_pieces-requires-after_bounds
 fold_pieces-requires-after_bounds g c κs within =

@@ -1,7 +1,7 @@
 use Rattle.std.proofs.Common.{◌∙◌, ◌++◌, ◌∷◌, [], ap}
 use Rattle.ts_model.specs.Rows.{in_order}
-use Rattle.span_fold.proofs.ScanLaws.{cut_whole, last_piece, piece_step}
-use Rattle.span_fold.proofs.scans.cut.Goals as goal
+use Rattle.group_fold.proofs.ScanLaws.{cut_whole, last_piece, piece_step}
+use Rattle.group_fold.proofs.scans.cut.Goals as goal
 
 pub loop-left-preserved : goal.loop-left-preserved
 loop-left-preserved c =

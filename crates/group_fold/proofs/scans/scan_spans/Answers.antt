@@ -6,9 +6,9 @@ use Rattle.ts_schema.specs.Counts.{raised_by}
 use Rattle.ts_model.specs.Rows.{in_order}
 use Rattle.ts_model.specs.Reads.{rows_near}
 use Rattle.group_fold.specs.Grouping.{all_rows}
-use Rattle.span_fold.specs.Spans.{AreApart, near_each, rows_in}
-use Rattle.span_fold.proofs.ScanLaws.{front, none_left, nothing_in, span_step, small_step, count_step, count_cut, count_kept}
-use Rattle.span_fold.proofs.scans.scan_spans.Goals as goal
+use Rattle.group_fold.specs.Spans.{AreApart, near_each, rows_in}
+use Rattle.group_fold.proofs.ScanLaws.{front, none_left, nothing_in, span_step, small_step, count_step, count_cut, count_kept}
+use Rattle.group_fold.proofs.scans.scan_spans.Goals as goal
 
 pub loop-left-init : goal.loop-left-init
 loop-left-init g c = record {

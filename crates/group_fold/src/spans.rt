@@ -1,12 +1,12 @@
-//! Scans and folds.
+//! The groups of the rows of some spans.
 ghost use Rattle.std.specs.Prelude.{◌≡◌, IfOk};
 ghost use Rattle.ts_bucket.specs.Bucket.{IsWidth};
 ghost use Rattle.ts_schema.specs.Counts.{Ticks};
 ghost use Rattle.ts_model.specs.Groups.{groups_of};
-ghost use Rattle.span_fold.specs.Spans.{AreApart, HaveTimes, near_each, rows_in};
+ghost use Rattle.group_fold.specs.Spans.{AreApart, HaveTimes, near_each, rows_in};
 
+use crate::pieces::fold_pieces;
 use crate::scans::scan_spans;
-use group_fold::fold_pieces;
 use partial_agg::Group;
 use std::alloc::Global;
 use std::thread::Threads;

@@ -2,8 +2,8 @@ use Rattle.std.proofs.Common.{◌≡◌, ◌≤◌, ◌<◌, ◌^◌, ◌++◌, 
 use Rattle.ts_schema.specs.Counts.{raised_by}
 use Rattle.ts_model.specs.Rows.{in_order}
 use Rattle.group_fold.specs.Grouping.{all_rows}
-use Rattle.span_fold.specs.Spans.{AreApart, near_each, rows_in}
-use Rattle.span_fold.proofs.scans.scan_spans.Given as goal
+use Rattle.group_fold.specs.Spans.{AreApart, near_each, rows_in}
+use Rattle.group_fold.proofs.scans.scan_spans.Given as goal
 
 abbrev pub invariant-loop-left : goal.invariant-loop-left
 invariant-loop-left g l = record {

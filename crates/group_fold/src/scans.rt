@@ -3,7 +3,7 @@ ghost use Rattle.std.specs.Prelude.{◌≡◌, ◌++◌, IfOk, OnOk};
 ghost use Rattle.ts_schema.specs.Counts.{Ticks};
 ghost use Rattle.ts_model.specs.Rows.{in_order};
 ghost use Rattle.group_fold.specs.Grouping.{all_rows};
-ghost use Rattle.span_fold.specs.Spans.{AreApart, near_each, rows_in};
+ghost use Rattle.group_fold.specs.Spans.{AreApart, near_each, rows_in};
 
 use std::alloc::Global;
 use ts_bucket::Span;
@@ -11,7 +11,7 @@ use ts_model::RowsAt;
 use ts_schema::{NoMemory, Row, Seq, Steps};
 
 /// Pieces have so many rows at most.
-pub const PIECE: usize = 4096;
+const PIECE: usize = 4096;
 
 /// The rows of a table whose times lie in these spans, in pieces.
 pub(crate) fn scan_spans<W: RowsAt, L>(

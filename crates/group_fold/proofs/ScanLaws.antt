@@ -18,7 +18,7 @@ use Rattle.ts_model.proofs.RowLaws.{in_order-append, in_order-append_swap, with_
 use Rattle.group_fold.specs.Grouping.{AreTimes, PiecesAreTimes, all_rows}
 use Rattle.group_fold.proofs.BucketGroups.{order_plays_no_part}
 use Rattle.group_fold.proofs.CutRows.{all_rows-append, take_drop}
-use Rattle.span_fold.specs.Spans.{HaveTimes, rows_in}
+use Rattle.group_fold.specs.Spans.{HaveTimes, rows_in}
 
 -- ---- rows in order
 

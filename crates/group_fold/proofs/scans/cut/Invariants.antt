@@ -1,7 +1,7 @@
 use Rattle.std.proofs.Common.{◌≡◌, ◌++◌, vec_len}
 use Rattle.ts_model.specs.Rows.{in_order}
 use Rattle.group_fold.specs.Grouping.{all_rows}
-use Rattle.span_fold.proofs.scans.cut.Given as goal
+use Rattle.group_fold.proofs.scans.cut.Given as goal
 
 abbrev pub invariant-loop-left : goal.invariant-loop-left
 invariant-loop-left l = in_order (all_rows l.pieces ++ l.left.items) ≡ in_order (all_rows l.initial.pieces ++ l.fn.found)

@@ -1,0 +1,6 @@
+-- How many rows an INSERT may have.
+use Rattle.std.specs.Prelude.{ℕ}
+
+-- the most rows of one INSERT
+abbrev pub most_rows : ℕ
+most_rows = 1000
