@@ -5,8 +5,8 @@ use Rattle.std.specs.List.{list_all, list_any}
 use Rattle.std.proofs.lemmas.Bool.{and_parts, leb-true, le-leb}
 use Rattle.std.proofs.lemmas.Bool.Decides.{nat_tests}
 use Rattle.ts_schema.specs.Names.{is_head, is_name, is_tail}
-use Rattle.stmt_reader.specs.Limits.{longest_line}
-use Rattle.stmt_reader.specs.Lines.{begins_session, continues_session, line_kind}
+use Rattle.stmt_syntax.specs.Limits.{longest_line}
+use Rattle.stmt_tokens.specs.Lines.{begins_session, continues_session, line_kind}
 use Rattle.reply_looks.specs.Replies.{is_line_end}
 use Rattle.transcript.specs.Shape.{is_line_of, is_one_line, is_session_name, is_sound_talk, speaks_in}
 use Rattle.transcript.specs.declared.transcripts.Exchange.{Exchange}

@@ -1,9 +1,9 @@
 -- The lines of a transcript, as sessions execute them.
 use Rattle.std.specs.Prelude.{ℕ, zero, suc, Bool, List, [], ◌∷◌, map, position, take, Option, Some, None}
-use Rattle.stmt_reader.specs.Lines.{line_kind}
-use Rattle.stmt_reader.specs.Streams.{stream}
-use Rattle.stmt_reader.specs.declared.lines.LineKind.{LineKind}
-use Rattle.stmt_reader.specs.declared.lines.LineKind.TheVariants.{Blank, NotAscii, NoSession, Stmt}
+use Rattle.stmt_tokens.specs.Lines.{line_kind}
+use Rattle.stmt_tokens.specs.Streams.{stream}
+use Rattle.stmt_tokens.specs.declared.lines.LineKind.{LineKind}
+use Rattle.stmt_tokens.specs.declared.lines.LineKind.TheVariants.{Blank, NotAscii, NoSession, Stmt}
 use Rattle.policy_jobs.specs.Words.{begins}
 use Rattle.ts_sessions.specs.Script.{SessionLine}
 use Rattle.transcript.specs.declared.transcripts.Exchange.{Exchange}

@@ -1,6 +1,6 @@
 -- Lines that are no longer than a line may be.
 use Rattle.std.specs.Prelude.{◌≤◌, All, List, length}
-use Rattle.stmt_reader.specs.Limits.{longest_line}
+use Rattle.stmt_syntax.specs.Limits.{longest_line}
 use Rattle.transcript.specs.declared.transcripts.Exchange.{Exchange}
 use Rattle.transcript.specs.declared.transcripts.Talk.{Talk}
 

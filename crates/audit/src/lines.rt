@@ -1,13 +1,13 @@
 //! The lines of a transcript, as sessions execute them.
 ghost use Rattle.std.specs.Prelude.{◌≡◌, ◌≤◌, All, length, IfOk, IsTrue};
-ghost use Rattle.stmt_reader.specs.Limits.{longest_line};
+ghost use Rattle.stmt_syntax.specs.Limits.{longest_line};
 ghost use Rattle.transcript.specs.Shape.{is_sound_talk};
 ghost use Rattle.audit.specs.Lines.{asks_policies, first_policy, line_of as line_said, policy_among};
 ghost use Rattle.audit.specs.Short.{AreShort, AreShortTalks};
 
 use policy_jobs::{PolicyRead, read_policy};
 use std::alloc::Global;
-use stmt_reader::{LineKind, split_line};
+use stmt_tokens::{LineKind, split_line};
 use transcript::{Exchange, Talk};
 use ts_schema::NoMemory;
 
@@ -30,7 +30,7 @@ pub struct Place {
 }
 
 /// What a session executes of the line of an exchange.
-#[tactic(auto, using(stmt_reader::proofs::StatementLines::statement_line))]
+#[tactic(auto, using(stmt_tokens::proofs::StatementLines::statement_line))]
 pub(crate) fn line_of(exchange: &Exchange) -> Line<'_>
     requires short { length exchange.now.line ≤ longest_line }
     ensures line { record { text = result.text.now; skip = result.skip } ≡ line_said exchange.now }

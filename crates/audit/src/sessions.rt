@@ -3,7 +3,7 @@ ghost use Rattle.std.specs.Prelude.{◌≡◌, ◌≤◌, ℕ, [], length, IfOk,
 ghost use Rattle.std.specs.Thread.{IsSync};
 ghost use Rattle.ts_model.specs.Allowed.{all_allowed};
 ghost use Rattle.ts_model.specs.History.{History, base_position, position};
-ghost use Rattle.stmt_reader.specs.Limits.{longest_line};
+ghost use Rattle.stmt_syntax.specs.Limits.{longest_line};
 ghost use Rattle.transcript.specs.Shape.{is_sound_talk};
 ghost use Rattle.ts_sessions.specs.Held.{HoldsOf, places_in};
 ghost use Rattle.ts_sessions.specs.Places.{no_places};

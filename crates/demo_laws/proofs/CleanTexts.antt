@@ -2,8 +2,8 @@
 use lib.Signed.{mag}
 use Rattle.std.proofs.Common.{◌≡◌, refl, ℕ, zero, suc, ◌+◌, ◌*◌, ◌%◌, ◌<◌, ◌≤◌, ◌^◌, ℤ, pos, ◌-ℤ◌, List, [], ◌∷◌, ◌++◌, length, codes, arith}
 use Rattle.std.specs.List.{flat_map, range_with_len}
-use Rattle.stmt_reader.specs.Lines.{line_kind, session_name}
-use Rattle.stmt_reader.specs.declared.lines.LineKind.TheVariants.{Stmt}
+use Rattle.stmt_tokens.specs.Lines.{line_kind, session_name}
+use Rattle.stmt_tokens.specs.declared.lines.LineKind.TheVariants.{Stmt}
 use Rattle.demo_script.specs.Demo.{aggregate_line, answer_line, hypertable_line, insert_line, late_line, number_of, range_text, refresh_line, row_text, rows_text, table_line, time_of, value_of, values_text}
 use Rattle.demo_laws.specs.ActLaws.{demo_session}
 use Rattle.demo_laws.proofs.Rows.{IsSmall}

@@ -1,8 +1,8 @@
 -- The lines without a number in them are read as their statements: that is computed.
 use Rattle.std.proofs.Common.{◌≡◌, ℕ, List, refl, Ok}
 use Rattle.stmt_reader.specs.Reading.{aggregate, aggregate_rest, aggregates, alias, affirmed, argument, bind, bucket, choose, column, create_rest, end, filling, filters, fold_behind, fold_rest, form, grouping, hyper_rest, items, keys_and_function, listed, mode, more, not_null, number, offset, one, options, rows_rest, select_list, select_rest, semicolon, setting, source, statement, table_rest, takes, view_rest, wanted}
-use Rattle.stmt_reader.specs.Streams.{Stream, ends, stream}
-use Rattle.stmt_reader.specs.declared.statements.Stmt.{Stmt}
+use Rattle.stmt_tokens.specs.Streams.{Stream, ends, stream}
+use Rattle.stmt_syntax.specs.declared.statements.Stmt.{Stmt}
 use Rattle.demo_script.specs.Demo.{aggregate_line, answer_line, hypertable_line, table_line}
 use Rattle.demo_laws.specs.Statements.{stmt_of}
 use Rattle.demo_script.specs.declared.lines.Line.TheVariants as lines

@@ -6,8 +6,8 @@ use Rattle.std.proofs.lemmas.Bool.{le-ltb}
 use Rattle.ts_model.specs.declared.rosters.Roster.{Roster}
 use Rattle.ts_model.specs.History.{position}
 use Rattle.ts_model.specs.Roster.{roster}
-use Rattle.stmt_reader.specs.Lines.{line_kind, session_name}
-use Rattle.stmt_reader.specs.declared.statements.Stmt.{Stmt}
+use Rattle.stmt_tokens.specs.Lines.{line_kind, session_name}
+use Rattle.stmt_syntax.specs.declared.statements.Stmt.{Stmt}
 use Rattle.stmt_check.specs.Check.{action_of, refusal_of}
 use Rattle.stmt_check.specs.declared.actions.Action.{Action}
 use Rattle.hier_agg.specs.declared.reads.UpperRead.TheVariants.{NotUpper}

@@ -5,11 +5,12 @@ use Rattle.std.specs.Fmt.{signed_decimal}
 use Rattle.std.specs.List.{flat_map, range_with_len}
 use Rattle.std.proofs.lemmas.List.{append_assoc, append-nil}
 use Rattle.stmt_reader.specs.Reading.{bind, column_list, end, form, insert_rest, listed, one, row, semicolon, statement, takes, wanted, call_rest, window, value, number}
-use Rattle.stmt_reader.specs.Streams.{Stream, ends, ◌then◌, stream}
-use Rattle.stmt_reader.specs.Tokens.{word, is_i64, number as number_at, mark, quoted}
+use Rattle.stmt_tokens.specs.Streams.{Stream, ends, ◌then◌, stream}
+use Rattle.stmt_tokens.specs.Tokens.{word, number as number_at, mark, quoted}
+use Rattle.stmt_syntax.specs.Limits.{is_i64}
 use Rattle.stmt_reader.specs.declared.phrases.Separator.TheVariants.{Comma as CommaBetween}
-use Rattle.stmt_reader.specs.declared.statements.Stmt.TheVariants as stmts
-use Rattle.stmt_reader.specs.declared.tokens.Mark.TheVariants.{Open, Close, Comma}
+use Rattle.stmt_syntax.specs.declared.statements.Stmt.TheVariants as stmts
+use Rattle.stmt_tokens.specs.declared.tokens.Mark.TheVariants.{Open, Close, Comma}
 use Rattle.demo_script.specs.Demo.{insert_line, late_line, range_text, refresh_line, row_text, rows_text, values_text}
 use Rattle.demo_laws.specs.Statements.{stmt_of, values_at, values_of, values_with}
 use Rattle.demo_script.specs.declared.lines.Line.TheVariants as lines

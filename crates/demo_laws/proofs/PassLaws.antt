@@ -9,7 +9,7 @@ use Rattle.stmt_check.specs.Refusals.{◌⊳◌}
 use Rattle.stmt_check.specs.Rows.{row_of as row_by, row_refusal, rows_refusal, shape_of}
 use Rattle.stmt_check.specs.declared.actions.Action.TheVariants.{Change}
 use Rattle.ts_model.specs.declared.events.Op.TheVariants.{Insert as InsertOp}
-use Rattle.stmt_reader.specs.declared.statements.Stmt.TheVariants.{Insert as InsertStmt, Refresh as RefreshStmt}
+use Rattle.stmt_syntax.specs.declared.statements.Stmt.TheVariants.{Insert as InsertStmt, Refresh as RefreshStmt}
 use Rattle.demo_script.specs.Demo.{number_of, time_of, value_of}
 use Rattle.demo_laws.specs.Acts.{demo_roster, demo_table, row_of, rows_of}
 use Rattle.demo_laws.specs.Statements.{act_of, stmt_of, values_at, values_of, values_with}

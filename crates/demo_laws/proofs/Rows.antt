@@ -8,10 +8,11 @@ use Rattle.std.specs.List.{flat_map, prefix_len, range_with_len}
 use Rattle.std.proofs.lemmas.List.{append_assoc, append-nil}
 use Rattle.stmt_reader.specs.Forward.{forward-row}
 use Rattle.stmt_reader.specs.Reading.{bind, go_on, listed, more, number, parts, row, takes, value, wanted}
-use Rattle.stmt_reader.specs.Streams.{Stream, ends, ◌then◌, stream}
-use Rattle.stmt_reader.specs.Tokens.{is_i64, number as number_at, mark}
+use Rattle.stmt_tokens.specs.Streams.{Stream, ends, ◌then◌, stream}
+use Rattle.stmt_syntax.specs.Limits.{is_i64}
+use Rattle.stmt_tokens.specs.Tokens.{number as number_at, mark}
 use Rattle.stmt_reader.specs.declared.phrases.Separator.TheVariants.{Comma as CommaBetween}
-use Rattle.stmt_reader.specs.declared.tokens.Mark.TheVariants.{Open, Close, Comma}
+use Rattle.stmt_tokens.specs.declared.tokens.Mark.TheVariants.{Open, Close, Comma}
 use Rattle.stmt_reader.proofs.Loops.{more_ends, more_goes}
 use Rattle.demo_script.specs.Demo.{number_of, row_text, time_of, value_of, values_text}
 use Rattle.demo_laws.specs.Statements.{values_at, values_with}

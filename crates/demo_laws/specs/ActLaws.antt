@@ -1,10 +1,10 @@
 -- The laws: each line of a demonstration is its statement, which is not refused, and does its action.
 use Rattle.std.specs.Prelude.{◌≡◌, ℕ, ◌≤◌, ◌⊎◌, List, [], ◌∷◌, length, codes, None, Ok}
 use Rattle.ts_model.specs.Roster.{roster}
-use Rattle.stmt_reader.specs.Lines.{line_kind, session_name}
+use Rattle.stmt_tokens.specs.Lines.{line_kind, session_name}
 use Rattle.stmt_reader.specs.Reading.{statement}
-use Rattle.stmt_reader.specs.Streams.{Stream, stream}
-use Rattle.stmt_reader.specs.declared.lines.LineKind.TheVariants.{Stmt}
+use Rattle.stmt_tokens.specs.Streams.{Stream, stream}
+use Rattle.stmt_tokens.specs.declared.lines.LineKind.TheVariants.{Stmt}
 use Rattle.stmt_check.specs.Check.{action_of, refusal_of}
 use Rattle.ts_sessions.specs.Places.{Places, none, no_places}
 use Rattle.ts_sessions.specs.Script.{ScriptState, executes, line_limit, session_semantics, takes_turn}

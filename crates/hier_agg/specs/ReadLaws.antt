@@ -5,8 +5,8 @@ use Rattle.ts_model.specs.Answers.{can_ask}
 use Rattle.ts_model.specs.declared.rosters.Roster.{Roster}
 use Rattle.ts_model.specs.declared.views.ViewDef.{ViewDef}
 use Rattle.ts_catalog.specs.Relations.{HasItem}
-use Rattle.stmt_reader.specs.declared.statements.NamedFold.{NamedFold}
-use Rattle.stmt_reader.specs.declared.statements.Stmt.{Stmt}
+use Rattle.stmt_syntax.specs.declared.statements.NamedFold.{NamedFold}
+use Rattle.stmt_syntax.specs.declared.statements.Stmt.{Stmt}
 use Rattle.hier_agg.specs.declared.plans.UpperPlan.{UpperPlan}
 use Rattle.hier_agg.specs.declared.reads.UpperRead.TheVariants.{Plan}
 use Rattle.hier_agg.specs.Plans.{PlanFits, lower_query}

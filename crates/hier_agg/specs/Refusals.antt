@@ -10,9 +10,9 @@ use Rattle.ts_model.specs.Limits.{most_columns}
 use Rattle.ts_model.specs.declared.outcomes.Refusal.{Refusal}
 use Rattle.ts_model.specs.declared.views.ViewDef.{ViewDef}
 use Rattle.ts_catalog.specs.Columns.{view_column_of}
-use Rattle.stmt_reader.specs.declared.statements.NamedAgg.{NamedAgg}
-use Rattle.stmt_reader.specs.declared.statements.NamedFold.{NamedFold}
-use Rattle.stmt_reader.specs.declared.statements.NamedTest.{NamedTest}
+use Rattle.stmt_syntax.specs.declared.statements.NamedAgg.{NamedAgg}
+use Rattle.stmt_syntax.specs.declared.statements.NamedFold.{NamedFold}
+use Rattle.stmt_syntax.specs.declared.statements.NamedTest.{NamedTest}
 use Rattle.stmt_check.specs.Folds.{columns_before, is_shift, is_step, output_count}
 use Rattle.stmt_check.specs.Queries.{is_bucket_column}
 use Rattle.stmt_check.specs.Refusals.{◌⊳◌, marked, missing, refused}

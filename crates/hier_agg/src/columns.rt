@@ -6,7 +6,7 @@ ghost use Rattle.hier_agg.specs.Refusals.{agg_place, agg_refusal, aggs_refusal, 
 use crate::answers::function_at;
 use crate::stops::{Stop, present, refuse_marked};
 use std::alloc::Global;
-use stmt_reader::{NamedAgg, NamedTest};
+use stmt_syntax::{NamedAgg, NamedTest};
 use ts_catalog::view_column;
 use ts_model::codes::{BAD_ROLLUP, TOO_MANY};
 use ts_model::limits::MOST_COLUMNS;

@@ -11,7 +11,7 @@ use crate::plans::UpperPlan;
 use crate::stops::Stop;
 use crate::widths::check_width;
 use std::alloc::Global;
-use stmt_reader::{NamedFold, Stmt};
+use stmt_syntax::{NamedFold, Stmt};
 use ts_catalog::{Found, find};
 use ts_model::{Refusal, Roster, ViewDef};
 

@@ -6,7 +6,7 @@ ghost use Rattle.hier_agg.specs.Reads.{Checks};
 ghost use Rattle.hier_agg.specs.Refusals.{divided, width_refusal};
 
 use crate::stops::{Stop, refuse_marked};
-use stmt_reader::NamedFold;
+use stmt_syntax::NamedFold;
 use ts_bucket::{Width, width};
 use ts_catalog::view_column;
 use ts_model::codes::{BAD_WIDTH, NO_COLUMN};

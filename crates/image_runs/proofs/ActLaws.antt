@@ -23,7 +23,7 @@ use Rattle.ts_model.proofs.MadeLaws.{calls_make_allowed}
 use Rattle.image_laws.specs.Alike.{Alike}
 use Rattle.image_laws.specs.Images.{IsImage}
 use Rattle.image_laws.proofs.AlikeAnswers.{alike_answers}
-use Rattle.stmt_reader.specs.Limits.{longest_input}
+use Rattle.stmt_syntax.specs.Limits.{longest_input}
 use Rattle.stmt_check.specs.declared.actions.Action.{Action}
 use Rattle.stmt_check.specs.declared.actions.Action.TheVariants as actions
 use Rattle.stmt_check.specs.Sound.{IsOperation, IsSound}

@@ -28,7 +28,7 @@ use Rattle.image_laws.proofs.AlikeAnswers.{alike_answers, refusal_same}
 use Rattle.image_laws.proofs.ImageLaws.{known_bounds}
 use Rattle.result_text.specs.declared.replies.Said.{Said}
 use Rattle.result_text.specs.declared.replies.Said.TheVariants as said
-use Rattle.stmt_reader.specs.Limits.{longest_input}
+use Rattle.stmt_syntax.specs.Limits.{longest_input}
 use Rattle.ts_sessions.specs.Places.{Places, Turn, cuts, held_for, holds, turns}
 use Rattle.ts_sessions.specs.Procedures.{Procedure, followed_by, tries_at}
 use Rattle.ts_sessions.specs.Step.{after_cut, after_snapshot, finish_turn, finishes, finishes_held, refreshed, refreshes, snap_turn, snaps, taken, taken_of, unfinished}

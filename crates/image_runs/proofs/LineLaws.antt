@@ -11,12 +11,12 @@ use Rattle.ts_model.specs.History.{History, position, prefix, same}
 use Rattle.ts_model.specs.Roster.{roster}
 use Rattle.image_laws.specs.Alike.{Alike}
 use Rattle.image_laws.specs.Images.{IsImage}
-use Rattle.stmt_reader.specs.Limits.{longest_input}
+use Rattle.stmt_syntax.specs.Limits.{longest_input}
 use Rattle.stmt_reader.specs.Reading.{statement}
-use Rattle.stmt_reader.specs.Streams.{Stream, stream}
+use Rattle.stmt_tokens.specs.Streams.{Stream, stream}
 use Rattle.stmt_reader.specs.declared.faults.Fault.{Fault}
-use Rattle.stmt_reader.specs.declared.statements.Stmt.{Stmt}
-use Rattle.stmt_reader.specs.declared.statements.Stmt.TheVariants as stmts
+use Rattle.stmt_syntax.specs.declared.statements.Stmt.{Stmt}
+use Rattle.stmt_syntax.specs.declared.statements.Stmt.TheVariants as stmts
 use Rattle.stmt_reader.proofs.WrittenLaws.{statements_are_written}
 use Rattle.stmt_check.specs.declared.actions.Action.{Action}
 use Rattle.stmt_check.specs.declared.actions.Action.TheVariants as actions

@@ -10,7 +10,7 @@ use Rattle.std.specs.declared.cmp.Ordering.TheVariants.{Less, Equal, Greater}
 use Rattle.ts_model.specs.History.{History, position, Begins}
 use Rattle.ts_model.specs.Roster.{same_name}
 use Rattle.ts_model.proofs.HistoryLaws.{position_begins}
-use Rattle.stmt_reader.specs.Limits.{longest_input}
+use Rattle.stmt_syntax.specs.Limits.{longest_input}
 use Rattle.stmt_check.specs.Sound.{IsQueue}
 use Rattle.stmt_check.proofs.QueueLaws.{queues_are_sound}
 use Rattle.ts_sessions.specs.Places.{Block, none, writing, reading, Places, held_for}

@@ -9,11 +9,11 @@ use Rattle.ts_model.specs.Allowed.{all_allowed}
 use Rattle.ts_model.specs.History.{History, resumed, ◌▸▸◌, same}
 use Rattle.ts_model.proofs.HistoryLaws.{begins_followed, followed_append}
 use Rattle.image_laws.specs.Images.{IsImage}
-use Rattle.stmt_reader.specs.Limits.{longest_input}
-use Rattle.stmt_reader.specs.Lines.{line_kind, session_name}
-use Rattle.stmt_reader.specs.declared.lines.LineKind.{LineKind}
-use Rattle.stmt_reader.specs.declared.lines.LineKind.TheVariants.{Blank, NotAscii, NoSession, Stmt}
-use Rattle.stmt_reader.proofs.StatementLines.{statement_line}
+use Rattle.stmt_syntax.specs.Limits.{longest_input}
+use Rattle.stmt_tokens.specs.Lines.{line_kind, session_name}
+use Rattle.stmt_tokens.specs.declared.lines.LineKind.{LineKind}
+use Rattle.stmt_tokens.specs.declared.lines.LineKind.TheVariants.{Blank, NotAscii, NoSession, Stmt}
+use Rattle.stmt_tokens.proofs.StatementLines.{statement_line}
 use Rattle.ts_model.specs.Numbers.{line_long, too_many_sessions}
 use Rattle.result_text.specs.declared.replies.Said.TheVariants as said
 use Rattle.result_text.specs.Replies.{reply_text}

@@ -6,7 +6,7 @@ use Rattle.ts_model.specs.Allowed.{all_allowed}
 use Rattle.ts_model.specs.History.{History, resumed, ◌▸▸◌}
 use Rattle.image_laws.specs.Alike.{Alike}
 use Rattle.image_laws.specs.Images.{IsImage}
-use Rattle.stmt_reader.specs.Limits.{longest_input}
+use Rattle.stmt_syntax.specs.Limits.{longest_input}
 use Rattle.ts_sessions.specs.Places.{Places}
 use Rattle.ts_sessions.specs.Script.{ScriptState, session_semantics, opening_script_state, output, is_refused, final_script_state}
 

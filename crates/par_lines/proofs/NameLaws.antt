@@ -9,9 +9,9 @@ use Rattle.std.proofs.lemmas.List.Quantifiers.{all_pairs_push}
 use Rattle.ts_schema.specs.Names.{is_name}
 use Rattle.ts_io.specs.Lines.{lines_of}
 use Rattle.ts_model.specs.Roster.{same_name}
-use Rattle.stmt_reader.specs.declared.lines.LineKind.{LineKind}
-use Rattle.stmt_reader.specs.declared.lines.LineKind.TheVariants.{Blank, NotAscii, NoSession, Stmt}
-use Rattle.stmt_reader.specs.Lines.{line_kind, session_name}
+use Rattle.stmt_tokens.specs.declared.lines.LineKind.{LineKind}
+use Rattle.stmt_tokens.specs.declared.lines.LineKind.TheVariants.{Blank, NotAscii, NoSession, Stmt}
+use Rattle.stmt_tokens.specs.Lines.{line_kind, session_name}
 use Rattle.ts_model.specs.Numbers.{line_long, too_many_sessions}
 use Rattle.result_text.specs.declared.replies.Said.TheVariants as said
 use Rattle.result_text.specs.Replies.{line_fault_text, reply_text}
@@ -21,7 +21,7 @@ use Rattle.ts_sessions.specs.Step.{bare}
 use Rattle.par_lines.specs.declared.sessions.SessionLines.{SessionLines}
 use Rattle.par_lines.specs.Sorted.{Sorted, appears_in, refuses, sorted, sorts, sorts_all, sorts_as, sorts_kind, with_line}
 use Rattle.par_lines.specs.Places.{scripts_of}
-use Rattle.stmt_reader.proofs.StatementLines.{statement_line}
+use Rattle.stmt_tokens.proofs.StatementLines.{statement_line}
 use Rattle.par_lines.proofs.Passing.{any_mapped, none_at}
 
 abbrev name_of : SessionScript → List ℕ

@@ -3,9 +3,9 @@ use Rattle.std.proofs.Common.{◌≡◌, ℕ, suc, ◌+◌, ◌-◌, ◌≤◌, 
 use Rattle.std.proofs.lemmas.List.{drop-drop, drop_all, take-take, take_rest}
 use Rattle.ts_io.specs.Lines.{lines_of}
 use Rattle.ts_model.specs.declared.outcomes.Refusal.{Refusal}
-use Rattle.stmt_reader.specs.declared.lines.LineKind.{LineKind}
-use Rattle.stmt_reader.specs.declared.lines.LineKind.TheVariants.{Stmt}
-use Rattle.stmt_reader.specs.Lines.{line_kind, session_name, IsStatementLine}
+use Rattle.stmt_tokens.specs.declared.lines.LineKind.{LineKind}
+use Rattle.stmt_tokens.specs.declared.lines.LineKind.TheVariants.{Stmt}
+use Rattle.stmt_tokens.specs.Lines.{line_kind, session_name, IsStatementLine}
 use Rattle.ts_model.specs.Numbers.{line_long}
 use Rattle.result_text.specs.Replies.{line_fault_text}
 use Rattle.ts_sessions.specs.Script.{SessionLine, line_limit}
@@ -15,7 +15,7 @@ use Rattle.par_lines.specs.declared.sessions.SessionLines.{SessionLines}
 use Rattle.par_lines.specs.Sorted.{Sorted, refuses, sorts, sorts_all, sorts_as, sorts_kind}
 use Rattle.par_lines.specs.Places.{line_at, scripts_of, IsLineWithin}
 use Rattle.par_lines.proofs.Adding.{state}
-use Rattle.stmt_reader.proofs.StatementLines.{statement_line}
+use Rattle.stmt_tokens.proofs.StatementLines.{statement_line}
 
 -- ---- a line of so many bytes from a place on
 

@@ -1,7 +1,7 @@
 //! The names of sessions.
 ghost use Rattle.std.specs.Prelude.{◌≡◌, ◌≤◌, length, IsTrue, IfOk, suc};
 ghost use Rattle.ts_schema.specs.Names.{is_name};
-ghost use Rattle.stmt_reader.specs.Lines.{session_name};
+ghost use Rattle.stmt_tokens.specs.Lines.{session_name};
 
 use std::alloc::Global;
 use ts_schema::{Name, NoMemory};

@@ -13,7 +13,7 @@ use crate::names::{name_in, name_of};
 use crate::sessions::{LinePlace, SessionLines, place_of};
 use result_text::{Said, put_line_fault, put_reply};
 use std::alloc::Global;
-use stmt_reader::{LineKind, split_line};
+use stmt_tokens::{LineKind, split_line};
 use ts_io::LINE_LIMIT;
 use ts_model::codes;
 use ts_model::limits::MOST_SESSIONS;

@@ -20,7 +20,7 @@ use Rattle.ts_catalog.specs.declared.relations.Found.TheVariants as found
 use Rattle.ts_catalog.specs.Relations.{found_in}
 use Rattle.stmt_reader.specs.declared.faults.Fault.{Fault}
 use Rattle.stmt_reader.specs.declared.faults.Fault.TheVariants as faults
-use Rattle.stmt_reader.specs.Streams.{Stream, stream}
+use Rattle.stmt_tokens.specs.Streams.{Stream, stream}
 use Rattle.stmt_check.specs.Refusals.{◌⊳◌, hypertable_refusal, marked, refused, view_refusal}
 use Rattle.result_text.specs.declared.replies.Said.{Said}
 use Rattle.result_text.specs.declared.replies.Said.TheVariants as said

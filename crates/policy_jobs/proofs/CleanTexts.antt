@@ -16,9 +16,9 @@ use Rattle.std.proofs.lemmas.List.{append_assoc, append-nil, drop-take, length-a
 use Rattle.std.proofs.lemmas.List.Folds.{length-prefix_len, list_all-append}
 use Rattle.ts_schema.specs.Names.{is_head, is_name, is_tail}
 use Rattle.ts_schema.proofs.Cases.{and_first, and_second}
-use Rattle.stmt_reader.specs.Lines.{begins_session, comment_at, continues_session, has_session, line_kind, of_text, session_len, session_name}
-use Rattle.stmt_reader.specs.Tokens.{begins_with, blank_len}
-use Rattle.stmt_reader.specs.declared.lines.LineKind.TheVariants.{Blank, NotAscii, NoSession, Stmt}
+use Rattle.stmt_tokens.specs.Lines.{begins_session, comment_at, continues_session, has_session, line_kind, of_text, session_len, session_name}
+use Rattle.stmt_tokens.specs.Tokens.{begins_with, blank_len}
+use Rattle.stmt_tokens.specs.declared.lines.LineKind.TheVariants.{Blank, NotAscii, NoSession, Stmt}
 use Rattle.policy_jobs.proofs.TokenLaws.{IsDigit, digit_in_front, not_blank}
 
 -- no comment begins in a text, whatever stands behind it; it is ASCII, and has at most so many bytes

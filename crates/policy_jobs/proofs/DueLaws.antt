@@ -12,12 +12,12 @@ use Rattle.ts_model.specs.Roster.{roster}
 use Rattle.ts_model.specs.States.{State}
 use Rattle.stmt_reader.specs.Grammar as base
 use Rattle.stmt_reader.specs.Grammar.{statement as any_statement}
-use Rattle.stmt_reader.specs.Proper.{IsName}
+use Rattle.stmt_syntax.specs.Proper.{IsName}
 use Rattle.stmt_reader.specs.Refusals.{IsSaid, Refuses, Verdict}
-use Rattle.stmt_reader.specs.Streams.{Stream, plain, stream}
+use Rattle.stmt_tokens.specs.Streams.{Stream, plain, stream}
 use Rattle.stmt_reader.specs.declared.faults.Fault.{Fault}
-use Rattle.stmt_reader.specs.declared.keywords.Keyword.TheVariants as kw
-use Rattle.stmt_reader.specs.declared.tokens.Mark.TheVariants as marks
+use Rattle.stmt_tokens.specs.declared.keywords.Keyword.TheVariants as kw
+use Rattle.stmt_tokens.specs.declared.tokens.Mark.TheVariants as marks
 use Rattle.stmt_reader.proofs.Holds.{Holds, holds_any, holds_either, holds_means, holds_quoted, holds_then, past}
 use Rattle.stmt_reader.proofs.ProperLaws.{stream_proper}
 use Rattle.stmt_reader.proofs.Verdict.{fit_statement, reads_by_the_grammar as any_by_the_grammar}

@@ -13,11 +13,12 @@ use Rattle.ts_schema.specs.declared.memory.NoMemory.{NoMemory}
 use Rattle.ts_schema.specs.Names.{is_head, is_name, is_tail}
 use Rattle.ts_bucket.specs.Bucket.{is_time}
 use Rattle.stmt_reader.specs.Reading.{bind, call_rest, drop_rest, end, form, number, older_than, one, select_rest, semicolon, statement, takes, value, wanted, window}
-use Rattle.stmt_reader.specs.Streams.{Stream, ends, ◌then◌, stream}
-use Rattle.stmt_reader.specs.Tokens.{Token, word, is_i64, number as number_at, mark, quoted}
-use Rattle.stmt_reader.specs.declared.statements.Stmt.{Stmt}
-use Rattle.stmt_reader.specs.declared.statements.Stmt.TheVariants as stmts
-use Rattle.stmt_reader.specs.declared.tokens.Mark.TheVariants.{Open, Close, Comma}
+use Rattle.stmt_tokens.specs.Streams.{Stream, ends, ◌then◌, stream}
+use Rattle.stmt_tokens.specs.Tokens.{Token, word, number as number_at, mark, quoted}
+use Rattle.stmt_syntax.specs.Limits.{is_i64}
+use Rattle.stmt_syntax.specs.declared.statements.Stmt.{Stmt}
+use Rattle.stmt_syntax.specs.declared.statements.Stmt.TheVariants as stmts
+use Rattle.stmt_tokens.specs.declared.tokens.Mark.TheVariants.{Open, Close, Comma}
 use Rattle.ts_sessions.specs.Actors.{ReadsEvent}
 use Rattle.policy_jobs.specs.Adding.{has_offsets, is_from, is_offset}
 use Rattle.policy_jobs.specs.declared.jobs.Job.{Job}

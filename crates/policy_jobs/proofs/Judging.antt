@@ -1,16 +1,16 @@
 -- What is answered of a text is what the grammar says of it.
 use Rattle.std.proofs.Common.{◌≡◌, ℕ, Bool, true, false, ◌&&◌, ◌||◌, List, [], ◌∷◌, ◌++◌, Result, Ok, Err, refl, sym, ap, subst, ◌∙◌, inl, inr}
 use Rattle.std.proofs.lemmas.Bool.{both_ways}
-use Rattle.stmt_reader.specs.Tokens.{Token}
-use Rattle.stmt_reader.specs.Scan.{seen}
-use Rattle.stmt_reader.specs.Words.{is_keyword, is_spelled}
-use Rattle.stmt_reader.specs.Streams.{Placed, Stream, ends, onto, plain, stream}
+use Rattle.stmt_tokens.specs.Tokens.{Token}
+use Rattle.stmt_tokens.specs.Scan.{seen}
+use Rattle.stmt_tokens.specs.Words.{is_keyword, is_spelled}
+use Rattle.stmt_tokens.specs.Streams.{Placed, Stream, ends, onto, plain, stream}
 use Rattle.stmt_reader.specs.Reading as base
 use Rattle.stmt_reader.specs.Reading.{gives, go_on, bind}
 use Rattle.stmt_reader.specs.Grammar.{sequence, either, wanted}
 use Rattle.stmt_reader.specs.Refusals.{IsSaid, First, Verdict}
 use Rattle.stmt_reader.specs.declared.faults.Fault.{Fault}
-use Rattle.stmt_reader.specs.declared.keywords.Keyword.TheVariants as kw
+use Rattle.stmt_tokens.specs.declared.keywords.Keyword.TheVariants as kw
 use Rattle.stmt_reader.proofs.Verdict.{Rises, stream_rises, verdict_at}
 use Rattle.policy_jobs.specs.Words.{tick_word, adds, begins}
 use Rattle.policy_jobs.specs.Reading as read

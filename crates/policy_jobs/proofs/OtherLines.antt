@@ -4,9 +4,9 @@ use Rattle.std.specs.Prelude.{◌||◌, ◌&&◌}
 use Rattle.std.specs.Str.{bytes_eq}
 use Rattle.std.proofs.lemmas.Slice.Eq.{bytes_eq-Decides}
 use Rattle.stmt_reader.specs.Reading.{bind, bucket, fold_rest, form, select_rest, statement, takes, wanted, block}
-use Rattle.stmt_reader.specs.Streams.{Stream, ends, stops, ◌then◌, heads}
-use Rattle.stmt_reader.specs.Scan.{seen}
-use Rattle.stmt_reader.specs.Tokens.{Token, word, number, quoted, mark}
+use Rattle.stmt_tokens.specs.Streams.{Stream, ends, stops, ◌then◌, heads}
+use Rattle.stmt_tokens.specs.Scan.{seen}
+use Rattle.stmt_tokens.specs.Tokens.{Token, word, number, quoted, mark}
 use Rattle.ts_sessions.specs.Actors.{ReadsEvent}
 use Rattle.policy_jobs.specs.Words.{adds, begins, refresh_word, retention_word, tick_word}
 

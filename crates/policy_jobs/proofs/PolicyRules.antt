@@ -1,14 +1,14 @@
 -- The reading of a statement on policies reads its rule of the grammar.
 use Rattle.std.proofs.Common.{◌≡◌, ℕ, pos, Bool, false, List, refl, sym, subst, ap, ◌∙◌, inl, inr}
-use Rattle.stmt_reader.specs.Tokens.{Token, word}
-use Rattle.stmt_reader.specs.Scan.{Seen}
-use Rattle.stmt_reader.specs.Words.{is_keyword, is_spelled, is_mark}
-use Rattle.stmt_reader.specs.Streams.{onto, heads}
+use Rattle.stmt_tokens.specs.Tokens.{Token, word}
+use Rattle.stmt_tokens.specs.Scan.{Seen}
+use Rattle.stmt_tokens.specs.Words.{is_keyword, is_spelled, is_mark}
+use Rattle.stmt_tokens.specs.Streams.{onto, heads}
 use Rattle.stmt_reader.specs.Reading as base
 use Rattle.stmt_reader.specs.Grammar as grammar
 use Rattle.stmt_reader.specs.Grammar.{Rule, means, sequence, either}
-use Rattle.stmt_reader.specs.declared.keywords.Keyword.TheVariants as kw
-use Rattle.stmt_reader.specs.declared.tokens.Mark.TheVariants as marks
+use Rattle.stmt_tokens.specs.declared.keywords.Keyword.TheVariants as kw
+use Rattle.stmt_tokens.specs.declared.tokens.Mark.TheVariants as marks
 use Rattle.stmt_reader.proofs.Placed.{splits, onto-append}
 use Rattle.stmt_reader.proofs.Rules.{Reads, none, any, heads-any, Avoids, alike-refl, reads_alike, reads_gives, reads_bind, reads_then}
 use Rattle.stmt_reader.proofs.RuleTokens.{behind, reads_wanted, reads_keyword, reads_mark, reads_number, takes_mark, takes_word, same_text, avoids_means, avoids_keyword, avoids_spelled, avoids_mark, avoids_sequence, avoids_either}

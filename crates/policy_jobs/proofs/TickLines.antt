@@ -8,9 +8,9 @@ use Rattle.std.proofs.lemmas.List.{append_assoc}
 use Rattle.ts_bucket.specs.Bucket.{is_time}
 use Rattle.ts_model.specs.History.{History, position, ◌▸◌}
 use Rattle.ts_model.specs.States.{State}
-use Rattle.stmt_reader.specs.Lines.{line_kind, session_name}
+use Rattle.stmt_tokens.specs.Lines.{line_kind, session_name}
 use Rattle.stmt_reader.specs.Reading.{statement as any_statement}
-use Rattle.stmt_reader.specs.Streams.{Stream, stream}
+use Rattle.stmt_tokens.specs.Streams.{Stream, stream}
 use Rattle.ts_model.specs.Numbers.{line_long}
 use Rattle.result_text.specs.declared.replies.Said.TheVariants as said
 use Rattle.result_text.specs.Replies.{reply_text}

@@ -14,13 +14,14 @@ use Rattle.std.proofs.lemmas.Fmt.{decimal_is_IsNumeral}
 use Rattle.std.proofs.lemmas.List.{drop-drop, length-drop}
 use Rattle.std.proofs.lemmas.Str.Parse.{digit_from_value}
 use Rattle.ts_schema.specs.Names.{is_head, is_name, is_tail}
-use Rattle.stmt_reader.specs.Bytes.{is_space, begins_word, continues_word, lower}
-use Rattle.stmt_reader.specs.Streams.{ends, ◌then◌, stream}
-use Rattle.stmt_reader.specs.Tokens.{Lexeme, Token, token, number, quoted, mark, begins_with, blank_len, is_i64, is_return, lexeme_at, next_here, number_at, of_lexeme, sign_len}
-use Rattle.stmt_reader.specs.declared.tokens.Mark.TheVariants.{Open, Close, Comma}
-use Rattle.stmt_reader.proofs.Flow.{stream_is_flow, flow}
-use Rattle.stmt_reader.proofs.Lexemes.{Fits, blank_len-le-length, lexeme_fits}
-use Rattle.stmt_reader.proofs.Named.{lower_name}
+use Rattle.stmt_tokens.specs.Bytes.{is_space, begins_word, continues_word, lower}
+use Rattle.stmt_tokens.specs.Streams.{ends, ◌then◌, stream}
+use Rattle.stmt_tokens.specs.Tokens.{Lexeme, Token, token, number, quoted, mark, begins_with, blank_len, is_return, lexeme_at, next_here, number_at, of_lexeme, sign_len}
+use Rattle.stmt_syntax.specs.Limits.{is_i64}
+use Rattle.stmt_tokens.specs.declared.tokens.Mark.TheVariants.{Open, Close, Comma}
+use Rattle.stmt_tokens.proofs.Flow.{stream_is_flow, flow}
+use Rattle.stmt_tokens.proofs.Lexemes.{Fits, blank_len-le-length, lexeme_fits}
+use Rattle.stmt_tokens.proofs.Named.{lower_name}
 
 -- ---- the token in front
 

@@ -1,6 +1,6 @@
 -- What is answered of a text.
 use Rattle.std.specs.Prelude.{◌≡◌, ℕ, Bool, true, false, List, length, ◌≤◌, Result, Ok, Err}
-use Rattle.stmt_reader.specs.Streams.{Stream, stream}
+use Rattle.stmt_tokens.specs.Streams.{Stream, stream}
 use Rattle.stmt_reader.specs.Refusals.{IsSaid, Refuses, First, Verdict}
 use Rattle.stmt_reader.specs.declared.faults.Fault.{Fault}
 use Rattle.policy_jobs.specs.Words.{begins}

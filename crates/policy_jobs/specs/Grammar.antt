@@ -1,9 +1,9 @@
 -- The grammar of statements on policies: which tokens are which statement.
 use Rattle.std.specs.Prelude.{ℕ, ℤ, pos, List}
-use Rattle.stmt_reader.specs.Words.{is_spelled}
+use Rattle.stmt_tokens.specs.Words.{is_spelled}
 use Rattle.stmt_reader.specs.Grammar.{Rule, means, ◌>>=◌, ◌>>◌, either, optional, wanted, keyword, mark, quoted, number, value, semicolon}
-use Rattle.stmt_reader.specs.declared.keywords.Keyword.TheVariants as kw
-use Rattle.stmt_reader.specs.declared.tokens.Mark.TheVariants as marks
+use Rattle.stmt_tokens.specs.declared.keywords.Keyword.TheVariants as kw
+use Rattle.stmt_tokens.specs.declared.tokens.Mark.TheVariants as marks
 use Rattle.policy_jobs.specs.Words.{tick_word, refresh_word, retention_word, start_word, end_word, interval_word, after_word}
 use Rattle.policy_jobs.specs.declared.statements.PolicyStmt.{PolicyStmt}
 use Rattle.policy_jobs.specs.declared.statements.PolicyStmt.TheVariants as stmt

@@ -6,14 +6,14 @@ use Rattle.ts_bucket.specs.Bucket.{is_time}
 use Rattle.ts_model.specs.Roster.{same_name}
 use Rattle.ts_model.specs.States.{State}
 use Rattle.stmt_reader.specs.Grammar.{statement as any_statement}
-use Rattle.stmt_reader.specs.Lines.{line_kind, session_name}
+use Rattle.stmt_tokens.specs.Lines.{line_kind, session_name}
 use Rattle.stmt_reader.specs.Refusals.{IsSaid}
-use Rattle.stmt_reader.specs.Streams.{Stream, stream}
+use Rattle.stmt_tokens.specs.Streams.{Stream, stream}
 use Rattle.stmt_reader.specs.declared.faults.Fault.{Fault}
-use Rattle.stmt_reader.specs.declared.lines.LineKind.{LineKind}
-use Rattle.stmt_reader.specs.declared.lines.LineKind.TheVariants.{Stmt as LineOf}
-use Rattle.stmt_reader.specs.declared.statements.Stmt.{Stmt}
-use Rattle.stmt_reader.specs.declared.statements.Stmt.TheVariants as statements
+use Rattle.stmt_tokens.specs.declared.lines.LineKind.{LineKind}
+use Rattle.stmt_tokens.specs.declared.lines.LineKind.TheVariants.{Stmt as LineOf}
+use Rattle.stmt_syntax.specs.declared.statements.Stmt.{Stmt}
+use Rattle.stmt_syntax.specs.declared.statements.Stmt.TheVariants as statements
 use Rattle.result_text.specs.Replies.{reply_text}
 use Rattle.result_text.specs.declared.replies.Said.TheVariants as said
 use Rattle.ts_sessions.specs.Places.{Block, Places, Turn, none, turns}

@@ -1,9 +1,9 @@
 -- Reading a statement on policies from left to right.
 use Rattle.std.specs.Prelude.{ℕ, ℤ, pos, List}
-use Rattle.stmt_reader.specs.Words.{is_spelled, is_mark}
+use Rattle.stmt_tokens.specs.Words.{is_spelled, is_mark}
 use Rattle.stmt_reader.specs.Reading.{Parser, gives, ◌>>=◌, ◌>>◌, takes, wanted, keyword, mark, quoted, number, value, semicolon, end}
-use Rattle.stmt_reader.specs.declared.keywords.Keyword.TheVariants as kw
-use Rattle.stmt_reader.specs.declared.tokens.Mark.TheVariants as marks
+use Rattle.stmt_tokens.specs.declared.keywords.Keyword.TheVariants as kw
+use Rattle.stmt_tokens.specs.declared.tokens.Mark.TheVariants as marks
 use Rattle.policy_jobs.specs.Words.{tick_word, refresh_word, retention_word, start_word, end_word, interval_word, after_word}
 use Rattle.policy_jobs.specs.declared.statements.PolicyStmt.{PolicyStmt}
 use Rattle.policy_jobs.specs.declared.statements.PolicyStmt.TheVariants as stmt

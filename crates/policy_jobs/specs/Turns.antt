@@ -6,7 +6,7 @@ use Rattle.ts_model.specs.Calls.{refusal}
 use Rattle.ts_model.specs.History.{position}
 use Rattle.ts_model.specs.Roster.{roster}
 use Rattle.stmt_reader.specs.declared.faults.Fault.{Fault}
-use Rattle.stmt_reader.specs.Streams.{Stream, stream}
+use Rattle.stmt_tokens.specs.Streams.{Stream, stream}
 use Rattle.ts_model.specs.Numbers.{bad_time}
 use Rattle.result_text.specs.declared.replies.Said.TheVariants as said
 use Rattle.ts_sessions.specs.declared.kinds.Kind.TheVariants.{Defines}

@@ -1,9 +1,9 @@
 -- The words of statements on policies that no other statement has.
 use Rattle.std.specs.Prelude.{Bool, ◌&&◌, ◌||◌, List, ℕ, codes}
-use Rattle.stmt_reader.specs.Scan.{Seen}
-use Rattle.stmt_reader.specs.Words.{is_keyword, is_spelled}
-use Rattle.stmt_reader.specs.Streams.{Stream, heads, tail}
-use Rattle.stmt_reader.specs.declared.keywords.Keyword.TheVariants as kw
+use Rattle.stmt_tokens.specs.Scan.{Seen}
+use Rattle.stmt_tokens.specs.Words.{is_keyword, is_spelled}
+use Rattle.stmt_tokens.specs.Streams.{Stream, heads, tail}
+use Rattle.stmt_tokens.specs.declared.keywords.Keyword.TheVariants as kw
 
 abbrev pub tick_word : List ℕ
 tick_word = codes "tick"

@@ -1,11 +1,11 @@
 //! Reading a statement on policies.
 ghost use Rattle.std.specs.Prelude.{◌≡◌, ◌≤◌, ◌&&◌, length, true, Ok};
 ghost use Rattle.stmt_reader.specs.Cursor.{ahead};
-ghost use Rattle.stmt_reader.specs.Limits.{longest_line};
+ghost use Rattle.stmt_syntax.specs.Limits.{longest_line};
 ghost use Rattle.stmt_reader.specs.Reading.{Gives, semicolon};
-ghost use Rattle.stmt_reader.specs.Streams.{heads, stream, tail};
-ghost use Rattle.stmt_reader.specs.Words.{is_keyword};
-ghost use Rattle.stmt_reader.specs.declared.keywords.Keyword.TheVariants.{Select};
+ghost use Rattle.stmt_tokens.specs.Streams.{heads, stream, tail};
+ghost use Rattle.stmt_tokens.specs.Words.{is_keyword};
+ghost use Rattle.stmt_tokens.specs.declared.keywords.Keyword.TheVariants.{Select};
 ghost use Rattle.policy_jobs.specs.Answers.{Answers, Judges, ReadsByTheGrammar};
 ghost use Rattle.policy_jobs.specs.Reading as spec;
 ghost use Rattle.policy_jobs.specs.Reading.{statement};
@@ -14,7 +14,8 @@ ghost use Rattle.policy_jobs.specs.Words.{adds, begins};
 use crate::jobs::Job;
 use crate::statements::PolicyStmt;
 use std::alloc::Global;
-use stmt_reader::{Fault, Keyword, Mark, ReadError, Reader};
+use stmt_reader::{Fault, ReadError, Reader};
+use stmt_tokens::{Keyword, Mark};
 
 /// The words of the grammar.
 const TICK: &[u8] = b"tick";

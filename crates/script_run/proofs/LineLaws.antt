@@ -7,9 +7,9 @@ use Rattle.std.specs.Global.{Vec}
 use Rattle.ts_model.specs.declared.backends.Backend.{Ghosts as Backend}
 use Rattle.ts_model.specs.History.{History, Begins, same}
 use Rattle.ts_model.specs.States.{State, stands_still}
-use Rattle.stmt_reader.specs.declared.lines.LineKind.{LineKind}
-use Rattle.stmt_reader.specs.declared.lines.LineKind.TheVariants.{Blank, NotAscii, NoSession, Stmt}
-use Rattle.stmt_reader.specs.Lines.{line_kind, session_name}
+use Rattle.stmt_tokens.specs.declared.lines.LineKind.{LineKind}
+use Rattle.stmt_tokens.specs.declared.lines.LineKind.TheVariants.{Blank, NotAscii, NoSession, Stmt}
+use Rattle.stmt_tokens.specs.Lines.{line_kind, session_name}
 use Rattle.ts_model.specs.Numbers.{line_long, too_many_sessions}
 use Rattle.result_text.specs.declared.replies.Said.TheVariants as said
 use Rattle.result_text.specs.Replies.{reply_text}

@@ -4,13 +4,13 @@ ghost use Rattle.std.specs.Thread.{IsSync};
 ghost use Rattle.ts_sessions.specs.Script.{executes, executes_as, places_of};
 ghost use Rattle.script_run.specs.Executing.{AreReady, HaveTaken};
 ghost use Rattle.script_run.specs.Sessions.{script_over};
-ghost use Rattle.stmt_reader.specs.Lines.{session_name, IsStatementLine};
+ghost use Rattle.stmt_tokens.specs.Lines.{session_name, IsStatementLine};
 
 use crate::replies::{ending, refuse_line, silence};
 use crate::sessions::{Sessions, execute_in_session};
 use std::alloc::Global;
 use std::thread::Threads;
-use stmt_reader::{LineKind, split_line};
+use stmt_tokens::{LineKind, split_line};
 use ts_model::{Backend, codes};
 use ts_schema::Steps;
 use ts_sessions::{Actor, StepEnd};

@@ -16,7 +16,7 @@ use Rattle.ts_bucket.specs.Chunks.{chunk_start}
 use Rattle.ts_bucket.proofs.Remainders.{remainder_bounds}
 use Rattle.ts_model.proofs.FitLaws.{fold_columns}
 use Rattle.ts_schema.specs.Names.{is_name}
-use Rattle.stmt_reader.specs.Proper.{IsProperFold, AreProperRows}
+use Rattle.stmt_syntax.specs.Proper.{IsProperFold, AreProperRows}
 use Rattle.ts_schema.specs.declared.columns.Column.{Column}
 use Rattle.ts_schema.specs.declared.conditions.Test.{Test}
 use Rattle.ts_model.specs.declared.events.Event.{Event}
@@ -44,13 +44,13 @@ use Rattle.ts_catalog.specs.Columns.{column_from}
 use Rattle.ts_catalog.specs.Relations.{found_in}
 use Rattle.ts_catalog.specs.declared.relations.Found.{Found}
 use Rattle.ts_catalog.specs.declared.relations.Found.TheVariants as found
-use Rattle.stmt_reader.specs.Words.{calendar_word}
-use Rattle.stmt_reader.specs.Written.{IsWholeFold, IsWritten, agg_size, alias_size, column_size, fold_size, name_size, row_size, size_of, test_size}
-use Rattle.stmt_reader.specs.declared.statements.NamedAgg.{NamedAgg}
-use Rattle.stmt_reader.specs.declared.statements.NamedFold.{NamedFold}
-use Rattle.stmt_reader.specs.declared.statements.NamedTest.{NamedTest}
-use Rattle.stmt_reader.specs.declared.statements.Stmt.{Stmt}
-use Rattle.stmt_reader.specs.declared.statements.Stmt.TheVariants as stmts
+use Rattle.stmt_syntax.specs.Heads.{calendar_word}
+use Rattle.stmt_syntax.specs.Written.{IsWholeFold, IsWritten, agg_size, alias_size, column_size, fold_size, name_size, row_size, size_of, test_size}
+use Rattle.stmt_syntax.specs.declared.statements.NamedAgg.{NamedAgg}
+use Rattle.stmt_syntax.specs.declared.statements.NamedFold.{NamedFold}
+use Rattle.stmt_syntax.specs.declared.statements.NamedTest.{NamedTest}
+use Rattle.stmt_syntax.specs.declared.statements.Stmt.{Stmt}
+use Rattle.stmt_syntax.specs.declared.statements.Stmt.TheVariants as stmts
 use Rattle.stmt_check.specs.Refusals.{◌⊳◌, finds_nothing, hypertable_refusal, missing, name_refusal, number_of, plain_refusal, query_refusal, refused, view_refusal}
 use Rattle.stmt_check.specs.Check.{action_of, interval_of, no_table, refusal_of, rows_into, rows_query, rows_query_refusal, table_at, time_of}
 use Rattle.stmt_check.specs.Folds.{aggregate_name, aggregate_of, bucket_column, calendar_of, calendar_refusal, fold_of, fold_refusal, function_name, head_name, is_unit, number_or_zero, unit_count, units_refusal, output_names, test_of, tests_of, tests_refusal}

@@ -22,11 +22,11 @@ use Rattle.ts_model.specs.Sound.{agg_fits, all_apart, fold_fits, is_count_all, t
 use Rattle.ts_model.specs.Sound as allowed
 use Rattle.ts_catalog.specs.Columns.{column_from, column_of, hyper_number, number_of}
 use Rattle.ts_schema.specs.Names.{is_name}
-use Rattle.stmt_reader.specs.Proper.{IsAlias, IsName, IsProperAgg, IsProperFold, IsProperTest, AreProperTests}
-use Rattle.stmt_reader.specs.Written.{IsWholeTest, IsWholeAgg, IsWholeFold, is_null_test, takes_argument}
-use Rattle.stmt_reader.specs.declared.statements.NamedAgg.{NamedAgg}
-use Rattle.stmt_reader.specs.declared.statements.NamedFold.{NamedFold}
-use Rattle.stmt_reader.specs.declared.statements.NamedTest.{NamedTest}
+use Rattle.stmt_syntax.specs.Proper.{IsAlias, IsName, IsProperAgg, IsProperFold, IsProperTest, AreProperTests}
+use Rattle.stmt_syntax.specs.Written.{IsWholeTest, IsWholeAgg, IsWholeFold, is_null_test, takes_argument}
+use Rattle.stmt_syntax.specs.declared.statements.NamedAgg.{NamedAgg}
+use Rattle.stmt_syntax.specs.declared.statements.NamedFold.{NamedFold}
+use Rattle.stmt_syntax.specs.declared.statements.NamedTest.{NamedTest}
 use Rattle.stmt_check.specs.Refusals.{marked, refused, missing}
 use Rattle.stmt_check.specs.Folds.{aggregate_name, aggregate_of, aggregate_refusal, aggregates_refusal, argument_of, argument_refusal, bucket_column, columns_before, fold_of, fold_refusal, function_name, is_aggregate, is_key, is_shift, is_step, is_taken, is_time_column, key_refusal, keys_refusal, number_or_zero, output_count, output_names, rest_refusal, test_of, tests_of, tests_refusal, width_refusal}
 use Rattle.stmt_check.proofs.PassedLaws.{neither, not_wrong, not_missing, has_to_be}

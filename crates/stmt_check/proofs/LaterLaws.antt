@@ -15,12 +15,12 @@ use Rattle.ts_catalog.specs.Columns.{column_from, column_of}
 use Rattle.ts_catalog.specs.Relations.{found_in}
 use Rattle.ts_catalog.specs.declared.relations.Found.{Found}
 use Rattle.ts_catalog.specs.declared.relations.Found.TheVariants as found
-use Rattle.stmt_reader.specs.Words.{calendar_word}
-use Rattle.stmt_reader.specs.declared.statements.NamedAgg.{NamedAgg}
-use Rattle.stmt_reader.specs.declared.statements.NamedFold.{NamedFold}
-use Rattle.stmt_reader.specs.declared.statements.NamedTest.{NamedTest}
-use Rattle.stmt_reader.specs.declared.statements.Stmt.{Stmt}
-use Rattle.stmt_reader.specs.declared.statements.Stmt.TheVariants as stmts
+use Rattle.stmt_syntax.specs.Heads.{calendar_word}
+use Rattle.stmt_syntax.specs.declared.statements.NamedAgg.{NamedAgg}
+use Rattle.stmt_syntax.specs.declared.statements.NamedFold.{NamedFold}
+use Rattle.stmt_syntax.specs.declared.statements.NamedTest.{NamedTest}
+use Rattle.stmt_syntax.specs.declared.statements.Stmt.{Stmt}
+use Rattle.stmt_syntax.specs.declared.statements.Stmt.TheVariants as stmts
 use Rattle.stmt_check.specs.Limits.{most_rows}
 use Rattle.stmt_check.specs.declared.actions.Action.TheVariants as actions
 use Rattle.stmt_check.specs.declared.inserts.Rule.{Rule}

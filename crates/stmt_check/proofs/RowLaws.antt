@@ -17,8 +17,8 @@ use Rattle.ts_model.specs.Roster.{same_name}
 use Rattle.ts_model.specs.Sound.{all_apart, row_fits, value_fits, values_fit}
 use Rattle.ts_model.specs.Bytes.{row_bytes, value_bytes}
 use Rattle.ts_catalog.specs.Columns.{column_from, place_from}
-use Rattle.stmt_reader.specs.Proper.{IsValue, AreProperRows}
-use Rattle.stmt_reader.specs.Written.{row_size}
+use Rattle.stmt_syntax.specs.Proper.{IsValue, AreProperRows}
+use Rattle.stmt_syntax.specs.Written.{row_size}
 use Rattle.stmt_check.specs.declared.inserts.Rule.{Rule}
 use Rattle.stmt_check.specs.Refusals.{marked, refused}
 use Rattle.stmt_check.specs.Rows.{insert_refusal, inserted_rows, leaves_out, list_refusal_of, blank_column, other_places, picked, place_in, row_of, row_refusal, rows_of, rows_refusal, rule_at, rule_of, rules_from, shape_of, time_place, value_refusal, value_rules, values_refusal}

@@ -14,7 +14,7 @@ use Rattle.ts_schema.specs.declared.conditions.Cmp.{Cmp}
 use Rattle.ts_schema.specs.declared.conditions.Cmp.TheVariants.{Eq, Ne, Lt, Le, Gt, Ge, IsNull, NotNull}
 use Rattle.ts_model.specs.declared.views.ViewDef.{ViewDef}
 use Rattle.ts_catalog.specs.Columns.{view_column_of}
-use Rattle.stmt_reader.specs.declared.statements.NamedTest.{NamedTest}
+use Rattle.stmt_syntax.specs.declared.statements.NamedTest.{NamedTest}
 use Rattle.stmt_check.specs.Queries.{bounds_start, below_all, below_of, from_all, from_of, is_bucket_column, next, starts_refusal}
 use Rattle.ts_bucket.specs.WholeSpans.{least, greatest}
 use Rattle.stmt_check.specs.Refusals.{refused}

@@ -8,7 +8,7 @@ use Rattle.stmt_check.specs.Rows.{list_refusal, values_refusal}
 use Rattle.stmt_check.specs.declared.inserts.Rule.{Rule}
 use Rattle.ts_catalog.specs.Columns.{column_from}
 use Rattle.ts_model.specs.declared.tables.TableInfo.{TableInfo}
-use Rattle.stmt_reader.specs.declared.statements.NamedAgg.{NamedAgg}
+use Rattle.stmt_syntax.specs.declared.statements.NamedAgg.{NamedAgg}
 use Rattle.stmt_check.specs.Folds.{aggregate_name, aggregate_refusal, aggregates_refusal, columns_before, is_key, is_taken, key_refusal, keys_refusal}
 
 -- a function of the items before a place and of those from it on, one item further

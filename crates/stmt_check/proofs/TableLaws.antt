@@ -5,7 +5,7 @@ use Rattle.std.specs.List.{list_any, list_all, AllByRecursion}
 use Rattle.std.proofs.lemmas.Bool.{and_parts, and_from, lt-ltb, le-leb, leb-false}
 use Rattle.std.proofs.lemmas.List.{length-append, append_assoc, append-nil}
 use Rattle.ts_schema.specs.Names.{is_name}
-use Rattle.stmt_reader.specs.Proper.{IsProperColumn}
+use Rattle.stmt_syntax.specs.Proper.{IsProperColumn}
 use Rattle.ts_schema.specs.declared.columns.Column.{Column}
 use Rattle.ts_model.specs.Roster.{same_name}
 use Rattle.ts_model.specs.Sound.{all_apart, columns_fit}

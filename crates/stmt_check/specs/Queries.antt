@@ -12,7 +12,7 @@ use Rattle.ts_schema.specs.declared.conditions.Cmp.{Cmp}
 use Rattle.ts_schema.specs.declared.conditions.Cmp.TheVariants.{Eq, Ne, Lt, Le, Gt, Ge, IsNull, NotNull}
 use Rattle.ts_schema.specs.declared.conditions.Test.{Test}
 use Rattle.ts_catalog.specs.Columns.{view_column_of}
-use Rattle.stmt_reader.specs.declared.statements.NamedTest.{NamedTest}
+use Rattle.stmt_syntax.specs.declared.statements.NamedTest.{NamedTest}
 use Rattle.stmt_check.specs.Refusals.{◌⊳◌, refused}
 
 -- the next number, where there is one of 64 bits

@@ -18,9 +18,9 @@ use Rattle.ts_model.specs.Answers.{can_ask, columns_are_there}
 use Rattle.ts_model.specs.Bytes.{op_bytes}
 use Rattle.ts_model.specs.Sound.{op_fits, sound}
 use Rattle.ts_model.specs.Timely.{timely_at}
-use Rattle.stmt_reader.specs.Limits.{longest_line, longest_input}
-use Rattle.stmt_reader.specs.Written.{IsWritten}
-use Rattle.stmt_reader.specs.declared.statements.Stmt.{Stmt}
+use Rattle.stmt_syntax.specs.Limits.{longest_line, longest_input}
+use Rattle.stmt_syntax.specs.Written.{IsWritten}
+use Rattle.stmt_syntax.specs.declared.statements.Stmt.{Stmt}
 use Rattle.stmt_check.specs.declared.actions.Action.{Action}
 use Rattle.stmt_check.specs.declared.actions.Action.TheVariants as actions
 use Rattle.stmt_check.specs.Check.{IsNumbered, action_of, refusal_of}

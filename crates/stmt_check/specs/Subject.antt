@@ -15,9 +15,9 @@ use Rattle.ts_model.specs.Roster.{roster, same_name, table_named, table_of}
 use Rattle.ts_model.specs.Sound.{columns_fit}
 use Rattle.ts_model.specs.Allowed.{allowed}
 use Rattle.ts_catalog.specs.Columns.{column_of, hyper_number}
-use Rattle.stmt_reader.specs.declared.statements.NamedFold.{NamedFold}
-use Rattle.stmt_reader.specs.declared.statements.NamedTest.{NamedTest}
-use Rattle.stmt_reader.specs.declared.statements.Stmt.TheVariants as stmts
+use Rattle.stmt_syntax.specs.declared.statements.NamedFold.{NamedFold}
+use Rattle.stmt_syntax.specs.declared.statements.NamedTest.{NamedTest}
+use Rattle.stmt_syntax.specs.declared.statements.Stmt.TheVariants as stmts
 use Rattle.stmt_check.specs.Check.{refusal_of}
 use Rattle.stmt_check.specs.Folds.{fold_of, output_names}
 use Rattle.stmt_check.specs.Queries.{drop_test, starts_of, starts_refusal}

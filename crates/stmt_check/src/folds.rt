@@ -2,15 +2,14 @@
 ghost use Rattle.std.specs.Prelude.{◌≡◌, ◌<◌, ◌+◌, ◌^◌, ◌&&◌, ◌++◌, length, map, unwrap_or, IfOk, IsTrue};
 ghost use Rattle.ts_schema.specs.Names.{is_name};
 ghost use Rattle.ts_num.specs.declared.values.Fun.{Fun};
-ghost use Rattle.stmt_check.specs.Folds.{aggregate_name, argument_of, argument_refusal, columns_before, is_aggregate, fold_of, fold_refusal, function_name, head_name, rest_of, rest_refusal, is_key, is_step, is_taken, is_time_column, key_refusal, number_or_zero, output_count, output_names, tests_of, tests_refusal, ChecksWidth, ChecksKeys, ChecksAggregate, ChecksAggregates};
-ghost use Rattle.stmt_check.specs.Folds.{calendar_of, calendar_refusal, is_unit, unit_count, units_refusal};
+ghost use Rattle.stmt_check.specs.Folds.{aggregate_name, argument_of, argument_refusal, columns_before, is_aggregate, fold_of, fold_refusal, function_name, head_name, rest_of, rest_refusal, is_key, is_step, is_taken, is_time_column, key_refusal, number_or_zero, output_count, output_names, tests_of, tests_refusal, ChecksWidth, ChecksKeys, ChecksAggregate, ChecksAggregates, calendar_of, calendar_refusal, is_unit, unit_count, units_refusal};
 ghost use Rattle.stmt_check.specs.Results.{Checks};
 ghost use Rattle.stmt_check.specs.Tables.{is_among};
 
 use crate::actions::Stop;
 use crate::refusals::{present, refuse_if, refuse_marked};
 use std::alloc::Global;
-use stmt_reader::{NamedAgg, NamedFold, NamedTest};
+use stmt_syntax::{NamedAgg, NamedFold, NamedTest};
 use ts_bucket::{Width, width};
 use ts_catalog::column;
 use ts_model::codes::{BAD_UNIT, BAD_WIDTH, NAME_TAKEN, NO_COLUMN, TOO_MANY};

@@ -8,7 +8,7 @@ ghost use Rattle.stmt_check.specs.Tables.{is_interval};
 
 use crate::actions::Stop;
 use crate::refusals::refuse_if;
-use stmt_reader::NamedTest;
+use stmt_syntax::NamedTest;
 use ts_bucket::{MAX_TIME, MIN_TIME, Span, chunk_start};
 use ts_catalog::view_column;
 use ts_model::ViewDef;

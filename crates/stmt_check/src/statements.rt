@@ -1,6 +1,6 @@
 //! The check of a statement.
 ghost use Rattle.std.specs.Prelude.{◌≡◌};
-ghost use Rattle.stmt_reader.specs.declared.statements.Stmt.TheVariants as stmts;
+ghost use Rattle.stmt_syntax.specs.declared.statements.Stmt.TheVariants as stmts;
 ghost use Rattle.stmt_check.specs.Check.{IsChecked, IsNumbered, interval_of, time_of, Resolves};
 
 use crate::actions::{Action, Checked, Stop};
@@ -13,7 +13,7 @@ use crate::relations::{
 use crate::tables::{check_columns, check_hyper};
 use cell_rows::CellRows;
 use std::alloc::Global;
-use stmt_reader::{NamedFold, NamedTest, Stmt};
+use stmt_syntax::{NamedFold, NamedTest, Stmt};
 use ts_model::{Hyper, Op, Query, Roster, TableDef, ViewDef};
 use ts_schema::{Column, Name, Seq};
 

@@ -1,21 +1,22 @@
 -- Each statement's reading reads its rule of the grammar.
 use Rattle.std.proofs.Common.{◌≡◌, ℕ, Bool, true, false, List, [], ◌∷◌, ◌++◌, Some, None, refl, sym, subst, ap, ◌∙◌, ℤ, inl, inr}
 use Rattle.std.specs.Prelude.{codes}
-use Rattle.stmt_reader.specs.Tokens.{Token, number, mark}
-use Rattle.stmt_reader.specs.Scan as scan
-use Rattle.stmt_reader.specs.Scan.{Seen, seen}
-use Rattle.stmt_reader.specs.Words.{is_keyword, is_spelled, is_mark, is_number, head_name, bucket_word, calendar_word}
-use Rattle.stmt_reader.specs.Streams.{Placed, Stream, onto, plain, heads}
+use Rattle.stmt_tokens.specs.Tokens.{Token, number, mark}
+use Rattle.stmt_tokens.specs.Scan as scan
+use Rattle.stmt_tokens.specs.Scan.{Seen, seen}
+use Rattle.stmt_tokens.specs.Words.{is_keyword, is_spelled, is_mark, is_number}
+use Rattle.stmt_syntax.specs.Heads.{head_name, bucket_word, calendar_word}
+use Rattle.stmt_tokens.specs.Streams.{Placed, Stream, onto, plain, heads}
 use Rattle.stmt_reader.specs.Reading as read
 use Rattle.stmt_reader.specs.Reading.{parts}
 use Rattle.stmt_reader.specs.Grammar as rule
 use Rattle.stmt_reader.specs.Grammar.{Rule, means, sequence, either}
 use Rattle.stmt_reader.specs.declared.folds.Head.{Head}
-use Rattle.stmt_reader.specs.declared.keywords.Keyword.TheVariants as kw
-use Rattle.stmt_reader.specs.declared.tokens.Mark.TheVariants as marks
+use Rattle.stmt_tokens.specs.declared.keywords.Keyword.TheVariants as kw
+use Rattle.stmt_tokens.specs.declared.tokens.Mark.TheVariants as marks
 use Rattle.stmt_reader.specs.declared.phrases.Separator.TheVariants as separators
-use Rattle.stmt_reader.specs.declared.statements.Stmt.{Stmt}
-use Rattle.stmt_reader.specs.declared.statements.Stmt.TheVariants as stmt
+use Rattle.stmt_syntax.specs.declared.statements.Stmt.{Stmt}
+use Rattle.stmt_syntax.specs.declared.statements.Stmt.TheVariants as stmt
 use Rattle.stmt_reader.proofs.Placed.{splits, onto-append}
 use Rattle.stmt_reader.proofs.Rules.{Reads, none, any, heads-any, Avoids, alike-refl, reads_alike, reads_gives, reads_bind, reads_then}
 use Rattle.stmt_reader.proofs.RuleTokens.{behind, Leads, reads_keyword, reads_mark, reads_number, reads_choose, takes_keyword, takes_mark, takes_word, mark_only, avoids_means, avoids_keyword, avoids_spelled, avoids_mark, avoids_number, avoids_sequence, avoids_either}

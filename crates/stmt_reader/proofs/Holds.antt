@@ -2,10 +2,10 @@
 use Rattle.std.proofs.Common.{◌≡◌, ℕ, List, [], ◌∷◌, ◌++◌, Option, Some, subst, inl, inr}
 use Rattle.std.specs.Prelude.{◌⊎◌}
 use Rattle.std.specs.List.{AllByRecursion}
-use Rattle.stmt_reader.specs.Tokens.{Token, word, number, quoted, mark}
-use Rattle.stmt_reader.specs.Scan.{Seen, seen}
-use Rattle.stmt_reader.specs.Words.{word_of, quoted_of}
-use Rattle.stmt_reader.specs.Proper.{IsName, IsWord}
+use Rattle.stmt_tokens.specs.Tokens.{Token, word, number, quoted, mark}
+use Rattle.stmt_tokens.specs.Scan.{Seen, seen}
+use Rattle.stmt_tokens.specs.Words.{word_of, quoted_of}
+use Rattle.stmt_syntax.specs.Proper.{IsName, IsWord}
 use Rattle.stmt_reader.specs.Grammar as rule
 use Rattle.stmt_reader.specs.Grammar.{Rule, means, sequence, either, many, listed, one, wanted}
 

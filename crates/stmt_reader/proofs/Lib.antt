@@ -1,12 +1,7 @@
-pub mod AsciiTexts
-pub mod Comments
-pub mod Flow
 pub mod FormRules
 pub mod Holds
-pub mod Lexemes
 pub mod Loops
-pub mod Named
-pub mod Numerals
+pub mod NextTokens
 pub mod PartRules
 pub mod Placed
 pub mod ProperForms
@@ -16,7 +11,6 @@ pub mod RuleLists
 pub mod RuleTokens
 pub mod Rules
 pub mod SelectRules
-pub mod StatementLines
 pub mod Verdict
 pub mod WrittenForms
 pub mod WrittenLaws

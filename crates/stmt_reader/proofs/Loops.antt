@@ -2,14 +2,14 @@
 use Rattle.std.proofs.Common.{◌≡◌, ℕ, zero, suc, ◌<◌, ◌≤◌, Bool, true, false, cond, List, [], ◌∷◌, ◌++◌, Result, Ok, Err, refl, sym, ap, subst, ◌∙◌, arith}
 use Rattle.std.proofs.Common.{get_or, drop, length, drop-cons}
 use Rattle.ts_num.specs.declared.values.Fun.{Fun}
-use Rattle.stmt_reader.specs.Scan.{Seen}
-use Rattle.stmt_reader.specs.Words.{is_mark, function_of_word, is_item}
-use Rattle.stmt_reader.specs.Streams.{Stream, ends, stops, ◌then◌, size, heads, tail, refused}
-use Rattle.stmt_reader.specs.Reading.{Parser, Fails, gives, go_on, bind, ◌>>=◌, ◌>>◌, takes, choose, wanted, repeat, more, name, mark, known, keys_within, keys_and_function, items_from}
+use Rattle.stmt_tokens.specs.Scan.{Seen}
+use Rattle.stmt_tokens.specs.Words.{is_mark, function_of_word, is_item}
+use Rattle.stmt_tokens.specs.Streams.{Stream, ends, stops, ◌then◌, size, heads, tail}
+use Rattle.stmt_reader.specs.Reading.{refused, Parser, Fails, gives, go_on, bind, ◌>>=◌, ◌>>◌, takes, choose, wanted, repeat, more, name, mark, known, keys_within, keys_and_function, items_from}
 use Rattle.stmt_reader.specs.declared.faults.Fault.{Fault}
 use Rattle.stmt_reader.specs.declared.faults.ReadError.{ReadError}
 use Rattle.stmt_reader.specs.declared.faults.ReadError.TheVariants as errors
-use Rattle.stmt_reader.specs.declared.tokens.Mark.TheVariants as marks
+use Rattle.stmt_tokens.specs.declared.tokens.Mark.TheVariants as marks
 use Rattle.stmt_reader.specs.Forward.{Forward, forward-name}
 
 abbrev left_of : {A : Type 0} → Stream → Result (A × Stream) Fault → Stream

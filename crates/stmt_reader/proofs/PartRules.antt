@@ -6,21 +6,21 @@ use Rattle.ts_num.specs.declared.values.Fun.{Fun}
 use Rattle.ts_num.specs.declared.values.Fun.TheVariants as fun
 use Rattle.ts_schema.specs.declared.conditions.Cmp.TheVariants as cmp
 use Rattle.ts_schema.specs.declared.conditions.Cmp.{Cmp}
-use Rattle.stmt_reader.specs.Tokens.{Token, word, quoted, mark}
-use Rattle.stmt_reader.specs.Scan as scan
-use Rattle.stmt_reader.specs.Scan.{Seen, seen}
-use Rattle.stmt_reader.specs.Words.{is_keyword, is_mark, word_of, quoted_of, flag_of, comparison_of, function_of, is_star_of, is_item}
+use Rattle.stmt_tokens.specs.Tokens.{Token, word, quoted, mark}
+use Rattle.stmt_tokens.specs.Scan as scan
+use Rattle.stmt_tokens.specs.Scan.{Seen, seen}
+use Rattle.stmt_tokens.specs.Words.{is_keyword, is_mark, word_of, quoted_of, flag_of, comparison_of, function_of, is_star_of, is_item}
 use Rattle.stmt_reader.specs.Reading as read
 use Rattle.stmt_reader.specs.Reading.{takes, parts}
-use Rattle.stmt_reader.specs.Streams.{Stream, ends, stops, ◌then◌, onto, heads}
+use Rattle.stmt_tokens.specs.Streams.{Stream, ends, stops, ◌then◌, onto, heads}
 use Rattle.stmt_reader.specs.Grammar as rule
 use Rattle.stmt_reader.specs.Grammar.{Rule, sequence, either}
 use Rattle.stmt_reader.specs.Refusals.{Begins}
-use Rattle.stmt_reader.specs.declared.keywords.Keyword.{Keyword}
-use Rattle.stmt_reader.specs.declared.keywords.Keyword.TheVariants as kw
-use Rattle.stmt_reader.specs.declared.tokens.Mark.TheVariants as marks
+use Rattle.stmt_tokens.specs.declared.keywords.Keyword.{Keyword}
+use Rattle.stmt_tokens.specs.declared.keywords.Keyword.TheVariants as kw
+use Rattle.stmt_tokens.specs.declared.tokens.Mark.TheVariants as marks
 use Rattle.stmt_reader.specs.declared.phrases.Separator.TheVariants as separators
-use Rattle.stmt_reader.specs.declared.statements.NamedAgg.{NamedAgg}
+use Rattle.stmt_syntax.specs.declared.statements.NamedAgg.{NamedAgg}
 use Rattle.stmt_reader.proofs.Placed.{nothing_placed}
 use Rattle.stmt_reader.proofs.Rules.{Reads, none, heads-none, any, Avoids, alike-refl, reads_alike, reads_gives, reads_bind, reads_then}
 use Rattle.stmt_reader.proofs.RuleTokens.{behind, reads_one, reads_wanted, reads_keyword, reads_mark, reads_number, reads_takes, takes_keyword, takes_mark, inner_of, same_text, keyword_only, mark_only, avoids_means, avoids_keyword, avoids_mark, avoids_one, avoids_number, avoids_sequence}

@@ -6,16 +6,17 @@ use Rattle.ts_num.specs.declared.values.Fun.{Fun}
 use Rattle.ts_num.specs.declared.values.Fun.TheVariants as fun
 use Rattle.stmt_reader.specs.Grammar as rule
 use Rattle.stmt_reader.specs.Grammar.{Rule, means, sequence}
-use Rattle.stmt_reader.specs.Words.{function_of, comparison_of, is_star_of, is_spelled, head_name, bucket_word, calendar_word}
-use Rattle.stmt_reader.specs.Proper.{IsName, IsWord, IsValue, IsAlias, IsProperColumn, IsProperTest, IsProperAgg, AreProperTests, IsProperFold, IsProper}
-use Rattle.stmt_reader.specs.declared.keywords.Keyword.TheVariants as kw
-use Rattle.stmt_reader.specs.declared.tokens.Mark.TheVariants as marks
+use Rattle.stmt_tokens.specs.Words.{function_of, comparison_of, is_star_of, is_spelled}
+use Rattle.stmt_syntax.specs.Heads.{head_name, bucket_word, calendar_word}
+use Rattle.stmt_syntax.specs.Proper.{IsName, IsWord, IsValue, IsAlias, IsProperColumn, IsProperTest, IsProperAgg, AreProperTests, IsProperFold, IsProper}
+use Rattle.stmt_tokens.specs.declared.keywords.Keyword.TheVariants as kw
+use Rattle.stmt_tokens.specs.declared.tokens.Mark.TheVariants as marks
 use Rattle.stmt_reader.specs.declared.folds.CalendarHead.{CalendarHead}
 use Rattle.stmt_reader.specs.declared.folds.Head.{Head}
 use Rattle.stmt_reader.specs.declared.forms.Window.{Window}
-use Rattle.stmt_reader.specs.declared.statements.Stmt.TheVariants as stmt
-use Rattle.stmt_reader.specs.declared.statements.NamedAgg.{NamedAgg}
-use Rattle.stmt_reader.specs.declared.statements.NamedTest.{NamedTest}
+use Rattle.stmt_syntax.specs.declared.statements.Stmt.TheVariants as stmt
+use Rattle.stmt_syntax.specs.declared.statements.NamedAgg.{NamedAgg}
+use Rattle.stmt_syntax.specs.declared.statements.NamedTest.{NamedTest}
 use Rattle.stmt_reader.proofs.Holds.{Holds, holds_any, holds_means, holds_then, past, holds_either, holds_many, holds_listed, holds_name, holds_quoted, holds_number}
 
 -- ---- parts

@@ -1,11 +1,11 @@
 -- The tokens of a text are proper, where none is refused.
 use Rattle.std.proofs.Common.{◌≡◌, ℕ, zero, suc, ◌+◌, true, List, [], ◌∷◌, ap, subst, sym, ◌∙◌, length, refl}
-use Rattle.stmt_reader.specs.Tokens.{Token, Next, token, ended, nothing, word, number, quoted, mark, next}
-use Rattle.stmt_reader.specs.Scan.{seen_next}
-use Rattle.stmt_reader.specs.Streams.{Placed, Stream, ends, onto, plain, scan, stream}
+use Rattle.stmt_tokens.specs.Tokens.{Token, Next, token, ended, nothing, word, number, quoted, mark, next}
+use Rattle.stmt_tokens.specs.Scan.{seen_next}
+use Rattle.stmt_tokens.specs.Streams.{Placed, Stream, ends, onto, plain, scan, stream}
 use Rattle.stmt_reader.specs.Refusals.{is_fit}
-use Rattle.stmt_reader.proofs.Flow.{flow, scan_is_flow}
-use Rattle.stmt_reader.proofs.Named.{IsNamedNext, named_next}
+use Rattle.stmt_tokens.proofs.Flow.{flow, scan_is_flow}
+use Rattle.stmt_tokens.proofs.Named.{IsNamedNext, named_next}
 use Rattle.stmt_reader.proofs.Placed.{AllFit}
 use Rattle.stmt_reader.proofs.Holds.{IsProperToken, AreProper}
 

@@ -3,19 +3,19 @@ use Rattle.std.proofs.Common.{◌≡◌, ℕ, ◌<◌, ◌≤◌, Bool, true, fa
 use Rattle.std.specs.Str.{bytes_eq}
 use Rattle.std.proofs.lemmas.Bool.Decides.{nat_tests}
 use Rattle.std.specs.Prelude.{option_and_then, IfSome}
-use Rattle.stmt_reader.specs.Tokens.{next}
-use Rattle.stmt_reader.specs.Scan.{Seen, seen, word, number, quoted, mark, SeenNext, seen_next}
-use Rattle.stmt_reader.specs.Words.{is_keyword, keyword_text, is_mark, mark_number, number_of, value_of}
+use Rattle.stmt_tokens.specs.Tokens.{next}
+use Rattle.stmt_tokens.specs.Scan.{Seen, seen, word, number, quoted, mark, SeenNext, seen_next}
+use Rattle.stmt_tokens.specs.Words.{is_keyword, keyword_text, is_mark, mark_number, number_of, value_of}
 use Rattle.stmt_reader.specs.Cursor.{Cursor, ahead}
-use Rattle.stmt_reader.specs.Streams.{Stream, ends, stops, ◌then◌, stream, size, seen_ahead, passes, heads, tail}
+use Rattle.stmt_tokens.specs.Streams.{Stream, ends, stops, ◌then◌, stream, size, seen_ahead, passes, heads, tail}
 use Rattle.stmt_reader.specs.Reading as read
 use Rattle.stmt_reader.specs.Reading.{Parser, gives, go_on, bind, takes, fitting, wanted, more, parts, listed, value, row}
 use Rattle.stmt_reader.specs.Forward.{forward-value, forward-row}
 use Rattle.stmt_reader.specs.declared.faults.Fault.{Fault}
-use Rattle.stmt_reader.specs.declared.keywords.Keyword.TheVariants as kw
-use Rattle.stmt_reader.specs.declared.tokens.Mark.TheVariants as marks
+use Rattle.stmt_tokens.specs.declared.keywords.Keyword.TheVariants as kw
+use Rattle.stmt_tokens.specs.declared.tokens.Mark.TheVariants as marks
 use Rattle.stmt_reader.specs.declared.phrases.Separator.TheVariants as separators
-use Rattle.stmt_reader.proofs.Flow.{BeginsWith, begins_with}
+use Rattle.stmt_reader.proofs.NextTokens.{BeginsWith, begins_with}
 use Rattle.stmt_reader.proofs.Loops.{more_goes, more_ends, more_turn, past_is_less}
 
 -- the stream behind these bytes, from what the code found there

@@ -3,18 +3,18 @@ use Rattle.std.proofs.Common.{◌≡◌, ℕ, zero, suc, Bool, true, false, List
 use Rattle.std.specs.Prelude.{◌⊎◌}
 use Rattle.std.proofs.lemmas.Bool.{cases_Bool, or_parts}
 use Rattle.std.proofs.lemmas.List.{append-nil}
-use Rattle.stmt_reader.specs.Tokens.{Token, word}
-use Rattle.stmt_reader.specs.Scan as scan
-use Rattle.stmt_reader.specs.Scan.{Seen, seen}
-use Rattle.stmt_reader.specs.Streams.{Placed, Stream, ends, stops, ◌then◌, onto, plain, size, heads}
+use Rattle.stmt_tokens.specs.Tokens.{Token, word}
+use Rattle.stmt_tokens.specs.Scan as scan
+use Rattle.stmt_tokens.specs.Scan.{Seen, seen}
+use Rattle.stmt_tokens.specs.Streams.{Placed, Stream, ends, stops, ◌then◌, onto, plain, size, heads}
 use Rattle.stmt_reader.specs.Reading.{Parser, gives, bind, takes, more, listed, parts, items_from}
-use Rattle.stmt_reader.specs.Words.{is_item}
+use Rattle.stmt_tokens.specs.Words.{is_item}
 use Rattle.stmt_reader.specs.Grammar as rule
 use Rattle.stmt_reader.specs.Grammar.{Rule, means, sequence, either, many}
 use Rattle.stmt_reader.specs.Refusals.{Begins}
 use Rattle.stmt_reader.specs.Forward.{Forward}
 use Rattle.stmt_reader.specs.declared.phrases.Separator.{Separator}
-use Rattle.stmt_reader.specs.declared.tokens.Mark.TheVariants as marks
+use Rattle.stmt_tokens.specs.declared.tokens.Mark.TheVariants as marks
 use Rattle.stmt_reader.proofs.Loops.{more_ends, more_goes}
 use Rattle.stmt_reader.proofs.Placed.{size-onto, nothing_placed}
 use Rattle.stmt_reader.proofs.Rules.{Reads, none, any, heads-any, Avoids, Alike, reads_alike, reads_gives, reads_bind, reads_then}

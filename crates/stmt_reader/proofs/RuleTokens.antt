@@ -4,21 +4,22 @@ use Rattle.std.specs.Prelude.{◌⊎◌}
 use Rattle.std.specs.Str.{bytes_eq}
 use Rattle.std.proofs.lemmas.Bool.{cases_Bool, eqb-true, eq-eqb}
 use Rattle.std.proofs.lemmas.Slice.Eq.{bytes_eq-Decides}
-use Rattle.stmt_reader.specs.Tokens.{Token, word, number, quoted, mark, is_i64}
-use Rattle.stmt_reader.specs.Scan as scan
-use Rattle.stmt_reader.specs.Scan.{Seen, seen, i64_of}
-use Rattle.stmt_reader.specs.Words.{is_keyword, is_spelled, keyword_text, is_mark, mark_number, number_of}
-use Rattle.stmt_reader.specs.Streams.{Placed, Stream, ends, stops, ◌then◌, onto, plain, size, seen_ahead, heads, tail, place, refused}
+use Rattle.stmt_tokens.specs.Tokens.{Token, word, number, quoted, mark}
+use Rattle.stmt_syntax.specs.Limits.{is_i64}
+use Rattle.stmt_tokens.specs.Scan as scan
+use Rattle.stmt_tokens.specs.Scan.{Seen, seen, i64_of}
+use Rattle.stmt_tokens.specs.Words.{is_keyword, is_spelled, keyword_text, is_mark, mark_number, number_of}
+use Rattle.stmt_tokens.specs.Streams.{Placed, Stream, ends, stops, ◌then◌, onto, plain, size, seen_ahead, heads, tail, place}
+use Rattle.stmt_reader.specs.Reading.{refused, Parser, go_on, bind, said, one, wanted, fitting, takes, choose}
 use Rattle.stmt_reader.specs.Reading as read
-use Rattle.stmt_reader.specs.Reading.{Parser, go_on, bind, said, one, wanted, fitting, takes, choose}
 use Rattle.stmt_reader.specs.Grammar as rule
 use Rattle.stmt_reader.specs.Grammar.{Rule, means, sequence, either}
 use Rattle.stmt_reader.specs.Refusals.{is_fit, Begins}
 use Rattle.stmt_reader.specs.declared.faults.Fault.{Fault}
 use Rattle.stmt_reader.specs.declared.faults.Fault.TheVariants.{BadNumber}
-use Rattle.stmt_reader.specs.declared.keywords.Keyword.{Keyword}
-use Rattle.stmt_reader.specs.declared.tokens.Mark.{Mark}
-use Rattle.stmt_reader.specs.declared.tokens.Mark.TheVariants as marks
+use Rattle.stmt_tokens.specs.declared.keywords.Keyword.{Keyword}
+use Rattle.stmt_tokens.specs.declared.tokens.Mark.{Mark}
+use Rattle.stmt_tokens.specs.declared.tokens.Mark.TheVariants as marks
 use Rattle.stmt_reader.proofs.Loops.{wanted_less, ok_unit}
 use Rattle.stmt_reader.proofs.Placed.{single, nothing_placed, splits, onto-append, heads_onto}
 use Rattle.stmt_reader.proofs.Rules.{left_of, Found, Failed, StuckAt, Stuck, Agrees, Reads, none, heads-none, any, heads-any, Avoids, Went, unbound, unbound_fails, found_both, failed_first, failed_second, agrees_bind, Alike, alike-refl, reads_alike}

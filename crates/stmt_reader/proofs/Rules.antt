@@ -2,9 +2,9 @@
 use Rattle.std.proofs.Common.{◌≡◌, ℕ, ◌+◌, ◌≤◌, Bool, false, ◌||◌, List, [], ◌∷◌, ◌++◌, length, Result, Ok, Err, refl, sym, ap, subst, ◌∙◌, append_assoc, length-append, arith, inl, inr}
 use Rattle.std.specs.Prelude.{◌⊎◌}
 use Rattle.std.proofs.lemmas.Bool.{or_parts}
-use Rattle.stmt_reader.specs.Tokens.{Token}
-use Rattle.stmt_reader.specs.Scan.{Seen, seen}
-use Rattle.stmt_reader.specs.Streams.{Placed, Stream, ends, stops, ◌then◌, onto, plain, size, seen_ahead, heads}
+use Rattle.stmt_tokens.specs.Tokens.{Token}
+use Rattle.stmt_tokens.specs.Scan.{Seen, seen}
+use Rattle.stmt_tokens.specs.Streams.{Placed, Stream, ends, stops, ◌then◌, onto, plain, size, seen_ahead, heads}
 use Rattle.stmt_reader.specs.Reading.{Parser, gives, go_on, bind}
 use Rattle.stmt_reader.specs.Grammar.{Rule, means, sequence}
 use Rattle.stmt_reader.specs.Refusals.{is_fit, Begins}

@@ -5,19 +5,19 @@ use Rattle.std.proofs.lemmas.Bool.{cases_Bool}
 use Rattle.std.proofs.lemmas.List.{append-nil}
 use Rattle.ts_num.specs.declared.values.Fun.{Fun}
 use Rattle.ts_num.specs.declared.values.Fun.TheVariants as fun
-use Rattle.stmt_reader.specs.Tokens.{Token, word, number, quoted, mark}
-use Rattle.stmt_reader.specs.Scan as scan
-use Rattle.stmt_reader.specs.Scan.{Seen, seen}
-use Rattle.stmt_reader.specs.Words.{is_mark, word_of, function_of, function_of_word}
-use Rattle.stmt_reader.specs.Streams.{Stream, ends, stops, ◌then◌, plain, heads, refused}
+use Rattle.stmt_tokens.specs.Tokens.{Token, word, number, quoted, mark}
+use Rattle.stmt_tokens.specs.Scan as scan
+use Rattle.stmt_tokens.specs.Scan.{Seen, seen}
+use Rattle.stmt_tokens.specs.Words.{is_mark, word_of, function_of, function_of_word}
+use Rattle.stmt_tokens.specs.Streams.{Stream, ends, stops, ◌then◌, plain, heads}
+use Rattle.stmt_reader.specs.Reading.{refused, Parser, gives, go_on, bind, wanted, choose, known, keys_and_function}
 use Rattle.stmt_reader.specs.Reading as read
-use Rattle.stmt_reader.specs.Reading.{Parser, gives, go_on, bind, wanted, choose, known, keys_and_function}
 use Rattle.stmt_reader.specs.Grammar as rule
 use Rattle.stmt_reader.specs.Grammar.{Rule, means, sequence, either, many}
 use Rattle.stmt_reader.specs.Refusals.{Begins}
 use Rattle.stmt_reader.specs.declared.faults.Fault.{Fault}
-use Rattle.stmt_reader.specs.declared.tokens.Mark.TheVariants as marks
-use Rattle.stmt_reader.specs.declared.statements.NamedAgg.{NamedAgg}
+use Rattle.stmt_tokens.specs.declared.tokens.Mark.TheVariants as marks
+use Rattle.stmt_syntax.specs.declared.statements.NamedAgg.{NamedAgg}
 use Rattle.stmt_reader.proofs.Loops.{keys_body, keys_go, after_word}
 use Rattle.stmt_reader.proofs.Rules.{Reads, none, Avoids, Alike, alike-refl, reads_alike, reads_gives, reads_then}
 use Rattle.stmt_reader.proofs.RuleTokens.{Inner, behind, reads_mark, reads_choose_on, reads_past, leads_behind, mark_only, avoids_mark, avoids_sequence}

@@ -3,12 +3,12 @@ use Rattle.std.proofs.Common.{◌≡◌, ℕ, zero, suc, ◌+◌, ◌<◌, ◌�
 use Rattle.std.specs.Prelude.{◌⊎◌}
 use Rattle.std.proofs.lemmas.Bool.{both_ways}
 use Rattle.std.proofs.lemmas.List.{append-nil}
-use Rattle.stmt_reader.specs.Tokens.{Token, Next, token, ended, nothing, next}
-use Rattle.stmt_reader.specs.Streams.{Placed, Stream, ends, stops, ◌then◌, onto, plain, size, place, scan, stream}
+use Rattle.stmt_tokens.specs.Tokens.{Token, Next, token, ended, nothing, next}
+use Rattle.stmt_tokens.specs.Streams.{Placed, Stream, ends, stops, ◌then◌, onto, plain, size, place, scan, stream}
 use Rattle.stmt_reader.specs.Reading as read
 use Rattle.stmt_reader.specs.Reading.{gives, go_on, bind}
 use Rattle.stmt_reader.specs.Grammar.{Rule, statement}
-use Rattle.stmt_reader.specs.Scan.{Seen}
+use Rattle.stmt_tokens.specs.Scan.{Seen}
 use Rattle.stmt_reader.specs.Refusals.{is_fit, Begins, IsSaid, Refuses, First, Verdict, Comes, fault_place, IsSame, Judges, ReadsByTheGrammar}
 use Rattle.stmt_reader.specs.Answers.{Answers}
 use Rattle.std.specs.List.{AllByRecursion}
@@ -16,9 +16,9 @@ use Rattle.stmt_reader.specs.declared.reading.ReadStmt.{ReadStmt}
 use Rattle.stmt_reader.specs.declared.reading.ReadStmt.TheVariants as reads
 use Rattle.stmt_reader.specs.declared.faults.Fault.{Fault}
 use Rattle.stmt_reader.specs.declared.faults.Fault.TheVariants.{NoToken, Syntax, BadNumber}
-use Rattle.stmt_reader.specs.declared.statements.Stmt.{Stmt}
-use Rattle.stmt_reader.proofs.Flow.{flow, scan_is_flow}
-use Rattle.stmt_reader.proofs.Lexemes.{NextFits, next_fits}
+use Rattle.stmt_syntax.specs.declared.statements.Stmt.{Stmt}
+use Rattle.stmt_tokens.proofs.Flow.{flow, scan_is_flow}
+use Rattle.stmt_tokens.proofs.Lexemes.{NextFits, next_fits}
 use Rattle.stmt_reader.proofs.Placed.{AllFit, no_misfit, misfit_is_bad_number, onto-append, plain-append, placed, plain-placed}
 use Rattle.stmt_reader.proofs.Rules.{Found, Stuck, Agrees, Reads}
 use Rattle.stmt_reader.proofs.FormRules.{whole, reads_whole}

@@ -2,12 +2,12 @@
 use Rattle.std.proofs.Common.{ℕ, ◌+◌, ◌≤◌, length, Some, None, arith}
 use Rattle.stmt_reader.specs.Grammar as rule
 use Rattle.stmt_reader.specs.Grammar.{Rule}
-use Rattle.stmt_reader.specs.Words.{calendar_word}
-use Rattle.stmt_reader.specs.Written.{IsShaped, IsWholeRow, name_size, column_size, row_size, list_size}
-use Rattle.stmt_reader.specs.declared.keywords.Keyword.TheVariants as kw
-use Rattle.stmt_reader.specs.declared.tokens.Mark.TheVariants as marks
-use Rattle.stmt_reader.specs.declared.statements.Stmt.{Stmt}
-use Rattle.stmt_reader.specs.declared.statements.Stmt.TheVariants as stmt
+use Rattle.stmt_syntax.specs.Heads.{calendar_word}
+use Rattle.stmt_syntax.specs.Written.{IsShaped, IsWholeRow, name_size, column_size, row_size, list_size}
+use Rattle.stmt_tokens.specs.declared.keywords.Keyword.TheVariants as kw
+use Rattle.stmt_tokens.specs.declared.tokens.Mark.TheVariants as marks
+use Rattle.stmt_syntax.specs.declared.statements.Stmt.{Stmt}
+use Rattle.stmt_syntax.specs.declared.statements.Stmt.TheVariants as stmt
 use Rattle.stmt_reader.proofs.Yields.{Yields, Item, yields_means, yields_then, yields_either, yields_listed, yields_keyword, yields_mark, yields_name, yields_quoted, yields_number, yields_spelled}
 use Rattle.stmt_reader.proofs.WrittenParts.{Any, yields_value, yields_row, yields_column, yields_source, yields_fold, yields_fold_behind, yields_calendar_bucket}
 

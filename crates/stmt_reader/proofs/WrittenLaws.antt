@@ -3,25 +3,26 @@ use Rattle.std.proofs.Common.{◌≡◌, ℕ, zero, suc, ◌+◌, ◌<◌, ◌�
 use Rattle.std.proofs.lemmas.Bool.{eqb-false, cond_both}
 use Rattle.std.specs.Char.{is_ascii_digit}
 use Rattle.std.specs.List.{prefix_len}
-use Rattle.stmt_reader.specs.Bytes.{begins_word, continues_word}
-use Rattle.stmt_reader.specs.Tokens.{Lexeme, Next, token, ended, nothing, word_at, sign_len, number_at, begins_with, quoted_at, long_mark, short_mark, mark_of_len, or_else, mark_at, lexeme_at, of_lexeme, next_here, next, blank_len}
-use Rattle.stmt_reader.specs.Streams.{Placed, Stream, ends, onto, plain, scan, stream}
+use Rattle.stmt_tokens.specs.Bytes.{begins_word, continues_word}
+use Rattle.stmt_tokens.specs.Tokens.{Lexeme, Next, token, ended, nothing, word_at, sign_len, number_at, begins_with, quoted_at, long_mark, short_mark, mark_of_len, or_else, mark_at, lexeme_at, of_lexeme, next_here, next, blank_len}
+use Rattle.stmt_tokens.specs.Streams.{Placed, Stream, ends, onto, plain, scan, stream}
 use Rattle.stmt_reader.specs.Grammar.{statement}
 use Rattle.stmt_reader.specs.Reading.{statement as reading}
 use Rattle.stmt_reader.specs.Refusals.{IsSaid, Refuses, Verdict, Judges}
 use Rattle.stmt_reader.specs.declared.faults.Fault.{Fault}
-use Rattle.stmt_reader.specs.declared.statements.Stmt.{Stmt}
-use Rattle.stmt_reader.specs.Written.{IsShaped, IsWritten, OfStatement, StatementsAreWritten}
+use Rattle.stmt_syntax.specs.declared.statements.Stmt.{Stmt}
+use Rattle.stmt_syntax.specs.Written.{IsShaped, IsWritten}
+use Rattle.stmt_reader.specs.Texts.{OfStatement, StatementsAreWritten}
 use Rattle.stmt_reader.specs.declared.reading.ReadStmt.{ReadStmt}
 use Rattle.stmt_reader.specs.declared.reading.ReadStmt.TheVariants as reads
-use Rattle.stmt_reader.proofs.Flow.{flow, scan_is_flow}
-use Rattle.stmt_reader.proofs.Lexemes.{NextFits, next_fits}
+use Rattle.stmt_tokens.proofs.Flow.{flow, scan_is_flow}
+use Rattle.stmt_tokens.proofs.Lexemes.{NextFits, next_fits}
 use Rattle.stmt_reader.proofs.Yields.{token_size, weight}
 use Rattle.stmt_reader.proofs.ProperForms.{holds_statement}
 use Rattle.stmt_reader.proofs.ProperLaws.{stream_proper}
 use Rattle.stmt_reader.proofs.Verdict.{fit_statement, reads_by_the_grammar}
 use Rattle.stmt_reader.proofs.WrittenForms.{yields_statement}
-use Rattle.stmt_reader.proofs.Named.{word_len}
+use Rattle.stmt_tokens.proofs.Named.{word_len}
 
 -- ---- a token is as long as it is written
 

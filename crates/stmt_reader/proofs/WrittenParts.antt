@@ -9,19 +9,20 @@ use Rattle.ts_num.specs.declared.values.Fun.{Fun}
 use Rattle.ts_num.specs.declared.values.Fun.TheVariants as fun
 use Rattle.ts_schema.specs.declared.conditions.Cmp.{Cmp}
 use Rattle.ts_schema.specs.declared.conditions.Cmp.TheVariants as cmp
-use Rattle.stmt_reader.specs.Tokens.{Token, word, number, quoted, mark}
-use Rattle.stmt_reader.specs.Scan.{seen}
-use Rattle.stmt_reader.specs.Words.{head_name, bucket_word, comparison_of, comparison_of_mark, function_of, function_of_word, is_star_of}
+use Rattle.stmt_tokens.specs.Tokens.{Token, word, number, quoted, mark}
+use Rattle.stmt_tokens.specs.Scan.{seen}
+use Rattle.stmt_syntax.specs.Heads.{head_name, bucket_word}
+use Rattle.stmt_tokens.specs.Words.{comparison_of, comparison_of_mark, function_of, function_of_word, is_star_of}
 use Rattle.stmt_reader.specs.Grammar as rule
 use Rattle.stmt_reader.specs.Grammar.{Rule}
-use Rattle.stmt_reader.specs.Written.{is_null_test, IsWholeTest, takes_argument, IsWholeAgg, IsWholeFold, IsWholeRow, name_size, column_size, row_size, test_size, argument_size, alias_size, agg_size, fold_size}
-use Rattle.stmt_reader.specs.declared.keywords.Keyword.TheVariants as kw
-use Rattle.stmt_reader.specs.declared.tokens.Mark.{Mark}
-use Rattle.stmt_reader.specs.declared.tokens.Mark.TheVariants as marks
+use Rattle.stmt_syntax.specs.Written.{is_null_test, IsWholeTest, takes_argument, IsWholeAgg, IsWholeFold, IsWholeRow, name_size, column_size, row_size, test_size, argument_size, alias_size, agg_size, fold_size}
+use Rattle.stmt_tokens.specs.declared.keywords.Keyword.TheVariants as kw
+use Rattle.stmt_tokens.specs.declared.tokens.Mark.{Mark}
+use Rattle.stmt_tokens.specs.declared.tokens.Mark.TheVariants as marks
 use Rattle.stmt_reader.specs.declared.folds.Head.{Head}
-use Rattle.stmt_reader.specs.declared.statements.NamedAgg.{NamedAgg}
-use Rattle.stmt_reader.specs.declared.statements.NamedFold.{NamedFold}
-use Rattle.stmt_reader.specs.declared.statements.NamedTest.{NamedTest}
+use Rattle.stmt_syntax.specs.declared.statements.NamedAgg.{NamedAgg}
+use Rattle.stmt_syntax.specs.declared.statements.NamedFold.{NamedFold}
+use Rattle.stmt_syntax.specs.declared.statements.NamedTest.{NamedTest}
 use Rattle.stmt_reader.proofs.Yields.{Yields, Item, Items, Listed, token_size, yields_means, yields_then, yields_either, yields_many, yields_listed, yields_one, yields_wanted, yields_keyword, yields_mark, yields_name, yields_number, yields_quoted}
 
 -- nothing more to say of a value

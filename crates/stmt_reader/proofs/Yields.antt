@@ -4,13 +4,13 @@ use Rattle.std.specs.Prelude.{sum_by, ◌⊎◌}
 use Rattle.std.specs.List.{AllByRecursion}
 use Rattle.std.proofs.lemmas.List.Sums.{sum_by-cons}
 use Rattle.std.proofs.lemmas.Slice.Eq.{bytes_eq-Decides}
-use Rattle.stmt_reader.specs.Tokens.{Token, word, number, quoted, mark}
-use Rattle.stmt_reader.specs.Scan.{Seen, seen}
-use Rattle.stmt_reader.specs.Words.{keyword_text, is_keyword, is_spelled, is_mark, word_of, quoted_of}
+use Rattle.stmt_tokens.specs.Tokens.{Token, word, number, quoted, mark}
+use Rattle.stmt_tokens.specs.Scan.{Seen, seen}
+use Rattle.stmt_tokens.specs.Words.{keyword_text, is_keyword, is_spelled, is_mark, word_of, quoted_of}
 use Rattle.stmt_reader.specs.Grammar as rule
 use Rattle.stmt_reader.specs.Grammar.{Rule, means, sequence, either, many, listed, one, wanted}
-use Rattle.stmt_reader.specs.declared.keywords.Keyword.{Keyword}
-use Rattle.stmt_reader.specs.declared.tokens.Mark.{Mark}
+use Rattle.stmt_tokens.specs.declared.keywords.Keyword.{Keyword}
+use Rattle.stmt_tokens.specs.declared.tokens.Mark.{Mark}
 
 -- at least so many bytes are written for a token
 abbrev pub token_size : Token → ℕ

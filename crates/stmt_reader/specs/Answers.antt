@@ -1,8 +1,8 @@
 use Rattle.std.specs.Prelude.{◌≡◌, Result, Ok, Err}
-use Rattle.stmt_reader.specs.Streams.{Stream}
+use Rattle.stmt_tokens.specs.Streams.{Stream}
 use Rattle.stmt_reader.specs.declared.faults.Fault.{Fault}
 use Rattle.stmt_reader.specs.declared.faults.Fault.TheVariants as faults
-use Rattle.stmt_reader.specs.declared.statements.Stmt.{Stmt as Statement}
+use Rattle.stmt_syntax.specs.declared.statements.Stmt.{Stmt as Statement}
 use Rattle.stmt_reader.specs.declared.reading.ReadStmt.{ReadStmt}
 use Rattle.stmt_reader.specs.declared.reading.ReadStmt.TheVariants.{Stmt, NoToken, Syntax, BadNumber, NoMemory}
 

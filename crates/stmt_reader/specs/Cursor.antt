@@ -1,5 +1,5 @@
 use Rattle.std.specs.Prelude.{ℕ, List}
-use Rattle.stmt_reader.specs.Streams.{Stream, stream}
+use Rattle.stmt_tokens.specs.Streams.{Stream, stream}
 
 -- a text and how many of its bytes were read
 pub record Cursor : Type 0 where

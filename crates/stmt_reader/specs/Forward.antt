@@ -1,10 +1,10 @@
 -- Reading never goes back: the tokens that are left are at most as many as there were.
 use Rattle.std.proofs.Common.{◌≡◌, ℕ, zero, suc, ◌≤◌, Bool, true, false, cond, List, [], ◌∷◌, ◌++◌, Option, Some, None, Result, Ok, Err, refl, ap, subst, arith}
 use Rattle.std.specs.Prelude.{option_and_then}
-use Rattle.stmt_reader.specs.Scan.{Seen}
-use Rattle.stmt_reader.specs.Words.{word_of, number_of}
-use Rattle.stmt_reader.specs.Streams.{Stream, ends, stops, ◌then◌, size, heads, tail, seen_ahead, refused}
-use Rattle.stmt_reader.specs.Reading.{Parser, gives, go_on, bind, takes, choose, said, one, wanted, fitting, number, repeat, more, parts, listed, value, row, not_null, column, null_test, number_test, any_test, alias, argument, aggregate_rest, aggregate, name}
+use Rattle.stmt_tokens.specs.Scan.{Seen}
+use Rattle.stmt_tokens.specs.Words.{word_of, number_of}
+use Rattle.stmt_tokens.specs.Streams.{Stream, ends, stops, ◌then◌, size, heads, tail, seen_ahead}
+use Rattle.stmt_reader.specs.Reading.{refused, Parser, gives, go_on, bind, takes, choose, said, one, wanted, fitting, number, repeat, more, parts, listed, value, row, not_null, column, null_test, number_test, any_test, alias, argument, aggregate_rest, aggregate, name}
 use Rattle.stmt_reader.specs.declared.faults.Fault.{Fault}
 
 -- what a parser leaves is no more than what it was given

@@ -1,15 +1,7 @@
-pub mod Limits
 pub mod Answers
-pub mod Bytes
 pub mod Cursor
 pub mod Forward
 pub mod Grammar
-pub mod Lines
 pub mod Reading
 pub mod Refusals
-pub mod Proper
-pub mod Scan
-pub mod Streams
-pub mod Tokens
-pub mod Words
-pub mod Written
+pub mod Texts

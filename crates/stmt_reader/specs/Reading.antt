@@ -1,30 +1,37 @@
 use Rattle.std.specs.Prelude.{◌≡◌, ℕ, zero, suc, ℤ, Bool, true, false, if◌then◌else◌, List, [], ◌∷◌, ◌++◌, Option, Some, None, option_and_then, Result, Ok, Err, pos}
-use Rattle.stmt_reader.specs.Scan.{Seen}
-use Rattle.stmt_reader.specs.Words.{is_keyword, is_mark, is_number, word_of, quoted_of, number_of, flag_of, comparison_of, function_of, function_of_word, is_star_of, is_item, is_spelled, head_name, bucket_word, calendar_word}
-use Rattle.stmt_reader.specs.Streams.{Stream, size, seen_ahead, heads, tail, place, is_end, refused}
+use Rattle.stmt_tokens.specs.Scan.{Seen}
+use Rattle.stmt_tokens.specs.Words.{is_keyword, is_mark, is_number, word_of, quoted_of, number_of, flag_of, comparison_of, function_of, function_of_word, is_star_of, is_item, is_spelled}
+use Rattle.stmt_syntax.specs.Heads.{head_name, bucket_word, calendar_word}
+use Rattle.stmt_tokens.specs.Streams.{Stream, ends, stops, ◌then◌, size, seen_ahead, heads, tail, place, is_end}
 use Rattle.stmt_reader.specs.declared.faults.Fault.{Fault}
-use Rattle.stmt_reader.specs.declared.faults.Fault.TheVariants.{BadNumber}
+use Rattle.stmt_reader.specs.declared.faults.Fault.TheVariants.{NoToken, Syntax, BadNumber}
 use Rattle.stmt_reader.specs.declared.faults.ReadError.{ReadError}
 use Rattle.stmt_reader.specs.declared.faults.ReadError.TheVariants as errors
-use Rattle.stmt_reader.specs.declared.keywords.Keyword.{Keyword}
-use Rattle.stmt_reader.specs.declared.keywords.Keyword.TheVariants as kw
-use Rattle.stmt_reader.specs.declared.tokens.Mark.TheVariants as marks
+use Rattle.stmt_tokens.specs.declared.keywords.Keyword.{Keyword}
+use Rattle.stmt_tokens.specs.declared.keywords.Keyword.TheVariants as kw
+use Rattle.stmt_tokens.specs.declared.tokens.Mark.TheVariants as marks
 use Rattle.stmt_reader.specs.declared.phrases.Separator.{Separator}
 use Rattle.stmt_reader.specs.declared.phrases.Separator.TheVariants as separators
 use Rattle.stmt_reader.specs.declared.folds.CalendarHead.{CalendarHead}
 use Rattle.stmt_reader.specs.declared.folds.Head.{Head}
 use Rattle.stmt_reader.specs.declared.forms.Window.{Window}
-use Rattle.stmt_reader.specs.declared.statements.Stmt.{Stmt}
-use Rattle.stmt_reader.specs.declared.statements.Stmt.TheVariants as stmt
-use Rattle.stmt_reader.specs.declared.statements.NamedFold.{NamedFold}
-use Rattle.stmt_reader.specs.declared.statements.NamedAgg.{NamedAgg}
-use Rattle.stmt_reader.specs.declared.statements.NamedTest.{NamedTest}
+use Rattle.stmt_syntax.specs.declared.statements.Stmt.{Stmt}
+use Rattle.stmt_syntax.specs.declared.statements.Stmt.TheVariants as stmt
+use Rattle.stmt_syntax.specs.declared.statements.NamedFold.{NamedFold}
+use Rattle.stmt_syntax.specs.declared.statements.NamedAgg.{NamedAgg}
+use Rattle.stmt_syntax.specs.declared.statements.NamedTest.{NamedTest}
 use Rattle.ts_num.specs.declared.values.Fun.{Fun}
 use Rattle.ts_num.specs.declared.values.Fun.TheVariants as fun
 use Rattle.ts_schema.specs.declared.columns.Column.{Column}
 use Rattle.ts_schema.specs.declared.conditions.Cmp.{Cmp}
 use Rattle.ts_schema.specs.declared.conditions.Cmp.TheVariants as cmp
-use Rattle.stmt_reader.specs.declared.tokens.Mark.{Mark}
+use Rattle.stmt_tokens.specs.declared.tokens.Mark.{Mark}
+
+-- the fault where nothing that may come next comes
+abbrev pub refused : Stream → Fault
+refused (ends p) = Syntax p
+refused (stops p) = NoToken p
+refused (t then s) = Syntax t.at
 
 -- Reading from left to right: what the tokens in front say and the tokens after them, or the first fault.
 abbrev pub Parser : Type 0 → Type 0

@@ -1,13 +1,14 @@
 -- What a text is refused for, and which refusal comes first.
 use Rattle.std.specs.Prelude.{◌≡◌, ℕ, ◌≤◌, Bool, true, false, ◌⊎◌, List, [], ◌∷◌, ◌++◌, length, Result, Ok, Err}
 use Rattle.std.specs.List.{AllByRecursion}
-use Rattle.stmt_reader.specs.Tokens.{Token, word, number, quoted, mark, is_i64}
-use Rattle.stmt_reader.specs.Streams.{Placed, Stream, ends, stops, ◌then◌, onto, plain, stream}
+use Rattle.stmt_tokens.specs.Tokens.{Token, word, number, quoted, mark}
+use Rattle.stmt_syntax.specs.Limits.{is_i64}
+use Rattle.stmt_tokens.specs.Streams.{Placed, Stream, ends, stops, ◌then◌, onto, plain, stream}
 use Rattle.stmt_reader.specs.Grammar.{Rule, statement}
 use Rattle.stmt_reader.specs.Reading.{statement as reading}
 use Rattle.stmt_reader.specs.declared.faults.Fault.{Fault}
 use Rattle.stmt_reader.specs.declared.faults.Fault.TheVariants.{NoToken, Syntax, BadNumber}
-use Rattle.stmt_reader.specs.declared.statements.Stmt.{Stmt as Statement}
+use Rattle.stmt_syntax.specs.declared.statements.Stmt.{Stmt as Statement}
 use Rattle.stmt_reader.specs.declared.reading.ReadStmt.{ReadStmt}
 use Rattle.stmt_reader.specs.declared.reading.ReadStmt.TheVariants as reads
 

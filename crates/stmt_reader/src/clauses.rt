@@ -1,20 +1,19 @@
 //! Parts of statements: values, rows, columns, tests, and the name after AS.
 ghost use Rattle.std.specs.Prelude.{◌≡◌, ◌≤◌, Ok, Some, None, IfOk};
 ghost use Rattle.stmt_reader.specs.Cursor.{ahead};
-ghost use Rattle.stmt_reader.specs.Streams.{size};
+ghost use Rattle.stmt_tokens.specs.Streams.{size};
 ghost use Rattle.stmt_reader.specs.Reading as spec;
 ghost use Rattle.stmt_reader.specs.Reading.{Gives};
 ghost use Rattle.stmt_reader.specs.declared.phrases.Separator.TheVariants as separators;
 ghost use Rattle.stmt_reader.specs.Forward.{forward-name, forward-value, forward-column, forward-test};
 
 use crate::faults::ReadError;
-use crate::keywords::Keyword;
 use crate::phrases::{Phrase, Separator};
 use crate::reader::Reader;
 use crate::rows::{row_behind, rows_behind};
-use crate::statements::NamedTest;
-use crate::tokens::Mark;
 use cell_rows::CellRows;
+use stmt_syntax::NamedTest;
+use stmt_tokens::{Keyword, Mark};
 use ts_schema::{Cmp, Column, Name, NoMemory, Seq};
 
 /// A name.

@@ -1,19 +1,19 @@
 //! Folds: the bucket, the keys, the aggregates, and what they are grouped by.
 ghost use Rattle.std.specs.Prelude.{◌≡◌, [], if◌then◌else◌};
-ghost use Rattle.stmt_reader.specs.Bytes.{lower};
+ghost use Rattle.stmt_tokens.specs.Bytes.{lower};
 ghost use Rattle.stmt_reader.specs.Cursor.{ahead};
-ghost use Rattle.stmt_reader.specs.Streams.{heads, tail};
-ghost use Rattle.stmt_reader.specs.Words.{function_of_word, is_item, is_star_of, head_name};
+ghost use Rattle.stmt_tokens.specs.Streams.{heads, tail};
+ghost use Rattle.stmt_tokens.specs.Words.{function_of_word, is_item, is_star_of};
+ghost use Rattle.stmt_syntax.specs.Heads.{head_name};
 ghost use Rattle.stmt_reader.specs.Reading as spec;
 ghost use Rattle.stmt_reader.specs.Reading.{Gives, wanted};
 ghost use Rattle.stmt_reader.specs.Forward.{forward-aggregate};
 
 use crate::faults::ReadError;
-use crate::keywords::Keyword;
 use crate::phrases::{Phrase, Separator};
 use crate::reader::Reader;
-use crate::statements::{NamedAgg, NamedFold, NamedTest};
-use crate::tokens::{Mark, function_named};
+use stmt_syntax::{NamedAgg, NamedFold, NamedTest};
+use stmt_tokens::{Keyword, Mark, function_named};
 use ts_num::Fun;
 use ts_schema::{Name, Seq};
 

@@ -6,11 +6,10 @@ ghost use Rattle.stmt_reader.specs.Reading.{Gives};
 
 use crate::faults::ReadError;
 use crate::folds::CALENDAR_NAME;
-use crate::keywords::Keyword;
 use crate::phrases::Separator;
 use crate::reader::Reader;
-use crate::statements::Stmt;
-use crate::tokens::Mark;
+use stmt_syntax::Stmt;
+use stmt_tokens::{Keyword, Mark};
 use ts_schema::{Name, Seq};
 
 /// `'n' , bound , bound`

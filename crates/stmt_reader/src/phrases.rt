@@ -1,13 +1,12 @@
 //! Phrases that a reader reads, and lists of them.
 ghost use Rattle.std.specs.Prelude.{◌≡◌, ◌≤◌, if◌then◌else◌, [], ◌∷◌, Ok};
 ghost use Rattle.stmt_reader.specs.Cursor.{ahead};
-ghost use Rattle.stmt_reader.specs.Streams.{Stream, heads, tail, size};
+ghost use Rattle.stmt_tokens.specs.Streams.{Stream, heads, tail, size};
 ghost use Rattle.stmt_reader.specs.Reading.{Parser, Gives, parts, more, listed};
 
 use crate::faults::ReadError;
-use crate::keywords::Keyword;
 use crate::reader::Reader;
-use crate::tokens::Mark;
+use stmt_tokens::{Keyword, Mark};
 use ts_schema::Seq;
 
 /// What parts the items of a list.

@@ -1,19 +1,17 @@
 //! A reader of the tokens of a line, one after the other.
 ghost use Rattle.std.specs.Prelude.{◌≡◌, ◌≤◌, length, if◌then◌else◌, option_map};
-ghost use Rattle.stmt_reader.specs.Limits.{longest_line};
-ghost use Rattle.stmt_reader.specs.Bytes.{lower};
-ghost use Rattle.stmt_reader.specs.Streams.{heads, tail, refused, seen_ahead, place, is_end};
-ghost use Rattle.stmt_reader.specs.Words.{is_keyword, is_spelled, is_mark, is_number, is_item, flag_of, comparison_of, function_of};
-ghost use Rattle.stmt_reader.specs.Reading.{Gives, wanted, one, name, quoted, number, end};
+ghost use Rattle.stmt_syntax.specs.Limits.{longest_line};
+ghost use Rattle.stmt_tokens.specs.Bytes.{lower};
+ghost use Rattle.stmt_tokens.specs.Streams.{heads, tail, seen_ahead, place, is_end};
+ghost use Rattle.stmt_reader.specs.Reading.{refused, Gives, wanted, one, name, quoted, number, end};
+ghost use Rattle.stmt_tokens.specs.Words.{is_keyword, is_spelled, is_mark, is_number, is_item, flag_of, comparison_of, function_of};
 ghost use Rattle.stmt_reader.specs.Cursor.{ahead};
-ghost use Rattle.stmt_reader.specs.Scan.{view, IsNamed};
+ghost use Rattle.stmt_tokens.specs.Scan.{view, IsNamed};
 
 use crate::faults::{Fault, ReadError};
-use crate::keywords::Keyword;
-use crate::names::name_of;
-use crate::tokens::{Ahead, Mark, Token, look};
 use std::alloc::Global;
 use std::marker::Model;
+use stmt_tokens::{Ahead, Keyword, Mark, Token, look, name_of};
 use ts_num::Fun;
 use ts_schema::{Cmp, Name};
 
@@ -30,9 +28,9 @@ pub struct Reader<'a> {
 impl<'a> Model for Reader<'a> {
     ghost use Rattle.std.specs.Prelude.{◌≡◌, ◌≤◌, length};
     ghost use Rattle.stmt_reader.specs.Cursor.{Cursor};
-    ghost use Rattle.stmt_reader.specs.Limits.{longest_line};
-    ghost use Rattle.stmt_reader.specs.Tokens.{next};
-    ghost use Rattle.stmt_reader.specs.Scan.{view_ahead, seen_next};
+    ghost use Rattle.stmt_syntax.specs.Limits.{longest_line};
+    ghost use Rattle.stmt_tokens.specs.Tokens.{next};
+    ghost use Rattle.stmt_tokens.specs.Scan.{view_ahead, seen_next};
 
     ghost Value = { Cursor };
 

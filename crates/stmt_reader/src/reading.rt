@@ -1,16 +1,17 @@
 //! Reading the statement of a line.
 ghost use Rattle.std.specs.Prelude.{◌≡◌, ◌≤◌, length};
-ghost use Rattle.stmt_reader.specs.Limits.{longest_input, longest_line};
-ghost use Rattle.stmt_reader.specs.Streams.{stream};
+ghost use Rattle.stmt_syntax.specs.Limits.{longest_line};
+ghost use Rattle.stmt_tokens.specs.Streams.{stream};
 ghost use Rattle.stmt_reader.specs.Answers.{Answers};
 ghost use Rattle.stmt_reader.specs.Reading.{statement};
 ghost use Rattle.stmt_reader.specs.Refusals.{Judges, OneReading, ReadsByTheGrammar};
-ghost use Rattle.stmt_reader.specs.Written.{IsWritten, OfStatement, StatementsAreWritten};
+ghost use Rattle.stmt_syntax.specs.Written.{IsWritten};
+ghost use Rattle.stmt_reader.specs.Texts.{OfStatement, StatementsAreWritten};
 
 use crate::faults::{Fault, ReadError};
 use crate::reader::Reader;
-use crate::statements::Stmt;
 use std::alloc::Global;
+use stmt_syntax::Stmt;
 
 /// The statement of a text, or why the text is none, at the least place of the line. Places count
 /// from 1.
@@ -60,12 +61,6 @@ fn answer(alloc: Global, text: &[u8], skip: u32) -> ReadStmt
         Err(ReadError::Fault(Fault::BadNumber(place))) => ReadStmt::BadNumber(place),
     }
 }
-
-/// States the limits as numbers. It does nothing.
-pub fn lengths_law()
-    ensures line { longest_line ≡ 65536 }
-    ensures input { longest_input ≡ 67108864 }
-{}
 
 /// States that what reading gives of each text is what the grammar says of it: its statement where
 /// nothing is wrong, and else the first thing that is. It does nothing.

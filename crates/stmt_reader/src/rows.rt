@@ -1,13 +1,13 @@
 //! Rows of values, read from the bytes of a text. No token of theirs is kept. Where no row is found the reader of
 //! tokens tells what is wrong.
 ghost use Rattle.std.specs.Prelude.{◌≡◌, ◌≤◌, length, true, Ok, IfOk, IfSome};
-ghost use Rattle.stmt_reader.specs.Streams.{heads, tail, size, stream};
-ghost use Rattle.stmt_reader.specs.Words.{is_mark};
+ghost use Rattle.stmt_tokens.specs.Streams.{heads, tail, size, stream};
+ghost use Rattle.stmt_tokens.specs.Words.{is_mark};
 ghost use Rattle.stmt_reader.specs.Reading as spec;
 ghost use Rattle.stmt_reader.specs.declared.phrases.Separator.TheVariants as separators;
 
-use crate::tokens::{Ahead, Mark, look, look_behind_blanks};
 use cell_rows::CellRows;
+use stmt_tokens::{Ahead, Mark, look, look_behind_blanks};
 use ts_schema::NoMemory;
 
 /// A value of a row, and the byte behind it.

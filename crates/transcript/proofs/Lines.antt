@@ -7,11 +7,11 @@ use Rattle.std.proofs.lemmas.List.{take-take, drop-take, take_all}
 use Rattle.std.proofs.lemmas.List.Folds.{length-prefix_len}
 use Rattle.std.proofs.lemmas.Slice.Eq.{bytes_eq-Decides}
 use Rattle.ts_schema.proofs.Cases.{and_first, and_second}
-use Rattle.stmt_reader.specs.Limits.{longest_line}
-use Rattle.stmt_reader.specs.Tokens.{blank_len, begins_with}
-use Rattle.stmt_reader.specs.Lines.{comment_at, begins_session, continues_session, session_len, has_session, line_kind, of_text, session_name}
-use Rattle.stmt_reader.specs.declared.lines.LineKind.TheVariants.{Blank, NotAscii, NoSession, Stmt}
-use Rattle.stmt_reader.proofs.StatementLines.{statement_line}
+use Rattle.stmt_syntax.specs.Limits.{longest_line}
+use Rattle.stmt_tokens.specs.Tokens.{blank_len, begins_with}
+use Rattle.stmt_tokens.specs.Lines.{comment_at, begins_session, continues_session, session_len, has_session, line_kind, of_text, session_name}
+use Rattle.stmt_tokens.specs.declared.lines.LineKind.TheVariants.{Blank, NotAscii, NoSession, Stmt}
+use Rattle.stmt_tokens.proofs.StatementLines.{statement_line}
 use Rattle.transcript.specs.Ascii.{is_ascii_text}
 use Rattle.transcript.specs.Laws.{LinesAreSound}
 use Rattle.transcript.specs.Shape.{is_session_name, is_line_of, speaks_in}

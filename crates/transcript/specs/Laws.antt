@@ -1,8 +1,8 @@
 -- What the text of a transcript is read as, and which lines a session of a transcript may have.
 use Rattle.std.specs.Prelude.{◌≡◌, ◌≤◌, ◌<◌, ◌^◌, ℕ, List, length, take, IsTrue}
-use Rattle.stmt_reader.specs.Limits.{longest_line}
-use Rattle.stmt_reader.specs.Lines.{line_kind, session_name}
-use Rattle.stmt_reader.specs.declared.lines.LineKind.TheVariants.{Stmt}
+use Rattle.stmt_syntax.specs.Limits.{longest_line}
+use Rattle.stmt_tokens.specs.Lines.{line_kind, session_name}
+use Rattle.stmt_tokens.specs.declared.lines.LineKind.TheVariants.{Stmt}
 use Rattle.transcript.specs.Ascii.{is_ascii_text, is_ascii_transcript}
 use Rattle.transcript.specs.Reading.{IsReading}
 use Rattle.transcript.specs.Shape.{is_session_name, is_one_line, is_line_of, is_sound}

@@ -1,10 +1,10 @@
 -- What a transcript of a run is.
 use Rattle.std.specs.Prelude.{ℕ, Bool, false, true, not, ◌&&◌, ◌==◌, List, [], ◌∷◌, length, map, bytes_eq, nat_le}
 use Rattle.std.specs.List.{list_all, list_any}
-use Rattle.stmt_reader.specs.Limits.{longest_line}
-use Rattle.stmt_reader.specs.Lines.{begins_session, continues_session, line_kind, session_name}
-use Rattle.stmt_reader.specs.declared.lines.LineKind.{LineKind}
-use Rattle.stmt_reader.specs.declared.lines.LineKind.TheVariants.{Blank, NotAscii, NoSession, Stmt}
+use Rattle.stmt_syntax.specs.Limits.{longest_line}
+use Rattle.stmt_tokens.specs.Lines.{begins_session, continues_session, line_kind, session_name}
+use Rattle.stmt_tokens.specs.declared.lines.LineKind.{LineKind}
+use Rattle.stmt_tokens.specs.declared.lines.LineKind.TheVariants.{Blank, NotAscii, NoSession, Stmt}
 use Rattle.transcript.specs.declared.transcripts.Talk.{Talk}
 use Rattle.transcript.specs.declared.transcripts.Transcript.{Transcript}
 

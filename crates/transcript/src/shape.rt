@@ -1,14 +1,14 @@
 //! Whether a transcript's names and lines are good.
 ghost use Rattle.std.specs.Prelude.{◌≡◌, ◌≤◌, IfOk, length, map, suc};
 ghost use Rattle.std.specs.List.{list_all};
-ghost use Rattle.stmt_reader.specs.Limits.{longest_line};
-ghost use Rattle.stmt_reader.specs.Lines.{begins_session, continues_session, line_kind, session_name};
+ghost use Rattle.stmt_syntax.specs.Limits.{longest_line};
+ghost use Rattle.stmt_tokens.specs.Lines.{begins_session, continues_session, line_kind, session_name};
 ghost use Rattle.transcript.specs.Shape.{is_session_name, is_one_line, speaks_in, is_line_of, is_sound_talk, are_apart, is_sound};
 
 use crate::transcripts::{Exchange, Talk, Transcript};
 use std::alloc::Global;
 use std::collections::BTreeSet;
-use stmt_reader::{LineKind, split_line};
+use stmt_tokens::{LineKind, split_line};
 use ts_io::LINE_LIMIT;
 use ts_schema::NoMemory;
 

@@ -1,6 +1,6 @@
 -- The block that a session is in.
 use Rattle.std.proofs.Common.{◌≡◌, [], None, refl, ap, subst}
-use Rattle.stmt_reader.specs.declared.statements.Stmt.{Stmt}
+use Rattle.stmt_syntax.specs.declared.statements.Stmt.{Stmt}
 use Rattle.ts_sessions.specs.declared.kinds.Kind.{Kind}
 use Rattle.ts_sessions.specs.declared.kinds.Kind.TheVariants as kinds
 use Rattle.ts_sessions.specs.Places.{Block, none, writing, reading, Places, enters}

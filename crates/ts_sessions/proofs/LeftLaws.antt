@@ -9,7 +9,7 @@ use Rattle.ts_model.specs.declared.snapshots.Shown.{Ghosts as Shown}
 use Rattle.ts_model.specs.History.{History, position}
 use Rattle.ts_model.specs.Reads.{reads as reads_of}
 use Rattle.ts_model.specs.Roster.{roster}
-use Rattle.stmt_reader.specs.declared.statements.Stmt.{Stmt}
+use Rattle.stmt_syntax.specs.declared.statements.Stmt.{Stmt}
 use Rattle.stmt_check.specs.declared.actions.Action.{Action}
 use Rattle.stmt_check.specs.declared.actions.Action.TheVariants as actions
 use Rattle.stmt_check.specs.Check.{action_of, refusal_of}

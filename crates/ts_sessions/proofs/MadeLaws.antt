@@ -27,10 +27,10 @@ use Rattle.ts_model.specs.Timely.{has_room}
 use Rattle.ts_model.specs.Calls.{Act, committed as calls_committed, making, refuses as refuses_call, returns as completes_call, makes, committing, cut_of_view, cut_over, cutting, finish_of, finishing, making_hyper, making_table, making_view, new_relation, numbered, refusal, setting_mode}
 use Rattle.ts_model.specs.Numbers.{name_taken, too_many, history_full}
 use Rattle.stmt_reader.specs.declared.faults.Fault.{Fault}
-use Rattle.stmt_reader.specs.declared.statements.Stmt.{Stmt}
-use Rattle.stmt_reader.specs.declared.statements.Stmt.TheVariants as stmts
+use Rattle.stmt_syntax.specs.declared.statements.Stmt.{Stmt}
+use Rattle.stmt_syntax.specs.declared.statements.Stmt.TheVariants as stmts
 use Rattle.stmt_reader.specs.Reading.{statement}
-use Rattle.stmt_reader.specs.Streams.{Stream, stream}
+use Rattle.stmt_tokens.specs.Streams.{Stream, stream}
 use Rattle.stmt_check.specs.declared.actions.Action.{Action}
 use Rattle.stmt_check.specs.declared.actions.Action.TheVariants as actions
 use Rattle.stmt_check.specs.Check.{action_of, refusal_of}

@@ -12,7 +12,7 @@ use Rattle.ts_model.specs.Calls.{cutting}
 use Rattle.ts_model.specs.History.{History, position}
 use Rattle.ts_model.specs.Roster.{roster}
 use Rattle.ts_model.specs.States.{State}
-use Rattle.stmt_reader.specs.declared.statements.Stmt.{Stmt}
+use Rattle.stmt_syntax.specs.declared.statements.Stmt.{Stmt}
 use Rattle.stmt_check.specs.declared.actions.Action.{Action}
 use Rattle.stmt_check.specs.declared.actions.Action.TheVariants as actions
 use Rattle.stmt_check.specs.Check.{action_of, refusal_of}

@@ -14,12 +14,12 @@ use Rattle.ts_catalog.specs.Columns.{column_from, column_of, view_column_of}
 use Rattle.ts_catalog.specs.Relations.{found_in}
 use Rattle.ts_catalog.specs.declared.relations.Found.{Found}
 use Rattle.ts_catalog.specs.declared.relations.Found.TheVariants as found
-use Rattle.stmt_reader.specs.declared.statements.NamedAgg.{NamedAgg}
-use Rattle.stmt_reader.specs.declared.statements.NamedFold.{NamedFold}
-use Rattle.stmt_reader.specs.declared.statements.NamedTest.{NamedTest}
-use Rattle.stmt_reader.specs.declared.statements.Stmt.{Stmt}
-use Rattle.stmt_reader.specs.declared.statements.Stmt.TheVariants as stmts
-use Rattle.stmt_reader.specs.Words.{calendar_word}
+use Rattle.stmt_syntax.specs.declared.statements.NamedAgg.{NamedAgg}
+use Rattle.stmt_syntax.specs.declared.statements.NamedFold.{NamedFold}
+use Rattle.stmt_syntax.specs.declared.statements.NamedTest.{NamedTest}
+use Rattle.stmt_syntax.specs.declared.statements.Stmt.{Stmt}
+use Rattle.stmt_syntax.specs.declared.statements.Stmt.TheVariants as stmts
+use Rattle.stmt_syntax.specs.Heads.{calendar_word}
 use Rattle.stmt_check.specs.Check.{refusal_of, rows_query_refusal, table_at, time_of, view_at}
 use Rattle.stmt_check.specs.Limits.{most_rows}
 use Rattle.stmt_check.specs.Folds.{aggregate_name, columns_before, is_key, is_shift, is_step, is_taken, is_time_column, aggregate_refusal, aggregates_refusal, argument_refusal, fold_refusal, key_refusal, keys_refusal, tests_refusal, width_refusal, bucket_column, calendar_refusal, head_name, is_unit, output_count, rest_refusal, unit_count, units_refusal}

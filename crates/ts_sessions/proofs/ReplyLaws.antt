@@ -19,11 +19,11 @@ use Rattle.ts_model.proofs.AllowedLaws.{allowed_begins}
 use Rattle.ts_catalog.specs.Columns.{column_from}
 use Rattle.ts_catalog.specs.Relations.{found_in}
 use Rattle.stmt_reader.specs.declared.faults.Fault.{Fault}
-use Rattle.stmt_reader.specs.declared.statements.NamedFold.{NamedFold}
-use Rattle.stmt_reader.specs.declared.statements.Stmt.{Stmt}
-use Rattle.stmt_reader.specs.declared.statements.Stmt.TheVariants as stmts
+use Rattle.stmt_syntax.specs.declared.statements.NamedFold.{NamedFold}
+use Rattle.stmt_syntax.specs.declared.statements.Stmt.{Stmt}
+use Rattle.stmt_syntax.specs.declared.statements.Stmt.TheVariants as stmts
 use Rattle.stmt_reader.specs.Reading.{statement}
-use Rattle.stmt_reader.specs.Streams.{Stream, stream}
+use Rattle.stmt_tokens.specs.Streams.{Stream, stream}
 use Rattle.stmt_check.specs.declared.actions.Action.{Action}
 use Rattle.stmt_check.specs.declared.actions.Action.TheVariants as actions
 use Rattle.stmt_check.specs.Check.{action_of, no_view, refusal_of, table_at}

@@ -21,9 +21,9 @@ use Rattle.ts_sessions.specs.Holding.{block_on, snapshots_on}
 use Rattle.ts_sessions.specs.Jobs.{without_job}
 use Rattle.ts_sessions.specs.Places.{Places, gives_up, held_for, holds}
 use Rattle.stmt_reader.specs.Answers.{IsRead}
-use Rattle.stmt_reader.specs.Streams.{Stream}
+use Rattle.stmt_tokens.specs.Streams.{Stream}
 use Rattle.stmt_reader.specs.declared.faults.Fault.{Fault}
-use Rattle.stmt_reader.specs.declared.statements.Stmt.{Stmt}
+use Rattle.stmt_syntax.specs.declared.statements.Stmt.{Stmt}
 use Rattle.ts_sessions.specs.Sessions.{Spares, finish_meant, finish_read, queued_on}
 use Rattle.ts_sessions.proofs.JobLaws.{removed_holds, removed_positions, same_key, taken_holds, taken_positions}
 use Rattle.ts_model.specs.declared.snapshots.Shown.{Ghosts as Shown}

@@ -5,9 +5,9 @@ use Rattle.ts_model.specs.declared.rosters.Roster.{Roster}
 use Rattle.ts_model.specs.History.{History, start, resumed, ◌▸◌, position, prefix}
 use Rattle.ts_model.specs.Roster.{roster}
 use Rattle.ts_model.specs.Allowed.{all_allowed, allowed}
-use Rattle.stmt_reader.specs.declared.statements.Stmt.{Stmt}
-use Rattle.stmt_reader.specs.declared.statements.Stmt.TheVariants as stmts
-use Rattle.stmt_reader.specs.Written.{IsWritten}
+use Rattle.stmt_syntax.specs.declared.statements.Stmt.{Stmt}
+use Rattle.stmt_syntax.specs.declared.statements.Stmt.TheVariants as stmts
+use Rattle.stmt_syntax.specs.Written.{IsWritten}
 use Rattle.stmt_check.specs.Check.{IsNumbered, action_of}
 use Rattle.stmt_check.proofs.ActionLaws.{actions_are_sound}
 use Rattle.stmt_check.proofs.RosterLaws.{rosters_are_numbered}

@@ -9,9 +9,9 @@ use Rattle.ts_model.specs.declared.snapshots.Shown.{Ghosts as Shown}
 use Rattle.ts_model.specs.History.{History, position}
 use Rattle.result_text.specs.declared.replies.Said.TheVariants as said
 use Rattle.stmt_reader.specs.Answers.{IsRead}
-use Rattle.stmt_reader.specs.Streams.{Stream}
+use Rattle.stmt_tokens.specs.Streams.{Stream}
 use Rattle.stmt_reader.specs.declared.faults.Fault.{Fault}
-use Rattle.stmt_reader.specs.declared.statements.Stmt.{Stmt}
+use Rattle.stmt_syntax.specs.declared.statements.Stmt.{Stmt}
 use Rattle.ts_sessions.specs.Replies.{replies}
 use Rattle.ts_sessions.specs.Step.{as_read, block_refusal, kind_of, misread, named_here, unless}
 use Rattle.ts_sessions.specs.declared.changes.Change.TheVariants as changes

@@ -11,7 +11,7 @@ use Rattle.ts_model.specs.Allowed.{all_allowed}
 use Rattle.ts_model.specs.History.{History, position, prefix}
 use Rattle.ts_model.specs.Roster.{roster}
 use Rattle.ts_model.specs.Reads.{reads as reads_of}
-use Rattle.stmt_reader.specs.declared.statements.Stmt.{Stmt}
+use Rattle.stmt_syntax.specs.declared.statements.Stmt.{Stmt}
 use Rattle.hier_agg.specs.declared.reads.UpperRead.{UpperRead}
 use Rattle.hier_agg.specs.declared.reads.UpperRead.TheVariants as uppers
 use Rattle.hier_agg.specs.Reads.{upper_read}

@@ -14,8 +14,8 @@ use Rattle.ts_model.specs.History.{History, position, prefix}
 use Rattle.ts_model.specs.Pending.{pending}
 use Rattle.ts_model.specs.Roster.{roster}
 use Rattle.ts_model.proofs.HistoryLaws.{prefix_end}
-use Rattle.stmt_reader.specs.declared.statements.Stmt.{Stmt}
-use Rattle.stmt_reader.specs.declared.statements.Stmt.TheVariants as stmts
+use Rattle.stmt_syntax.specs.declared.statements.Stmt.{Stmt}
+use Rattle.stmt_syntax.specs.declared.statements.Stmt.TheVariants as stmts
 use Rattle.stmt_check.specs.declared.actions.Action.{Action}
 use Rattle.stmt_check.specs.declared.actions.Action.TheVariants as actions
 use Rattle.stmt_check.specs.Check.{action_of, refusal_of}

@@ -5,9 +5,9 @@ use Rattle.ts_model.specs.Allowed.{all_allowed}
 use Rattle.ts_model.specs.History.{History, position, Begins}
 use Rattle.ts_model.specs.States.{State, stop_of}
 use Rattle.stmt_reader.specs.declared.faults.Fault.{Fault}
-use Rattle.stmt_reader.specs.declared.statements.Stmt.{Stmt}
+use Rattle.stmt_syntax.specs.declared.statements.Stmt.{Stmt}
 use Rattle.stmt_reader.specs.Reading.{statement}
-use Rattle.stmt_reader.specs.Streams.{Stream, stream}
+use Rattle.stmt_tokens.specs.Streams.{Stream, stream}
 use Rattle.ts_sessions.specs.Gives.{Gives, StopsLater, numbers}
 use Rattle.ts_sessions.specs.LineLaws.{ReadsWithin}
 use Rattle.ts_sessions.specs.Named.{RepliesNameTheirEvents}

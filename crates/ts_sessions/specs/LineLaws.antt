@@ -7,7 +7,7 @@ use Rattle.ts_model.specs.Answers.{with_queue}
 use Rattle.ts_model.specs.History.{History, position, Begins}
 use Rattle.ts_model.specs.Roster.{roster, same_name}
 use Rattle.ts_model.specs.States.{State}
-use Rattle.stmt_reader.specs.declared.statements.Stmt.{Stmt}
+use Rattle.stmt_syntax.specs.declared.statements.Stmt.{Stmt}
 use Rattle.stmt_check.specs.Check.{action_of, refusal_of}
 use Rattle.result_text.specs.declared.replies.Said.{Said}
 use Rattle.result_text.specs.declared.replies.Said.TheVariants as said

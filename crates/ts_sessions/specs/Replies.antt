@@ -1,8 +1,8 @@
 -- What the reply to a line says: the step of its session, with each name looked at where its event is made.
 use Rattle.std.specs.Prelude.{ℕ, List, length}
-use Rattle.stmt_reader.specs.declared.statements.Stmt.{Stmt}
+use Rattle.stmt_syntax.specs.declared.statements.Stmt.{Stmt}
 use Rattle.stmt_reader.specs.Reading.{statement}
-use Rattle.stmt_reader.specs.Streams.{stream}
+use Rattle.stmt_tokens.specs.Streams.{stream}
 use Rattle.ts_sessions.specs.Procedures.{Procedure}
 use Rattle.ts_sessions.specs.Places.{Places, Turn}
 use Rattle.ts_sessions.specs.Step.{as_read, block_refusal, kind_of, named_here, unless}

@@ -3,9 +3,9 @@ use Rattle.std.specs.Prelude.{ℕ, suc, ◌+◌, Bool, true, false, ◌||◌, co
 use Rattle.std.specs.List.{list_any}
 use Rattle.ts_model.specs.History.{History}
 use Rattle.ts_model.specs.Roster.{same_name}
-use Rattle.stmt_reader.specs.declared.lines.LineKind.{LineKind}
-use Rattle.stmt_reader.specs.declared.lines.LineKind.TheVariants.{Blank, NotAscii, NoSession, Stmt}
-use Rattle.stmt_reader.specs.Lines.{line_kind, session_name}
+use Rattle.stmt_tokens.specs.declared.lines.LineKind.{LineKind}
+use Rattle.stmt_tokens.specs.declared.lines.LineKind.TheVariants.{Blank, NotAscii, NoSession, Stmt}
+use Rattle.stmt_tokens.specs.Lines.{line_kind, session_name}
 use Rattle.ts_model.specs.Limits.{most_sessions}
 use Rattle.ts_model.specs.Numbers.{line_long, not_ascii, no_session, too_many_sessions}
 use Rattle.result_text.specs.declared.replies.Said.{Said}

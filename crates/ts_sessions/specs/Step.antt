@@ -24,10 +24,10 @@ use Rattle.ts_model.specs.Calls.{refusal, making_table, making_hyper, making_vie
 use Rattle.ts_model.specs.Numbers.{no_token, syntax, bad_number, in_write_block, in_read_block, no_block, no_refresh, no_snapshot, stopped, history_full}
 use Rattle.stmt_reader.specs.declared.faults.Fault.{Fault}
 use Rattle.stmt_reader.specs.declared.faults.Fault.TheVariants as faults
-use Rattle.stmt_reader.specs.declared.statements.Stmt.{Stmt}
-use Rattle.stmt_reader.specs.declared.statements.Stmt.TheVariants as stmts
+use Rattle.stmt_syntax.specs.declared.statements.Stmt.{Stmt}
+use Rattle.stmt_syntax.specs.declared.statements.Stmt.TheVariants as stmts
 use Rattle.stmt_reader.specs.Reading.{statement}
-use Rattle.stmt_reader.specs.Streams.{Stream, stream}
+use Rattle.stmt_tokens.specs.Streams.{Stream, stream}
 use Rattle.stmt_check.specs.declared.actions.Action.{Action}
 use Rattle.stmt_check.specs.declared.actions.Action.TheVariants as actions
 use Rattle.stmt_check.specs.Check.{action_of, refusal_of}

@@ -24,7 +24,7 @@ use Rattle.ts_sessions.specs.Sessions.{IsReply, changed, turn_of}
 use Rattle.ts_sessions.specs.Sound.{IsThere}
 use Rattle.ts_sessions.specs.Step.{in_form, shown_in}
 use Rattle.ts_sessions.specs.Told.{Told, Tells}
-use Rattle.stmt_reader.specs.declared.statements.Stmt.{Stmt}
+use Rattle.stmt_syntax.specs.declared.statements.Stmt.{Stmt}
 use Rattle.ts_sessions.specs.declared.tellers.ToldLine.{ToldLine}
 use Rattle.ts_model.specs.Answers.{answer}
 use Rattle.ts_model.specs.Allowed.{all_allowed}

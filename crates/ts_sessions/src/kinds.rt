@@ -2,7 +2,7 @@
 ghost use Rattle.std.specs.Prelude.{◌≡◌};
 ghost use Rattle.ts_sessions.specs.Step.{kind_of as kind_of_stmt};
 
-use stmt_reader::Stmt;
+use stmt_syntax::Stmt;
 
 /// The kind of a statement.
 #[derive(Clone, Copy, Debug, PartialEq, Eq)]

@@ -28,7 +28,7 @@ use result_text::Said;
 use std::alloc::Global;
 use std::thread::Threads;
 use stmt_check::{Action, Checked, check};
-use stmt_reader::Stmt;
+use stmt_syntax::Stmt;
 use ts_model::{Backend, Op, Refusal, Roster, Shown};
 use ts_schema::{NoMemory, Steps};
 

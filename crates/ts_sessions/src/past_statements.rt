@@ -30,7 +30,7 @@ use crate::sessions::Session;
 use result_text::Said;
 use std::alloc::Global;
 use std::thread::Threads;
-use stmt_reader::Stmt;
+use stmt_syntax::Stmt;
 use ts_model::{Refusal, Shown};
 use ts_schema::{NoMemory, Steps};
 

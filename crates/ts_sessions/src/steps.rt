@@ -17,7 +17,8 @@ use crate::replies::{Reply, StepEnd, replied, write_reply};
 use crate::sessions::Session;
 use std::alloc::Global;
 use std::thread::Threads;
-use stmt_reader::{ReadStmt, Stmt, read_stmt};
+use stmt_reader::{ReadStmt, read_stmt};
+use stmt_syntax::Stmt;
 use ts_model::{Backend, Gate, Shown, codes};
 use ts_schema::{NoMemory, Steps};
 

@@ -1,8 +1,8 @@
 use Rattle.std.proofs.Common.{◌≡◌, ◌≤◌, length, sym, ◌∙◌, arith}
 use Rattle.std.proofs.lemmas.List.{length-take-le}
-use Rattle.stmt_reader.specs.Lines.{line_kind}
-use Rattle.stmt_reader.specs.declared.lines.LineKind.TheVariants.{Stmt}
-use Rattle.stmt_reader.proofs.StatementLines.{statement_line}
+use Rattle.stmt_tokens.specs.Lines.{line_kind}
+use Rattle.stmt_tokens.specs.declared.lines.LineKind.TheVariants.{Stmt}
+use Rattle.stmt_tokens.proofs.StatementLines.{statement_line}
 use Rattle.audit.proofs.lines.line_of.Goals as goal
 
 pub returns-in-Stmt-clause-within : goal.returns-in-Stmt-clause-within

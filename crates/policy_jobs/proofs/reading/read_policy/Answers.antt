@@ -1,4 +1,4 @@
-use Rattle.stmt_reader.specs.Streams.{stream}
+use Rattle.stmt_tokens.specs.Streams.{stream}
 use Rattle.stmt_reader.proofs.Verdict.{stream_rises}
 use Rattle.policy_jobs.specs.Reading.{statement}
 use Rattle.policy_jobs.proofs.Judging.{judged, verdict}

@@ -1,11 +1,11 @@
 -- A line that no session answers leaves all as it was, and any other is that of its session.
 use Rattle.std.proofs.Common.{arith, length, refl, sym}
-use Rattle.stmt_reader.specs.declared.lines.LineKind.TheVariants.{Blank, NotAscii, NoSession, Stmt}
+use Rattle.stmt_tokens.specs.declared.lines.LineKind.TheVariants.{Blank, NotAscii, NoSession, Stmt}
 use Rattle.ts_sessions.specs.declared.replies.StepEnd.TheVariants.{Reply}
 use Rattle.ts_sessions.specs.Script.{executes_kind}
 use Rattle.script_run.specs.Sessions.{script_state_of}
 use Rattle.script_run.proofs.LineLaws.{as_kind, refusal_executed, same_answered, taken_as, unchanged}
-use Rattle.stmt_reader.proofs.StatementLines.{statement_line}
+use Rattle.stmt_tokens.proofs.StatementLines.{statement_line}
 use Rattle.script_run.proofs.lines.execute_line.Goals as goal
 
 pub execute_statement-requires-clause-statement_line : goal.execute_statement-requires-clause-statement_line

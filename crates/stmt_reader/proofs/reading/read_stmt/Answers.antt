@@ -1,5 +1,5 @@
 use Rattle.stmt_reader.specs.Reading.{statement}
-use Rattle.stmt_reader.specs.Streams.{stream}
+use Rattle.stmt_tokens.specs.Streams.{stream}
 use Rattle.stmt_reader.proofs.Verdict.{judged, verdict, stream_rises}
 use Rattle.stmt_reader.proofs.WrittenLaws.{written}
 use Rattle.stmt_reader.proofs.reading.read_stmt.Goals as goal

@@ -1,8 +1,8 @@
 use Rattle.std.proofs.Common.{sym, ◌∙◌}
-use Rattle.stmt_reader.specs.Scan as scan
-use Rattle.stmt_reader.specs.Scan.{view}
-use Rattle.stmt_reader.specs.Streams.{stream}
-use Rattle.stmt_reader.specs.Words.{is_mark}
+use Rattle.stmt_tokens.specs.Scan as scan
+use Rattle.stmt_tokens.specs.Scan.{view}
+use Rattle.stmt_tokens.specs.Streams.{stream}
+use Rattle.stmt_tokens.specs.Words.{is_mark}
 use Rattle.stmt_reader.proofs.RowBytes.{comes, heads_by}
 use Rattle.stmt_reader.proofs.rows.mark_behind.Goals as goal
 

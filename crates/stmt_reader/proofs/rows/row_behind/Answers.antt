@@ -1,8 +1,8 @@
 use Rattle.std.proofs.Common.{sym, ap, ◌∙◌}
 use Rattle.stmt_reader.specs.Reading.{row}
-use Rattle.stmt_reader.specs.Streams.{stream}
-use Rattle.stmt_reader.specs.Words.{is_mark}
-use Rattle.stmt_reader.specs.declared.tokens.Mark.TheVariants as marks
+use Rattle.stmt_tokens.specs.Streams.{stream}
+use Rattle.stmt_tokens.specs.Words.{is_mark}
+use Rattle.stmt_tokens.specs.declared.tokens.Mark.TheVariants as marks
 use Rattle.stmt_reader.proofs.RowBytes.{from_value, row_opens, row_goes_on, row_may_close, value_shrinks}
 use Rattle.stmt_reader.proofs.rows.row_behind.Goals as goal
 

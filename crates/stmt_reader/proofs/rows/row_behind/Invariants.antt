@@ -1,6 +1,6 @@
 -- What was read of the row, and where its next value begins.
 use Rattle.std.proofs.Common.{◌≡◌, ◌≤◌, length}
-use Rattle.stmt_reader.specs.Streams.{stream, size}
+use Rattle.stmt_tokens.specs.Streams.{stream, size}
 use Rattle.stmt_reader.specs.Reading.{row}
 use Rattle.stmt_reader.proofs.RowBytes.{from_value}
 use Rattle.stmt_reader.proofs.rows.row_behind.Given as goal

@@ -1,7 +1,7 @@
 use Rattle.std.proofs.Common.{◌≡◌, ℕ, ◌≤◌, Option, length, subst, arith}
 use Rattle.std.specs.Prelude.{Ok, IfSome}
 use Rattle.stmt_reader.specs.Reading.{more, parts, row}
-use Rattle.stmt_reader.specs.Streams.{stream}
+use Rattle.stmt_tokens.specs.Streams.{stream}
 use Rattle.stmt_reader.specs.declared.phrases.Separator.TheVariants.{Comma}
 use Rattle.stmt_reader.proofs.RowBytes.{row_shrinks, rows_go_on}
 use Rattle.stmt_reader.proofs.rows.rows_behind.Goals as goal

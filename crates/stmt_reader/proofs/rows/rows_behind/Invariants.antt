@@ -1,6 +1,6 @@
 -- The rows so far and those to come are the rows at first and those that came behind them.
 use Rattle.std.proofs.Common.{◌≡◌, ◌≤◌, length}
-use Rattle.stmt_reader.specs.Streams.{stream, size}
+use Rattle.stmt_tokens.specs.Streams.{stream, size}
 use Rattle.stmt_reader.specs.Reading.{more, parts, row}
 use Rattle.stmt_reader.specs.declared.phrases.Separator.TheVariants.{Comma}
 use Rattle.stmt_reader.proofs.rows.rows_behind.Given as goal

@@ -1,7 +1,7 @@
 use Rattle.std.proofs.Common.{sym}
-use Rattle.stmt_reader.specs.Scan as scan
-use Rattle.stmt_reader.specs.Scan.{view}
-use Rattle.stmt_reader.specs.Streams.{stream}
+use Rattle.stmt_tokens.specs.Scan as scan
+use Rattle.stmt_tokens.specs.Scan.{view}
+use Rattle.stmt_tokens.specs.Streams.{stream}
 use Rattle.stmt_reader.proofs.RowBytes.{comes, value_by}
 use Rattle.stmt_reader.proofs.rows.value_behind.Goals as goal
 

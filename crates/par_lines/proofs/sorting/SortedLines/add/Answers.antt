@@ -2,7 +2,7 @@
 use Rattle.std.proofs.Common.{◌+◌, sym, subst, refl, IsTrue, arith}
 use Rattle.std.proofs.lemmas.Result.{on_ok_weaker}
 use Rattle.ts_schema.specs.Names.{is_name}
-use Rattle.stmt_reader.specs.declared.lines.LineKind.TheVariants.{Blank, NotAscii, NoSession}
+use Rattle.stmt_tokens.specs.declared.lines.LineKind.TheVariants.{Blank, NotAscii, NoSession}
 use Rattle.ts_model.specs.Numbers.{not_ascii, no_session}
 use Rattle.par_lines.specs.Places.{sorted_of}
 use Rattle.par_lines.proofs.SortedLaws.{sorted_kind, sorted_refusal, sorted_statement, statement, statement_within}

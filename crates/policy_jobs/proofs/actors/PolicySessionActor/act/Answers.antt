@@ -1,5 +1,5 @@
 use Rattle.std.proofs.Common.{◌<◌, ◌^◌, [], ◌∷◌, cond, false, refl, rules, subst, sym, arith}
-use Rattle.stmt_reader.specs.Streams.{stream}
+use Rattle.stmt_tokens.specs.Streams.{stream}
 use Rattle.result_text.specs.declared.replies.Said.TheVariants as said
 use Rattle.ts_sessions.specs.Procedures.{ending_as}
 use Rattle.ts_sessions.specs.Sessions.{AnswersSo, Stepped}

@@ -1,10 +1,10 @@
 use Rattle.std.proofs.Common.{length, sym, ap, subst, ◌∙◌}
 use Rattle.stmt_reader.specs.Cursor.{ahead}
-use Rattle.stmt_reader.specs.Streams.{stream}
-use Rattle.stmt_reader.specs.Scan.{view_ahead, SeenFits}
-use Rattle.stmt_reader.specs.declared.tokens.Ahead.{Ahead}
-use Rattle.stmt_reader.proofs.Flow.{begins_with, tail_of, Stays}
-use Rattle.stmt_reader.proofs.Lexemes.{ahead_fits}
+use Rattle.stmt_tokens.specs.Streams.{stream}
+use Rattle.stmt_tokens.specs.Scan.{view_ahead, SeenFits}
+use Rattle.stmt_tokens.specs.declared.tokens.Ahead.{Ahead}
+use Rattle.stmt_reader.proofs.NextTokens.{begins_with, tail_of, Stays}
+use Rattle.stmt_tokens.proofs.Lexemes.{ahead_fits}
 use Rattle.stmt_reader.proofs.reader.Reader.advance.Goals as goal
 
 pub look-self-inside-requires : goal.look-self-inside-requires

@@ -1,11 +1,11 @@
 use Rattle.std.proofs.Common.{◌≡◌, ◌∙◌, FitsSigned, Ok, ap, rules, to_z-of_z, w64}
 use Rattle.std.proofs.lemmas.Result.{err_from_is_err_and}
 use Rattle.stmt_reader.specs.Cursor.{ahead}
-use Rattle.stmt_reader.specs.Streams.{Stream}
-use Rattle.stmt_reader.specs.Words.{calendar_word}
+use Rattle.stmt_tokens.specs.Streams.{Stream}
+use Rattle.stmt_syntax.specs.Heads.{calendar_word}
 use Rattle.stmt_reader.specs.Reading.{bind, calendar_bucket, calendar_rest, fold_behind, gives, go_on}
 use Rattle.stmt_reader.specs.declared.folds.CalendarHead.{CalendarHead}
-use Rattle.stmt_reader.specs.declared.statements.Stmt.TheVariants as stmt
+use Rattle.stmt_syntax.specs.declared.statements.Stmt.TheVariants as stmt
 use Rattle.stmt_reader.proofs.Loops.{go_on_fails}
 use Rattle.stmt_reader.proofs.reader.Reader.calendar.Goals as goal
 

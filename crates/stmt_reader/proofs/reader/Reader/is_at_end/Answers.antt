@@ -1,7 +1,7 @@
 use Rattle.std.proofs.Common.{sym, ap, ◌∙◌}
-use Rattle.stmt_reader.specs.Scan.{view_ahead}
-use Rattle.stmt_reader.specs.declared.tokens.Ahead.{Ahead}
-use Rattle.stmt_reader.proofs.Flow.{begins_with, end_of}
+use Rattle.stmt_tokens.specs.Scan.{view_ahead}
+use Rattle.stmt_tokens.specs.declared.tokens.Ahead.{Ahead}
+use Rattle.stmt_reader.proofs.NextTokens.{begins_with, end_of}
 use Rattle.stmt_reader.proofs.reader.Reader.is_at_end.Goals as goal
 
 pub returns-in-End : goal.returns-in-End

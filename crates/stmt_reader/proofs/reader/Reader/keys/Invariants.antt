@@ -1,6 +1,6 @@
 use Rattle.std.proofs.Common.{◌≡◌, []}
 use Rattle.stmt_reader.specs.Cursor.{ahead}
-use Rattle.stmt_reader.specs.Streams.{size}
+use Rattle.stmt_tokens.specs.Streams.{size}
 use Rattle.stmt_reader.specs.Reading.{keys_and_function}
 use Rattle.stmt_reader.proofs.reader.Reader.keys.Given as goal
 

@@ -1,13 +1,13 @@
 use Rattle.std.proofs.Common.{◌≡◌, refl, sym, ap, ◌∙◌}
 use Rattle.std.specs.Prelude.{Some}
 use Rattle.std.proofs.lemmas.Result.{err_from_is_err_and}
-use Rattle.stmt_reader.specs.Bytes.{lower}
+use Rattle.stmt_tokens.specs.Bytes.{lower}
 use Rattle.stmt_reader.specs.Cursor.{ahead}
-use Rattle.stmt_reader.specs.Words.{is_mark, function_of_word}
+use Rattle.stmt_tokens.specs.Words.{is_mark, function_of_word}
 use Rattle.stmt_reader.specs.Reading.{bind, gives, wanted}
-use Rattle.stmt_reader.specs.declared.tokens.Mark.TheVariants as marks
+use Rattle.stmt_tokens.specs.declared.tokens.Mark.TheVariants as marks
 use Rattle.stmt_reader.proofs.Loops.{go_on_fails}
-use Rattle.stmt_reader.proofs.Named.{lower_name}
+use Rattle.stmt_tokens.proofs.Named.{lower_name}
 use Rattle.stmt_reader.proofs.reader.Reader.known.Goals as goal
 
 pub returns-in_err-mark : goal.returns-in_err-mark

@@ -2,7 +2,7 @@ use Rattle.std.proofs.Common.{◌≡◌, ℕ, suc, drop, subst, add-one}
 use Rattle.std.specs.Prelude.{Ok}
 use Rattle.std.proofs.lemmas.Result.{err_from_is_err_and}
 use Rattle.stmt_reader.specs.Cursor.{ahead}
-use Rattle.stmt_reader.specs.Words.{is_item}
+use Rattle.stmt_tokens.specs.Words.{is_item}
 use Rattle.stmt_reader.specs.Reading.{Fails, wanted, items_from}
 use Rattle.stmt_reader.proofs.Loops.{drop_at_item, items_turn, items_fail_at_comma, items_fail_at_item}
 use Rattle.stmt_reader.proofs.reader.Reader.more_items.Goals as goal

@@ -1,6 +1,6 @@
 use Rattle.std.proofs.Common.{sym, ap, ◌∙◌}
-use Rattle.stmt_reader.specs.Bytes.{lower}
-use Rattle.stmt_reader.proofs.Named.{lower_name}
+use Rattle.stmt_tokens.specs.Bytes.{lower}
+use Rattle.stmt_tokens.proofs.Named.{lower_name}
 use Rattle.stmt_reader.proofs.reader.Reader.named_item.Goals as goal
 
 pub item-requires : goal.item-requires

@@ -1,8 +1,8 @@
 use Rattle.std.proofs.Common.{length, sym, ap, subst, ◌∙◌, arith}
-use Rattle.stmt_reader.specs.Scan.{view_ahead, SeenFits}
-use Rattle.stmt_reader.specs.declared.tokens.Ahead.{Ahead}
-use Rattle.stmt_reader.proofs.Flow.{begins_with, place_of}
-use Rattle.stmt_reader.proofs.Lexemes.{ahead_fits}
+use Rattle.stmt_tokens.specs.Scan.{view_ahead, SeenFits}
+use Rattle.stmt_tokens.specs.declared.tokens.Ahead.{Ahead}
+use Rattle.stmt_reader.proofs.NextTokens.{begins_with, place_of}
+use Rattle.stmt_tokens.proofs.Lexemes.{ahead_fits}
 use Rattle.stmt_reader.proofs.reader.Reader.place.Goals as goal
 
 pub overflow_cast-result : goal.overflow_cast-result

@@ -1,10 +1,10 @@
 use Rattle.std.proofs.Common.{ℕ, ap, subst, ◌∙◌}
 use Rattle.stmt_reader.specs.Cursor.{ahead}
-use Rattle.stmt_reader.specs.Scan.{view_ahead}
+use Rattle.stmt_tokens.specs.Scan.{view_ahead}
 use Rattle.stmt_reader.specs.declared.faults.Fault.TheVariants.{Syntax, NoToken}
 use Rattle.stmt_reader.specs.declared.faults.ReadError.TheVariants as errors
-use Rattle.stmt_reader.specs.declared.tokens.Ahead.{Ahead}
-use Rattle.stmt_reader.proofs.Flow.{begins_with, Refuses}
+use Rattle.stmt_tokens.specs.declared.tokens.Ahead.{Ahead}
+use Rattle.stmt_reader.proofs.NextTokens.{begins_with, Refuses}
 use Rattle.stmt_reader.proofs.reader.Reader.refusal.Goals as goal
 
 pub returns-in-Token : goal.returns-in-Token

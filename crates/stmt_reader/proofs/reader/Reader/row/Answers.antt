@@ -2,7 +2,7 @@ use Rattle.std.proofs.Common.{◌≡◌, ℕ, ◌≤◌, List, Option, length, s
 use Rattle.std.specs.Prelude.{Ok, IfSome}
 use Rattle.stmt_reader.specs.Cursor.{ahead}
 use Rattle.stmt_reader.specs.Reading.{row}
-use Rattle.stmt_reader.specs.Streams.{stream}
+use Rattle.stmt_tokens.specs.Streams.{stream}
 use Rattle.stmt_reader.proofs.RowBytes.{read_before, read_behind}
 use Rattle.stmt_reader.proofs.reader.Reader.row.Goals as goal
 

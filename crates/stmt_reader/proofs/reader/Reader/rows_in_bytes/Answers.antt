@@ -1,6 +1,6 @@
 use Rattle.std.proofs.Common.{ℕ, ◌≤◌, List, length, sym, ap, subst, ◌∙◌, arith}
 use Rattle.stmt_reader.specs.Reading.{more, parts, row}
-use Rattle.stmt_reader.specs.Streams.{size}
+use Rattle.stmt_tokens.specs.Streams.{size}
 use Rattle.stmt_reader.specs.declared.phrases.Separator.TheVariants.{Comma}
 use Rattle.stmt_reader.proofs.RowBytes.{read_before, read_behind}
 use Rattle.stmt_reader.proofs.reader.Reader.rows_in_bytes.Goals as goal

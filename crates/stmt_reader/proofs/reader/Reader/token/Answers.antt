@@ -1,8 +1,8 @@
 use Rattle.std.proofs.Common.{sym, ap, subst, ◌∙◌}
-use Rattle.stmt_reader.specs.Scan.{view_ahead}
-use Rattle.stmt_reader.specs.declared.tokens.Ahead.{Ahead}
-use Rattle.stmt_reader.proofs.Flow.{begins_with, token_of}
-use Rattle.stmt_reader.proofs.Named.{named_next, IsNamedNext}
+use Rattle.stmt_tokens.specs.Scan.{view_ahead}
+use Rattle.stmt_tokens.specs.declared.tokens.Ahead.{Ahead}
+use Rattle.stmt_reader.proofs.NextTokens.{begins_with, token_of}
+use Rattle.stmt_tokens.proofs.Named.{named_next, IsNamedNext}
 use Rattle.stmt_reader.proofs.reader.Reader.token.Goals as goal
 
 pub returns-in-Token-clause-seen : goal.returns-in-Token-clause-seen

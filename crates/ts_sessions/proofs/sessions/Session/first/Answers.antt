@@ -4,7 +4,7 @@ use Rattle.ts_sessions.specs.declared.blocks.Open.TheVariants as opens
 use Rattle.ts_sessions.specs.declared.changes.Change.TheVariants as changes
 use Rattle.ts_sessions.specs.declared.deeds.Deed.TheVariants as deeds
 use Rattle.ts_sessions.specs.declared.deeds.Next.TheVariants as nexts
-use Rattle.stmt_reader.specs.declared.statements.Stmt.TheVariants as stmts
+use Rattle.stmt_syntax.specs.declared.statements.Stmt.TheVariants as stmts
 use Rattle.ts_sessions.specs.Deeds.{Opens, Takes, closing, holding, opening, rest_next, said_once}
 use Rattle.ts_sessions.specs.Held.{places_in}
 use Rattle.ts_sessions.specs.Procedures.{looks}

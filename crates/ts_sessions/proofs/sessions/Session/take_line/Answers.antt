@@ -1,7 +1,7 @@
 use Rattle.std.proofs.Common.{length, subst, sym, arith}
 use Rattle.std.specs.Prelude.{OnErr}
 use Rattle.stmt_reader.specs.Reading.{statement}
-use Rattle.stmt_reader.specs.Streams.{stream}
+use Rattle.stmt_tokens.specs.Streams.{stream}
 use Rattle.ts_sessions.specs.Sessions.{Spares}
 use Rattle.ts_sessions.proofs.SessionLaws.{read_meant}
 use Rattle.ts_sessions.specs.Held.{places_in}

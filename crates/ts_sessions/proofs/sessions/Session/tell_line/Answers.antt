@@ -1,6 +1,6 @@
 use Rattle.std.proofs.Common.{◌∙◌, ap, length, sym}
 use Rattle.stmt_reader.specs.Reading.{statement}
-use Rattle.stmt_reader.specs.Streams.{stream}
+use Rattle.stmt_tokens.specs.Streams.{stream}
 use Rattle.stmt_reader.specs.declared.faults.Fault.TheVariants as faults
 use Rattle.ts_sessions.specs.Held.{places_in}
 use Rattle.ts_sessions.specs.Replies.{reply_to}

@@ -1,5 +1,0 @@
-use Rattle.stmt_reader.proofs.AsciiTexts.{ascii_of_each}
-use Rattle.stmt_reader.proofs.lines.is_ascii.Goals as goal
-
-pub returns : goal.returns
-returns c = ascii_of_each c.is_ascii.result c.args.text.now c.is_ascii.ensures.cases

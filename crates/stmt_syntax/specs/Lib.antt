@@ -1,0 +1,4 @@
+pub mod Heads
+pub mod Limits
+pub mod Proper
+pub mod Written

@@ -1,0 +1,18 @@
+//! Lines of a script and their tokens.
+//!
+//! - `lines`: a line without its comment, and the session that speaks in it.
+//! - `tokens`: words, numbers, quoted names and marks.
+//! - `keywords`, `names`: the words of the grammar, and names as they are written.
+#![tactic(auto)]
+
+mod keywords;
+mod lines;
+mod names;
+mod tokens;
+
+pub use keywords::Keyword;
+pub use lines::{LineKind, split_line};
+pub use names::name_of;
+pub use tokens::{
+    Ahead, Mark, Token, TokenAt, TokenKind, function_named, look, look_behind_blanks, next_token,
+};
