@@ -40,6 +40,14 @@ impl<T> CellRows<T> {
         }
     }
 
+    /// The rows whose cells stand one after another in `cells`, by where each of them ends.
+    pub fn of(cells: Vec<T>, ends: Vec<usize>) -> CellRows<T>
+        requires parts { AreParts 0 ends.items cells.items }
+        ensures rows { result ≡ parts 0 ends.items cells.items }
+    {
+        CellRows { cells, ends }
+    }
+
     /// How many rows there are.
     pub fn len(&self) -> usize
         ensures len { result ≡ length self.now }

@@ -1,5 +1,6 @@
 //! The rows of a hypertable that pass tests.
 ghost use Rattle.std.specs.Prelude.{◌≡◌, [], ◌∷◌, ◌++◌, filter, map, IfOk, OnOk};
+ghost use Rattle.cell_rows.specs.Parts.{AreParts, parts};
 ghost use Rattle.ts_schema.specs.Conditions.{passes_all};
 ghost use Rattle.ts_schema.specs.Counts.{Ticks};
 ghost use Rattle.ts_model.specs.Answers.{all_columns};
@@ -59,13 +60,14 @@ fn passing_in_order(found: Seq<Row>, tests: &Seq<Test>) -> Result<Vec<Row>, NoMe
 fn columns_of_each(alloc: Global, at: u32, rows: &[Row]) -> Result<CellRows<Datum>, NoMemory>
     ensures { IfOk result (λ shown. shown ≡ map (all_columns at) rows.now) }
 {
-    let mut shown = CellRows::new(alloc);
     let mut cells = Vec::new(alloc);
-    shown.reserve(rows.len(), rows.len().saturating_mul(width_of(rows)))?;
+    let mut ends = Vec::new(alloc);
+    cells.reserve(rows.len().saturating_mul(width_of(rows)))?;
+    ends.reserve(rows.len())?;
     for row in rows {
-        show_row(at, row, &mut cells, &mut shown)?;
+        show_row(at, row, &mut cells, &mut ends)?;
     }
-    Ok(shown)
+    Ok(CellRows::of(cells, ends))
 }
 
 /// How many columns these rows have, which is the same for all rows of a table: 0 where there is no row.
@@ -76,18 +78,21 @@ fn width_of(rows: &[Row]) -> usize {
     }
 }
 
-/// Appends a row with all its columns. It is made where there is room for cells, of which none stays.
+/// Appends a row with all its columns: its cells, and the place where they end.
 fn show_row(
     at: u32,
     row: &Row,
     cells: &mut Vec<Datum>,
-    shown: &mut CellRows<Datum>,
+    ends: &mut Vec<usize>,
 ) -> Result<(), NoMemory>
-    ensures shown { OnOk result (shown.new ≡ shown.old ++ all_columns at row.now ∷ []) }
+    requires parts { AreParts 0 ends.old.items cells.old.items }
+    ensures parts { OnOk result (AreParts 0 ends.new.items cells.new.items) }
+    ensures shown { OnOk result (parts 0 ends.new.items cells.new.items
+        ≡ parts 0 ends.old.items cells.old.items ++ all_columns at row.now ∷ []) }
 {
-    cells.clear();
     put_columns(at, row, cells)?;
-    shown.push(cells.as_slice())
+    ends.push(cells.as_slice().len())?;
+    Ok(())
 }
 
 /// Appends all columns of a row in declared order, where the time column is at this place.

@@ -1,12 +1,12 @@
-//! Groups as they are shown.
+//! Groups as they are shown. Their result rows are made where they stay: the cells of all of them in one
+//! vector, one row after another, and for each row the place where it ends in another.
 ghost use Rattle.std.specs.Prelude.{◌≡◌, [], ◌∷◌, ◌++◌, OnOk, map};
+ghost use Rattle.cell_rows.specs.Parts.{AreParts, parts};
 ghost use Rattle.ts_model.specs.Groups.{cells_of};
 
 use block_list::Iter;
-use cell_rows::CellRows;
 use group_fold::put_cells;
 use partial_agg::Group;
-use std::alloc::Global;
 use ts_model::Fold;
 use ts_num::Datum;
 use ts_schema::NoMemory;
@@ -15,56 +15,67 @@ use ts_schema::NoMemory;
 pub(crate) fn make_room(
     plan: &Fold,
     groups: usize,
-    shown: &mut CellRows<Datum>,
+    cells: &mut Vec<Datum>,
+    ends: &mut Vec<usize>,
 ) -> Result<(), NoMemory>
-    ensures same { shown.new ≡ shown.old }
+    ensures cells { cells.new.items ≡ cells.old.items }
+    ensures ends { ends.new.items ≡ ends.old.items }
 {
     let others = plan.keys.len().saturating_add(plan.aggs.len());
-    shown.reserve(groups, groups.saturating_mul(others.saturating_add(1)))
+    ends.reserve(groups)?;
+    cells.reserve(groups.saturating_mul(others.saturating_add(1)))?;
+    Ok(())
 }
 
 /// Appends the result rows of these groups.
 pub(crate) fn show(
-    alloc: Global,
     plan: &Fold,
     groups: &[Group],
-    shown: &mut CellRows<Datum>,
+    cells: &mut Vec<Datum>,
+    ends: &mut Vec<usize>,
 ) -> Result<(), NoMemory>
-    ensures shown { OnOk result (shown.new ≡ shown.old ++ map (cells_of plan.now) groups.now) }
+    requires parts { AreParts 0 ends.old.items cells.old.items }
+    ensures parts { OnOk result (AreParts 0 ends.new.items cells.new.items) }
+    ensures shown { OnOk result (parts 0 ends.new.items cells.new.items
+        ≡ parts 0 ends.old.items cells.old.items ++ map (cells_of plan.now) groups.now) }
 {
-    let mut cells = Vec::new(alloc);
     for group in groups {
-        show_group(plan, group, &mut cells, shown)?;
+        show_group(plan, group, cells, ends)?;
     }
     Ok(())
 }
 
 /// Appends the result rows of the groups that are left of a list.
 pub(crate) fn show_each(
-    alloc: Global,
     plan: &Fold,
     groups: Iter<'_, Group>,
-    shown: &mut CellRows<Datum>,
+    cells: &mut Vec<Datum>,
+    ends: &mut Vec<usize>,
 ) -> Result<(), NoMemory>
-    ensures shown { OnOk result (shown.new ≡ shown.old ++ map (cells_of plan.now) groups.entry) }
+    requires parts { AreParts 0 ends.old.items cells.old.items }
+    ensures parts { OnOk result (AreParts 0 ends.new.items cells.new.items) }
+    ensures shown { OnOk result (parts 0 ends.new.items cells.new.items
+        ≡ parts 0 ends.old.items cells.old.items ++ map (cells_of plan.now) groups.entry) }
 {
-    let mut cells = Vec::new(alloc);
     for group in groups {
-        show_group(plan, group, &mut cells, shown)?;
+        show_group(plan, group, cells, ends)?;
     }
     Ok(())
 }
 
-/// Appends the result row of a group. It is made where there is room for cells, of which none stays.
+/// Appends the result row of a group.
 fn show_group(
     plan: &Fold,
     group: &Group,
     cells: &mut Vec<Datum>,
-    shown: &mut CellRows<Datum>,
+    ends: &mut Vec<usize>,
 ) -> Result<(), NoMemory>
-    ensures shown { OnOk result (shown.new ≡ shown.old ++ cells_of plan.now group.now ∷ []) }
+    requires parts { AreParts 0 ends.old.items cells.old.items }
+    ensures parts { OnOk result (AreParts 0 ends.new.items cells.new.items) }
+    ensures shown { OnOk result (parts 0 ends.new.items cells.new.items
+        ≡ parts 0 ends.old.items cells.old.items ++ cells_of plan.now group.now ∷ []) }
 {
-    cells.clear();
     put_cells(plan, group, cells)?;
-    shown.push(cells.as_slice())
+    ends.push(cells.as_slice().len())?;
+    Ok(())
 }

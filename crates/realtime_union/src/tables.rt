@@ -35,10 +35,11 @@ pub fn folded_rows<R: Threads + Sync, W: RowsAt, L>(
 {
     let _so_far = steps.count();
     let groups = all_groups(rt, alloc, rows, table, plan, steps)?;
-    let mut shown = CellRows::new(alloc);
-    make_room(plan, groups.len(), &mut shown)?;
-    show(alloc, plan, groups.items(), &mut shown)?;
-    Ok(shown)
+    let mut cells = Vec::new(alloc);
+    let mut ends = Vec::new(alloc);
+    make_room(plan, groups.len(), &mut cells, &mut ends)?;
+    show(plan, groups.items(), &mut cells, &mut ends)?;
+    Ok(CellRows::of(cells, ends))
 }
 
 /// The groups of all rows.

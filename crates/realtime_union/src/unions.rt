@@ -43,12 +43,13 @@ pub fn union_rows<R: Threads + Sync, W: RowsAt, L>(
 {
     let _so_far = steps.count();
     let live = live_of(rt, alloc, rows, def, live, steps)?;
-    let mut shown = CellRows::new(alloc);
+    let mut cells = Vec::new(alloc);
+    let mut ends = Vec::new(alloc);
     let count = kept.len().saturating_add(live.len());
-    make_room(&def.fold, count, &mut shown)?;
-    show_each(alloc, &def.fold, kept, &mut shown)?;
-    show(alloc, &def.fold, live.items(), &mut shown)?;
-    Ok(shown)
+    make_room(&def.fold, count, &mut cells, &mut ends)?;
+    show_each(&def.fold, kept, &mut cells, &mut ends)?;
+    show(&def.fold, live.items(), &mut cells, &mut ends)?;
+    Ok(CellRows::of(cells, ends))
 }
 
 /// The groups of the live buckets, or none where materialised rows only are shown.

@@ -1,3 +1,4 @@
+pub mod DigitLaws
 pub mod Divisors
 pub mod EndLaws
 pub mod LowestTerms

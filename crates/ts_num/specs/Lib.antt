@@ -1,3 +1,4 @@
 pub mod Aggregates
+pub mod Digits
 pub mod Fractions
 pub mod Texts

@@ -1,11 +1,13 @@
 //! Numbers that an answer shows: whole numbers, NULLs and exact ratios, with their decimal text.
 //!
+//! - `digits`: the digits of a number, put behind what stands in a vector.
 //! - `ends`: the lesser and the greater of two numbers that may be missing.
 //! - `fractions`: a fraction, and the one in lowest terms of a sum over a count.
 //! - `texts`: what a number and a value look like in an answer.
 //! - `values`: the aggregate functions, and the value that a cell of an answer shows.
 #![tactic(auto)]
 
+mod digits;
 mod ends;
 mod fractions;
 mod texts;

@@ -1,0 +1,15 @@
+-- The cells of the group are a row once it is told where they end.
+use Rattle.std.proofs.Common.{◌≡◌, ◌∙◌, ap, length}
+use Rattle.cell_rows.proofs.PartLaws.{row_ended}
+use Rattle.ts_model.specs.Groups.{cells_of}
+use Rattle.realtime_union.proofs.shown.show_group.Goals as goal
+
+pub returns-clause-parts : goal.returns-clause-parts
+returns-clause-parts c =
+    (row_ended c.args.ends.now.items c.push.new.self.items c.args.cells.now.items c.put_cells.new.cells.items (cells_of c.args.plan.now c.args.group.now) (length c.as_slice.result.now)
+    c.requires.parts c.in_ok-put_cells.ensures.appended (ap length c.as_slice.ensures.value) c.in_ok-push.ensures.items).0
+
+pub returns-clause-shown : goal.returns-clause-shown
+returns-clause-shown c =
+    (row_ended c.args.ends.now.items c.push.new.self.items c.args.cells.now.items c.put_cells.new.cells.items (cells_of c.args.plan.now c.args.group.now) (length c.as_slice.result.now)
+    c.requires.parts c.in_ok-put_cells.ensures.appended (ap length c.as_slice.ensures.value) c.in_ok-push.ensures.items).1
