@@ -20,9 +20,9 @@ use Rattle.event_check.specs.Checks.{call_refusal, event_refusal, refusal_in}
 use Rattle.engine_core.specs.Acts.{making_event, unless, with_answer}
 use Rattle.engine_core.specs.Effects.{effect_of}
 use Rattle.engine_core.proofs.ActLaws.{free_where_allowed, room_where_free}
-use Rattle.ts_sessions.specs.Pasts.{CameTo}
-use Rattle.ts_sessions.specs.declared.pasts.Came.{Came}
-use Rattle.ts_sessions.specs.declared.pasts.Came.TheVariants.{Made, Returned, Refused, Otherwise}
+use Rattle.past_sessions.specs.Pasts.{CameTo}
+use Rattle.past_sessions.specs.declared.pasts.Came.{Came}
+use Rattle.past_sessions.specs.declared.pasts.Came.TheVariants.{Made, Returned, Refused, Otherwise}
 use Rattle.audit.specs.Calls.{came_as, numbered_only}
 
 -- ---- refusals have numbers

@@ -15,13 +15,13 @@ use Rattle.ts_sessions.specs.Made.{made_in}
 use Rattle.ts_sessions.specs.Places.{Places, Turn, no_places}
 use Rattle.ts_sessions.specs.Replies.{reply_to}
 use Rattle.ts_sessions.specs.Script.{SessionLine, text_of}
-use Rattle.ts_sessions.specs.Telling.{IsToldLine, state_of}
-use Rattle.ts_sessions.specs.Told.{Told, Tells}
+use Rattle.past_sessions.specs.Telling.{IsToldLine, state_of}
+use Rattle.past_sessions.specs.Told.{Told, Tells}
 use Rattle.ts_sessions.specs.declared.sessions.Session.{Session}
-use Rattle.ts_sessions.specs.declared.tellers.ToldLine.{ToldLine}
+use Rattle.past_sessions.specs.declared.lines.ToldLine.{ToldLine}
 use Rattle.ts_sessions.proofs.GivenNames.{replies_named}
 use Rattle.ts_sessions.proofs.GivesLaws.{gives_events}
-use Rattle.ts_sessions.proofs.ToldLaws.{told_is_given}
+use Rattle.past_sessions.proofs.ToldLaws.{told_is_given}
 use Rattle.reply_looks.specs.Replies.{looks_in}
 use Rattle.transcript.specs.declared.transcripts.Exchange.{Exchange}
 use Rattle.audit.specs.Lines.{line_of}

@@ -14,8 +14,8 @@ use Rattle.ts_sessions.specs.Places.{Places, Turn}
 use Rattle.ts_sessions.specs.Procedures.{Procedure}
 use Rattle.ts_sessions.specs.Replies.{reply_to}
 use Rattle.ts_sessions.specs.Script.{text_of}
-use Rattle.ts_sessions.specs.Told.{Told, Tells}
-use Rattle.ts_sessions.specs.ToldLaws.{IsToldByReply, RepliesTellTheirLooks, ToldIsGiven, ToldOnce}
+use Rattle.past_sessions.specs.Told.{Told, Tells}
+use Rattle.past_sessions.specs.ToldLaws.{IsToldByReply, RepliesTellTheirLooks, ToldIsGiven, ToldOnce}
 use Rattle.reply_looks.specs.Laws.{TextsTellLooks}
 use Rattle.reply_looks.specs.Replies.{is_line_end, looks_in}
 use Rattle.engine_core.proofs.TimelineLaws.{allowed_fits}

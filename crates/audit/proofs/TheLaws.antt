@@ -1,6 +1,6 @@
 -- The laws that an audit rests on.
-use Rattle.ts_sessions.proofs.LookLaws.{replies_tell}
-use Rattle.ts_sessions.proofs.ToldLaws.{told_is_given, told_once}
+use Rattle.past_sessions.proofs.LookLaws.{replies_tell}
+use Rattle.past_sessions.proofs.ToldLaws.{told_is_given, told_once}
 use Rattle.reply_looks.proofs.TextLaws.{texts_tell as texts_tell_looks}
 use Rattle.audit.proofs.TellerLaws.{Laws}
 

@@ -1,8 +1,8 @@
 -- What a call comes to at a position of a history.
 use Rattle.std.specs.Prelude.{◌==◌, cond, Option, Some, None}
 use Rattle.ts_model.specs.declared.outcomes.Refusal.{Refusal}
-use Rattle.ts_sessions.specs.declared.pasts.Came.{Came}
-use Rattle.ts_sessions.specs.declared.pasts.Came.TheVariants.{Made, Returned, Refused, Otherwise}
+use Rattle.past_sessions.specs.declared.pasts.Came.{Came}
+use Rattle.past_sessions.specs.declared.pasts.Came.TheVariants.{Made, Returned, Refused, Otherwise}
 
 -- a refusal that has a number
 abbrev pub numbered_only : Option Refusal → Option Refusal

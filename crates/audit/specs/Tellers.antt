@@ -3,8 +3,8 @@ use Rattle.std.specs.Prelude.{◌≡◌, ◌≤◌, ℕ, List, ◌++◌, Bool, t
 use Rattle.ts_model.specs.declared.snapshots.Shown.{Ghosts as Shown}
 use Rattle.ts_model.specs.History.{History, position}
 use Rattle.ts_sessions.specs.Held.{HoldsOf, places_in}
-use Rattle.ts_sessions.specs.Telling.{state_of}
-use Rattle.ts_sessions.specs.declared.tellers.ToldLine.{ToldLine}
+use Rattle.past_sessions.specs.Telling.{state_of}
+use Rattle.past_sessions.specs.declared.lines.ToldLine.{ToldLine}
 use Rattle.transcript.specs.declared.transcripts.Exchange.{Exchange}
 use Rattle.audit.specs.Retold.{LieBetween, Retells}
 use Rattle.audit.specs.declared.sessions.Teller.{Teller}

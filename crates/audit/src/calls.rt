@@ -5,15 +5,15 @@ ghost use Rattle.ts_model.specs.declared.outcomes.CutDone.TheVariants.{Cut as Cu
 ghost use Rattle.ts_model.specs.History.{event_at, position, prefix};
 ghost use Rattle.engine_core.specs.Acts.{making_event};
 ghost use Rattle.engine_core.specs.Histories.{history_of};
-ghost use Rattle.ts_sessions.specs.Pasts.{CameTo};
+ghost use Rattle.past_sessions.specs.Pasts.{CameTo};
 ghost use Rattle.audit.specs.Calls.{came_as, numbered_only};
 
 use engine_core::Timeline;
 use event_check::refusal_of;
+use past_sessions::Came;
 use ts_bucket::Span;
 use ts_model::codes::NO_NUMBER;
 use ts_model::{Committed, CutDone, Event, Pending, Refusal};
-use ts_sessions::Came;
 
 /// What the call comes to that makes this event.
 pub(crate) fn call(timeline: &Timeline<'_>, at: u64, event: &Event) -> Came<Committed>

@@ -3,10 +3,10 @@ ghost use Rattle.std.specs.Prelude.{◌≡◌};
 
 use crate::calls::{call, cut_over, numbered};
 use engine_core::{Shot, Timeline};
+use past_sessions::{Came, Past};
 use ts_model::codes::NO_BUCKET;
 use ts_model::{Committed, CutDone, Event, Hyper, Op, Refusal, TableDef, ViewDef, Window};
 use ts_schema::{NoMemory, Seq};
-use ts_sessions::{Came, Past};
 
 /// A history, with its states at each position from one on.
 #[derive(Drop)]

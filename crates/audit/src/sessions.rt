@@ -7,19 +7,20 @@ ghost use Rattle.stmt_syntax.specs.Limits.{longest_line};
 ghost use Rattle.transcript.specs.Shape.{is_sound_talk};
 ghost use Rattle.ts_sessions.specs.Held.{HoldsOf, places_in};
 ghost use Rattle.ts_sessions.specs.Places.{no_places};
-ghost use Rattle.ts_sessions.specs.Telling.{state_of};
+ghost use Rattle.past_sessions.specs.Telling.{state_of};
 ghost use Rattle.audit.specs.Judged.{JudgesTalk};
 ghost use Rattle.audit.specs.Short.{AreShort};
 ghost use Rattle.audit.specs.Tellers.{GoesBehind, IsAt, RetellsTo};
 
 use crate::lines::line_of;
+use past_sessions::{Past, ToldLine, tell};
 use reply_looks::looks_told_by;
 use std::alloc::Global;
 use std::thread::Threads;
 use transcript::{Exchange, Talk};
 use ts_model::Shown;
 use ts_schema::{Name, NoMemory, Seq, Steps};
-use ts_sessions::{Past, Session, ToldLine};
+use ts_sessions::Session;
 
 /// The most bytes whose operations may wait for the end of a block.
 const MOST_QUEUED: u64 = 67_108_864;
@@ -157,9 +158,10 @@ where
         }
         let reply = exchange.reply.items();
         let looks = looks_told_by(alloc, self.session.name.bytes(), reply)?;
-        let told = self.session.tell(
+        let told = tell(
             rt,
             alloc,
+            &mut self.session,
             past,
             self.at,
             looks.as_slice(),

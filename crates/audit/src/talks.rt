@@ -9,12 +9,12 @@ ghost use Rattle.audit.specs.Judged.{JudgesTalks};
 
 use crate::lines::Place;
 use crate::sessions::{JudgedTalk, judge_talk};
+use past_sessions::Past;
 use std::alloc::Global;
 use std::thread::Threads;
 use transcript::Talk;
 use ts_model::Shown;
 use ts_schema::{NoMemory, Seq, Steps};
-use ts_sessions::Past;
 
 /// What is told of the replies of all sessions.
 #[derive(Drop)]

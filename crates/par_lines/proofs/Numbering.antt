@@ -1,7 +1,7 @@
 -- Sessions stay numbered, whichever has a line more.
-use Rattle.std.proofs.Common.{◌≡◌, ℕ, suc, ◌+◌, List, [], ◌∷◌, ◌++◌, length, get_or, set, map, refl, sym, ap, ◌∙◌, arith}
+use Rattle.std.proofs.Common.{◌≡◌, ℕ, ◌+◌, List, [], ◌∷◌, ◌++◌, length, get_or, set, map, sym, ap, ◌∙◌, arith}
 use Rattle.std.specs.List.{range_with_len}
-use Rattle.std.proofs.lemmas.List.{length-set, map-id, map_push}
+use Rattle.std.proofs.lemmas.List.{length-set, length_push, map-id, map_push}
 use Rattle.std.proofs.lemmas.List.FromFn.{map-range_with_len_more}
 use Rattle.std.proofs.Math.Seq.{map-set_same}
 use Rattle.par_lines.specs.declared.sessions.SessionLines.{SessionLines}
@@ -13,12 +13,8 @@ number session = session.number
 range_more : (n : ℕ) → range_with_len 0 (n + 1) ≡ range_with_len 0 n ++ n ∷ []
 range_more n =
     sym (map-id (range_with_len 0 (n + 1)))
-    ∙ map-range_with_len_more (λ (x : ℕ). x) 0 n n refl
+    ∙ map-range_with_len_more (λ (x : ℕ). x) 0 n n (omega arith)
     ∙ ap (λ ns. ns ++ n ∷ []) (map-id (range_with_len 0 n))
-
-length_push : (xs : List SessionLines) (x : SessionLines) → length (xs ++ x ∷ []) ≡ length xs + 1
-length_push [] x = refl
-length_push (y ∷ xs) x = ap suc (length_push xs x)
 
 -- a new session has the next number
 pub numbered_push : (sessions after : List SessionLines) (new : SessionLines) → after ≡ sessions ++ new ∷ [] → new.number ≡ length sessions → AreNumbered sessions → AreNumbered after

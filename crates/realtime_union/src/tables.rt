@@ -10,8 +10,8 @@ ghost use Rattle.realtime_union.specs.Whole.{all_reads};
 
 use crate::shown::{make_room, show};
 use cell_rows::CellRows;
-use partial_agg::Group;
 use group_fold::fold_spans;
+use partial_agg::Group;
 use std::alloc::Global;
 use std::thread::Threads;
 use ts_bucket::{MAX_TIME, MIN_TIME, Span};

@@ -10,8 +10,8 @@ ghost use Rattle.realtime_union.specs.Live.{IsLiveSpan, live_groups, live_reads,
 use crate::shown::{make_room, show, show_each};
 use block_list::Iter;
 use cell_rows::CellRows;
-use partial_agg::Group;
 use group_fold::fold_spans;
+use partial_agg::Group;
 use std::alloc::Global;
 use std::thread::Threads;
 use ts_bucket::Span;

@@ -16,13 +16,13 @@ use Rattle.stmt_check.specs.declared.actions.Action.TheVariants as actions
 use Rattle.stmt_check.specs.Check.{action_of, refusal_of}
 use Rattle.result_text.specs.declared.replies.Said.TheVariants as said
 use Rattle.ts_sessions.specs.Actors.{BlocksBegin}
+use Rattle.ts_sessions.specs.Begun.{GivenBlocksBegin}
 use Rattle.ts_sessions.specs.Gives.{Gives}
 use Rattle.ts_sessions.specs.LineLaws.{ReadsWithin}
 use Rattle.ts_sessions.specs.Places.{Block, none, writing, reading, Places, Turn, enters}
 use Rattle.ts_sessions.specs.Procedures.{Procedure, sees, adds, ends, looks}
 use Rattle.ts_sessions.specs.Replies.{reply_to, replies}
 use Rattle.ts_sessions.specs.Step.{acts, after_cut, after_view, block_refusal, changes, closes, cut_turn, kind_of, least_start, named_first, named_here, read_at, refresh_meant, reported, step, as_read, passes_block, performs}
-use Rattle.ts_sessions.specs.ToldLaws.{GivenBlocksBegin}
 use Rattle.ts_sessions.proofs.NamedLaws.{named_holds, performs_holds, read_holds, unless_holds}
 use Rattle.ts_sessions.proofs.WalkLaws.{goes_walks}
 use Rattle.ts_sessions.proofs.TurnBlocks.{EndsBy, InTurn, by_commits, by_cut, by_cut_turn, by_finishes, by_reported, by_snaps, by_view, call_by, one_by, walks_by}

@@ -1,5 +1,5 @@
 -- What comes next of a statement whose names were looked at, as an equation.
-use Rattle.std.proofs.Common.{◌≡◌, ℕ, Bool, true, false, List, [], ◌∷◌, ◌++◌, Option, Some, None, sym, refl, ap, ◌∙◌, subst}
+use Rattle.std.proofs.Common.{◌≡◌, ℕ, true, [], ◌∷◌, Option, Some, None, sym, refl, ap, ◌∙◌, subst}
 use Rattle.std.specs.Prelude.{Result, Ok, Err, IfOk, IsTrue}
 use Rattle.ts_schema.specs.declared.memory.NoMemory.{NoMemory}
 use Rattle.ts_model.specs.declared.events.Op.{Op}
@@ -27,13 +27,12 @@ use Rattle.ts_sessions.specs.declared.name_checks.Meant.{Meant}
 use Rattle.ts_sessions.specs.declared.name_checks.Meant.TheVariants as meant
 use Rattle.ts_sessions.specs.declared.queries.Plan.{Plan}
 use Rattle.ts_sessions.specs.Deeds.{rest, rest_next, said_once}
-use Rattle.ts_sessions.specs.Meant.{asked_by, change_left, change_next, checked_as, left_of, looks_at_names, meant_by, meant_left, read_as}
-use Rattle.ts_sessions.specs.Places.{Block, Places, Turn, enters, none, reading, turns, writing}
-use Rattle.ts_sessions.specs.Procedures.{Procedure, ends, looks}
+use Rattle.ts_sessions.specs.Meant.{answered_line, asked_by, change_left, change_next, checked_as, left_of, looks_at_names, meant_by, meant_left, read_as, IsLeftOf, LeftIn}
+use Rattle.ts_sessions.specs.Places.{Block, Places, enters, none, reading, turns, writing}
+use Rattle.ts_sessions.specs.Procedures.{ends, looks}
 use Rattle.ts_sessions.specs.Sessions.{queued_on}
 use Rattle.ts_sessions.specs.Sound.{kind_of_action}
 use Rattle.ts_sessions.specs.Step.{block_refusal, changes as changes_of, kind_of, shown_in}
-use Rattle.ts_sessions.specs.Telling.{IsLeftOf, LeftIn, answered_line}
 use Rattle.ts_sessions.proofs.SoundLaws.{kinds_agree}
 
 pub says_line : {T J : Type 0} (result : Result (Next T J) NoMemory) (line like : Said) → IfOk result (λ n. n ≡ said_once line changes.Nothing) → line ≡ like → IfOk result (λ n. n ≡ said_once like changes.Nothing)

@@ -19,13 +19,7 @@ pub mod MeantLaws
 pub mod HeldDeeds
 pub mod LeftLaws
 pub mod GivesLaws
-pub mod TellWalks
-pub mod TellDeeds
-pub mod TellViews
-pub mod TellStatements
-pub mod StandingLaws
-pub mod TellQueues
-pub mod TellLines
+pub mod GivenEnds
 pub mod GivenWalks
 pub mod MadeLaws
 mod FewEvents
@@ -33,15 +27,12 @@ pub mod StepLaws
 pub mod ReplyLaws
 pub mod SteadyLaws
 pub mod QueueLaws
-pub mod QueueTableLaws
 pub mod RefusalCodes
-mod UpperCodes
+pub mod UpperCodes
 pub mod StopLaws
 pub mod GivenNames
 pub mod TogetherLaws
 mod TurnBlocks
 pub mod BegunLaws
-pub mod ToldLaws
-pub mod LookLaws
 mod OutsideLaws
 pub mod ActorLaws

@@ -1,8 +1,6 @@
 pub mod Procedures
 pub mod Walks
 pub mod Gives
-pub mod Told
-pub mod Pasts
 pub mod Places
 pub mod Made
 pub mod Step
@@ -14,9 +12,8 @@ pub mod LineLaws
 pub mod Stopped
 pub mod Named
 pub mod Looks
-pub mod QueueTables
 pub mod Actors
-pub mod ToldLaws
+pub mod Begun
 pub mod Held
 pub mod Holding
 pub mod Tried
@@ -26,4 +23,3 @@ pub mod Sound
 pub mod Parts
 pub mod Deeds
 pub mod Meant
-pub mod Telling

@@ -1,9 +1,10 @@
 -- What a statement asks for by its names, and what is left of it then.
-use Rattle.std.specs.Prelude.{ℕ, ℤ, Bool, true, false, [], ◌∷◌, Option, Some, None}
+use Rattle.std.specs.Prelude.{◌≡◌, ℕ, ℤ, Bool, true, false, [], ◌∷◌, Option, Some, None, ⊤}
 use Rattle.ts_model.specs.declared.events.Op.{Op}
 use Rattle.ts_model.specs.declared.outcomes.Refusal.{Refusal}
 use Rattle.ts_model.specs.declared.rosters.Roster.{Roster}
 use Rattle.ts_model.specs.declared.snapshots.Shown.{Ghosts as Shown}
+use Rattle.ts_model.specs.Answers.{answer}
 use Rattle.ts_model.specs.History.{History, position}
 use Rattle.ts_model.specs.Roster.{roster, view_of}
 use Rattle.stmt_syntax.specs.declared.statements.Stmt.{Stmt}
@@ -13,6 +14,7 @@ use Rattle.stmt_check.specs.Check.{action_of, refusal_of}
 use Rattle.hier_agg.specs.declared.reads.UpperRead.{UpperRead}
 use Rattle.hier_agg.specs.declared.reads.UpperRead.TheVariants as uppers
 use Rattle.hier_agg.specs.Reads.{upper_read}
+use Rattle.result_text.specs.declared.replies.Said.{Said}
 use Rattle.result_text.specs.declared.replies.Said.TheVariants as said
 use Rattle.ts_sessions.specs.declared.changes.Change.TheVariants as changed
 use Rattle.ts_sessions.specs.declared.deeds.Deed.TheVariants as deeds
@@ -23,11 +25,12 @@ use Rattle.ts_sessions.specs.declared.kinds.Kind.{Kind}
 use Rattle.ts_sessions.specs.declared.kinds.Kind.TheVariants as kinds
 use Rattle.ts_sessions.specs.declared.name_checks.Meant.{Meant}
 use Rattle.ts_sessions.specs.declared.name_checks.Meant.TheVariants as meant
+use Rattle.ts_sessions.specs.declared.queries.Plan.{Plan}
 use Rattle.ts_sessions.specs.declared.refreshes.Asked.{Asked}
-use Rattle.ts_sessions.specs.Deeds.{rest, said_once}
-use Rattle.ts_sessions.specs.Places.{Block, Places, Turn, none, reading, refuses, writing}
+use Rattle.ts_sessions.specs.Deeds.{rest, rest_next, said_once}
+use Rattle.ts_sessions.specs.Places.{Block, Places, Turn, none, queue_count, reading, refuses, writing}
 use Rattle.ts_sessions.specs.Procedures.{Procedure, ends, looks}
-use Rattle.ts_sessions.specs.Step.{answers, calendar_plan, changes, least_start, plan_of, roll_up_plan, unit_of}
+use Rattle.ts_sessions.specs.Step.{answers, calendar_plan, changes, in_form, least_start, plan_of, roll_up_plan, shown_in, unit_of}
 
 -- what a statement of this kind does stands in a history by names
 abbrev pub looks_at_names : Kind → Bool
@@ -96,3 +99,25 @@ meant_left p bytes b h (meant.Does deed) = rest p 0 h deed
 abbrev pub left_of : {T J : Type 0} → Shown T J → Places → ℕ → Stmt → History → Procedure (Turn Places)
 left_of {T} {J} shown p bytes stmt h =
     meant_left {T = T} {J = J} p bytes p.block h (meant_by (position h) (roster h) stmt)
+
+-- the line of an answer by a plan at a history, in a block
+abbrev pub answered_line : Block → History → Plan → Said
+answered_line b h plan =
+    said.Answered (in_form (roster h) plan.form (answer plan.query (shown_in b h))) (position h) (queue_count b) plan.min
+
+-- what comes next where names were looked at: outside a block a deed, or an end that changes nothing; in a read block
+-- only such an end
+abbrev pub LeftIn : {T J : Type 0} → Block → Next T J → Type 0
+LeftIn none (nexts.Deed d) = ⊤
+LeftIn none (nexts.End t) = t.change ≡ changed.Nothing
+LeftIn (writing ops n) next = ⊤
+LeftIn (reading at) (nexts.Deed d) = ⊥
+LeftIn (reading at) (nexts.End t) = t.change ≡ changed.Nothing
+
+-- this comes next of a statement whose names were looked at in a history
+pub record IsLeftOf {T J : Type 0} (shown : Shown T J) (p : Places) (bytes : ℕ) (stmt : Stmt) (h : History)
+    (n : Next T J) : Type 0 where
+  -- how many rows were read
+  pub read : ℕ
+  pub rest : rest_next p read h n ≡ left_of shown p bytes stmt h
+  pub left : LeftIn p.block n

@@ -112,7 +112,7 @@ impl<T> Open<T> {
     }
 
     /// Why a statement of this kind may not be, where it may not.
-    pub(crate) fn barrier(&self, kind: Kind) -> Option<Refusal>
+    pub fn barrier(&self, kind: Kind) -> Option<Refusal>
         ensures { result ≡ block_refusal (block_of self.now) kind }
     {
         match self {

@@ -11,7 +11,7 @@ use ts_schema::{NoMemory, Seq};
 
 /// How a statement changes its session.
 #[derive(Drop)]
-pub(crate) enum Change<T: Shown>
+pub enum Change<T: Shown>
 where
     T::Job: Drop,
 {
@@ -31,7 +31,7 @@ where
 
 /// What a statement came to.
 #[derive(Drop)]
-pub(crate) struct Completion<T: Shown>
+pub struct Completion<T: Shown>
 where
     T::Job: Drop,
 {

@@ -27,7 +27,7 @@ use ts_schema::{NoMemory, Seq, Steps};
 
 /// A refresh that was cut.
 #[derive(Drop)]
-pub(crate) struct Begun {
+pub struct Begun {
     /// Its number.
     pub cut: u64,
     /// Its whole buckets.
@@ -38,7 +38,7 @@ pub(crate) struct Begun {
 
 /// A refresh that is finished.
 #[derive(Drop)]
-pub(crate) enum Finishing {
+pub enum Finishing {
     /// The statement cut it, and took its snapshot at a position.
     Begun { begun: Begun, at: u64 },
     /// The session held a snapshot for it.
@@ -47,7 +47,7 @@ pub(crate) enum Finishing {
 
 /// What makes a table, or sets one thing of a relation.
 #[derive(Drop)]
-pub(crate) enum Making {
+pub enum Making {
     /// A table is made.
     Table(TableDef),
     /// A table becomes a hypertable.
@@ -58,7 +58,7 @@ pub(crate) enum Making {
 
 /// The line that says so.
 #[derive(Clone, Copy, Debug, PartialEq, Eq)]
-pub(crate) enum Line {
+pub enum Line {
     /// A table was made.
     Table,
     /// A hypertable.
@@ -69,7 +69,7 @@ pub(crate) enum Line {
 
 /// What a session lacks to finish a refresh.
 #[derive(Clone, Copy, Debug, PartialEq, Eq)]
-pub(crate) enum Lacks {
+pub enum Lacks {
     /// A snapshot for it.
     Snapshot,
     /// The job of its snapshot, which a store has taken.
@@ -78,7 +78,7 @@ pub(crate) enum Lacks {
 
 /// What a statement is to do with its store next.
 #[derive(Drop)]
-pub(crate) enum Deed<T: Shown>
+pub enum Deed<T: Shown>
 where
     T::Job: Drop,
 {
@@ -110,7 +110,7 @@ where
 
 /// What comes after a deed.
 #[derive(Drop)]
-pub(crate) enum Next<T: Shown>
+pub enum Next<T: Shown>
 where
     T::Job: Drop,
 {
@@ -169,7 +169,7 @@ where
 }
 
 /// A completion of a statement that may have said a line before, and whose disk may have failed.
-pub(crate) fn joined<T: Shown + Drop>(
+pub fn joined<T: Shown + Drop>(
     completion: Completion<T>,
     said: Option<Said>,
     failed: bool,
@@ -347,7 +347,7 @@ where
 
 impl Making {
     /// The line that says it.
-    pub(crate) fn line(&self) -> Line
+    pub fn line(&self) -> Line
         ensures { result ≡ line_of self.now }
     {
         match self {

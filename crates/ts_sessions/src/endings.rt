@@ -33,7 +33,7 @@ pub(crate) enum Held<J> {
 }
 
 /// A write block begins, in which no operation waits.
-pub(crate) fn begin<T: Shown + Drop>(alloc: Global) -> Result<Next<T>, NoMemory>
+pub fn begin<T: Shown + Drop>(alloc: Global) -> Result<Next<T>, NoMemory>
 where
     T::Job: Drop,
     ensures { IfOk result (λ n. n ≡ opening) }
@@ -50,7 +50,7 @@ where
     T::Job: Drop,
 {
     /// A block ends: what waits in a write block takes effect as one commit, if anything does.
-    pub(crate) fn end_block(&self, alloc: Global) -> Result<Next<T>, NoMemory>
+    pub fn end_block(&self, alloc: Global) -> Result<Next<T>, NoMemory>
         ensures { IfOk result (λ n. n ≡ closing (places_in self.now).block) }
     {
         match &self.block {
@@ -67,14 +67,14 @@ where
     }
 
     /// A block is given up.
-    pub(crate) fn roll_back(&self, alloc: Global) -> Result<Next<T>, NoMemory>
+    pub fn roll_back(&self, alloc: Global) -> Result<Next<T>, NoMemory>
         ensures { IfOk result (λ n. n ≡ said_once (given_up (places_in self.now).block) (changes.Enters opens.Nothing)) }
     {
         say(alloc, self.block.given_up(), Change::Enters(Open::Nothing))
     }
 
     /// A snapshot is taken for the refresh that is meant, and held.
-    pub(crate) fn snap(&self, number: Option<i64>) -> Deed<T>
+    pub fn snap(&self, number: Option<i64>) -> Deed<T>
         ensures { result ≡ holding (refresh_meant (places_in self.now) number) }
     {
         match self.meant(number) {

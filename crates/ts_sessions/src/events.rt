@@ -40,7 +40,7 @@ pub(crate) fn alone(alloc: Global, op: Op) -> Result<Seq<Op>, NoMemory>
 
 /// An aggregate to be made, as its refresh finds it.
 #[derive(Drop)]
-pub(crate) struct NewView {
+pub struct NewView {
     /// Its name.
     pub name: Name,
     /// Its width.
@@ -48,7 +48,7 @@ pub(crate) struct NewView {
 }
 
 /// An aggregate to be made, as its refresh finds it.
-pub(crate) fn new_view(def: &ViewDef) -> Result<NewView, NoMemory>
+pub fn new_view(def: &ViewDef) -> Result<NewView, NoMemory>
     ensures name { IfOk result (λ v. v.name ≡ def.now.name) }
     ensures width { IfOk result (λ v. v.width ≡ def.now.fold.width) }
 {
@@ -59,7 +59,7 @@ pub(crate) fn new_view(def: &ViewDef) -> Result<NewView, NoMemory>
 }
 
 /// A refresh of all that there is, of the aggregate with a number and a width.
-pub(crate) fn all_of(view: u32, width: &Width) -> Asked
+pub fn all_of(view: u32, width: &Width) -> Asked
     ensures { result ≡ record { view = view; lo = None; hi = None; min = first_of width.now } }
 {
     Asked {
@@ -71,7 +71,7 @@ pub(crate) fn all_of(view: u32, width: &Width) -> Asked
 }
 
 /// The number of the aggregate with a name, or how many there are.
-pub(crate) fn view_number(views: &[ViewDef], name: &Name) -> u32
+pub fn view_number(views: &[ViewDef], name: &Name) -> u32
     requires { length views.now < 2 ^ 32 }
     ensures { result ≡ number_from name.now 0 views.now }
 {

@@ -24,7 +24,7 @@ use ts_model::{Committed, CutDone, Pending, Refusal, Shown, codes};
 use ts_schema::{NoMemory, Seq};
 
 /// Ends after a relation was made or set, or not.
-pub(crate) fn after_number<T: Shown + Drop>(
+pub fn after_number<T: Shown + Drop>(
     alloc: Global,
     line: Line,
     came: Result<u64, Refusal>,
@@ -44,7 +44,7 @@ where
 }
 
 /// Ends after operations took effect, or not.
-pub(crate) fn after_commit<T: Shown + Drop>(
+pub fn after_commit<T: Shown + Drop>(
     alloc: Global,
     leaves: bool,
     came: Result<Committed, Refusal>,
@@ -63,7 +63,7 @@ where
 }
 
 /// Goes on after an aggregate was made, or ends where it wasn't.
-pub(crate) fn after_view<T: Shown + Drop>(
+pub fn after_view<T: Shown + Drop>(
     alloc: Global,
     new: NewView,
     filled: bool,
@@ -84,7 +84,7 @@ where
 }
 
 /// Goes on after the cut of a whole refresh.
-pub(crate) fn after_refresh_cut<T: Shown + Drop>(
+pub fn after_refresh_cut<T: Shown + Drop>(
     alloc: Global,
     asked: &Asked,
     came: Result<CutDone, Refusal>,
@@ -107,7 +107,7 @@ where
 }
 
 /// Ends after a cut.
-pub(crate) fn after_cut<T: Shown + Drop>(
+pub fn after_cut<T: Shown + Drop>(
     alloc: Global,
     asked: &Asked,
     came: Result<CutDone, Refusal>,
@@ -133,7 +133,7 @@ where
 }
 
 /// Goes on after the snapshot of a refresh that the statement cut.
-pub(crate) fn after_snapshot<T: Shown + Drop>(
+pub fn after_snapshot<T: Shown + Drop>(
     alloc: Global,
     begun: Begun,
     snapped: Snapped<T::Job>,
@@ -154,7 +154,7 @@ where
 }
 
 /// Ends after a snapshot that the session is to hold.
-pub(crate) fn after_hold<T: Shown + Drop>(
+pub fn after_hold<T: Shown + Drop>(
     alloc: Global,
     cut: u64,
     snapped: Snapped<T::Job>,
@@ -174,7 +174,7 @@ where
 }
 
 /// Ends after a finish.
-pub(crate) fn after_finish<T: Shown + Drop>(
+pub fn after_finish<T: Shown + Drop>(
     alloc: Global,
     finishing: &Finishing,
     came: Result<u64, Refusal>,
@@ -213,7 +213,7 @@ where
 }
 
 /// Refuses to finish a refresh, of which this became at a position.
-pub(crate) fn refuse<T: Shown + Drop>(
+pub fn refuse<T: Shown + Drop>(
     alloc: Global,
     pending: Pending,
     position: u64,
@@ -233,7 +233,7 @@ where
 }
 
 /// The statement ends, and says one line.
-pub(crate) fn say<T: Shown + Drop>(
+pub fn say<T: Shown + Drop>(
     alloc: Global,
     said: Said,
     change: Change<T>,

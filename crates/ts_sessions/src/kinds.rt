@@ -28,7 +28,7 @@ pub enum Kind {
 }
 
 /// The kind of a statement.
-pub(crate) fn kind_of(stmt: &Stmt) -> Kind
+pub fn kind_of(stmt: &Stmt) -> Kind
     ensures { result ≡ kind_of_stmt stmt.now }
 {
     match stmt {

@@ -1,10 +1,10 @@
 //! Laws of what lines do. Each is the clause of a function that does nothing, at any types.
+ghost use Rattle.ts_sessions.specs.Begun.{GivenBlocksBegin};
 ghost use Rattle.ts_sessions.specs.LineLaws.{LinesMakeFewEvents, NamesStay, OnlyCommitsMakeEvents, OthersSeeNoQueue, QueriesShowTheQueue, RepliesAreSteady, StepsAreReplies};
 ghost use Rattle.ts_sessions.specs.Places.{Places};
 ghost use Rattle.ts_sessions.specs.Replies.{reply_to};
 ghost use Rattle.ts_sessions.specs.Named.{RepliesNameTheirEvents};
 ghost use Rattle.ts_sessions.specs.Stopped.{OnlyStopsAreReported};
-ghost use Rattle.ts_sessions.specs.ToldLaws.{GivenBlocksBegin, RepliesTellTheirLooks, ToldIsGiven, ToldOnce};
 ghost use Rattle.ts_sessions.specs.Laws.{GivesEvents, GivesOverLonger, LastIsPrinted, PrintedLooksDetermine, PutTogether, WalksAreGiven};
 
 /// A procedure that was walked, and then the procedure that follows it, are the walk of both.
@@ -82,21 +82,6 @@ pub fn only_commits_make_events()
 /// The reply to a line is the same whatever another session has queued.
 pub fn others_see_no_queue()
     ensures { OthersSeeNoQueue }
-{}
-
-/// What a procedure comes to where its looks are told, it gives.
-pub fn what_is_told_is_given<A>()
-    ensures { ToldIsGiven A }
-{}
-
-/// By the same positions of its looks a procedure comes to one thing.
-pub fn procedures_are_told_once<A>()
-    ensures { ToldOnce A }
-{}
-
-/// What a line gives over a history that no store stopped, it comes to by the looks that its reply tells.
-pub fn replies_tell_their_looks()
-    ensures { RepliesTellTheirLooks reply_to }
 {}
 
 /// The block of a session after a line had begun by the end of the history that the line is given over.

@@ -13,11 +13,6 @@
 //! - `refreshes`: the three phases of refreshes.
 //! - `queries`: queries.
 //! - `tries`: what comes of calls of a store.
-//! - `pasts`: the past of a store, and what calls of it come to there.
-//! - `past_deeds`: deeds over a past.
-//! - `past_statements`: statements over a past.
-//! - `past_queues`: statements of a write block over a past.
-//! - `tellers`: telling a line of a session over a past.
 //! - `changes`: what statements say, and how they change a session.
 //! - `refusals`: refusals of the text, of the block, and of refreshes.
 //! - `replies`: what a session answers to a line.
@@ -25,34 +20,27 @@
 
 mod actors;
 mod blocks;
-mod changes;
-mod deeds;
-mod endings;
-mod events;
-mod follows;
+pub mod changes;
+pub mod deeds;
+pub mod endings;
+pub mod events;
+pub mod follows;
 mod kinds;
 pub mod laws;
-mod name_checks;
-mod past_deeds;
-mod past_queues;
-mod past_statements;
-mod pasts;
-mod queries;
+pub mod name_checks;
+pub mod queries;
 mod refreshes;
 mod refusals;
 mod replies;
 mod sessions;
 mod steps;
-mod tellers;
 mod tries;
 
 pub use actors::Actor;
 pub use blocks::{Block, Open, Queue};
-pub use kinds::Kind;
-pub use pasts::{Came, Past};
-pub use refreshes::{Snapped, cut, finish, take_snapshot};
+pub use kinds::{Kind, kind_of};
+pub use refreshes::{Asked, Snapped, cut, finish, snapshot_of, take_snapshot};
 pub use refusals::{bare, placed};
 pub use replies::{Reply, StepEnd, replied, write_reply};
 pub use sessions::{Session, Snapshot};
-pub use tellers::ToldLine;
 pub use tries::Tried;

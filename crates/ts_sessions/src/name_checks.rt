@@ -8,11 +8,10 @@ ghost use Rattle.stmt_check.specs.Check.{IsNumbered, refusal_of};
 ghost use Rattle.ts_sessions.specs.declared.kinds.Kind.TheVariants.{Changes};
 ghost use Rattle.ts_sessions.specs.Deeds.{OpensTo, taken_next};
 ghost use Rattle.ts_sessions.specs.Held.{HoldsOf, places_in};
-ghost use Rattle.ts_sessions.specs.Meant.{asked_by as asked_by_action, asked_for, change_next, checked_as, left_of, looks_at_names, meant_by as meant_by_names};
+ghost use Rattle.ts_sessions.specs.Meant.{asked_by as asked_by_action, asked_for, change_next, checked_as, left_of, looks_at_names, meant_by as meant_by_names, IsLeftOf};
 ghost use Rattle.ts_sessions.specs.Places.{queue_in};
 ghost use Rattle.ts_sessions.specs.Sound.{AsksSoundly, StandsForAllowed, kind_of_action};
 ghost use Rattle.ts_sessions.specs.Step.{block_refusal, kind_of as kind_of_stmt, performs, read_at};
-ghost use Rattle.ts_sessions.specs.Telling.{IsLeftOf};
 
 use crate::blocks::Open;
 use crate::changes::Change;
@@ -34,7 +33,7 @@ use ts_schema::{NoMemory, Steps};
 
 /// What a statement asks for by its names.
 #[derive(Drop)]
-pub(crate) enum Meant<T: Shown>
+pub enum Meant<T: Shown>
 where
     T::Job: Drop,
 {
@@ -49,7 +48,7 @@ where
 }
 
 /// What a statement asks for by the names of a roster; `pos` is the position looked at.
-pub(crate) fn meant_by<T: Shown + Drop>(
+pub fn meant_by<T: Shown + Drop>(
     alloc: Global,
     stmt: &Stmt,
     roster: &Roster,
@@ -187,7 +186,7 @@ where
     }
 
     /// What a statement is to do whose names are looked at in a snapshot.
-    pub(crate) fn at_names<R: Threads + Sync, L>(
+    pub fn at_names<R: Threads + Sync, L>(
         &self,
         rt: &R,
         alloc: Global,

@@ -15,8 +15,8 @@ ghost use Rattle.ts_sessions.specs.Held.{block_of};
 ghost use Rattle.ts_sessions.specs.Procedures.{ends};
 ghost use Rattle.ts_sessions.specs.Places.{Places, queue_in};
 ghost use Rattle.ts_sessions.specs.Sound.{StandsForAllowed};
-ghost use Rattle.ts_sessions.specs.Telling.{answered_line};
 ghost use Rattle.ts_sessions.specs.Step.{answers, asked_start as start_asked, in_form as formed, least_start as start_of_view, plan_of as plan_of_query, roll_up_plan as plan_of_roll_up, calendar_plan as plan_of_calendar, shown_in, unit_of as unit_of_word};
+ghost use Rattle.ts_sessions.specs.Meant.{answered_line};
 
 use crate::blocks::Open;
 use crate::changes::Change;
@@ -33,7 +33,7 @@ use ts_schema::{Name, NoMemory, Steps};
 
 /// What is made of an answer.
 #[derive(Drop)]
-pub(crate) enum Form {
+pub enum Form {
     /// It is shown as it is.
     Own,
     /// It is shown in wider buckets.
@@ -44,7 +44,7 @@ pub(crate) enum Form {
 
 /// What answers a query statement.
 #[derive(Drop)]
-pub(crate) struct Plan {
+pub struct Plan {
     /// The query that is asked.
     pub query: Query,
     /// What is made of its answer.
@@ -108,7 +108,7 @@ fn ask<R: Threads + Sync, T: Shown, L>(
 }
 
 /// What is made of an answer, by the roster of its snapshot.
-pub(crate) fn in_form(
+pub fn in_form(
     alloc: Global,
     roster: &Roster,
     form: &Form,
@@ -128,7 +128,7 @@ pub(crate) fn in_form(
 }
 
 /// What is said of an answer at a position, with so many operations queued, if in a write block.
-pub(crate) fn answered(plan: &Plan, answer: Answer, pos: u64, queue: Option<u64>) -> Said
+pub fn answered(plan: &Plan, answer: Answer, pos: u64, queue: Option<u64>) -> Said
     ensures { result ≡ Answered answer pos queue plan.now.min }
 {
     Said::Answered {

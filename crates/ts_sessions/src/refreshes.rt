@@ -25,7 +25,7 @@ pub enum Snapped<J> {
 
 /// A refresh that is asked for.
 #[derive(Drop)]
-pub(crate) struct Asked {
+pub struct Asked {
     /// The number of its aggregate.
     pub view: u32,
     /// Where its window begins, or the first bucket.
@@ -75,7 +75,7 @@ pub fn take_snapshot<R: Threads + Sync, B: Backend, L>(
 
 /// What a snapshot for the refresh with this number comes to, with its job.
 #[tactic(auto, using(crate::proofs::NameCheckWalks::taken_waiting, crate::proofs::NameCheckWalks::taken_finished, crate::proofs::NameCheckWalks::taken_unknown))]
-pub(crate) fn snapshot_of<R: Threads + Sync, T: Shown, L>(
+pub fn snapshot_of<R: Threads + Sync, T: Shown, L>(
     rt: &R,
     shot: &T,
     cut: u64,

@@ -5,7 +5,7 @@ ghost use Rattle.std.specs.Map.{remove_entry};
 ghost use Rattle.std.specs.BTreeMap.{is_at};
 ghost use Rattle.ts_model.specs.States.{State};
 ghost use Rattle.ts_sessions.specs.Held.{Carries, HoldsOf, places_in, waiting_bytes};
-ghost use Rattle.ts_sessions.specs.Places.{no_places, block_kind};
+ghost use Rattle.ts_sessions.specs.Places.{no_places, block_kind, held_for};
 ghost use Rattle.ts_sessions.specs.Sessions.{ChangeFits, changed, HoldsAfter};
 ghost use Rattle.ts_sessions.specs.Step.{natural as natural_of, refresh_meant};
 ghost use Rattle.ts_sessions.specs.Jobs.{with_job};
@@ -46,7 +46,7 @@ pub struct Snapshot<J> {
 
 impl<J> Snapshot<J> {
     /// Its position.
-    pub(crate) fn place(&self) -> u64
+    fn place(&self) -> u64
         ensures { result ≡ self.now.at }
     {
         self.at
@@ -89,7 +89,7 @@ where
     }
 
     /// The refresh that a statement means: the one with its number, or the last that the session cut.
-    pub(crate) fn meant(&self, number: Option<i64>) -> Option<u64>
+    pub fn meant(&self, number: Option<i64>) -> Option<u64>
         ensures { result ≡ refresh_meant (places_in self.now) number }
     {
         match number {
@@ -98,8 +98,18 @@ where
         }
     }
 
+    /// The position of the snapshot that is held for a refresh.
+    pub fn held_at(&self, cut: u64) -> Option<u64>
+        ensures { result ≡ held_for cut (places_in self.now).held }
+    {
+        match self.held.get(&cut) {
+            Some(snapshot) => Some(snapshot.place()),
+            None => None,
+        }
+    }
+
     /// Changes as a statement says, or, where there is no memory, stays as it is.
-    pub(crate) fn settle(&mut self, change: Change<T>) -> Result<(), NoMemory>
+    pub fn settle(&mut self, change: Change<T>) -> Result<(), NoMemory>
         requires fits { ChangeFits change (places_in self.old).block }
         ensures places { OnOk result (places_in self.new ≡ changed change (places_in self.old)) }
         ensures kept { OnErr result (Carries self.old self.new) }

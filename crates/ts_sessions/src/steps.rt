@@ -64,7 +64,7 @@ where
 
     /// Writes the reply to what a line came to, and changes as it says. Where there is no memory it stays
     /// as it is.
-    pub(crate) fn answer(&mut self, alloc: Global, completion: Completion<T>) -> StepEnd
+    fn answer(&mut self, alloc: Global, completion: Completion<T>) -> StepEnd
         requires fits { ChangeFits completion.change (places_in self.old).block }
         ensures answers { AnswersSo self.old.name completion.said completion.failed result }
         ensures places { IfAnswered result (places_in self.new ≡ changed completion.change (places_in self.old)) }

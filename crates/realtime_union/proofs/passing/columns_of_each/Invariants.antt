@@ -5,6 +5,6 @@ use Rattle.realtime_union.proofs.passing.columns_of_each.Given as goal
 
 abbrev pub invariant-loop-row : goal.invariant-loop-row
 invariant-loop-row l = record {
-  parts : AreParts 0 l.ends.items l.cells.items;
+  fit : AreParts 0 l.ends.items l.cells.items;
   shown : parts 0 l.ends.items l.cells.items ≡ map (all_columns l.at) (take l.row-index l.rows);
 }

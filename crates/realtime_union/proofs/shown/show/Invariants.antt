@@ -5,6 +5,6 @@ use Rattle.realtime_union.proofs.shown.show.Given as goal
 
 abbrev pub invariant-loop-group : goal.invariant-loop-group
 invariant-loop-group l = record {
-  parts : AreParts 0 l.ends.items l.cells.items;
+  fit : AreParts 0 l.ends.items l.cells.items;
   shown : parts 0 l.ends.items l.cells.items ≡ parts 0 l.initial.ends.items l.initial.cells.items ++ map (cells_of l.plan) (take l.group-index l.groups);
 }

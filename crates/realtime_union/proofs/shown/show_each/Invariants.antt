@@ -5,6 +5,6 @@ use Rattle.realtime_union.proofs.shown.show_each.Given as goal
 
 abbrev pub invariant-loop-group : goal.invariant-loop-group
 invariant-loop-group l = record {
-  parts : AreParts 0 l.ends.items l.cells.items;
+  fit : AreParts 0 l.ends.items l.cells.items;
   shown : parts 0 l.ends.items l.cells.items ++ map (cells_of l.plan) l.group-iterator ≡ parts 0 l.initial.ends.items l.initial.cells.items ++ map (cells_of l.plan) l.fn.groups;
 }

@@ -1,5 +1,5 @@
 -- The cells of the group are a row once it is told where they end.
-use Rattle.std.proofs.Common.{◌≡◌, ◌∙◌, ap, length}
+use Rattle.std.proofs.Common.{ap, length}
 use Rattle.cell_rows.proofs.PartLaws.{row_ended}
 use Rattle.ts_model.specs.Groups.{cells_of}
 use Rattle.realtime_union.proofs.shown.show_group.Goals as goal

@@ -7,7 +7,7 @@ use Rattle.ts_sessions.specs.Deeds.{IsFormed}
 use Rattle.ts_sessions.specs.Held.{block_of}
 use Rattle.ts_sessions.specs.Places.{queue_in}
 use Rattle.ts_sessions.specs.Step.{in_form, shown_in}
-use Rattle.ts_sessions.specs.Telling.{answered_line}
+use Rattle.ts_sessions.specs.Meant.{answered_line}
 use Rattle.ts_sessions.proofs.LeftLaws.{says_line}
 use Rattle.ts_sessions.proofs.FirstLaws.{answer_opens}
 use Rattle.ts_sessions.proofs.FormLaws.{form_fits}

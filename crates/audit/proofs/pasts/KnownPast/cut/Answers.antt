@@ -5,8 +5,8 @@ use Rattle.ts_model.specs.declared.outcomes.Refusal.{Refusal}
 use Rattle.ts_model.specs.declared.refreshes.Window.TheVariants.{NoBucket, Nothing, Whole}
 use Rattle.ts_model.specs.Calls.{cutting}
 use Rattle.ts_model.specs.History.{base_position, event_at, position, prefix}
-use Rattle.ts_sessions.specs.Pasts.{CameTo}
-use Rattle.ts_sessions.specs.declared.pasts.Came.TheVariants.{Refused, Returned}
+use Rattle.past_sessions.specs.Pasts.{CameTo}
+use Rattle.past_sessions.specs.declared.pasts.Came.TheVariants.{Refused, Returned}
 use Rattle.ts_sessions.proofs.StopLaws.{position_at}
 use Rattle.engine_core.specs.Acts.{making_event}
 use Rattle.engine_core.specs.Histories.{history_of}

@@ -4,7 +4,7 @@ use Rattle.std.proofs.lemmas.Result.{IfOk-weaker}
 use Rattle.ts_sessions.specs.Held.{places_in}
 use Rattle.ts_sessions.specs.Replies.{reply_to}
 use Rattle.ts_sessions.specs.Script.{SessionLine}
-use Rattle.ts_sessions.specs.Telling.{IsToldLine, LineTells}
+use Rattle.past_sessions.specs.Telling.{IsToldLine, LineTells}
 use Rattle.reply_looks.specs.Replies.{looks_in}
 use Rattle.audit.specs.Tellers.{GoesBehind, IsAt, RetellsTo}
 use Rattle.audit.proofs.RetellLaws.{goes_on, retells_none, retells_some}
@@ -16,9 +16,9 @@ returns-in-Some-clause-retold g c =
     let old = c.args.self.now in
     let line : SessionLine = record { text = c.line_of-line.result.text.now; skip = c.line_of-line.result.skip } in
     let looks_are : c.as_slice.result.now ≡ looks_in c.args.self.now.session.name c.items-reply.result.now = c.as_slice.ensures.value ∙ c.in_ok-looks.ensures ∙ ap (λ n. looks_in n c.items-reply.result.now) c.bytes.ensures.bytes in
-    let told = subst (λ o. LineTells all c.args.self.now.at (reply_to (places_in c.args.self.now.session) c.line_of-line.result.text.now c.line_of-line.result.skip) c.as_slice.result.now c.args.self.now.session.name (places_in c.tell.new.self) (Ok o)) c.in-Some.is c.in_ok-told.ensures.told in
-    IfOk-weaker c.follow.result (λ t. GoesBehind c.in-Some.told c.items-reply.result.now (record { session = c.tell.new.self; at = c.args.self.now.at; named = c.args.self.now.named }) t c.follow.new.self) (λ t. RetellsTo all c.args.exchange.now c.args.self.now t c.follow.new.self)
-    (λ t b. retells_some all c.requires.allowed c.args.exchange.now old c.bytes.ensures.name c.requires.based line c.line_of-line.ensures.line c.as_slice.result.now c.items-reply.result.now looks_are c.items-reply.ensures.items c.tell.new.self c.in-Some.told told t c.follow.new.self c.follow.ensures.session b)
+    let told = subst (λ o. LineTells all c.args.self.now.at (reply_to (places_in c.args.self.now.session) c.line_of-line.result.text.now c.line_of-line.result.skip) c.as_slice.result.now c.args.self.now.session.name (places_in c.tell.new.session) (Ok o)) c.in-Some.is c.in_ok-told.ensures.told in
+    IfOk-weaker c.follow.result (λ t. GoesBehind c.in-Some.told c.items-reply.result.now (record { session = c.tell.new.session; at = c.args.self.now.at; named = c.args.self.now.named }) t c.follow.new.self) (λ t. RetellsTo all c.args.exchange.now c.args.self.now t c.follow.new.self)
+    (λ t b. retells_some all c.requires.allowed c.args.exchange.now old c.bytes.ensures.name c.requires.based line c.line_of-line.ensures.line c.as_slice.result.now c.items-reply.result.now looks_are c.items-reply.ensures.items c.tell.new.session c.in-Some.told told t c.follow.new.self c.follow.ensures.session b)
     c.follow.ensures.behind
 
 pub returns-in-Some-clause-at : goal.returns-in-Some-clause-at
@@ -27,9 +27,9 @@ returns-in-Some-clause-at g c = λ start at.
     let old = c.args.self.now in
     let line : SessionLine = record { text = c.line_of-line.result.text.now; skip = c.line_of-line.result.skip } in
     let looks_are : c.as_slice.result.now ≡ looks_in c.args.self.now.session.name c.items-reply.result.now = c.as_slice.ensures.value ∙ c.in_ok-looks.ensures ∙ ap (λ n. looks_in n c.items-reply.result.now) c.bytes.ensures.bytes in
-    let told = subst (λ o. LineTells all c.args.self.now.at (reply_to (places_in c.args.self.now.session) c.line_of-line.result.text.now c.line_of-line.result.skip) c.as_slice.result.now c.args.self.now.session.name (places_in c.tell.new.self) (Ok o)) c.in-Some.is c.in_ok-told.ensures.told in
-    IfOk-weaker c.follow.result (λ t. GoesBehind c.in-Some.told c.items-reply.result.now (record { session = c.tell.new.self; at = c.args.self.now.at; named = c.args.self.now.named }) t c.follow.new.self) (λ t. IsTrue t → IsAt g.T.Shown all start c.args.self.now.session.name c.follow.new.self)
-    (λ t b. goes_on all c.requires.allowed c.args.exchange.now old c.bytes.ensures.name c.requires.based line c.line_of-line.ensures.line c.as_slice.result.now c.items-reply.result.now looks_are c.items-reply.ensures.items c.tell.new.self c.in-Some.told told g.T.Shown start t c.follow.new.self at c.follow.ensures.session c.in_ok-told.ensures.name c.in_ok-told.ensures.holds b)
+    let told = subst (λ o. LineTells all c.args.self.now.at (reply_to (places_in c.args.self.now.session) c.line_of-line.result.text.now c.line_of-line.result.skip) c.as_slice.result.now c.args.self.now.session.name (places_in c.tell.new.session) (Ok o)) c.in-Some.is c.in_ok-told.ensures.told in
+    IfOk-weaker c.follow.result (λ t. GoesBehind c.in-Some.told c.items-reply.result.now (record { session = c.tell.new.session; at = c.args.self.now.at; named = c.args.self.now.named }) t c.follow.new.self) (λ t. IsTrue t → IsAt g.T.Shown all start c.args.self.now.session.name c.follow.new.self)
+    (λ t b. goes_on all c.requires.allowed c.args.exchange.now old c.bytes.ensures.name c.requires.based line c.line_of-line.ensures.line c.as_slice.result.now c.items-reply.result.now looks_are c.items-reply.ensures.items c.tell.new.session c.in-Some.told told g.T.Shown start t c.follow.new.self at c.follow.ensures.session c.in_ok-told.ensures.name c.in_ok-told.ensures.holds b)
     c.follow.ensures.behind
 
 pub returns-clause-retold : goal.returns-clause-retold
@@ -38,5 +38,5 @@ returns-clause-retold g c =
     let old = c.args.self.now in
     let line : SessionLine = record { text = c.line_of-line.result.text.now; skip = c.line_of-line.result.skip } in
     let looks_are : c.as_slice.result.now ≡ looks_in c.args.self.now.session.name c.items-reply.result.now = c.as_slice.ensures.value ∙ c.in_ok-looks.ensures ∙ ap (λ n. looks_in n c.items-reply.result.now) c.bytes.ensures.bytes in
-    let told = subst (λ o. LineTells all c.args.self.now.at (reply_to (places_in c.args.self.now.session) c.line_of-line.result.text.now c.line_of-line.result.skip) c.as_slice.result.now c.args.self.now.session.name (places_in c.tell.new.self) (Ok o)) c.in-None.is c.in_ok-told.ensures.told in
+    let told = subst (λ o. LineTells all c.args.self.now.at (reply_to (places_in c.args.self.now.session) c.line_of-line.result.text.now c.line_of-line.result.skip) c.as_slice.result.now c.args.self.now.session.name (places_in c.tell.new.session) (Ok o)) c.in-None.is c.in_ok-told.ensures.told in
     retells_none all c.requires.allowed c.args.exchange.now old c.bytes.ensures.name c.requires.based line c.line_of-line.ensures.line c.as_slice.result.now c.items-reply.result.now looks_are c.items-reply.ensures.items old told

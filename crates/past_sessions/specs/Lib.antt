@@ -1,0 +1,4 @@
+pub mod Told
+pub mod Pasts
+pub mod ToldLaws
+pub mod Telling

@@ -1,0 +1,130 @@
+//! Telling a line of a session over a past: what it says there, and how it changes its session.
+ghost use Rattle.std.specs.Prelude.{◌≡◌, ◌+◌, ◌<◌, ◌≤◌, ◌^◌, length, None, IsTrue, OnErr};
+ghost use Rattle.std.specs.Thread.{IsSync};
+ghost use Rattle.ts_model.specs.Allowed.{all_allowed};
+ghost use Rattle.ts_model.specs.History.{position as position_of};
+ghost use Rattle.ts_sessions.specs.Held.{Carries, HoldsOf, most_queued, places_in, waiting_bytes};
+ghost use Rattle.ts_sessions.specs.Replies.{reply_to};
+ghost use Rattle.ts_sessions.specs.Sessions.{ChangeFits, HoldsAfter};
+ghost use Rattle.past_sessions.specs.Telling.{LineTells, ReachesTo, RepliesTo, state_of};
+
+use crate::deeds::Reached;
+use crate::pasts::Past;
+use crate::statements::{refuse_at, tell_statement};
+use std::alloc::Global;
+use std::thread::Threads;
+use stmt_reader::{ReadStmt, read_stmt};
+use ts_model::{Shown, codes};
+use ts_schema::{NoMemory, Steps};
+use ts_sessions::{Reply, Session, kind_of, placed, write_reply};
+
+/// What a line came to over a past.
+#[derive(Drop, Debug, PartialEq, Eq)]
+pub struct ToldLine {
+    /// Its reply.
+    pub reply: Reply,
+    /// The position of its last look or event.
+    pub last: u64,
+}
+
+/// Tells what a line came to over a past, from a position on, whose looks were at these positions; others were at
+/// its end. It came to nothing where its event isn't that of the history, or where a look has no position.
+/// `text` is the line before its comment, and its statement stands after the first `skip` bytes.
+pub fn tell<T: Shown + Drop, R: Threads + Sync, P: Past<Shot = T>, L>(
+    rt: &R,
+    alloc: Global,
+    session: &mut Session<T>,
+    past: &P,
+    at: u64,
+    looks: &[u64],
+    text: &[u8],
+    skip: u32,
+    steps: &mut Steps<L>,
+) -> Result<Option<ToldLine>, NoMemory>
+where
+    T::Job: Drop,
+    requires sync { IsSync R.row }
+    requires short { length text.now ≤ 65536 }
+    requires within { skip ≤ length text.now }
+    requires room { waiting_bytes session.old + length text.now ≤ most_queued }
+    requires allowed { IsTrue (all_allowed (P.all past.now)) }
+    requires known { P.from past.now ≤ at }
+    requires reached { at ≤ position_of (P.all past.now) }
+    requires holds { HoldsOf T.Shown session.old (state_of (P.all past.now)) }
+    ensures told { LineTells (P.all past.now) at (reply_to (places_in session.old) text.now skip) looks.now
+        session.old.name (places_in session.new) result }
+    ensures name { session.new.name ≡ session.old.name }
+    ensures number { session.new.number ≡ session.old.number }
+    ensures holds { HoldsOf T.Shown session.new (state_of (P.all past.now)) }
+    ensures queued { waiting_bytes session.new ≤ waiting_bytes session.old + length text.now }
+{
+    let _so_far = steps.count();
+    match tell_line(rt, alloc, session, past, at, looks, text, skip, steps)? {
+        None => Ok(None),
+        Some(reached) => {
+            let line = tell_reply(alloc, session, reached)?;
+            Ok(Some(line))
+        }
+    }
+}
+
+/// Writes the reply to what a line came to, and changes as it says. Where there is no memory it stays as it is.
+fn tell_reply<T: Shown + Drop>(
+    alloc: Global,
+    session: &mut Session<T>,
+    reached: Reached<T>,
+) -> Result<ToldLine, NoMemory>
+where
+    T::Job: Drop,
+    requires { ChangeFits reached.completion.change (places_in session.old).block }
+    ensures replies { RepliesTo session.old.name reached (places_in session.old) (places_in session.new) result }
+    ensures kept { OnErr result (Carries session.old session.new) }
+    ensures name { session.new.name ≡ session.old.name }
+    ensures number { session.new.number ≡ session.old.number }
+    ensures holds { HoldsAfter T.Shown reached.completion.change session.old session.new }
+{
+    let Reached { completion, last } = reached;
+    let reply = write_reply(alloc, &session.name, completion.said.items())?;
+    session.settle(completion.change)?;
+    Ok(ToldLine { reply, last })
+}
+
+/// Tells what a line asks for, where the block of its session lets it pass.
+fn tell_line<T: Shown + Drop, R: Threads + Sync, P: Past<Shot = T>, L>(
+    rt: &R,
+    alloc: Global,
+    session: &Session<T>,
+    past: &P,
+    at: u64,
+    looks: &[u64],
+    text: &[u8],
+    skip: u32,
+    steps: &mut Steps<L>,
+) -> Result<Option<Reached<T>>, NoMemory>
+where
+    T::Job: Drop,
+    requires sync { IsSync R.row }
+    requires counts { steps.old < 2 ^ 64 }
+    requires short { length text.now ≤ 65536 }
+    requires within { skip ≤ length text.now }
+    requires allowed { IsTrue (all_allowed (P.all past.now)) }
+    requires known { P.from past.now ≤ at }
+    requires reached { at ≤ position_of (P.all past.now) }
+    requires holds { HoldsOf T.Shown session.now (state_of (P.all past.now)) }
+    ensures { ReachesTo T.Shown (length text.now) (P.all past.now) at
+        (reply_to (places_in session.now) text.now skip) looks.now (places_in session.now) result }
+{
+    match read_stmt(alloc, text, skip) {
+        ReadStmt::Stmt(stmt) => match session.block.barrier(kind_of(&stmt)) {
+            Some(refusal) => refuse_at(alloc, refusal, at),
+            None => {
+                let bytes = text.len() as u64;
+                tell_statement(rt, alloc, session, past, at, looks, &stmt, bytes, steps)
+            }
+        },
+        ReadStmt::NoToken(place) => refuse_at(alloc, placed(codes::NO_TOKEN, place), at),
+        ReadStmt::Syntax(place) => refuse_at(alloc, placed(codes::SYNTAX, place), at),
+        ReadStmt::BadNumber(place) => refuse_at(alloc, placed(codes::BAD_NUMBER, place), at),
+        ReadStmt::NoMemory => Err(NoMemory),
+    }
+}
