@@ -6,7 +6,8 @@
  * devices 0 to 7 and one aggregate of buckets of 100, looks no name up and checks nothing. So it is a measure
  * of what the work costs at least, and no database.
  *
- *   demo_work < SCRIPT       needs an empty working folder
+ *   demo_work < SCRIPT            needs an empty working folder
+ *   demo_work --hash < SCRIPT     a refresh finds its groups by a hash of keys that it doesn't know, and sorts them
  */
 #define _GNU_SOURCE
 #include <fcntl.h>
@@ -268,19 +269,82 @@ static void insert(const char *text) {
     reply_ends(put_text(put_position(reply, " +", count), " -0\n"));
 }
 
+/* ---- Groups by a hash of their keys ---- */
+
+struct keyed { size_t bucket; int64_t device; struct group group; };
+
+static int is_hashed;
+static struct keyed *keyed; /* a place without rows is free */
+static size_t keyed_count, keyed_room;
+
+static struct keyed *place_of(size_t bucket, int64_t device) {
+    uint64_t print = (bucket ^ (uint64_t)device * 0x9e3779b97f4a7c15u) * 0xc2b2ae3d27d4eb4fu;
+    size_t at = print >> 32;
+    while (1) {
+        struct keyed *place = &keyed[at++ & (keyed_room - 1)];
+        if (!place->group.count || (place->bucket == bucket && place->device == device)) return place;
+    }
+}
+
+/* No group, and room for so many places, a power of two. */
+static void begin_groups(size_t room) {
+    keyed = calloc(room, sizeof *keyed);
+    if (!keyed) exit(70);
+    keyed_room = room;
+}
+
+static void double_groups(void) {
+    struct keyed *old = keyed;
+    size_t old_room = keyed_room;
+    begin_groups(2 * old_room);
+    for (struct keyed *place = old; place < old + old_room; place++)
+        if (place->group.count) *place_of(place->bucket, place->device) = *place;
+    free(old);
+}
+
+static void add_keyed(size_t bucket, const struct row *row) {
+    struct keyed *place = place_of(bucket, row->device);
+    if (!place->group.count) {
+        place->bucket = bucket, place->device = row->device;
+        keyed_count++;
+    }
+    add_to(&place->group, row);
+    if (2 * keyed_count > keyed_room) double_groups();
+}
+
+static int keyed_order(const void *a, const void *b) {
+    const struct keyed *x = a, *y = b;
+    if (x->bucket != y->bucket) return x->bucket < y->bucket ? -1 : 1;
+    return (x->device > y->device) - (x->device < y->device);
+}
+
+/* Puts the groups where they belong, in order, and forgets them. */
+static void end_groups(void) {
+    struct keyed *end = keyed;
+    for (struct keyed *place = keyed; place < keyed + keyed_room; place++)
+        if (place->group.count) *end++ = *place;
+    qsort(keyed, keyed_count, sizeof *keyed, keyed_order);
+    for (struct keyed *place = keyed; place < end; place++) materialised[place->bucket][place->device] = place->group;
+    free(keyed);
+    keyed_count = 0;
+}
+
 /* Builds the buckets of a window that are out of date. */
 static void build(size_t from, size_t to) {
     for (size_t bucket = from; bucket < to; bucket++)
         if (!is_clean[bucket]) memset(materialised[bucket], 0, sizeof *materialised);
+    if (is_hashed) begin_groups(64);
     size_t last = chunk_of(start_of(to) - 1);
     for (size_t number = chunk_of(start_of(from)); number <= last && number < chunks_room; number++) {
         struct chunk *chunk = &chunks[number];
         for (const struct row *row = chunk->rows; row < chunk->rows + chunk->count; row++) {
             size_t bucket = bucket_of(row->time);
-            if (bucket >= from && bucket < to && !is_clean[bucket])
-                add_to(&materialised[bucket][row->device], row);
+            if (bucket < from || bucket >= to || is_clean[bucket]) continue;
+            if (is_hashed) add_keyed(bucket, row);
+            else add_to(&materialised[bucket][row->device], row);
         }
     }
+    if (is_hashed) end_groups();
     for (size_t bucket = from; bucket < to; bucket++) {
         is_clean[bucket] = 1;
         for (int device = 0; device < DEVICES; device++)
@@ -403,8 +467,9 @@ static void execute(const char *line) {
     else exit(65);
 }
 
-int main(void) {
+int main(int count, char **words) {
     static char input[1 << 17];
+    is_hashed = count == 2 && strcmp(words[1], "--hash") == 0;
     size_t held = 0;
     ssize_t n;
     open_journal();
