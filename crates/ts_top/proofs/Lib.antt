@@ -5,3 +5,4 @@ mod ParallelLaws
 mod DemoLaws
 mod PrintLaws
 mod CheckpointLaws
+mod AuditLaws

@@ -1,5 +1,5 @@
 -- What a parallel run has done, by how it stopped and what the closed store says of its disk.
-use Rattle.std.proofs.Common.{◌≡◌, ◌≢◌, inl, inr, ⊎_elim, ℕ, suc, ◌≤◌, ◌<◌, Bool, true, false, List, ◌++◌, append-nil, Option, Some, None, IfSome, length, refl, sym, ap, ◌∙◌, subst, arith}
+use Rattle.std.proofs.Common.{◌≡◌, ◌≢◌, inl, inr, ⊎_elim, ℕ, suc, ◌≤◌, ◌<◌, Bool, true, false, List, [], ◌++◌, append-nil, Option, Some, None, IfSome, length, refl, sym, ap, ◌∙◌, subst, arith}
 use Rattle.std.specs.Prelude.{cond, is_some}
 use Rattle.std.specs.Io.KnownBytes.{Appends, Consumes, IsAtEnd}
 use Rattle.ts_io.specs.Faults.{Counted}
@@ -17,6 +17,9 @@ use Rattle.par_lines.specs.Sorted.{sorted}
 use Rattle.ts_top.specs.Scripts.{first_places, program_replies}
 use Rattle.par_run.specs.Crews.{LinesRan}
 use Rattle.par_run.specs.Outputs.{Output}
+use Rattle.run_transcript.specs.Made.{transcript_in}
+use Rattle.audit_laws.specs.Laws.{ExplainedUnlessPolicies}
+use Rattle.audit_laws.proofs.RunLaws.{runs_explained}
 use Rattle.par_run.specs.Ends.{is_disk_fault as is_disk_fault_of}
 use Rattle.par_run.specs.declared.ends.ParStop.{ParStop}
 use Rattle.par_run.specs.declared.ends.ParStop.TheVariants as stops
@@ -63,7 +66,7 @@ module _ (told : Type 0) (left : List ℕ → Type 0) (sink_failed : Type 0) (h 
   abbrev pub Ran : Type 0
   Ran = LinesRan program_replies first_places h (sorted input) s out reads
 
-  by_workers : (stopped : Bool) (Faulted : Bool → Type 0) (Wrote : Output → Type 0) → Ran → stands_still s ≡ stopped → Faulted out.fault → Wrote out → ByWorkers told left h input reads stopped Faulted Wrote file
+  by_workers : (stopped : Bool) (Faulted : Bool → Type 0) (Wrote : History → Output → Type 0) → Ran → stands_still s ≡ stopped → Faulted out.fault → Wrote s.history out → ByWorkers told left h input reads stopped Faulted Wrote file
   by_workers stopped Faulted Wrote ran stops faulted wrote = record {
     state = s;
     out = out;
@@ -82,21 +85,25 @@ module _ (told : Type 0) (left : List ℕ → Type 0) (sink_failed : Type 0) (h 
     images = λ c image. let i = closed.images c image in record { all = i.history; stands = i.stands; begins = i.from };
   }
 
+  -- the transcript of a run that didn't stop is explained by what it left
+  explained : Ran → stands_still s ≡ false → ExplainedUnlessPolicies s.history (transcript_in (position h) out)
+  explained ran stops = runs_explained h input [] s out reads ran stops
+
   module _ (replies : Replies) where
-    answered : Ran → stands_still s ≡ false → IsPrinted replies (Appends before written) (position h) out → (b : Bool) → out.fault ≡ b → InputTo replies (status_answered b) told left sink_failed h input reads before written file
+    answered : Ran → stands_still s ≡ false → IsPrinted replies (Appends before written) (position h) s.history out → (b : Bool) → out.fault ≡ b → InputTo replies (status_answered b) told left sink_failed h input reads before written file
     answered ran stops wrote true is = by_workers false (λ f. f ≡ true) (IsPrinted replies (Appends before written) (position h)) ran stops is wrote
     answered ran stops wrote false is = by_workers false (λ f. f ≡ false) (IsPrinted replies (Appends before written) (position h)) ran stops is wrote
 
-    printed_whole : Ran → stands_still s ≡ false → (status : Status) → (status ≡ status_answered out.fault) × IsPrinted replies (Appends before written) (position h) out → InputTo replies status told left sink_failed h input reads before written file
+    printed_whole : Ran → stands_still s ≡ false → (status : Status) → (status ≡ status_answered out.fault) × IsPrinted replies (Appends before written) (position h) s.history out → InputTo replies status told left sink_failed h input reads before written file
     printed_whole ran stops status p = subst (λ x. InputTo replies x told left sink_failed h input reads before written file) (sym p.0) (answered ran stops p.1 out.fault refl)
 
-    printed_part : Ran → stands_still s ≡ false → (status : Status) → (status ≡ WriteFault) × IsPrinted replies (AppendsPart before written) (position h) out → InputTo replies status told left sink_failed h input reads before written file
+    printed_part : Ran → stands_still s ≡ false → (status : Status) → (status ≡ WriteFault) × IsPrinted replies (AppendsPart before written) (position h) s.history out → InputTo replies status told left sink_failed h input reads before written file
     printed_part ran stops status p =
         subst (λ x. InputTo replies x told left sink_failed h input reads before written file) (sym p.0) (by_workers false Any (IsPrinted replies (AppendsPart before written) (position h)) ran stops tt p.1)
 
     disk_failed : Ran → stands_still s ≡ true → (status : Status) → (status ≡ DiskFault) × IsPrintedAfterFault replies sink_failed before written out → InputTo replies status told left sink_failed h input reads before written file
     disk_failed ran stops status p =
-        subst (λ x. InputTo replies x told left sink_failed h input reads before written file) (sym p.0) (by_workers true Any (IsPrintedAfterFault replies sink_failed before written) ran stops tt p.1)
+        subst (λ x. InputTo replies x told left sink_failed h input reads before written file) (sym p.0) (by_workers true Any (λ all. IsPrintedAfterFault replies sink_failed before written) ran stops tt p.1)
 
     no_memory : Begins h s.history → (status : Status) → (status ≡ NoMemory) × (written ≡ before) → InputTo replies status told left sink_failed h input reads before written file
     no_memory b status p = subst (λ x. InputTo replies x told left sink_failed h input reads before written file) (sym p.0) (gave_up b p.1)
@@ -108,8 +115,8 @@ module _ (told : Type 0) (left : List ℕ → Type 0) (sink_failed : Type 0) (h 
   input_to Plain stops.Done status (inr p) ran stop b = printed_part Plain (ran (λ e. cc e)) (stop (λ e. cc e)) status p
   input_to Plain stops.DiskFault status p ran stop b = disk_failed Plain (ran (λ e. cc e)) (stop (λ e. cc e)) status p
   input_to Plain stops.NoMemory status p ran stop b = no_memory Plain b status p
-  input_to Json stops.Done status (inl p) ran stop b = printed_whole Json (ran (λ e. cc e)) (stop (λ e. cc e)) status p
-  input_to Json stops.Done status (inr (inl p)) ran stop b = printed_part Json (ran (λ e. cc e)) (stop (λ e. cc e)) status p
+  input_to Json stops.Done status (inl p) ran stop b = printed_whole Json (ran (λ e. cc e)) (stop (λ e. cc e)) status (p.0, (p.1, explained (ran (λ e. cc e)) (stop (λ e. cc e))))
+  input_to Json stops.Done status (inr (inl p)) ran stop b = printed_part Json (ran (λ e. cc e)) (stop (λ e. cc e)) status (p.0, (p.1, explained (ran (λ e. cc e)) (stop (λ e. cc e))))
   input_to Json stops.Done status (inr (inr p)) ran stop b = no_memory Json b status p
   input_to Json stops.DiskFault status p ran stop b = disk_failed Json (ran (λ e. cc e)) (stop (λ e. cc e)) status p
   input_to Json stops.NoMemory status p ran stop b = no_memory Json b status p

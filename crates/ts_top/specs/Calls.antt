@@ -5,9 +5,10 @@ use Rattle.ts_io.specs.Faults.{Counted}
 use Rattle.ts_io.specs.Whole.{AppendsPart}
 use Rattle.demo_run.specs.Demos.{demo_summary, is_refused_demo, reads_of_demo}
 use Rattle.ts_top.specs.declared.commands.Command.{Command}
-use Rattle.ts_top.specs.declared.commands.Command.TheVariants.{Run, Par, ParJson, Demo, Print, Checkpoint}
+use Rattle.ts_top.specs.declared.commands.Command.TheVariants.{Run, Par, ParJson, Demo, Print, Checkpoint, Audit}
 use Rattle.ts_top.specs.declared.endings.Status.{Status}
 use Rattle.ts_top.specs.declared.endings.Status.TheVariants.{Done, BadWords, WriteFault, NoMemory}
+use Rattle.ts_top.specs.Audits.{AuditTo}
 use Rattle.ts_top.specs.Checkpoints.{CheckpointTo}
 use Rattle.ts_top.specs.Endings.{is_disk_fault, is_write_fault}
 use Rattle.ts_top.specs.Logs.{text_of}
@@ -46,6 +47,8 @@ Outcome (Print text) status told left sink_failed unread unprinted kept o =
     unread × kept × PrintedTo (text_of text) status unprinted o
 Outcome Checkpoint status told left sink_failed unread unprinted kept o =
     unread × (o.reads ≡ 0) × CheckpointTo status told left unprinted kept o
+Outcome Audit status told left sink_failed unread unprinted kept o =
+    kept × (o.reads ≡ 0) × AuditTo status unread unprinted o
 
 -- what a call with these words has done: where they ask for nothing, that is all
 abbrev pub OutcomeOf :
@@ -64,6 +67,7 @@ IfWrites (Some ParJson) P = P
 IfWrites (Some (Demo demo)) P = ⊤
 IfWrites (Some (Print text)) P = ⊤
 IfWrites (Some Checkpoint) P = P
+IfWrites (Some Audit) P = ⊤
 
 -- P of a checkpoint
 abbrev pub IfCheckpoint : Option Command → Type 0 → Type 0
@@ -74,6 +78,7 @@ IfCheckpoint (Some ParJson) P = ⊤
 IfCheckpoint (Some (Demo demo)) P = ⊤
 IfCheckpoint (Some (Print text)) P = ⊤
 IfCheckpoint (Some Checkpoint) P = P
+IfCheckpoint (Some Audit) P = ⊤
 
 -- P of a call that runs the demonstration
 abbrev pub IfDemo : Option Command → Type 0 → Type 0
@@ -84,6 +89,7 @@ IfDemo (Some ParJson) P = ⊤
 IfDemo (Some (Demo demo)) P = P
 IfDemo (Some (Print text)) P = ⊤
 IfDemo (Some Checkpoint) P = ⊤
+IfDemo (Some Audit) P = ⊤
 
 -- the count of the sink's faults rises where the call tells of one, and else stays
 abbrev pub SinkCounted : Option Command → Status → ℕ → ℕ → Type 0
@@ -94,6 +100,7 @@ SinkCounted (Some ParJson) status before now = CountedAfterPrinting Json status 
 SinkCounted (Some (Demo demo)) status before now = Counted before now (is_write_fault status)
 SinkCounted (Some (Print text)) status before now = Counted before now (is_write_fault status)
 SinkCounted (Some Checkpoint) status before now = Counted before now (is_write_fault status)
+SinkCounted (Some Audit) status before now = Counted before now (is_write_fault status)
 
 -- and so does the count of the disk's
 abbrev pub DiskCounted : Option Command → Status → ℕ → ℕ → Type 0
@@ -104,3 +111,4 @@ DiskCounted (Some ParJson) status before now = CountedAfterWorkers status before
 DiskCounted (Some (Demo demo)) status before now = Counted before now (is_disk_fault status)
 DiskCounted (Some (Print text)) status before now = Counted before now (is_disk_fault status)
 DiskCounted (Some Checkpoint) status before now = Counted before now (is_disk_fault status)
+DiskCounted (Some Audit) status before now = Counted before now (is_disk_fault status)

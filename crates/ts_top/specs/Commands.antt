@@ -1,7 +1,7 @@
 -- What the words of the command line ask for.
 use Rattle.std.specs.Prelude.{ℕ, Bool, true, false, ◌+◌, ◌*◌, ◌-◌, ◌&&◌, nat_eq, nat_lt, nat_le, List, [], ◌∷◌, Option, Some, None, option_map, codes, bytes_eq, if◌then◌else◌}
 use Rattle.ts_top.specs.declared.commands.Command.{Command}
-use Rattle.ts_top.specs.declared.commands.Command.TheVariants.{Run, Par, ParJson, Demo, Print, Checkpoint}
+use Rattle.ts_top.specs.declared.commands.Command.TheVariants.{Run, Par, ParJson, Demo, Print, Checkpoint, Audit}
 use Rattle.ts_top.specs.declared.commands.Text.TheVariants.{Log, Check}
 
 -- the command that a word is
@@ -12,6 +12,7 @@ of_word word =
     else if bytes_eq word (codes "log") then Some (Print Log)
     else if bytes_eq word (codes "check") then Some (Print Check)
     else if bytes_eq word (codes "checkpoint") then Some Checkpoint
+    else if bytes_eq word (codes "audit") then Some Audit
     else None
 
 abbrev pub is_digit : ℕ → Bool
@@ -60,3 +61,4 @@ writes ParJson = true
 writes (Demo demo) = false
 writes (Print text) = false
 writes Checkpoint = true
+writes Audit = false

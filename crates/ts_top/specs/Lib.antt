@@ -8,3 +8,4 @@ pub mod Parallel
 pub mod Checkpoints
 pub mod Calls
 pub mod Stops
+pub mod Audits

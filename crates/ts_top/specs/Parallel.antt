@@ -19,6 +19,7 @@ use Rattle.transcript.specs.Ascii.{is_ascii_transcript}
 use Rattle.transcript.specs.Text.{transcript_text}
 use Rattle.transcript.specs.declared.transcripts.Transcript.{Transcript}
 use Rattle.run_transcript.specs.Made.{transcript_in}
+use Rattle.audit_laws.specs.Laws.{ExplainedUnlessPolicies}
 use Rattle.ts_top.specs.declared.parallel.Replies.{Replies}
 use Rattle.ts_top.specs.declared.parallel.Replies.TheVariants.{Plain, Json}
 use Rattle.ts_top.specs.declared.parallel.Replied.{Replied}
@@ -39,10 +40,12 @@ pub record IsTranscribed (Wrote : List ℕ → Type 0) (t : Transcript) : Type 0
   pub ascii : IsTrue (is_ascii_transcript t)
   pub start : t.start < 2 ^ 64
 
--- this was written of a run that began at a position: of all refusals and replies, or of its transcript
-abbrev pub IsPrinted : Replies → (List ℕ → Type 0) → ℕ → Output → Type 0
-IsPrinted Plain Wrote start out = Wrote out.text
-IsPrinted Json Wrote start out = IsTranscribed Wrote (transcript_in start out)
+-- this was written of a run that began at a position and left a history: of all refusals and replies, or of its
+-- transcript, which the history explains unless a line is a statement on policies
+abbrev pub IsPrinted : Replies → (List ℕ → Type 0) → ℕ → History → Output → Type 0
+IsPrinted Plain Wrote start all out = Wrote out.text
+IsPrinted Json Wrote start all out =
+    IsTranscribed Wrote (transcript_in start out) × ExplainedUnlessPolicies all (transcript_in start out)
 
 -- ---- what was done
 
@@ -62,16 +65,16 @@ pub record GaveUp (told : Type 0) (left : List ℕ → Type 0) (h : History) (un
   pub images : (c : List ℕ) → left c → StandsForMore h c
 
 -- over a history an input was run by a worker for each session. They looked at so many stored rows, and left a state
--- and an output, of which this was written. The journal stands for the history that was left, or for that and the
--- event at which the disk failed
+-- and an output, of which this was written, told by the history that they left. The journal stands for that history,
+-- or for that and the event at which the disk failed
 pub record ByWorkers (told : Type 0) (left : List ℕ → Type 0) (h : History) (input : List ℕ) (reads : ℕ)
-    (stopped : Bool) (Faulted : Bool → Type 0) (Wrote : Output → Type 0) (file : Option (List ℕ)) : Type 0 where
+    (stopped : Bool) (Faulted : Bool → Type 0) (Wrote : History → Output → Type 0) (file : Option (List ℕ)) : Type 0 where
   pub state : State
   pub out : Output
   pub ran : LinesRan program_replies first_places h (sorted input) state out reads
   pub stops : stands_still state ≡ stopped
   pub faulted : Faulted out.fault
-  pub wrote : Wrote out
+  pub wrote : Wrote state.history out
   pub holds : told → IsSomeAnd file (StandsForEither state.history (latest state.history state.failed))
   pub images : (c : List ℕ) → left c → IsBetween h state.history state.failed c
 
@@ -103,7 +106,7 @@ InputTo replies Refused told left sink_failed h input reads before written file 
 InputTo replies WriteFault told left sink_failed h input reads before written file =
     ByWorkers told left h input reads false Any (IsPrinted replies (AppendsPart before written) (position h)) file
 InputTo replies DiskFault told left sink_failed h input reads before written file =
-    ByWorkers told left h input reads true Any (IsPrintedAfterFault replies sink_failed before written) file
+    ByWorkers told left h input reads true Any (λ all. IsPrintedAfterFault replies sink_failed before written) file
 InputTo replies NoMemory told left sink_failed h input reads before written file =
     GaveUp told left h (written ≡ before) file
 InputTo replies other told left sink_failed h input reads before written file = ⊥

@@ -65,7 +65,7 @@ fn nothing_line(pos: u64) -> Line
 }
 
 /// Prints a line of a call that ends so, unless the sink fails.
-fn print_line<K: Sink>(sink: &mut K, line: Line, end: Status) -> Status
+pub(crate) fn print_line<K: Sink>(sink: &mut K, line: Line, end: Status) -> Status
     requires writes { is_write_fault end ≡ false }
     ensures prints { Prints end line.bytes result (K.written sink.old) (K.written sink.new) }
     ensures counted { Counted (K.faults sink.old) (K.faults sink.new) (is_write_fault result) }

@@ -17,6 +17,8 @@ pub enum Command {
     Print(Text),
     /// To put the image of the journal's history behind the journal.
     Checkpoint,
+    /// To audit a transcript beside the journal.
+    Audit,
 }
 
 impl Command {
@@ -31,6 +33,7 @@ impl Command {
             Command::Demo(_) => false,
             Command::Print(_) => false,
             Command::Checkpoint => true,
+            Command::Audit => false,
         }
     }
 }
@@ -58,6 +61,8 @@ fn of_word(word: &str) -> Option<Command>
         Some(Command::Print(Text::Check))
     } else if word == "checkpoint" {
         Some(Command::Checkpoint)
+    } else if word == "audit" {
+        Some(Command::Audit)
     } else {
         None
     }

@@ -12,6 +12,7 @@
 //! - `endings`: how a call ended.
 #![tactic(auto)]
 
+mod audits;
 mod checkpoints;
 mod commands;
 mod demos;

@@ -9,6 +9,7 @@ ghost use Rattle.ts_top.specs.Calls.{DiskCounted, IfCheckpoint, IfDemo, IfWrites
 ghost use Rattle.ts_top.specs.Endings.{is_read_fault};
 ghost use Rattle.ts_top.specs.Outcomes.{HeaderAfter, IfWentOn, LeftAfter};
 
+use crate::audits::audit_transcript;
 use crate::checkpoints::checkpoint;
 use crate::commands::{Command, command_of};
 use crate::demos::print_demo;
@@ -80,6 +81,7 @@ where
         Some(Command::Demo(number)) => print_demo(rt, alloc, sink, disk, number),
         Some(Command::Print(text)) => print(rt, alloc, sink, disk, text),
         Some(Command::Checkpoint) => checkpoint(rt, alloc, sink, disk),
+        Some(Command::Audit) => audit_transcript(rt, alloc, source, sink, disk),
         None => Ended {
             status: Status::BadWords,
             disk,

@@ -29,7 +29,7 @@ fn message(status: Status) -> Option<&'static str> {
     match status {
         Status::Done | Status::Refused => None,
         Status::BadWords => Some(
-            "tsctl: usage: tsctl run | par [json] | log | check | checkpoint | demo N",
+            "tsctl: usage: tsctl run | par [json] | log | check | checkpoint | audit | demo N",
         ),
         Status::ReadFault => Some("tsctl: read fault"),
         Status::WriteFault => Some("tsctl: write fault"),
@@ -140,7 +140,9 @@ mod tests {
             (Status::Refused, None),
             (
                 Status::BadWords,
-                Some("tsctl: usage: tsctl run | par [json] | log | check | checkpoint | demo N"),
+                Some(
+                    "tsctl: usage: tsctl run | par [json] | log | check | checkpoint | audit | demo N",
+                ),
             ),
             (Status::ReadFault, Some("tsctl: read fault")),
             (Status::WriteFault, Some("tsctl: write fault")),

@@ -3,6 +3,7 @@ use Rattle.std.proofs.Common.{None, Some, refl, sym, ap, ◌∙◌, subst}
 use Rattle.ts_io.specs.Faults.{Counted}
 use Rattle.ts_top.specs.Calls.{DiskCounted}
 use Rattle.ts_top.specs.Endings.{is_disk_fault}
+use Rattle.ts_top.proofs.AuditLaws.{not_bad_words as audit_words}
 use Rattle.ts_top.proofs.CheckpointLaws.{not_bad_words as checkpoint_words}
 use Rattle.ts_top.proofs.DemoLaws.{not_bad_words as demo_words, no_read_fault as demo_reads, no_disk_fault as demo_disk}
 use Rattle.ts_top.proofs.PrintLaws.{not_bad_words, no_read_fault}
@@ -32,3 +33,6 @@ returns-in-Some-Checkpoint-clause-words g c = checkpoint_words _ _ _ _ c.checkpo
 
 pub returns-in-Some-Checkpoint-clause-reads : goal.returns-in-Some-Checkpoint-clause-reads
 returns-in-Some-Checkpoint-clause-reads g c = subst (λ fault. Counted (g.S.Source.faults c.args.source.now) (g.S.Source.faults c.args.source.now) fault) (sym c.checkpoint.ensures.unread) refl
+
+pub returns-in-Some-Audit-clause-words : goal.returns-in-Some-Audit-clause-words
+returns-in-Some-Audit-clause-words g c = audit_words c.audit_transcript.result.status _ _ _ _ _ c.audit_transcript.ensures.outcome (sym c.command_of.ensures ∙ c.in-Some-Audit.is)

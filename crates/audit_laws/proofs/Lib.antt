@@ -1,0 +1,3 @@
+pub mod ShiftLaws
+pub mod PlainLaws
+pub mod RunLaws

@@ -1,0 +1,96 @@
+-- What a call that audits a transcript beside its journal has printed, by how it ended.
+use Rattle.std.specs.Prelude.{◌≡◌, ◌⊎◌, ◌<◌, ℕ, List, [], ◌++◌, Option, codes, decimal, length, IfSome}
+use Rattle.std.specs.Io.KnownBytes.{Appends}
+use Rattle.ts_io.specs.Whole.{AppendsPart}
+use Rattle.ts_io.specs.declared.limits.TheConstants.{INPUT_LIMIT}
+use Rattle.ts_model.specs.History.{History, position}
+use Rattle.script_run.specs.Runs.{ReadWhole}
+use Rattle.audit.specs.Answers.{Answers}
+use Rattle.audit.specs.declared.answers.Audit.{Audit}
+use Rattle.audit.specs.declared.answers.Audit.TheVariants as audits
+use Rattle.ts_top.specs.declared.endings.Status.{Status}
+use Rattle.ts_top.specs.declared.endings.Status.TheVariants.{Done, Refused, BadWords, ReadFault, WriteFault, DiskFault, Damaged, NoMemory, InputLong}
+use Rattle.ts_top.specs.Checkpoints.{Prints}
+use Rattle.ts_top.specs.Outcomes.{Outside, IsDamaged, Over}
+
+-- ---- its line
+
+-- a reply by its session and its place, behind a word
+abbrev pub reply_line : List ℕ → ℕ → ℕ → List ℕ
+reply_line word session reply = word ++ decimal session ++ codes " reply " ++ decimal reply ++ codes "\n"
+
+-- all replies are explained: how many there are, and where the history ends
+abbrev pub yes_text : ℕ → ℕ → List ℕ
+yes_text end n = codes "AUDIT YES replies " ++ decimal n ++ codes " @" ++ decimal end ++ codes "\n"
+
+-- what is printed of an audit over a history that ends at a position
+abbrev pub audit_text : ℕ → Audit → List ℕ
+audit_text end (audits.Yes n) = yes_text end n
+audit_text end (audits.No session reply) = reply_line (codes "AUDIT NO session ") session reply
+audit_text end (audits.Lost p) = codes "AUDIT LOST @" ++ decimal p ++ codes "\n"
+audit_text end (audits.Policy session reply) = reply_line (codes "AUDIT POLICY session ") session reply
+audit_text end (audits.Early p) = codes "AUDIT EARLY @" ++ decimal p ++ codes "\n"
+audit_text end audits.BadText = codes "AUDIT BAD\n"
+audit_text end audits.NoMemory = []
+
+-- how a call ends that printed it
+abbrev pub status_audited : Audit → Status
+status_audited (audits.Yes n) = Done
+status_audited audits.NoMemory = NoMemory
+status_audited other = Refused
+
+-- ---- what was done
+
+-- a whole text was audited over a history, and this is so of the answer
+pub record Audited (h : History) (text : List ℕ) (rest : Option (List ℕ)) (Is : Audit → Type 0) : Type 0 where
+  pub audit : Audit
+  pub read : ReadWhole text rest
+  pub answers : Answers h text audit
+  pub is : Is audit
+
+-- the call ended by the answer, whose line was printed
+pub record PrintedAudit (status : Status) (before written : Option (List ℕ)) (h : History) (audit : Audit) : Type 0 where
+  pub ended : status ≡ status_audited audit
+  pub printed : Appends before written (audit_text (position h) audit)
+
+-- what the reading of a text and its audit over a history came to that ended so
+abbrev pub Audits :
+    History → Status → Type 0 → Option (List ℕ) → Option (List ℕ) → Option (List ℕ) → Option (List ℕ) → Type 0
+Audits h Done unprinted input rest before written =
+    IfSome input (λ text. Audited h text rest (PrintedAudit Done before written h))
+Audits h Refused unprinted input rest before written =
+    IfSome input (λ text. Audited h text rest (PrintedAudit Refused before written h))
+Audits h WriteFault unprinted input rest before written =
+    IfSome input (λ text. Audited h text rest (λ audit. AppendsPart before written (audit_text (position h) audit)))
+Audits h ReadFault unprinted input rest before written = unprinted
+Audits h NoMemory unprinted input rest before written = unprinted
+Audits h InputLong unprinted input rest before written =
+    unprinted × IfSome input (λ text. INPUT_LIMIT < length text)
+Audits h other unprinted input rest before written = ⊥
+
+-- and over the history that the journal stood for
+abbrev pub AuditsOver : Status → Type 0 → Outside → Type 0
+AuditsOver status unprinted o = Over o (λ h. Audits h status unprinted o.input o.rest o.written_before o.written)
+
+-- what an audit that ended so has done. It reads the text once the journal stands for a history
+abbrev pub AuditTo : Status → Type 0 → Type 0 → Outside → Type 0
+AuditTo DiskFault unread unprinted o = unread × unprinted
+AuditTo (Damaged at) unread unprinted o = unread × unprinted × IsDamaged at o
+AuditTo NoMemory unread unprinted o = (unread × unprinted) ⊎ AuditsOver NoMemory unprinted o
+AuditTo status unread unprinted o = AuditsOver status unprinted o
+
+-- ---- printing
+
+-- the line of an answer was printed over a history that ends at a position, or a part of it, and so the call ended;
+-- where memory ran out nothing was
+abbrev pub PrintsAudit : Audit → ℕ → Status → Type 0 → Option (List ℕ) → Option (List ℕ) → Type 0
+PrintsAudit audits.NoMemory end status unprinted before written = (status ≡ NoMemory) × unprinted
+PrintsAudit audit end status unprinted before written =
+    Prints (status_audited audit) (audit_text end audit) status before written
+
+-- a text was audited over a history, and the line of the answer was printed so
+pub record AuditTold (h : History) (text : List ℕ) (status : Status) (unprinted : Type 0)
+    (before written : Option (List ℕ)) : Type 0 where
+  pub audit : Audit
+  pub answers : Answers h text audit
+  pub prints : PrintsAudit audit (position h) status unprinted before written
