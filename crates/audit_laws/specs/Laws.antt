@@ -42,7 +42,8 @@ RunsAreExplained =
 -- replies, unless memory runs out
 abbrev pub AuditsSayYes : Type 0
 AuditsSayYes =
-    (opening : History) (input : List ℕ) (policies : List Policy) (new : State) (out : Output) (reads : ℕ) (audit : Audit)
+    (opening : History) (input : List ℕ) (policies : List Policy) (new : State) (out : Output) (reads : ℕ)
+    (audit : Audit)
     → InputRan opening input policies new out reads → stands_still new ≡ false → all_allowed new.history ≡ true
     → IsTrue (is_ascii_transcript (transcript_in (position opening) out)) → position opening < 2 ^ 64
     → first_policy (transcript_in (position opening) out).sessions ≡ None

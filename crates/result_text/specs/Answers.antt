@@ -43,7 +43,7 @@ answer_counts rows stale = codes " rows " ++ decimal rows ++ codes " stale " ++ 
 abbrev pub answer_head : ℕ → Option ℕ → ℕ → ℕ → List ℕ
 answer_head pos queue rows stale = answer_place pos queue ++ answer_counts rows stale
 
--- an answer, in a write block with so many operations queued: its head, its rows, its stale ranges
+-- an answer: its head, its rows, its stale ranges
 abbrev pub answer_lines : Answer → ℕ → Option ℕ → ℤ → List ℕ
 answer_lines a pos queue min =
     answer_head pos queue (length a.rows) (length a.stale) ++ rows_text a.rows ++ stale_text min a.stale
@@ -51,3 +51,7 @@ answer_lines a pos queue min =
 -- outside a write block
 abbrev pub answer_text : Answer → ℕ → ℤ → List ℕ
 answer_text a pos min = answer_lines a pos None min
+
+-- and in one with so many operations queued
+abbrev pub queued_answer_text : Answer → ℕ → ℕ → ℤ → List ℕ
+queued_answer_text a pos queue min = answer_lines a pos (Some queue) min

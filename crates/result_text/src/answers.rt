@@ -1,6 +1,6 @@
 //! The texts of answers.
 ghost use Rattle.std.specs.Prelude.{◌≡◌, ◌++◌, codes, OnErr, OnOk};
-ghost use Rattle.result_text.specs.Answers.{answer_counts, answer_head, answer_lines, answer_place, answer_text, cells_text, more_cells, queue_text, rows_text, stale_text};
+ghost use Rattle.result_text.specs.Answers.{answer_counts, answer_head, answer_lines, answer_place, answer_text, cells_text, more_cells, queue_text, queued_answer_text, rows_text, stale_text};
 
 use crate::pieces::Text;
 use crate::spans::put_span;
@@ -18,6 +18,23 @@ pub fn put_answer(answer: &Answer, pos: u64, min: i64, out: &mut Vec<u8>) -> Res
 {
     let mut text = Text::behind(out);
     let written = put_answer_lines(&mut text, answer, pos, None, min);
+    text.finish(written, out)
+}
+
+/// The same of an answer to a write block with so many operations queued, which its first line says. The
+/// program writes it behind the name of a session, by `put_reply`.
+pub fn put_queued_answer(
+    answer: &Answer,
+    pos: u64,
+    queue: u64,
+    min: i64,
+    out: &mut Vec<u8>,
+) -> Result<(), NoMemory>
+    ensures appended { OnOk result (out.new.items ≡ out.old.items ++ queued_answer_text answer.now pos queue min) }
+    ensures kept { OnErr result (out.new.items ≡ out.old.items) }
+{
+    let mut text = Text::behind(out);
+    let written = put_answer_lines(&mut text, answer, pos, Some(queue), min);
     text.finish(written, out)
 }
 

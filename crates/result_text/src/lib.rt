@@ -11,7 +11,7 @@ mod replies;
 mod spans;
 mod summaries;
 
-pub use answers::put_answer;
+pub use answers::{put_answer, put_queued_answer};
 pub use events::{put_event, put_history, put_pending};
 pub use refusals::{Tail, put_refusal};
 pub use replies::{Said, put_line_fault, put_reply};

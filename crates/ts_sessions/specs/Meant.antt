@@ -103,7 +103,8 @@ left_of {T} {J} shown p bytes stmt h =
 -- the line of an answer by a plan at a history, in a block
 abbrev pub answered_line : Block → History → Plan → Said
 answered_line b h plan =
-    said.Answered (in_form (roster h) plan.form (answer plan.query (shown_in b h))) (position h) (queue_count b) plan.min
+    said.Answered (in_form (roster h) plan.form (answer plan.query (shown_in b h))) (position h) (queue_count b)
+    plan.min
 
 -- what comes next where names were looked at: outside a block a deed, or an end that changes nothing; in a read block
 -- only such an end

@@ -49,7 +49,8 @@ pub record Audited (h : History) (text : List ℕ) (rest : Option (List ℕ)) (I
   pub is : Is audit
 
 -- the call ended by the answer, whose line was printed
-pub record PrintedAudit (status : Status) (before written : Option (List ℕ)) (h : History) (audit : Audit) : Type 0 where
+pub record PrintedAudit (status : Status) (before written : Option (List ℕ)) (h : History)
+    (audit : Audit) : Type 0 where
   pub ended : status ≡ status_audited audit
   pub printed : Appends before written (audit_text (position h) audit)
 

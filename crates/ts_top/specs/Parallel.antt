@@ -68,7 +68,8 @@ pub record GaveUp (told : Type 0) (left : List ℕ → Type 0) (h : History) (un
 -- and an output, of which this was written, told by the history that they left. The journal stands for that history,
 -- or for that and the event at which the disk failed
 pub record ByWorkers (told : Type 0) (left : List ℕ → Type 0) (h : History) (input : List ℕ) (reads : ℕ)
-    (stopped : Bool) (Faulted : Bool → Type 0) (Wrote : History → Output → Type 0) (file : Option (List ℕ)) : Type 0 where
+    (stopped : Bool) (Faulted : Bool → Type 0) (Wrote : History → Output → Type 0)
+    (file : Option (List ℕ)) : Type 0 where
   pub state : State
   pub out : Output
   pub ran : LinesRan program_replies first_places h (sorted input) state out reads
