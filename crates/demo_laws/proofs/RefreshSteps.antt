@@ -19,7 +19,7 @@ use Rattle.ts_sessions.specs.Procedures.{followed_by, ending_as, tries_at}
 use Rattle.ts_sessions.specs.Step.{Taken, after_cut as goes_on, after_snapshot, least_start, refreshed, taken, taken_of}
 use Rattle.demo_laws.specs.Acts.{refresh_act}
 use Rattle.demo_laws.specs.Histories.{after_cut, before_refresh, history_after_rounds, span_before}
-use Rattle.demo_laws.specs.Turns.{Passes, Does, refresh_reads}
+use Rattle.demo_laws.specs.Turns.{Passes, PerformsAction, refresh_reads}
 use Rattle.demo_laws.specs.ReadLaws.{RefreshesReadAChunk}
 use Rattle.demo_laws.proofs.ChunkLaws.{start_of, start_before}
 use Rattle.demo_laws.proofs.CutLaws.{cut_waits, one_dirty_range, span_of_cut_is, window_is}
@@ -79,7 +79,7 @@ module _ (demo round : ℕ) (room : position (history_after_rounds demo (suc rou
       ∙ ap (λ n. 0 + n) (refresh_count demo round)
       ∙ zero-add (refresh_reads round)
 
-  pub round_refresh : Does before (refresh_act round) (history_after_rounds demo (suc round)) (refresh_reads round)
+  pub round_refresh : PerformsAction before (refresh_act round) (history_after_rounds demo (suc round)) (refresh_reads round)
   round_refresh p bytes outside =
       let t : Taken = record { at = position at_cut; reads = job_reads at_cut (position at_cut) } in
       let passes = refresh_passes p before (span_before round) (least_start (view_of (roster before) 0)) outside (cutting 0 (Some (start_before round)) (Some (start_of round)) before) t cutting_is

@@ -19,7 +19,7 @@ use Rattle.demo_laws.specs.Statements.{act_of, roster_before}
 use Rattle.demo_laws.proofs.LineLaws.{lines_act}
 use Rattle.demo_laws.specs.Histories.{after_part, after_parts, after_hypertable, after_table, after_view, demo_history, history_after_rounds}
 use Rattle.demo_laws.specs.ReadLaws.{ComesTo, DemonstrationsReadTheSame}
-use Rattle.demo_laws.specs.Turns.{Does, refresh_reads}
+use Rattle.demo_laws.specs.Turns.{PerformsAction, refresh_reads}
 use Rattle.demo_laws.proofs.HistoryLaws.{no_round, position_of_rounds, roster_of_rounds}
 use Rattle.demo_laws.proofs.RefreshSteps.{refreshes_read_a_chunk}
 use Rattle.demo_laws.proofs.TurnLaws.{definitions_read_nothing, inserts_read_nothing, queries_read_a_round}
@@ -60,7 +60,7 @@ rounds_read first (suc count) more = refresh_reads first + (490 + rounds_read (f
 
 module _ (demo : ℕ) where
   -- a line, and then others
-  line_first : (line : Line) (h mid new : History) (lines : List (List ℕ)) (read more : ℕ) → IsInRound line → roster h ≡ roster_before line → Does h (act_of demo line) mid read → Reaches mid lines new more → Reaches h (text_of demo line ∷ lines) new (read + more)
+  line_first : (line : Line) (h mid new : History) (lines : List (List ℕ)) (read more : ℕ) → IsInRound line → roster h ≡ roster_before line → PerformsAction h (act_of demo line) mid read → Reaches mid lines new more → Reaches h (text_of demo line ∷ lines) new (read + more)
   line_first line h mid new lines read more within found does rest n sessions p has outside =
       let s = state_at h sessions in
       let procedure = acts p (length (text_of demo line)) h (act_of demo line) in
@@ -87,7 +87,7 @@ module _ (demo : ℕ) where
       }
 
   -- one that looks at no row
-  quiet_first : (line : Line) (h mid new : History) (lines : List (List ℕ)) (more : ℕ) → IsInRound line → roster h ≡ roster_before line → Does h (act_of demo line) mid 0 → Reaches mid lines new more → Reaches h (text_of demo line ∷ lines) new more
+  quiet_first : (line : Line) (h mid new : History) (lines : List (List ℕ)) (more : ℕ) → IsInRound line → roster h ≡ roster_before line → PerformsAction h (act_of demo line) mid 0 → Reaches mid lines new more → Reaches h (text_of demo line ∷ lines) new more
   quiet_first line h mid new lines more within found does rest =
       subst (λ m. Reaches h (text_of demo line ∷ lines) new m) (zero-add more) (line_first line h mid new lines 0 more within found does rest)
 

@@ -17,7 +17,7 @@ use Rattle.ts_sessions.specs.Step.{changes, committed as said_committed, shown_i
 use Rattle.demo_laws.specs.Acts.{answer_act}
 use Rattle.demo_laws.specs.Histories.{demo_history, history_after_rounds}
 use Rattle.demo_laws.specs.ReadLaws.{DefinitionsReadNothing, InsertsReadNothing, QueriesReadARound}
-use Rattle.demo_laws.specs.Turns.{Does, Passes}
+use Rattle.demo_laws.specs.Turns.{PerformsAction, Passes}
 use Rattle.demo_laws.proofs.ChunkLaws.{start_of}
 use Rattle.demo_laws.proofs.HistoryLaws.{made_below_end}
 use Rattle.demo_laws.proofs.LiveCounts.{last_query_reads, round_query_reads}
@@ -30,7 +30,7 @@ definitions_read_nothing = record {
 }
 
 -- an operation outside a block is a commit of its own
-changes_commit : (op : Op) (h : History) → position h < last_position → Does h (actions.Change op) (h ▸ Commit (op ∷ [])) 0
+changes_commit : (op : Op) (h : History) → position h < last_position → PerformsAction h (actions.Change op) (h ▸ Commit (op ∷ [])) 0
 changes_commit op h below p bytes outside =
     let Ends : Act Committed → Type 0 = λ act. Passes (ending_as (said_committed p p) (tries_at h act)) h (h ▸ Commit (op ∷ [])) 0 in
     let ends : Ends (committing (op ∷ []) h) = subst Ends (sym (made_below_end h (Commit (op ∷ [])) (committed (op ∷ []) h) below)) (record { after = refl; reads = refl; fault = refl; outside = outside }) in
@@ -44,7 +44,7 @@ inserts_read_nothing = record {
 }
 
 -- a query of the aggregate changes nothing
-asks : (h : History) (read : ℕ) → reads_of_view 0 h (starts_of []) (view_of (roster h) 0) ≡ read → Does h answer_act h read
+asks : (h : History) (read : ℕ) → reads_of_view 0 h (starts_of []) (view_of (roster h) 0) ≡ read → PerformsAction h answer_act h read
 asks h read e p bytes outside =
     let Reads : Block → Type 0 = λ block. reads_of_view 0 (shown_in block h) (starts_of []) (view_of (roster (shown_in block h)) 0) ≡ read in
     record { after = refl; reads = subst Reads (sym outside) e; fault = refl; outside = outside }

@@ -8,30 +8,30 @@ use Rattle.script_run.specs.Runs.{has_fault, history_of, reads_of}
 use Rattle.demo_script.specs.Demo.{demo_lines}
 use Rattle.demo_laws.specs.Acts.{demo_table, demo_hyper, demo_view, insert_act, refresh_act, answer_act, late_act}
 use Rattle.demo_laws.specs.Histories.{after_table, after_hypertable, after_view, after_part, before_refresh, history_after_rounds, after_late_row, demo_history}
-use Rattle.demo_laws.specs.Turns.{Does, refresh_reads}
+use Rattle.demo_laws.specs.Turns.{PerformsAction, refresh_reads}
 
 -- what is made looks at no row
 pub record DefinitionsReadNothing : Type 0 where
-  pub table : Does start (actions.Table demo_table) after_table 0
-  pub hypertable : Does after_table (actions.Hyper 0 demo_hyper) after_hypertable 0
-  pub view : Does after_hypertable (actions.View demo_view false) after_view 0
+  pub table : PerformsAction start (actions.Table demo_table) after_table 0
+  pub hypertable : PerformsAction after_table (actions.Hyper 0 demo_hyper) after_hypertable 0
+  pub view : PerformsAction after_hypertable (actions.View demo_view false) after_view 0
 
 -- nor do inserts, over whatever history with room for one more event
 pub record InsertsReadNothing : Type 0 where
   pub parts : (demo round part : ℕ) (h : History) → position h < last_position
-      → Does h (insert_act demo round part) (after_part demo round part h) 0
-  pub late : (demo : ℕ) (h : History) → position h < last_position → Does h (late_act demo) (after_late_row demo h) 0
+      → PerformsAction h (insert_act demo round part) (after_part demo round part h) 0
+  pub late : (demo : ℕ) (h : History) → position h < last_position → PerformsAction h (late_act demo) (after_late_row demo h) 0
 
 -- the refresh of a round looks at the rows in the chunk of the times before, where there is room for the round's events
 abbrev pub RefreshesReadAChunk : Type 0
 RefreshesReadAChunk = (demo round : ℕ) → position (history_after_rounds demo (suc round)) ≤ last_position
-    → Does (before_refresh demo round) (refresh_act round) (history_after_rounds demo (suc round)) (refresh_reads round)
+    → PerformsAction (before_refresh demo round) (refresh_act round) (history_after_rounds demo (suc round)) (refresh_reads round)
 
 -- a query looks at the rows of the last round that came in time, and so does the one after the late row
 pub record QueriesReadARound : Type 0 where
   pub rounds : (demo round : ℕ) → round < 40
-      → Does (history_after_rounds demo (suc round)) answer_act (history_after_rounds demo (suc round)) 490
-  pub last : (demo : ℕ) → Does (demo_history demo) answer_act (demo_history demo) 490
+      → PerformsAction (history_after_rounds demo (suc round)) answer_act (history_after_rounds demo (suc round)) 490
+  pub last : (demo : ℕ) → PerformsAction (demo_history demo) answer_act (demo_history demo) 490
 
 -- ---- whole demonstrations
 

@@ -17,8 +17,8 @@ pub record Passes (procedure : Procedure (Turn Places)) (h new : History) (read 
   pub outside : (ending procedure h).places.block ≡ none
 
 -- so does an action of a session outside a block, whatever else the session carries, and from a text of whatever length
-abbrev pub Does : History → Action → History → ℕ → Type 0
-Does h action new read = (p : Places) (bytes : ℕ) → p.block ≡ none → Passes (acts p bytes h action) h new read
+abbrev pub PerformsAction : History → Action → History → ℕ → Type 0
+PerformsAction h action new read = (p : Places) (bytes : ℕ) → p.block ≡ none → Passes (acts p bytes h action) h new read
 
 -- a refresh looks at the rows in the chunk of the round before: ten that came late, and 490 that came in time where
 -- there is such a round

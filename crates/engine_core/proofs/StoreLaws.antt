@@ -18,7 +18,7 @@ use Rattle.engine_core.specs.Acts.{unless, making_event, with_answer, outcome_as
 use Rattle.engine_core.specs.Effects.{effect_of}
 use Rattle.engine_core.specs.Histories.{begun_by, history_of, with_event}
 use Rattle.engine_core.specs.Values.{Past}
-use Rattle.engine_core.specs.Stores.{Does, state_of}
+use Rattle.engine_core.specs.Stores.{EngineDoes, state_of}
 
 pub history_push : (past : Past) (e : Event) → history_of (with_event past e) ≡ (history_of past ▸ e)
 history_push past e = followed_push (begun_by past.base) past.events e
@@ -50,7 +50,7 @@ called_where_seen act h outcome new answered = record { found = state_of h; find
 -- ---- what a call does
 
 -- an event was made, and what it does was answered
-pub does_made : (old new : Past) (e : Event) (effect : Committed) → call_refusal (history_of old) e ≡ None → new ≡ with_event old e → effect ≡ effect_of (history_of old) e → Does (making_event e) old (Done effect) new
+pub does_made : (old new : Past) (e : Event) (effect : Committed) → call_refusal (history_of old) e ≡ None → new ≡ with_event old e → effect ≡ effect_of (history_of old) e → EngineDoes (making_event e) old (Done effect) new
 does_made old new e effect free with told =
     let h = history_of old in
     let new_is : history_of new ≡ (history_of old ▸ e) = ap history_of with ∙ history_push old e in
@@ -60,15 +60,15 @@ does_made old new e effect free with told =
     called_where_seen (making_event e) h (Done effect) (state_of (history_of new)) (subst (λ a. Answered a (state_of (history_of old)) (Done effect) (state_of (history_of new))) (sym act_is) made)
 
 -- a call was refused, and nothing changed
-pub does_refuse : {A : Type 0} (act : History → Act A) (old : Past) (r q : Refusal) → act (history_of old) ≡ refuses r → q ≡ r → Does act old (Refused q) old
+pub does_refuse : {A : Type 0} (act : History → Act A) (old : Past) (r q : Refusal) → act (history_of old) ≡ refuses r → q ≡ r → EngineDoes act old (Refused q) old
 does_refuse act old r q is told =
     called_where_seen act (history_of old) (Refused q) (state_of (history_of old)) (subst (λ a. Answered a (state_of (history_of old)) (Refused q) (state_of (history_of old))) (sym is) (told, keeps_all (state_of (history_of old))))
 
 -- an event was refused
-pub does_refused : (old new : Past) (e : Event) (r : Refusal) → call_refusal (history_of old) e ≡ Some r → new ≡ old → Does (making_event e) old (Refused r) new
+pub does_refused : (old new : Past) (e : Event) (r : Refusal) → call_refusal (history_of old) e ≡ Some r → new ≡ old → EngineDoes (making_event e) old (Refused r) new
 does_refused old new e r refused kept =
     let act_is : making_event e (history_of old) ≡ refuses r = ap (λ o. unless o (making (history_of old) e (effect_of (history_of old) e))) refused in
-    subst (λ past. Does (making_event e) old (Refused r) past) (sym kept) (does_refuse (making_event e) old r r act_is refl)
+    subst (λ past. EngineDoes (making_event e) old (Refused r) past) (sym kept) (does_refuse (making_event e) old r r act_is refl)
 
 -- there was no memory, and nothing changed
 pub kept_by_any : {A : Type 0} (a : Act A) (old new : State) → Keeps old new → Answered a old NoMemory new
@@ -76,12 +76,12 @@ kept_by_any (refuses r) old new keeps = keeps
 kept_by_any (returns x) old new keeps = keeps
 kept_by_any (makes e x) old new keeps = keeps
 
-pub does_without_memory : {A : Type 0} (act : History → Act A) (old new : Past) → new ≡ old → Does act old NoMemory new
+pub does_without_memory : {A : Type 0} (act : History → Act A) (old new : Past) → new ≡ old → EngineDoes act old NoMemory new
 does_without_memory act old new kept =
-    subst (λ past. Does act old NoMemory past) (sym kept) (called_where_seen act (history_of old) NoMemory (state_of (history_of old)) (kept_by_any (act (history_of old)) (state_of (history_of old)) (state_of (history_of old)) (keeps_all (state_of (history_of old)))))
+    subst (λ past. EngineDoes act old NoMemory past) (sym kept) (called_where_seen act (history_of old) NoMemory (state_of (history_of old)) (kept_by_any (act (history_of old)) (state_of (history_of old)) (state_of (history_of old)) (keeps_all (state_of (history_of old)))))
 
 -- a call returned something, and nothing changed
-pub does_return : {A : Type 0} (act : History → Act A) (old : Past) (a b : A) → act (history_of old) ≡ returns a → b ≡ a → Does act old (Done b) old
+pub does_return : {A : Type 0} (act : History → Act A) (old : Past) (a b : A) → act (history_of old) ≡ returns a → b ≡ a → EngineDoes act old (Done b) old
 does_return act old a b is told =
     called_where_seen act (history_of old) (Done b) (state_of (history_of old)) (subst (λ x. Answered x (state_of (history_of old)) (Done b) (state_of (history_of old))) (sym is) (told, keeps_all (state_of (history_of old))))
 
@@ -111,7 +111,7 @@ called_as f act other old outcome new is called =
       answered = subst (λ a. Answered a called.found (outcome_as f outcome) new) (sym same_act) (answered_as f (act called.found.history) called.found outcome new called.answered);
     }
 
-pub does_as : {A B : Type 0} (f : A → B) (act : History → Act A) (other : History → Act B) (old : Past) (outcome : Outcome A) (new : Past) → other (history_of old) ≡ with_answer f (act (history_of old)) → Does act old outcome new → Does other old (outcome_as f outcome) new
+pub does_as : {A B : Type 0} (f : A → B) (act : History → Act A) (other : History → Act B) (old : Past) (outcome : Outcome A) (new : Past) → other (history_of old) ≡ with_answer f (act (history_of old)) → EngineDoes act old outcome new → EngineDoes other old (outcome_as f outcome) new
 does_as f act other old outcome new is does = called_as f act other (state_of (history_of old)) outcome (state_of (history_of new)) is does
 
 -- what is looked at where nothing changed

@@ -22,5 +22,5 @@ abbrev pub state_of : History → State
 state_of h = record { history = h; failed = None; faults = 0; made = numbers_of h; origin = nothing_before }
 
 -- a call that does this, on an engine that nobody else changes and no disk holds
-abbrev pub Does : {A : Type 0} → (History → Act A) → Past → Outcome A → Past → Type 0
-Does act old outcome new = Called true (state_of (history_of old)) act outcome (state_of (history_of new))
+abbrev pub EngineDoes : {A : Type 0} → (History → Act A) → Past → Outcome A → Past → Type 0
+EngineDoes act old outcome new = Called true (state_of (history_of old)) act outcome (state_of (history_of new))

@@ -12,7 +12,7 @@ ghost use Rattle.ts_model.specs.Sound.{sound};
 ghost use Rattle.refresh_build.specs.Fitting.{JobFits, JobIsFor};
 ghost use Rattle.engine_core.specs.Acts.{making_event, outcome_as};
 ghost use Rattle.engine_core.specs.Histories.{history_of};
-ghost use Rattle.engine_core.specs.Stores.{Does};
+ghost use Rattle.engine_core.specs.Stores.{EngineDoes};
 
 use crate::engines::Engine;
 use refresh_build::Job;
@@ -25,7 +25,7 @@ use ts_schema::Seq;
 fn made(engine: &mut Engine, event: Event, job: Option<Job>) -> Outcome<Committed>
     requires allowed { IsTrue (allowed (history_of engine.old.past) event) }
     requires job { JobIsFor (history_of engine.old.past) event job }
-    ensures { Does (making_event event) engine.old.past result engine.new.past }
+    ensures { EngineDoes (making_event event) engine.old.past result engine.new.past }
 {
     match engine.prepare(event, job) {
         Err(_) => Outcome::NoMemory,
@@ -41,7 +41,7 @@ fn made(engine: &mut Engine, event: Event, job: Option<Job>) -> Outcome<Committe
 fn make(engine: &mut Engine, event: Event, job: Option<Job>) -> Outcome<Committed>
     requires sound { IsTrue (sound (history_of engine.old.past) event) }
     requires job { JobIsFor (history_of engine.old.past) event job }
-    ensures { Does (making_event event) engine.old.past result engine.new.past }
+    ensures { EngineDoes (making_event event) engine.old.past result engine.new.past }
 {
     match engine.check_sound(&event) {
         Err(refusal) => Outcome::Refused(refusal),
@@ -97,7 +97,7 @@ pub(crate) fn cut(
     requires view { IsSome (view_of (roster (history_of engine.old.past)) view) }
     requires low { ForSome lo (λ t. IsTrue (is_time t)) }
     requires high { ForSome hi (λ t. IsTrue (is_time t)) }
-    ensures { Does (cutting view lo hi) engine.old.past result engine.new.past }
+    ensures { EngineDoes (cutting view lo hi) engine.old.past result engine.new.past }
 {
     match engine.window(view, lo, hi) {
         Window::Nothing => Outcome::Done(CutDone::Nothing {
@@ -114,7 +114,7 @@ pub(crate) fn cut(
 /// Makes a table.
 pub(crate) fn make_table(engine: &mut Engine, def: TableDef) -> Outcome<u64>
     requires { IsTrue (sound (history_of engine.old.past) (Table def)) }
-    ensures { Does (making_table def) engine.old.past result engine.new.past }
+    ensures { EngineDoes (making_table def) engine.old.past result engine.new.past }
 {
     numbered(make(engine, Event::Table(def), None))
 }
@@ -122,7 +122,7 @@ pub(crate) fn make_table(engine: &mut Engine, def: TableDef) -> Outcome<u64>
 /// Makes a table a hypertable.
 pub(crate) fn make_hyper(engine: &mut Engine, table: u32, hyper: Hyper) -> Outcome<u64>
     requires { IsTrue (sound (history_of engine.old.past) (HyperMade table hyper)) }
-    ensures { Does (making_hyper table hyper) engine.old.past result engine.new.past }
+    ensures { EngineDoes (making_hyper table hyper) engine.old.past result engine.new.past }
 {
     numbered(make(engine, Event::Hyper { table, hyper }, None))
 }
@@ -130,7 +130,7 @@ pub(crate) fn make_hyper(engine: &mut Engine, table: u32, hyper: Hyper) -> Outco
 /// Makes an aggregate.
 pub(crate) fn make_view(engine: &mut Engine, def: ViewDef) -> Outcome<u64>
     requires { IsTrue (sound (history_of engine.old.past) (View def)) }
-    ensures { Does (making_view def) engine.old.past result engine.new.past }
+    ensures { EngineDoes (making_view def) engine.old.past result engine.new.past }
 {
     numbered(make(engine, Event::View(def), None))
 }
@@ -138,7 +138,7 @@ pub(crate) fn make_view(engine: &mut Engine, def: ViewDef) -> Outcome<u64>
 /// Sets an aggregate to a mode.
 pub(crate) fn set_mode(engine: &mut Engine, view: u32, only: bool) -> Outcome<u64>
     requires { IsTrue (sound (history_of engine.old.past) (Mode view only)) }
-    ensures { Does (setting_mode view only) engine.old.past result engine.new.past }
+    ensures { EngineDoes (setting_mode view only) engine.old.past result engine.new.past }
 {
     numbered(make(engine, Event::Mode { view, only }, None))
 }
@@ -146,7 +146,7 @@ pub(crate) fn set_mode(engine: &mut Engine, view: u32, only: bool) -> Outcome<u6
 /// Lets operations take effect, in order.
 pub(crate) fn commit(engine: &mut Engine, ops: Seq<Op>) -> Outcome<Committed>
     requires { IsTrue (sound (history_of engine.old.past) (Commit ops)) }
-    ensures { Does (committing ops) engine.old.past result engine.new.past }
+    ensures { EngineDoes (committing ops) engine.old.past result engine.new.past }
 {
     make(engine, Event::Commit(ops), None)
 }
@@ -154,7 +154,7 @@ pub(crate) fn commit(engine: &mut Engine, ops: Seq<Op>) -> Outcome<Committed>
 /// Finishes the refresh that a job was made for.
 pub(crate) fn finish(engine: &mut Engine, job: Job) -> Outcome<u64>
     requires { JobFits (history_of engine.old.past) job }
-    ensures { Does (finishing job.cut job.snap) engine.old.past result engine.new.past }
+    ensures { EngineDoes (finishing job.cut job.snap) engine.old.past result engine.new.past }
 {
     let event = Event::Built {
         cut: job.cut,

@@ -10,41 +10,41 @@ use ts_schema::NoMemory;
 
 /// Why the reading ended early.
 #[derive(Clone, Copy, Debug, PartialEq, Eq)]
-pub(crate) enum Stop {
+pub(crate) enum NotPlanned {
     /// This is refused.
     Refused(Refusal),
     /// There was no memory.
     NoMemory,
 }
 
-impl From<NoMemory> for Stop {
+impl From<NoMemory> for NotPlanned {
     ghost use Rattle.std.specs.Prelude.{◌≡◌};
-    ghost use Rattle.hier_agg.specs.declared.stops.Stop.TheVariants.{NoMemory};
+    ghost use Rattle.hier_agg.specs.declared.stops.NotPlanned.TheVariants.{NoMemory};
 
     ghost from_gives = { λ _ e. e ≡ NoMemory };
 
-    fn from(_refused: NoMemory) -> Stop {
-        Stop::NoMemory
+    fn from(_refused: NoMemory) -> NotPlanned {
+        NotPlanned::NoMemory
     }
 }
 
 /// Refuses with this number and mark where something is wrong.
-pub(crate) fn refuse_marked(pos: u64, code: u8, mark: u64, wrong: bool) -> Result<(), Stop>
+pub(crate) fn refuse_marked(pos: u64, code: u8, mark: u64, wrong: bool) -> Result<(), NotPlanned>
     ensures { Checks (marked pos code mark wrong) tt result }
 {
     if wrong {
-        return Err(Stop::Refused(Refusal { code, pos, mark }));
+        return Err(NotPlanned::Refused(Refusal { code, pos, mark }));
     }
     Ok(())
 }
 
 /// What has to be there, or the refusal of a column.
-pub(crate) fn present(pos: u64, found: Option<u32>) -> Result<u32, Stop>
+pub(crate) fn present(pos: u64, found: Option<u32>) -> Result<u32, NotPlanned>
     ensures { Checks (missing pos no_column found) (unwrap_or found 0) result }
 {
     match found {
         Some(number) => Ok(number),
-        None => Err(Stop::Refused(Refusal {
+        None => Err(NotPlanned::Refused(Refusal {
             code: NO_COLUMN,
             pos,
             mark: 0,

@@ -5,7 +5,7 @@ ghost use Rattle.stmt_check.specs.Queries.{is_bucket_column};
 ghost use Rattle.hier_agg.specs.Reads.{Checks};
 ghost use Rattle.hier_agg.specs.Refusals.{divided, width_refusal};
 
-use crate::stops::{Stop, refuse_marked};
+use crate::stops::{NotPlanned, refuse_marked};
 use stmt_syntax::NamedFold;
 use ts_bucket::{Width, width};
 use ts_catalog::view_column;
@@ -14,7 +14,7 @@ use ts_model::limits::MOST_STEP;
 use ts_model::{Refusal, ViewDef};
 
 /// The width, where it fits that of the aggregate and the column is the bucket column.
-pub(crate) fn check_width(pos: u64, def: &ViewDef, fold: &NamedFold) -> Result<Width, Stop>
+pub(crate) fn check_width(pos: u64, def: &ViewDef, fold: &NamedFold) -> Result<Width, NotPlanned>
     requires { length def.now.names < 2 ^ 32 }
     ensures { Checks (width_refusal pos def.now fold.now) (width_of fold.now) result }
 {
@@ -27,7 +27,7 @@ pub(crate) fn check_width(pos: u64, def: &ViewDef, fold: &NamedFold) -> Result<W
             refuse_marked(pos, BAD_WIDTH, 0, !fits_offset(lower, &width))?;
             Ok(width)
         }
-        None => Err(Stop::Refused(Refusal {
+        None => Err(NotPlanned::Refused(Refusal {
             code: BAD_WIDTH,
             pos,
             mark: 0,

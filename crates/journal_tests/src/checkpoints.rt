@@ -2,7 +2,7 @@
 use std::alloc::Global;
 use std::test::Fail;
 use std::thread::Threads;
-use ts_disk::{Disk, FailDisk, Kind, MemDisk};
+use ts_disk::{Disk, DiskCall, FailDisk, MemDisk};
 use ts_schema::NoMemory;
 use ts_store::{CheckEnd, Started, Store};
 use txn_journal::Append;
@@ -107,7 +107,12 @@ fn a_changed_byte_of_an_image_is_damage(rt: HostRuntime) -> Result<(), Fail> {
 #[test]
 fn each_failing_call_leaves_the_history_or_its_image(rt: HostRuntime) -> Result<(), Fail> {
     let alloc = rt.alloc();
-    for kind in [Kind::Len, Kind::Read, Kind::Write, Kind::Sync] {
+    for kind in [
+        DiskCall::Len,
+        DiskCall::Read,
+        DiskCall::Write,
+        DiskCall::Sync,
+    ] {
         for nth in 1..9 {
             let bytes = Vec::from_slice(alloc, &ONE)?;
             let failing = FailDisk::new(alloc, bytes, kind, nth);

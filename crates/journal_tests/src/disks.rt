@@ -92,10 +92,10 @@ fn four_calls(disk: &mut FailDisk) -> ([bool; 4], u64) {
 #[test]
 fn one_call_of_a_kind_fails_and_the_disk_goes_on(rt: HostRuntime) -> Result<(), Fail> {
     for (kind, want) in [
-        (Kind::Len, [false, true, true, true]),
-        (Kind::Read, [true, false, true, true]),
-        (Kind::Write, [true, true, false, true]),
-        (Kind::Sync, [true, true, true, false]),
+        (DiskCall::Len, [false, true, true, true]),
+        (DiskCall::Read, [true, false, true, true]),
+        (DiskCall::Write, [true, true, false, true]),
+        (DiskCall::Sync, [true, true, true, false]),
     ] {
         let bytes = b"a".to_vec(rt.alloc())?;
         let mut disk = FailDisk::new(rt.alloc(), bytes, kind, 2);

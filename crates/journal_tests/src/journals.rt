@@ -1,6 +1,6 @@
 use std::alloc::Global;
 use std::test::Fail;
-use ts_disk::{Disk, FailDisk, Kind, MemDisk};
+use ts_disk::{Disk, DiskCall, FailDisk, MemDisk};
 use ts_schema::{NoMemory, Seq};
 use txn_journal::*;
 
@@ -216,7 +216,12 @@ fn images_are_read(alloc: Global, disk: &MemDisk) -> Result<bool, NoMemory> {
 #[test]
 fn a_failing_call_of_each_kind_leaves_a_sound_journal(rt: HostRuntime) -> Result<(), Fail> {
     let alloc = rt.alloc();
-    for kind in [Kind::Len, Kind::Read, Kind::Write, Kind::Sync] {
+    for kind in [
+        DiskCall::Len,
+        DiskCall::Read,
+        DiskCall::Write,
+        DiskCall::Sync,
+    ] {
         for nth in 1..24 {
             let disk = FailDisk::new(alloc, Vec::new(alloc), kind, nth);
             let (disk, last) = append_ten(alloc, disk)?;
@@ -248,7 +253,7 @@ fn a_stop_after_each_call_leaves_a_sound_journal(rt: HostRuntime) -> Result<(), 
 #[test]
 fn a_journal_that_stopped_takes_nothing(rt: HostRuntime) -> Result<(), Fail> {
     let alloc = rt.alloc();
-    let disk = FailDisk::new(alloc, Vec::new(alloc), Kind::Sync, 2);
+    let disk = FailDisk::new(alloc, Vec::new(alloc), DiskCall::Sync, 2);
     let Recovered::Ready { mut journal, .. } = recover(alloc, disk) else {
         return Err(Fail::new("the disk is empty"));
     };
@@ -381,7 +386,12 @@ fn a_journal_is_sound_whichever_call_fails_as_its_version_is_raised(
     rt: HostRuntime,
 ) -> Result<(), Fail> {
     let alloc = rt.alloc();
-    for kind in [Kind::Len, Kind::Read, Kind::Write, Kind::Sync] {
+    for kind in [
+        DiskCall::Len,
+        DiskCall::Read,
+        DiskCall::Write,
+        DiskCall::Sync,
+    ] {
         for nth in 1..12 {
             let disk = FailDisk::new(alloc, Vec::new(alloc), kind, nth);
             let (disk, last) = append_base(alloc, disk)?;

@@ -41,8 +41,8 @@ use Rattle.stmt_check.specs.declared.actions.Action.{Action}
 use Rattle.stmt_check.specs.declared.actions.Action.TheVariants as actions
 use Rattle.stmt_check.specs.Check.{action_of, refusal_of}
 use Rattle.result_text.specs.declared.replies.Said.TheVariants as said
-use Rattle.ts_sessions.specs.declared.kinds.Kind.{Kind}
-use Rattle.ts_sessions.specs.declared.kinds.Kind.TheVariants as kinds
+use Rattle.ts_sessions.specs.declared.kinds.StatementKind.{StatementKind}
+use Rattle.ts_sessions.specs.declared.kinds.StatementKind.TheVariants as kinds
 use Rattle.ts_sessions.specs.declared.queries.Plan.{Plan}
 use Rattle.ts_sessions.specs.Gives.{Gives}
 use Rattle.ts_sessions.specs.Looks.{before, looks_told, refusal_told, shows_position}
@@ -650,7 +650,7 @@ abbrev Bare : Option Refusal → Type 0
 Bare None = ⊤
 Bare (Some r) = shows_position r.code ≡ false
 
-block_bare : (b : Block) (kind : Kind) → Bare (block_refusal b kind)
+block_bare : (b : Block) (kind : StatementKind) → Bare (block_refusal b kind)
 block_bare none kinds.Defines = tt
 block_bare none kinds.Changes = tt
 block_bare none kinds.Asks = tt

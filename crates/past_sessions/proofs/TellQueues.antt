@@ -27,7 +27,7 @@ use Rattle.stmt_check.specs.Sound.{IsSound}
 use Rattle.result_text.specs.declared.replies.Said.TheVariants as said
 use Rattle.ts_sessions.specs.declared.changes.Change.TheVariants as changes
 use Rattle.ts_sessions.specs.declared.deeds.Next.{Next}
-use Rattle.ts_sessions.specs.declared.kinds.Kind.TheVariants as kinds
+use Rattle.ts_sessions.specs.declared.kinds.StatementKind.TheVariants as kinds
 use Rattle.past_sessions.specs.declared.deeds.Reached.{Reached}
 use Rattle.ts_sessions.specs.Deeds.{said_once}
 use Rattle.ts_sessions.specs.Places.{Block, Places, Turn, enters, refuses, turns, writing}

@@ -29,8 +29,8 @@ use Rattle.ts_sessions.specs.declared.deeds.Deed.TheVariants as deeds
 use Rattle.ts_sessions.specs.declared.deeds.Lacks.TheVariants as lacks
 use Rattle.ts_sessions.specs.declared.deeds.Next.{Next}
 use Rattle.ts_sessions.specs.declared.deeds.Next.TheVariants as nexts
-use Rattle.ts_sessions.specs.declared.kinds.Kind.{Kind}
-use Rattle.ts_sessions.specs.declared.kinds.Kind.TheVariants as kinds
+use Rattle.ts_sessions.specs.declared.kinds.StatementKind.{StatementKind}
+use Rattle.ts_sessions.specs.declared.kinds.StatementKind.TheVariants as kinds
 use Rattle.ts_sessions.specs.declared.deeds.Finishing.TheVariants as finishings
 use Rattle.past_sessions.specs.declared.deeds.Reached.{Reached}
 use Rattle.past_sessions.specs.declared.deeds.Went.{Went}
@@ -154,7 +154,7 @@ module _ {T J : Type 0} (shown : Shown T J) (bytes : ℕ) (all : History) (look 
       let m = meant_by {T = T} {J = J} (position (prefix all look)) (roster (prefix all look)) stmt in
       subst (λ b. TellsBy all look (named p bytes stmt (prefix all look)) (later_looks ps) look (meant_left p bytes b (prefix all look) m) ps) (sym outside) (read_again (upper_read (position (prefix all look)) (roster (prefix all look)) stmt))
 
-  names_printed : (k : Kind) → looks_at_names k ≡ true → (q : Option Refusal) → prints none k q ≡ true
+  names_printed : (k : StatementKind) → looks_at_names k ≡ true → (q : Option Refusal) → prints none k q ≡ true
   names_printed kinds.Defines e q = refl
   names_printed kinds.Changes e q = refl
   names_printed kinds.Asks e q = refl
@@ -175,7 +175,7 @@ names_nowhere all at ps p bytes stmt e outside names =
     subst (λ d. TellsNothing all at d ps) (sym (here_is p bytes stmt none outside))
     (look_nothing all at (λ h. prints none (kind_of stmt) (refusal_of (position h) (roster h) stmt)) (λ h. named p bytes stmt (read_at none h)) ps e (printed (kind_of stmt) names (refusal_of (position all) (roster all) stmt)))
   where
-    printed : (k : Kind) → looks_at_names k ≡ true → (q : Option Refusal) → prints none k q ≡ true
+    printed : (k : StatementKind) → looks_at_names k ≡ true → (q : Option Refusal) → prints none k q ≡ true
     printed kinds.Defines e q = refl
     printed kinds.Changes e q = refl
     printed kinds.Asks e q = refl

@@ -9,7 +9,7 @@ ghost use Rattle.ts_model.specs.Roster.{roster as roster_of};
 ghost use Rattle.ts_sessions.specs.declared.changes.Change.TheVariants as changes;
 ghost use Rattle.ts_sessions.specs.Deeds.{IsFormed, said_once};
 ghost use Rattle.ts_sessions.specs.Meant.{answered_line, meant_by as meant_by_names};
-ghost use Rattle.ts_sessions.specs.declared.kinds.Kind.TheVariants as kinds;
+ghost use Rattle.ts_sessions.specs.declared.kinds.StatementKind.TheVariants as kinds;
 ghost use Rattle.ts_sessions.specs.Places.{Places, writing};
 ghost use Rattle.ts_sessions.specs.Sound.{AsksSoundly, kind_of_action};
 ghost use Rattle.ts_sessions.specs.Held.{most_queued};

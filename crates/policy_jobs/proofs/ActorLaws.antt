@@ -24,7 +24,7 @@ use Rattle.stmt_tokens.specs.Streams.{Stream, stream}
 use Rattle.stmt_check.specs.Refusals.{◌⊳◌, hypertable_refusal, marked, refused, view_refusal}
 use Rattle.result_text.specs.declared.replies.Said.{Said}
 use Rattle.result_text.specs.declared.replies.Said.TheVariants as said
-use Rattle.ts_sessions.specs.declared.kinds.Kind.TheVariants.{Defines}
+use Rattle.ts_sessions.specs.declared.kinds.StatementKind.TheVariants.{Defines}
 use Rattle.ts_sessions.specs.Actors.{HadBegun, IsGivenOver, StaysOutside, TellsReplies}
 use Rattle.ts_sessions.specs.Gives.{Gives, StopsLater, numbers}
 use Rattle.ts_sessions.specs.Made.{made_by, made_in}

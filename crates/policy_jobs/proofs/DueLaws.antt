@@ -23,7 +23,7 @@ use Rattle.stmt_reader.proofs.ProperLaws.{stream_proper}
 use Rattle.stmt_reader.proofs.Verdict.{fit_statement, reads_by_the_grammar as any_by_the_grammar}
 use Rattle.ts_model.specs.Numbers.{bad_time}
 use Rattle.result_text.specs.declared.replies.Said.TheVariants as said
-use Rattle.ts_sessions.specs.declared.kinds.Kind.TheVariants.{Defines}
+use Rattle.ts_sessions.specs.declared.kinds.StatementKind.TheVariants.{Defines}
 use Rattle.ts_sessions.specs.Places.{Block, Turn, refuses, turns}
 use Rattle.ts_sessions.specs.Procedures.{Procedure, ends, ending_as, looks}
 use Rattle.ts_sessions.specs.Step.{block_refusal, misread}

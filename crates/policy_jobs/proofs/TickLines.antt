@@ -14,7 +14,7 @@ use Rattle.stmt_tokens.specs.Streams.{Stream, stream}
 use Rattle.ts_model.specs.Numbers.{line_long}
 use Rattle.result_text.specs.declared.replies.Said.TheVariants as said
 use Rattle.result_text.specs.Replies.{reply_text}
-use Rattle.ts_sessions.specs.declared.kinds.Kind.TheVariants.{Defines}
+use Rattle.ts_sessions.specs.declared.kinds.StatementKind.TheVariants.{Defines}
 use Rattle.ts_sessions.specs.Actors.{ReadsEvent, StaysOutside}
 use Rattle.ts_sessions.specs.Places.{Places, Turn, none, turns}
 use Rattle.ts_sessions.specs.Procedures.{Procedure, sees, adds, ends, followed_by, ending_as}

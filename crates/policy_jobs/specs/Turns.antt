@@ -9,7 +9,7 @@ use Rattle.stmt_reader.specs.declared.faults.Fault.{Fault}
 use Rattle.stmt_tokens.specs.Streams.{Stream, stream}
 use Rattle.ts_model.specs.Numbers.{bad_time}
 use Rattle.result_text.specs.declared.replies.Said.TheVariants as said
-use Rattle.ts_sessions.specs.declared.kinds.Kind.TheVariants.{Defines}
+use Rattle.ts_sessions.specs.declared.kinds.StatementKind.TheVariants.{Defines}
 use Rattle.ts_sessions.specs.Places.{Block, Turn, turns, refuses}
 use Rattle.ts_sessions.specs.Procedures.{Procedure, ends, looks, followed_by, ending_as}
 use Rattle.ts_sessions.specs.Script.{Semantics}

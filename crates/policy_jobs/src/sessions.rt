@@ -3,7 +3,7 @@ ghost use Rattle.std.specs.Prelude.{◌≡◌, ℕ, suc, ◌<◌, ◌≤◌, ◌
 ghost use Rattle.std.specs.Thread.{IsSync};
 ghost use Rattle.ts_bucket.specs.Bucket.{is_time as is_time_of};
 ghost use Rattle.result_text.specs.declared.replies.Said.TheVariants.{Fault as FaultLine, Policy as PolicyLine};
-ghost use Rattle.ts_sessions.specs.declared.kinds.Kind.TheVariants.{Defines};
+ghost use Rattle.ts_sessions.specs.declared.kinds.StatementKind.TheVariants.{Defines};
 ghost use Rattle.ts_sessions.specs.Held.{GoesOn};
 ghost use Rattle.ts_sessions.specs.Places.{Block as BlockPlace, block_kind, none};
 ghost use Rattle.ts_sessions.specs.Sessions.{AnswersSo, IfAnswered, IsReply, Stepped};

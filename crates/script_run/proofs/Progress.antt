@@ -11,8 +11,8 @@ use Rattle.ts_model.specs.Numbers.{line_long}
 use Rattle.result_text.specs.Replies.{line_fault_text}
 use Rattle.ts_sessions.specs.Script.{Semantics, LineResult, ScriptState, executes, opening_script_state, refused_line}
 use Rattle.ts_sessions.specs.Step.{bare}
-use Rattle.script_run.specs.declared.scripts.Stop.{Stop}
-use Rattle.script_run.specs.declared.scripts.Stop.TheVariants.{WriteFault, DiskFault, NoMemory}
+use Rattle.script_run.specs.declared.scripts.ScriptStop.{ScriptStop}
+use Rattle.script_run.specs.declared.scripts.ScriptStop.TheVariants.{WriteFault, DiskFault, NoMemory}
 use Rattle.script_run.specs.Went.{IsBetween, FailedBetween}
 use Rattle.script_run.specs.LineEnds.{LineWritten}
 use Rattle.script_run.specs.Stops.{EventFailed, LineCut, LineGivenUp, RefusalCut, ReplyCut}
@@ -163,7 +163,7 @@ module _ {P : Type 0} (semantics : Semantics P) (h : History) where
         counted = subst (λ k. k ≤ after) p.counted l.counted;
       }
 
-      pub stops_at : (stop : Stop) (input : List ℕ) (end_of_source : Option (List ℕ)) → lines ≡ executed input → LineCut stop (executes semantics (script_state_at s sessions) n line) s t (script_state_at t later) w v read after
+      pub stops_at : (stop : ScriptStop) (input : List ℕ) (end_of_source : Option (List ℕ)) → lines ≡ executed input → LineCut stop (executes semantics (script_state_at s sessions) n line) s t (script_state_at t later) w v read after
           → Ran (end_of_stop stop) semantics h input end_of_source (left_at t v after)
       stops_at WriteFault input end_of_source e l = subst (λ ls. StoppedWriting semantics h ls (left_at t v after)) e (stops_writing l)
       stops_at DiskFault input end_of_source e l = subst (λ ls. StoppedAtEvent semantics h ls (left_at t v after)) e (stops_at_event l)
@@ -223,7 +223,7 @@ module _ {P : Type 0} (semantics : Semantics P) (script_state : ScriptState P) (
       let written : LineWritten (refused_line script_state k line_long) next w v was is read read = record { reached = kept; wrote = wrote; refused = refused ∙ sym (or-true was); counted = unraised read small } in
       subst (λ p. LineWritten p next w v was is read read) (sym (long_line semantics script_state k line long)) written
 
-  pub refused_cut : (stop : Stop) (s : State) (next : ScriptState P) (w v : Option (List ℕ)) (read : ℕ) → read < 2 ^ 64 → script_state.history ≡ s.history → next ≡ script_state → RefusalCut stop w v (line_fault_text k (bare line_long))
+  pub refused_cut : (stop : ScriptStop) (s : State) (next : ScriptState P) (w v : Option (List ℕ)) (read : ℕ) → read < 2 ^ 64 → script_state.history ≡ s.history → next ≡ script_state → RefusalCut stop w v (line_fault_text k (bare line_long))
       → LineCut stop (executes semantics script_state k line) s s next w v read read
   refused_cut WriteFault s next w v read small there kept part =
       let cut : ReplyCut (refused_line script_state k line_long) next w v read read = record { reached = kept; wrote = part; counted = unraised read small } in

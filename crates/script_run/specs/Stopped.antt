@@ -2,11 +2,11 @@
 use Rattle.std.specs.Prelude.{Bool, true, false}
 use Rattle.script_run.specs.declared.ends.RunEnd.{RunEnd}
 use Rattle.script_run.specs.declared.ends.RunEnd.TheVariants as ends
-use Rattle.script_run.specs.declared.scripts.Stop.{Stop}
-use Rattle.script_run.specs.declared.scripts.Stop.TheVariants.{WriteFault, DiskFault, NoMemory}
+use Rattle.script_run.specs.declared.scripts.ScriptStop.{ScriptStop}
+use Rattle.script_run.specs.declared.scripts.ScriptStop.TheVariants.{WriteFault, DiskFault, NoMemory}
 
 -- of a run that stopped at a line
-abbrev pub end_of_stop : Stop → RunEnd
+abbrev pub end_of_stop : ScriptStop → RunEnd
 end_of_stop WriteFault = ends.WriteFault
 end_of_stop DiskFault = ends.DiskFault
 end_of_stop NoMemory = ends.NoMemory

@@ -7,12 +7,12 @@ use Rattle.ts_sessions.specs.declared.replies.Reply.{Reply as ReplyMade}
 use Rattle.ts_sessions.specs.declared.replies.StepEnd.{StepEnd}
 use Rattle.ts_sessions.specs.declared.replies.StepEnd.TheVariants as steps
 use Rattle.ts_sessions.specs.Script.{LineResult, ScriptState}
-use Rattle.script_run.specs.declared.scripts.Stop.{Stop}
-use Rattle.script_run.specs.declared.scripts.Stop.TheVariants.{WriteFault, DiskFault, NoMemory}
+use Rattle.script_run.specs.declared.scripts.ScriptStop.{ScriptStop}
+use Rattle.script_run.specs.declared.scripts.ScriptStop.TheVariants.{WriteFault, DiskFault, NoMemory}
 use Rattle.script_run.specs.Went.{IsBetween, FailedBetween}
 
 -- the reply to a line that ended so, or why there is none, by whether the store then stands still
-abbrev pub settled : Bool → StepEnd → Result ReplyMade Stop
+abbrev pub settled : Bool → StepEnd → Result ReplyMade ScriptStop
 settled still (steps.Reply r) = Ok r
 settled still (steps.DiskFault r) = Err DiskFault
 settled true steps.NoMemory = Err DiskFault
@@ -41,7 +41,7 @@ pub record LineGivenUp {P : Type 0} (line_result : LineResult P) (old new : Stat
 
 -- what is done of a line that should come to this where the script stops at it
 abbrev pub LineCut :
-    {P : Type 0} → Stop → LineResult P → State → State → ScriptState P → Option (List ℕ) → Option (List ℕ) → ℕ → ℕ
+    {P : Type 0} → ScriptStop → LineResult P → State → State → ScriptState P → Option (List ℕ) → Option (List ℕ) → ℕ → ℕ
     → Type 0
 LineCut WriteFault line_result old new script_state written_before written before after =
     ReplyCut line_result script_state written_before written before after
@@ -51,7 +51,7 @@ LineCut NoMemory line_result old new script_state written_before written before 
     LineGivenUp line_result old new written_before written before after
 
 -- what is written of the refusal of a line where the script stops at it
-abbrev pub RefusalCut : Stop → Option (List ℕ) → Option (List ℕ) → List ℕ → Type 0
+abbrev pub RefusalCut : ScriptStop → Option (List ℕ) → Option (List ℕ) → List ℕ → Type 0
 RefusalCut WriteFault old new text = AppendsPart old new text
 RefusalCut DiskFault old new text = ⊥
 RefusalCut NoMemory old new text = new ≡ old
@@ -59,16 +59,16 @@ RefusalCut NoMemory old new text = new ≡ old
 -- ---- faults
 
 -- the sink failed
-abbrev pub is_write_stop : Stop → Bool
+abbrev pub is_write_stop : ScriptStop → Bool
 is_write_stop WriteFault = true
 is_write_stop other = false
 
 -- the disk failed at an event
-abbrev pub is_disk_stop : Stop → Bool
+abbrev pub is_disk_stop : ScriptStop → Bool
 is_disk_stop DiskFault = true
 is_disk_stop other = false
 
 -- the test of why a script stopped, where it did
-abbrev pub stops_by : {A : Type 0} → (Stop → Bool) → Result A Stop → Bool
+abbrev pub stops_by : {A : Type 0} → (ScriptStop → Bool) → Result A ScriptStop → Bool
 stops_by test (Ok a) = false
 stops_by test (Err stop) = test stop

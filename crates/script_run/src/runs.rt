@@ -7,7 +7,7 @@ ghost use Rattle.script_run.specs.Runs.{Ran, is_read_fault, is_write_fault, is_d
 ghost use Rattle.script_run.specs.Stopped.{end_of_stop, end_of_input};
 
 use crate::ends::RunEnd;
-use crate::scripts::{Script, Stop};
+use crate::scripts::{Script, ScriptStop};
 use std::alloc::Global;
 use std::thread::Threads;
 use ts_io::{LineEnd, Lines, Sink, Source};
@@ -74,13 +74,13 @@ where
 }
 
 /// How a run ends that stopped at a line.
-fn stopped(stop: Stop) -> RunEnd
+fn stopped(stop: ScriptStop) -> RunEnd
     ensures { result ≡ end_of_stop stop }
 {
     match stop {
-        Stop::WriteFault => RunEnd::WriteFault,
-        Stop::DiskFault => RunEnd::DiskFault,
-        Stop::NoMemory => RunEnd::NoMemory,
+        ScriptStop::WriteFault => RunEnd::WriteFault,
+        ScriptStop::DiskFault => RunEnd::DiskFault,
+        ScriptStop::NoMemory => RunEnd::NoMemory,
     }
 }
 

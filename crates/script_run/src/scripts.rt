@@ -28,7 +28,7 @@ use ts_sessions::{Actor, Reply, StepEnd};
 
 /// Why a script stopped at a line.
 #[derive(Clone, Copy, Debug, PartialEq, Eq)]
-pub(crate) enum Stop {
+pub(crate) enum ScriptStop {
     /// The sink failed, and its count of faults rose.
     WriteFault,
     /// The disk failed at an event of the line, and the store's count of faults rose.
@@ -71,7 +71,7 @@ impl<A> Script<A> {
         line: &[u8],
         sink: &mut K,
         steps: &mut Steps<L>,
-    ) -> Result<(), Stop>
+    ) -> Result<(), ScriptStop>
     where
         A: Actor<Shot = B::Shot> + Drop,
         R: Threads + Sync,
@@ -114,7 +114,7 @@ impl<A> Script<A> {
     }
 
     /// Refuses the next line, which has more than 65,536 bytes.
-    pub fn refuse_long<K: Sink>(&mut self, alloc: Global, sink: &mut K) -> Result<(), Stop>
+    pub fn refuse_long<K: Sink>(&mut self, alloc: Global, sink: &mut K) -> Result<(), ScriptStop>
         requires room { self.old.line + 1 < 2 ^ 64 }
         ensures wrote { OnOk result (Appends (K.written sink.old) (K.written sink.new)
             (line_fault_text self.old.line (bare line_long))) }
@@ -127,17 +127,17 @@ impl<A> Script<A> {
     {
         match refuse_line(alloc, self.line, codes::LINE_LONG) {
             Ok(reply) => self.answer(reply, sink),
-            Err(NoMemory) => Err(Stop::NoMemory),
+            Err(NoMemory) => Err(ScriptStop::NoMemory),
         }
     }
 
     /// Writes the reply to a line that was executed, and comes to the next line.
-    fn answer<K: Sink>(&mut self, reply: Reply, sink: &mut K) -> Result<(), Stop>
+    fn answer<K: Sink>(&mut self, reply: Reply, sink: &mut K) -> Result<(), ScriptStop>
         requires room { self.old.line + 1 < 2 ^ 64 }
         ensures wrote { OnOk result (Appends (K.written sink.old) (K.written sink.new) reply.text) }
         ensures refused { OnOk result (self.new.refused ≡ (self.old.refused || reply.fault)) }
         ensures part { OnErr result (AppendsPart (K.written sink.old) (K.written sink.new) reply.text) }
-        ensures stops { IfErr result (λ stop. stop ≡ Stop.WriteFault) }
+        ensures stops { IfErr result (λ stop. stop ≡ ScriptStop.WriteFault) }
         ensures numbered { OnOk result (self.new.line ≡ self.old.line + 1) }
         ensures sessions { self.new.sessions ≡ self.old.sessions }
         ensures writes { Counted (K.faults sink.old) (K.faults sink.new) (is_err result) }
@@ -148,22 +148,22 @@ impl<A> Script<A> {
                 self.line += 1;
                 Ok(())
             }
-            Err(WriteFault) => Err(Stop::WriteFault),
+            Err(WriteFault) => Err(ScriptStop::WriteFault),
         }
     }
 }
 
 /// The reply to a line that ended so, or why there is none. Where the disk failed and then there was no
 /// memory, the disk fault is reported.
-fn reply_of<B: Backend>(end: StepEnd, backend: &B) -> Result<Reply, Stop>
+fn reply_of<B: Backend>(end: StepEnd, backend: &B) -> Result<Reply, ScriptStop>
     ensures { result ≡ settled (stands_still (B.state backend.now)) end }
 {
     match end {
         StepEnd::Reply(reply) => Ok(reply),
-        StepEnd::DiskFault(_) => Err(Stop::DiskFault),
+        StepEnd::DiskFault(_) => Err(ScriptStop::DiskFault),
         StepEnd::NoMemory => match backend.stopped() {
-            Some(_) => Err(Stop::DiskFault),
-            None => Err(Stop::NoMemory),
+            Some(_) => Err(ScriptStop::DiskFault),
+            None => Err(ScriptStop::NoMemory),
         },
     }
 }

@@ -12,22 +12,22 @@ use ts_schema::{NoMemory, Row, Seq, Test, passes};
 
 /// What a delete takes away.
 #[derive(Clone, Copy, Debug)]
-pub struct Taken {
+pub struct Deaths {
     /// How many rows.
     pub removed: u64,
     /// The hull of their times.
     pub hull: Option<Hull>,
 }
 
-impl Taken {
+impl Deaths {
     /// The same and one more version, where that is taken.
-    fn and(self, taken: bool, row: &Row) -> Taken
+    fn and(self, taken: bool, row: &Row) -> Deaths
         requires { self.removed + 1 < 2 ^ 64 }
         ensures removed { result.removed ≡ self.removed + cond taken 1 0 }
         ensures hull { result.hull ≡ joined_hull self.hull (cond taken (hull_at row.now.at) None) }
     {
         if taken {
-            Taken {
+            Deaths {
                 removed: self.removed + 1,
                 hull: join_hulls(self.hull, point(row)),
             }
@@ -38,12 +38,12 @@ impl Taken {
 }
 
 /// What a delete at a position takes from these versions.
-pub fn taken_by(rows: &[Row], lives: &Lives, tests: &Seq<Test>, pos: u64) -> Taken
+pub fn taken_by(rows: &[Row], lives: &Lives, tests: &Seq<Test>, pos: u64) -> Deaths
     requires covers { Covers (length rows.now) lives.now }
     ensures removed { result.removed ≡ length (taken_at pos tests.now (versions_of rows.now lives.now)) }
     ensures hull { result.hull ≡ hull_of (taken_at pos tests.now (versions_of rows.now lives.now)) }
 {
-    let mut taken = Taken {
+    let mut taken = Deaths {
         removed: 0,
         hull: None,
     };

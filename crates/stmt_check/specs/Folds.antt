@@ -21,7 +21,7 @@ use Rattle.stmt_check.specs.Refusals.{◌⊳◌, marked, missing, refused}
 use Rattle.std.specs.List.{list_any}
 use Rattle.ts_model.specs.Roster.{same_name}
 use Rattle.stmt_check.specs.Tables.{is_among}
-use Rattle.stmt_check.specs.declared.actions.Stop.{Stop}
+use Rattle.stmt_check.specs.declared.actions.NotResolved.{NotResolved}
 use Rattle.stmt_check.specs.Results.{Checks}
 use Rattle.ts_bucket.specs.declared.widths.Width.{Width}
 
@@ -222,21 +222,21 @@ calendar_of info f = record {
 -- ---- checks of parts
 
 -- the width of a fold, or its refusal
-abbrev pub ChecksWidth : ℕ → TableInfo → NamedFold → Result Width Stop → Type 0
+abbrev pub ChecksWidth : ℕ → TableInfo → NamedFold → Result Width NotResolved → Type 0
 ChecksWidth pos info f result = Checks (width_refusal pos info f) (width_of f) result
 
 -- the numbers of the keys' columns of a fold whose head has this name, or the first refusal of a key
-abbrev pub ChecksKeys : ℕ → Bool → List ℕ → TableInfo → NamedFold → Result (List ℕ) Stop → Type 0
+abbrev pub ChecksKeys : ℕ → Bool → List ℕ → TableInfo → NamedFold → Result (List ℕ) NotResolved → Type 0
 ChecksKeys pos distinct head info f result =
     Checks (keys_refusal pos distinct (output_count f) info head [] f.keys) (map (number_or_zero info) f.keys) result
 
 -- one aggregate after so many columns with the number of its column, or its refusal
-abbrev pub ChecksAggregate : ℕ → ℕ → TableInfo → ℕ → Bool → NamedAgg → Result Agg Stop → Type 0
+abbrev pub ChecksAggregate : ℕ → ℕ → TableInfo → ℕ → Bool → NamedAgg → Result Agg NotResolved → Type 0
 ChecksAggregate pos count info others repeats a result =
     Checks (aggregate_refusal pos count info others repeats a) (aggregate_of info a) result
 
 -- the aggregates of a fold whose head has this name, or the first refusal of one
-abbrev pub ChecksAggregates : ℕ → Bool → List ℕ → TableInfo → NamedFold → Result (List Agg) Stop → Type 0
+abbrev pub ChecksAggregates : ℕ → Bool → List ℕ → TableInfo → NamedFold → Result (List Agg) NotResolved → Type 0
 ChecksAggregates pos distinct head info f result =
     Checks (aggregates_refusal pos distinct (output_count f) info head f.keys [] f.aggs)
     (map (aggregate_of info) f.aggs) result

@@ -11,7 +11,7 @@ use Rattle.stmt_check.specs.declared.inserts.Rule.{Rule}
 use Rattle.stmt_check.specs.declared.inserts.Shape.{Shape}
 use Rattle.stmt_check.specs.Refusals.{◌⊳◌, marked, missing, refused}
 use Rattle.stmt_check.specs.Tables.{is_among}
-use Rattle.stmt_check.specs.declared.actions.Stop.{Stop}
+use Rattle.stmt_check.specs.declared.actions.NotResolved.{NotResolved}
 use Rattle.stmt_check.specs.Results.{Checks}
 
 -- a column without a name that may be NULL
@@ -129,6 +129,6 @@ inserted_rows at cols names rows = rows_of (shape_of at cols names (length rows)
 
 -- the rows that an INSERT gives, or its first refusal
 abbrev pub ChecksRows :
-    ℕ → ℕ → List Column → Option (List (List ℕ)) → List (List (Option ℤ)) → Result (List Row) Stop → Type 0
+    ℕ → ℕ → List Column → Option (List (List ℕ)) → List (List (Option ℤ)) → Result (List Row) NotResolved → Type 0
 ChecksRows pos at cols names rows result =
     Checks (insert_refusal pos at cols names rows) (inserted_rows at cols names rows) result

@@ -10,7 +10,7 @@ use Rattle.ts_schema.specs.declared.columns.Column.{Column}
 use Rattle.ts_catalog.specs.Columns.{column_from}
 use Rattle.ts_model.specs.Roster.{same_name}
 use Rattle.stmt_check.specs.Refusals.{◌⊳◌, marked, missing, name_refusal, refused}
-use Rattle.stmt_check.specs.declared.actions.Stop.{Stop}
+use Rattle.stmt_check.specs.declared.actions.NotResolved.{NotResolved}
 use Rattle.stmt_check.specs.Results.{Checks}
 
 -- a name is among these
@@ -43,6 +43,6 @@ hyper_refusal pos cols col interval =
     missing pos no_column (column_from col 0 cols) ⊳ refused pos bad_width (not (is_interval interval))
 
 -- the declared place of the time column, or the refusal of create_hypertable
-abbrev pub ChecksHyper : ℕ → List Column → List ℕ → ℤ → Result ℕ Stop → Type 0
+abbrev pub ChecksHyper : ℕ → List Column → List ℕ → ℤ → Result ℕ NotResolved → Type 0
 ChecksHyper pos cols col interval result =
     Checks (hyper_refusal pos cols col interval) (unwrap_or (column_from col 0 cols) 0) result

@@ -81,20 +81,20 @@ pub enum Checked {
 
 /// Why a check ended early.
 #[derive(Clone, Copy, Debug, PartialEq, Eq)]
-pub(crate) enum Stop {
+pub(crate) enum NotResolved {
     /// This is refused.
     Refused(Refusal),
     /// There was no memory.
     NoMemory,
 }
 
-impl From<NoMemory> for Stop {
+impl From<NoMemory> for NotResolved {
     ghost use Rattle.std.specs.Prelude.{◌≡◌};
-    ghost use Rattle.stmt_check.specs.declared.actions.Stop.TheVariants.{NoMemory};
+    ghost use Rattle.stmt_check.specs.declared.actions.NotResolved.TheVariants.{NoMemory};
 
     ghost from_gives = { λ _ e. e ≡ NoMemory };
 
-    fn from(_refused: NoMemory) -> Stop {
-        Stop::NoMemory
+    fn from(_refused: NoMemory) -> NotResolved {
+        NotResolved::NoMemory
     }
 }

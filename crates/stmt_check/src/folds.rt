@@ -6,7 +6,7 @@ ghost use Rattle.stmt_check.specs.Folds.{aggregate_name, argument_of, argument_r
 ghost use Rattle.stmt_check.specs.Results.{Checks};
 ghost use Rattle.stmt_check.specs.Tables.{is_among};
 
-use crate::actions::Stop;
+use crate::actions::NotResolved;
 use crate::refusals::{present, refuse_if, refuse_marked};
 use std::alloc::Global;
 use stmt_syntax::{NamedAgg, NamedFold, NamedTest};
@@ -30,7 +30,7 @@ pub(crate) fn check_tests(
     pos: u64,
     info: &TableInfo,
     tests: &[NamedTest],
-) -> Result<Seq<Test>, Stop>
+) -> Result<Seq<Test>, NotResolved>
     requires { length info.now.def.cols < 2 ^ 32 }
     ensures { Checks (tests_refusal pos info.now tests.now) (tests_of info.now tests.now) result }
 {
@@ -61,7 +61,7 @@ pub(crate) fn check_fold(
     distinct: bool,
     info: &TableInfo,
     fold: &NamedFold,
-) -> Result<Fold, Stop>
+) -> Result<Fold, NotResolved>
     requires { length info.now.def.cols < 2 ^ 32 }
     ensures { Checks (fold_refusal pos distinct info.now fold.now) (fold_of info.now fold.now) result }
 {
@@ -90,7 +90,7 @@ pub(crate) fn check_calendar(
     number: i64,
     unit: &Name,
     fold: &NamedFold,
-) -> Result<(u32, Fold), Stop>
+) -> Result<(u32, Fold), NotResolved>
     requires { length info.now.def.cols < 2 ^ 32 }
     ensures { Checks (calendar_refusal pos info.now number unit.now fold.now) (unwrap_or (unit_count number) 0, calendar_of info.now fold.now) result }
 {
@@ -119,7 +119,7 @@ fn check_units(
     number: i64,
     unit: &Name,
     fold: &NamedFold,
-) -> Result<u32, Stop>
+) -> Result<u32, NotResolved>
     requires { length info.now.def.cols < 2 ^ 32 }
     ensures { Checks (units_refusal pos info.now number unit.now fold.now) (unwrap_or (unit_count number) 0) result }
 {
@@ -158,7 +158,7 @@ pub(crate) fn check_rest(
     head: &[u8],
     info: &TableInfo,
     fold: &NamedFold,
-) -> Result<Rest, Stop>
+) -> Result<Rest, NotResolved>
     requires { length info.now.def.cols < 2 ^ 32 }
     ensures { Checks (rest_refusal pos distinct head.now info.now fold.now) (rest_of info.now fold.now) result }
 {
@@ -169,7 +169,7 @@ pub(crate) fn check_rest(
 }
 
 /// The width, where it is in range and the column is the time column.
-fn check_width(pos: u64, info: &TableInfo, fold: &NamedFold) -> Result<Width, Stop>
+fn check_width(pos: u64, info: &TableInfo, fold: &NamedFold) -> Result<Width, NotResolved>
     requires { length info.now.def.cols < 2 ^ 32 }
     ensures { ChecksWidth pos info.now fold.now result }
 {
@@ -177,7 +177,7 @@ fn check_width(pos: u64, info: &TableInfo, fold: &NamedFold) -> Result<Width, St
     refuse_if(pos, NO_COLUMN, !is_time(column(info, &fold.at)))?;
     match width(fold.step, fold.shift) {
         Some(width) => Ok(width),
-        None => Err(Stop::Refused(Refusal {
+        None => Err(NotResolved::Refused(Refusal {
             code: BAD_WIDTH,
             pos,
             mark: 0,
@@ -211,7 +211,7 @@ fn check_keys(
     head: &[u8],
     info: &TableInfo,
     fold: &NamedFold,
-) -> Result<Seq<u32>, Stop>
+) -> Result<Seq<u32>, NotResolved>
     requires { length info.now.def.cols < 2 ^ 32 }
     ensures { ChecksKeys pos distinct head.now info.now fold.now result }
 {
@@ -241,7 +241,7 @@ fn check_key(
     info: &TableInfo,
     others: u64,
     key: &Name,
-) -> Result<u32, Stop>
+) -> Result<u32, NotResolved>
     requires { length info.now.def.cols < 2 ^ 32 }
     ensures { Checks (key_refusal pos count info.now others repeats key.now) (number_or_zero info.now key.now) result }
 {
@@ -260,7 +260,7 @@ fn check_aggregates(
     head: &[u8],
     info: &TableInfo,
     fold: &NamedFold,
-) -> Result<Seq<Agg>, Stop>
+) -> Result<Seq<Agg>, NotResolved>
     requires { length info.now.def.cols < 2 ^ 32 }
     ensures { ChecksAggregates pos distinct head.now info.now fold.now result }
 {
@@ -285,7 +285,7 @@ fn check_aggregate(
     info: &TableInfo,
     others: u64,
     agg: &NamedAgg,
-) -> Result<Agg, Stop>
+) -> Result<Agg, NotResolved>
     requires { length info.now.def.cols < 2 ^ 32 }
     ensures { ChecksAggregate pos count info.now others repeats agg.now result }
 {
@@ -297,7 +297,7 @@ fn check_aggregate(
 }
 
 /// The number of an aggregate's column.
-fn check_argument(pos: u64, info: &TableInfo, col: &Option<Name>) -> Result<u32, Stop>
+fn check_argument(pos: u64, info: &TableInfo, col: &Option<Name>) -> Result<u32, NotResolved>
     requires { length info.now.def.cols < 2 ^ 32 }
     ensures { Checks (argument_refusal pos info.now col.now) (argument_of info.now col.now) result }
 {

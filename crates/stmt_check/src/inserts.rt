@@ -5,7 +5,7 @@ ghost use Rattle.stmt_check.specs.Results.{Checks, Passes};
 ghost use Rattle.stmt_check.specs.Rows.{blank_column, leaves_out, list_refusal, list_refusal_of, other_places, picked, place_in, row_of, row_refusal, rows_of, rows_refusal, rule_of, rules_from, shape_of, time_place, value_refusal, value_rules, values_refusal, ChecksRows};
 ghost use Rattle.stmt_check.specs.Tables.{is_among};
 
-use crate::actions::Stop;
+use crate::actions::NotResolved;
 use crate::limits::MAX_ROWS;
 use crate::refusals::{present, refuse_if, refuse_marked};
 use cell_rows::CellRows;
@@ -47,7 +47,7 @@ pub(crate) fn check_rows(
     columns: &[Column],
     names: &Option<Seq<Name>>,
     rows: &CellRows<Option<i64>>,
-) -> Result<Seq<Row>, Stop>
+) -> Result<Seq<Row>, NotResolved>
     requires { length columns.now < 2 ^ 32 }
     ensures { ChecksRows pos at columns.now names.now rows.now result }
 {
@@ -57,7 +57,7 @@ pub(crate) fn check_rows(
 }
 
 /// That the column list names no column twice, and each is there.
-fn check_list(pos: u64, columns: &[Column], names: &Option<Seq<Name>>) -> Result<(), Stop>
+fn check_list(pos: u64, columns: &[Column], names: &Option<Seq<Name>>) -> Result<(), NotResolved>
     requires { length columns.now < 2 ^ 32 }
     ensures { Passes (list_refusal_of pos columns.now names.now) result }
 {
@@ -69,7 +69,7 @@ fn check_list(pos: u64, columns: &[Column], names: &Option<Seq<Name>>) -> Result
 
 /// That no column is named twice, and each is there.
 #[tactic(auto, using(crate::proofs::Steps::list_step))]
-fn check_names(pos: u64, columns: &[Column], names: &[Name]) -> Result<(), Stop>
+fn check_names(pos: u64, columns: &[Column], names: &[Name]) -> Result<(), NotResolved>
     requires { length columns.now < 2 ^ 32 }
     ensures { Passes (list_refusal pos columns.now [] names.now) result }
 {
@@ -251,7 +251,7 @@ fn check_each(
     pos: u64,
     shape: &Shape,
     rows: &CellRows<Option<i64>>,
-) -> Result<Seq<Row>, Stop>
+) -> Result<Seq<Row>, NotResolved>
     ensures { Checks (rows_refusal pos shape.now 0 rows.now) (rows_of shape.now rows.now) result }
 {
     for (place, values) in rows.iter().enumerate() {
@@ -261,7 +261,12 @@ fn check_each(
 }
 
 /// That a row has as many values as it must, and each meets its rule.
-fn check_row(pos: u64, shape: &Shape, place: usize, values: &[Option<i64>]) -> Result<(), Stop>
+fn check_row(
+    pos: u64,
+    shape: &Shape,
+    place: usize,
+    values: &[Option<i64>],
+) -> Result<(), NotResolved>
     ensures { Passes (row_refusal pos shape.now place values.now) result }
 {
     refuse_marked(pos, TOO_MANY, shape.count, place >= MAX_ROWS)?;
@@ -271,7 +276,7 @@ fn check_row(pos: u64, shape: &Shape, place: usize, values: &[Option<i64>]) -> R
 }
 
 /// That each value meets its rule.
-fn check_values(pos: u64, rules: &[Rule], values: &[Option<i64>]) -> Result<(), Stop>
+fn check_values(pos: u64, rules: &[Rule], values: &[Option<i64>]) -> Result<(), NotResolved>
     ensures { Passes (values_refusal pos rules.now values.now) result }
 {
     for (rule, value) in rules.iter().zip(values) {
@@ -281,7 +286,7 @@ fn check_values(pos: u64, rules: &[Rule], values: &[Option<i64>]) -> Result<(), 
 }
 
 /// That a time lies in the range of times, and NULL stands only where it may.
-fn check_value(pos: u64, rule: Rule, value: Option<i64>) -> Result<(), Stop>
+fn check_value(pos: u64, rule: Rule, value: Option<i64>) -> Result<(), NotResolved>
     ensures { Passes (value_refusal pos rule value) result }
 {
     match value {

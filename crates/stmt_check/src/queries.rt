@@ -6,7 +6,7 @@ ghost use Rattle.ts_bucket.specs.WholeSpans.{least, greatest};
 ghost use Rattle.stmt_check.specs.Results.{Checks, Passes};
 ghost use Rattle.stmt_check.specs.Tables.{is_interval};
 
-use crate::actions::Stop;
+use crate::actions::NotResolved;
 use crate::refusals::refuse_if;
 use stmt_syntax::NamedTest;
 use ts_bucket::{MAX_TIME, MIN_TIME, Span, chunk_start};
@@ -16,7 +16,11 @@ use ts_model::codes::{BAD_TIME, NO_COLUMN};
 use ts_schema::{Cmp, Test};
 
 /// The starts that all tests let pass, where each is on the bucket column and bounds it.
-pub(crate) fn check_starts(pos: u64, def: &ViewDef, tests: &[NamedTest]) -> Result<Span, Stop>
+pub(crate) fn check_starts(
+    pos: u64,
+    def: &ViewDef,
+    tests: &[NamedTest],
+) -> Result<Span, NotResolved>
     requires { length def.now.names < 2 ^ 32 }
     ensures { Checks (starts_refusal pos def.now tests.now) (starts_of tests.now) result }
 {
@@ -104,7 +108,7 @@ fn end_of_starts(cmp: Cmp, num: i64) -> i64
 }
 
 /// That a bound lies in the range of times.
-pub(crate) fn check_bound(pos: u64, bound: Option<i64>) -> Result<(), Stop>
+pub(crate) fn check_bound(pos: u64, bound: Option<i64>) -> Result<(), NotResolved>
     ensures { Passes (bound_refusal pos bound) result }
 {
     match bound {

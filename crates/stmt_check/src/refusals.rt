@@ -3,32 +3,32 @@ ghost use Rattle.std.specs.Prelude.{unwrap_or};
 ghost use Rattle.stmt_check.specs.Refusals.{marked, missing, refused};
 ghost use Rattle.stmt_check.specs.Results.{Checks, Passes};
 
-use crate::actions::Stop;
+use crate::actions::NotResolved;
 use ts_model::Refusal;
 
 /// Refuses with this number where something is wrong.
-pub(crate) fn refuse_if(pos: u64, code: u8, wrong: bool) -> Result<(), Stop>
+pub(crate) fn refuse_if(pos: u64, code: u8, wrong: bool) -> Result<(), NotResolved>
     ensures { Passes (refused pos code wrong) result }
 {
     refuse_marked(pos, code, 0, wrong)
 }
 
 /// Refuses with this number and mark where something is wrong.
-pub(crate) fn refuse_marked(pos: u64, code: u8, mark: u64, wrong: bool) -> Result<(), Stop>
+pub(crate) fn refuse_marked(pos: u64, code: u8, mark: u64, wrong: bool) -> Result<(), NotResolved>
     ensures { Passes (marked pos code mark wrong) result }
 {
     if wrong {
-        return Err(Stop::Refused(Refusal { code, pos, mark }));
+        return Err(NotResolved::Refused(Refusal { code, pos, mark }));
     }
     Ok(())
 }
 
 /// What has to be there, or the refusal with this number.
-pub(crate) fn present(pos: u64, code: u8, found: Option<u32>) -> Result<u32, Stop>
+pub(crate) fn present(pos: u64, code: u8, found: Option<u32>) -> Result<u32, NotResolved>
     ensures { Checks (missing pos code found) (unwrap_or found 0) result }
 {
     match found {
         Some(number) => Ok(number),
-        None => Err(Stop::Refused(Refusal { code, pos, mark: 0 })),
+        None => Err(NotResolved::Refused(Refusal { code, pos, mark: 0 })),
     }
 }

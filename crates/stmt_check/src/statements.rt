@@ -3,7 +3,7 @@ ghost use Rattle.std.specs.Prelude.{◌≡◌};
 ghost use Rattle.stmt_syntax.specs.declared.statements.Stmt.TheVariants as stmts;
 ghost use Rattle.stmt_check.specs.Check.{IsChecked, IsNumbered, interval_of, time_of, Resolves};
 
-use crate::actions::{Action, Checked, Stop};
+use crate::actions::{Action, Checked, NotResolved};
 use crate::folds::{check_calendar, check_fold, check_tests, names_of_outputs};
 use crate::inserts::check_rows;
 use crate::queries::{before_chunk, check_bound, check_starts};
@@ -25,13 +25,13 @@ pub fn check(alloc: Global, stmt: &Stmt, roster: &Roster, pos: u64) -> Checked
 {
     match resolve(alloc, pos, roster, stmt) {
         Ok(action) => Checked::Ready(action),
-        Err(Stop::Refused(refusal)) => Checked::Refused(refusal),
-        Err(Stop::NoMemory) => Checked::NoMemory,
+        Err(NotResolved::Refused(refusal)) => Checked::Refused(refusal),
+        Err(NotResolved::NoMemory) => Checked::NoMemory,
     }
 }
 
 /// What a statement asks for, or why it stops.
-fn resolve(alloc: Global, pos: u64, roster: &Roster, stmt: &Stmt) -> Result<Action, Stop>
+fn resolve(alloc: Global, pos: u64, roster: &Roster, stmt: &Stmt) -> Result<Action, NotResolved>
     requires { IsNumbered roster.now }
     ensures { Resolves pos roster.now stmt.now result }
 {
@@ -67,7 +67,7 @@ fn resolve(alloc: Global, pos: u64, roster: &Roster, stmt: &Stmt) -> Result<Acti
 }
 
 /// CREATE TABLE.
-fn table(pos: u64, roster: &Roster, name: &Name, cols: &Seq<Column>) -> Result<Action, Stop>
+fn table(pos: u64, roster: &Roster, name: &Name, cols: &Seq<Column>) -> Result<Action, NotResolved>
     requires { IsNumbered roster.now }
     ensures { Resolves pos roster.now (stmts.Table name.now cols.now) result }
 {
@@ -80,7 +80,13 @@ fn table(pos: u64, roster: &Roster, name: &Name, cols: &Seq<Column>) -> Result<A
 }
 
 /// SELECT create_hypertable.
-fn hyper(pos: u64, roster: &Roster, name: &Name, col: &Name, interval: i64) -> Result<Action, Stop>
+fn hyper(
+    pos: u64,
+    roster: &Roster,
+    name: &Name,
+    col: &Name,
+    interval: i64,
+) -> Result<Action, NotResolved>
     requires { IsNumbered roster.now }
     ensures { Resolves pos roster.now (stmts.Hyper name.now col.now interval) result }
 {
@@ -102,7 +108,7 @@ fn view(
     only: bool,
     filled: bool,
     fold: &NamedFold,
-) -> Result<Action, Stop>
+) -> Result<Action, NotResolved>
     requires { IsNumbered roster.now }
     ensures { Resolves pos roster.now (stmts.View name.now only filled fold.now) result }
 {
@@ -120,7 +126,7 @@ fn view(
 }
 
 /// ALTER MATERIALIZED VIEW.
-fn mode(pos: u64, roster: &Roster, name: &Name, only: bool) -> Result<Action, Stop>
+fn mode(pos: u64, roster: &Roster, name: &Name, only: bool) -> Result<Action, NotResolved>
     requires { IsNumbered roster.now }
     ensures { Resolves pos roster.now (stmts.Mode name.now only) result }
 {
@@ -136,7 +142,7 @@ fn insert(
     name: &Name,
     cols: &Option<Seq<Name>>,
     rows: &CellRows<Option<i64>>,
-) -> Result<Action, Stop>
+) -> Result<Action, NotResolved>
     requires { IsNumbered roster.now }
     ensures { Resolves pos roster.now (stmts.Insert name.now cols.now rows.now) result }
 {
@@ -154,7 +160,7 @@ fn delete(
     roster: &Roster,
     name: &Name,
     tests: &[NamedTest],
-) -> Result<Action, Stop>
+) -> Result<Action, NotResolved>
     requires { IsNumbered roster.now }
     ensures { Resolves pos roster.now (stmts.Delete name.now tests.now) result }
 {
@@ -170,7 +176,7 @@ fn drop_chunks(
     roster: &Roster,
     name: &Name,
     below: i64,
-) -> Result<Action, Stop>
+) -> Result<Action, NotResolved>
     requires { IsNumbered roster.now }
     ensures { Resolves pos roster.now (stmts.Drop name.now below) result }
 {
@@ -188,7 +194,7 @@ fn refresh(
     name: &Name,
     lo: Option<i64>,
     hi: Option<i64>,
-) -> Result<Action, Stop>
+) -> Result<Action, NotResolved>
     requires { IsNumbered roster.now }
     ensures { Resolves pos roster.now (stmts.Refresh name.now lo hi) result }
 {
@@ -205,7 +211,7 @@ fn cut(
     name: &Name,
     lo: Option<i64>,
     hi: Option<i64>,
-) -> Result<Action, Stop>
+) -> Result<Action, NotResolved>
     requires { IsNumbered roster.now }
     ensures { Resolves pos roster.now (stmts.Cut name.now lo hi) result }
 {
@@ -216,7 +222,12 @@ fn cut(
 }
 
 /// A fold over a hypertable.
-fn buckets(alloc: Global, pos: u64, roster: &Roster, fold: &NamedFold) -> Result<Action, Stop>
+fn buckets(
+    alloc: Global,
+    pos: u64,
+    roster: &Roster,
+    fold: &NamedFold,
+) -> Result<Action, NotResolved>
     requires { IsNumbered roster.now }
     ensures { Resolves pos roster.now (stmts.Buckets fold.now) result }
 {
@@ -233,7 +244,7 @@ fn calendar(
     number: i64,
     unit: &Name,
     fold: &NamedFold,
-) -> Result<Action, Stop>
+) -> Result<Action, NotResolved>
     requires { IsNumbered roster.now }
     ensures { Resolves pos roster.now (stmts.Calendar number unit.now fold.now) result }
 {
@@ -256,7 +267,7 @@ fn rows(
     roster: &Roster,
     name: &Name,
     tests: &[NamedTest],
-) -> Result<Action, Stop>
+) -> Result<Action, NotResolved>
     requires { IsNumbered roster.now }
     ensures { Resolves pos roster.now (stmts.Rows name.now tests.now) result }
 {

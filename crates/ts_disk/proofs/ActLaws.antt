@@ -6,7 +6,7 @@ use Rattle.ts_schema.specs.Counts.{one_more}
 use Rattle.ts_disk.specs.CrashImage.{State, IsImage, Torn, Follows, LeavesNoMore, Only, Elapses, at_rest, written}
 use Rattle.ts_disk.specs.Disk.{Writes}
 use Rattle.ts_disk.specs.ImageLaws.{shows-state, shows-at_rest}
-use Rattle.ts_disk.specs.MemDisk.{Recorded, WasImage, Does, after, state_after, state_of, content, known, leaves, moment, begins_within, all_within}
+use Rattle.ts_disk.specs.MemDisk.{Recorded, WasImage, PerformsAct, after, state_after, state_of, content, known, leaves, moment, begins_within, all_within}
 use Rattle.ts_disk.specs.declared.acts.Act.{Act}
 use Rattle.ts_disk.specs.declared.acts.Act.TheVariants.{Write, Sync}
 use Rattle.ts_disk.specs.declared.acts.Piece.{Piece}
@@ -68,37 +68,37 @@ module _ (disk : Recorded) where
     keeps = λ t c le was. past_same t c was;
   }
 
-  pub did_time : {T E : Type 0} (act : Act) (result : Result T E) (new : Recorded) → Does act disk result new → Elapses (moment disk) (moment new) (WasImage disk) (WasImage new) (leaves new)
+  pub did_time : {T E : Type 0} (act : Act) (result : Result T E) (new : Recorded) → PerformsAct act disk result new → Elapses (moment disk) (moment new) (WasImage disk) (WasImage new) (leaves new)
   did_time act (Ok v) new does = subst (λ (r : Recorded). Elapses (moment disk) (moment r) (WasImage disk) (WasImage r) (leaves r)) (sym does) (time_more act)
   did_time act (Err e) new does = subst (λ (r : Recorded). Elapses (moment disk) (moment r) (WasImage disk) (WasImage r) (leaves r)) (sym does) time_failed
 
   -- what one call did to what a crash may leave
-  pub did_leave : {T E : Type 0} (act : Act) (result : Result T E) (new : Recorded) → Does act disk result new → (c : List ℕ) → leaves new c → IsImage (after (state_of disk) act) c ⊎ leaves disk c
+  pub did_leave : {T E : Type 0} (act : Act) (result : Result T E) (new : Recorded) → PerformsAct act disk result new → (c : List ℕ) → leaves new c → IsImage (after (state_of disk) act) c ⊎ leaves disk c
   did_leave act (Ok v) new does c image = inl (leaves_more act c (subst (λ (r : Recorded). leaves r c) does image))
   did_leave act (Err e) new does c image = inr (subst (λ (r : Recorded). leaves r c) does image)
 
   content_more : (act : Act) → content (more disk act) ≡ (after (state_of disk) act).now
   content_more act = ap (λ (s : State). s.now) (state_push (at_rest disk.first) disk.acts act)
 
-  pub did_write : {T E : Type 0} (piece : Piece) (result : Result T E) (new : Recorded) → Does (Write piece) disk result new → Writes (known disk) piece.at piece.bytes result (known new)
+  pub did_write : {T E : Type 0} (piece : Piece) (result : Result T E) (new : Recorded) → PerformsAct (Write piece) disk result new → Writes (known disk) piece.at piece.bytes result (known new)
   did_write piece (Ok v) new does = ap (λ (r : Recorded). known r) does ∙ ap (λ (file : List ℕ). Some file) (content_more (Write piece))
   did_write piece (Err e) new does = subst (λ (r : Recorded). IsSomeAnd (known r) (Torn piece.at (length piece.bytes) (content disk))) (sym does) (torn_refl piece.at (length piece.bytes) (content disk))
 
-  pub did_tear : {T E : Type 0} (piece : Piece) (result : Result T E) (new : Recorded) → Does (Write piece) disk result new → piece.at ≤ length (content disk) → Follows (Torn piece.at (length piece.bytes)) (leaves disk) (leaves new)
+  pub did_tear : {T E : Type 0} (piece : Piece) (result : Result T E) (new : Recorded) → PerformsAct (Write piece) disk result new → piece.at ≤ length (content disk) → Follows (Torn piece.at (length piece.bytes)) (leaves disk) (leaves new)
   did_tear piece result new does begins c image = ⊎_elim (λ here. torn_image (state_of disk) piece c begins grown here) (λ old. (c, old, torn_refl piece.at (length piece.bytes) c)) (did_leave (Write piece) result new does c image)
 
-  pub did_sync : {T E : Type 0} (result : Result T E) (new : Recorded) → Does Sync disk result new → known new ≡ known disk
+  pub did_sync : {T E : Type 0} (result : Result T E) (new : Recorded) → PerformsAct Sync disk result new → known new ≡ known disk
   did_sync (Ok v) new does = ap (λ (r : Recorded). known r) does ∙ ap (λ (file : List ℕ). Some file) (content_more Sync)
   did_sync (Err e) new does = ap (λ (r : Recorded). known r) does
 
   image_at_rest : (file c : List ℕ) → IsImage (at_rest file) c → c ≡ file
   image_at_rest file c image = ext_get_or 0 c file (omega (arith, image.no_shorter, image.no_longer)) (λ i le. image.outside i (omega (arith, image.no_longer)) refl)
 
-  pub did_last : {T E : Type 0} (result : Result T E) (new : Recorded) → Does Sync disk result new → OnOk result (IfSome (known disk) (λ file. Only file (leaves new)))
+  pub did_last : {T E : Type 0} (result : Result T E) (new : Recorded) → PerformsAct Sync disk result new → OnOk result (IfSome (known disk) (λ file. Only file (leaves new)))
   did_last (Ok v) new does = λ c image. image_at_rest (content disk) c (leaves_more Sync c (subst (λ (r : Recorded). leaves r c) does image))
   did_last (Err e) new does = tt
 
-  pub did_leave_less : {T E : Type 0} (result : Result T E) (new : Recorded) → Does Sync disk result new → LeavesNoMore (leaves disk) (leaves new)
+  pub did_leave_less : {T E : Type 0} (result : Result T E) (new : Recorded) → PerformsAct Sync disk result new → LeavesNoMore (leaves disk) (leaves new)
   did_leave_less result new does c image = ⊎_elim (λ synced. subst (leaves disk) (sym (image_at_rest (content disk) c synced)) (shows-state (at_rest disk.first) disk.acts (shows-at_rest disk.first))) (λ old. old) (did_leave Sync result new does c image)
 
 -- a write that was noted, or wasn't, leaves bytes and acts that belong together

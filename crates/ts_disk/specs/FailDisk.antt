@@ -2,8 +2,8 @@
 use Rattle.std.specs.Prelude.{◌≡◌, ℕ, Bool, true, false, ◌&&◌, ◌==◌, nat_lt, if◌then◌else◌, List, Option, Result, IsErr, is_ok}
 use Rattle.ts_schema.specs.Counts.{one_more}
 use Rattle.ts_disk.specs.MemDisk.{Recorded, WasImage, known, leaves, moment}
-use Rattle.ts_disk.specs.declared.fail_disks.Kind.{Kind}
-use Rattle.ts_disk.specs.declared.fail_disks.Kind.TheVariants.{Len, Read, Write, Sync}
+use Rattle.ts_disk.specs.declared.fail_disks.DiskCall.{DiskCall}
+use Rattle.ts_disk.specs.declared.fail_disks.DiskCall.TheVariants.{Len, Read, Write, Sync}
 use Rattle.ts_disk.specs.declared.fail_disks.Plan.{Plan}
 use Rattle.ts_disk.specs.declared.fail_disks.Plan.TheVariants.{Once, After}
 
@@ -28,7 +28,7 @@ moment_of disk = moment disk.disk
 abbrev pub was_image_of : Failing → ℕ → List ℕ → Type 0
 was_image_of disk = WasImage disk.disk
 
-abbrev pub same_kind : Kind → Kind → Bool
+abbrev pub same_kind : DiskCall → DiskCall → Bool
 same_kind Len Len = true
 same_kind Read Read = true
 same_kind Write Write = true
@@ -47,24 +47,24 @@ same_kind Sync Read = false
 same_kind Sync Write = false
 
 -- the calls that a plan counts: those of its kind, or all
-abbrev pub is_counted : Plan → Kind → Bool
+abbrev pub is_counted : Plan → DiskCall → Bool
 is_counted (Once kind nth) call = same_kind kind call
 is_counted (After calls) call = true
 
 -- the count after a call
-abbrev pub made_after : Plan → Kind → ℕ → ℕ
+abbrev pub made_after : Plan → DiskCall → ℕ → ℕ
 made_after plan call made = if is_counted plan call then one_more made else made
 
 -- whether a call fails, where so many are made with it: the nth of its kind alone, or all but the first ones
-abbrev pub is_failing : Plan → Kind → ℕ → Bool
+abbrev pub is_failing : Plan → DiskCall → ℕ → Bool
 is_failing (Once kind nth) call made = same_kind kind call && made == nth
 is_failing (After calls) call made = nat_lt calls made
 
-abbrev pub fails_at : Failing → Kind → Bool
+abbrev pub fails_at : Failing → DiskCall → Bool
 fails_at disk call = is_failing disk.plan call (made_after disk.plan call disk.made)
 
 -- a call that fails leaves the disk that is held as it was, and each other is that disk's own call
-pub record Runs {T E : Type 0} (call : Kind) (own : Recorded → Result T E → Recorded → Type 0) (old : Failing)
+pub record Runs {T E : Type 0} (call : DiskCall) (own : Recorded → Result T E → Recorded → Type 0) (old : Failing)
     (result : Result T E) (new : Failing) : Type 0 where
   pub fails : fails_at old call ≡ true → IsErr result × (new.disk ≡ old.disk)
   pub passes : fails_at old call ≡ false → own old.disk result new.disk

@@ -54,8 +54,8 @@ pub record WasImage (disk : Recorded) (t : ℕ) (c : List ℕ) : Type 0 where
   pub image : IsImage (state_after (at_rest disk.first) (take when disk.acts)) c
 
 -- a call that succeeded did this, and one that failed is counted and did nothing
-abbrev pub Does : {T E : Type 0} → Act → Recorded → Result T E → Recorded → Type 0
-Does act old result new =
+abbrev pub PerformsAct : {T E : Type 0} → Act → Recorded → Result T E → Recorded → Type 0
+PerformsAct act old result new =
     MatchResult result (λ _. new ≡ record old { acts = old.acts ++ act ∷ [] })
     (λ _. new ≡ record old { faults = one_more old.faults })
 

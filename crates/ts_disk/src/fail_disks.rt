@@ -3,7 +3,7 @@ ghost use Rattle.std.specs.Prelude.{◌≡◌, ◌+◌, ◌≤◌, [], length, i
 ghost use Rattle.ts_schema.specs.Counts.{one_more};
 ghost use Rattle.ts_disk.specs.CrashImage.{Torn, Follows, LeavesNoMore, Only, Elapses};
 ghost use Rattle.ts_disk.specs.Disk.{Counted, HasLength, HasRange, IsRange, Writes, Keeps};
-ghost use Rattle.ts_disk.specs.MemDisk.{Does, Asks};
+ghost use Rattle.ts_disk.specs.MemDisk.{PerformsAct, Asks};
 ghost use Rattle.ts_disk.specs.declared.disks.TheConstants.{MOST_BYTES};
 ghost use Rattle.ts_disk.specs.FailDisk.{same_kind, known_of, leaves_of, moment_of, was_image_of, made_after, is_failing, Runs};
 ghost use Rattle.ts_disk.specs.ImageLaws.{counts_now, only_now, shows_an_image};
@@ -16,7 +16,7 @@ use std::marker::Model;
 
 /// The kinds of calls of a disk.
 #[derive(Clone, Copy, Debug, PartialEq, Eq)]
-pub enum Kind {
+pub enum DiskCall {
     /// `Disk::len`.
     Len,
     /// `Disk::read_at`.
@@ -31,7 +31,7 @@ pub enum Kind {
 #[derive(Clone, Copy, Debug, PartialEq, Eq)]
 pub enum Plan {
     /// The call of this kind with this number, counted from 1, and no other.
-    Once { kind: Kind, nth: u64 },
+    Once { kind: DiskCall, nth: u64 },
     /// Every call after so many.
     After { calls: u64 },
 }
@@ -57,7 +57,7 @@ impl Model for FailDisk {
 impl FailDisk {
     /// A disk with these bytes, all of them on the disk. The `nth` call of this kind, counted from 1,
     /// fails, and the disk goes on. It takes no memory.
-    pub fn new(alloc: Global, bytes: Vec<u8>, kind: Kind, nth: u64) -> FailDisk
+    pub fn new(alloc: Global, bytes: Vec<u8>, kind: DiskCall, nth: u64) -> FailDisk
         ensures made { result ≡ record {
           disk = record { first = bytes.items; acts = []; faults = 0 };
           plan = Plan.Once kind nth;
@@ -100,7 +100,7 @@ impl FailDisk {
 }
 
 /// Counts a call of this kind, and says whether it fails.
-fn count_call(plan: Plan, made: &mut u64, call: Kind) -> bool
+fn count_call(plan: Plan, made: &mut u64, call: DiskCall) -> bool
     ensures counted { made.new ≡ made_after plan call made.old }
     ensures fails { result ≡ is_failing plan call made.new }
 {
@@ -119,7 +119,7 @@ fn count_call(plan: Plan, made: &mut u64, call: Kind) -> bool
 }
 
 /// Whether two kinds are the same.
-fn is_same(a: Kind, b: Kind) -> bool
+fn is_same(a: DiskCall, b: DiskCall) -> bool
     ensures { result ≡ same_kind a b }
 {
     a == b
@@ -161,9 +161,9 @@ impl Disk for FailDisk {
         ensures most { IfOk result (λ n. n ≤ MOST_BYTES) }
         ensures kept { Keeps known_of leaves_of moment_of was_image_of self.old self.new }
         ensures counted { Counted self.old.faults self.new.faults result }
-        ensures runs { Runs Kind.Len Asks self.old result self.new }
+        ensures runs { Runs DiskCall.Len Asks self.old result self.new }
     {
-        let result = if count_call(self.plan, &mut self.made, Kind::Len) {
+        let result = if count_call(self.plan, &mut self.made, DiskCall::Len) {
             Err(Failed)
         } else {
             self.disk.len()
@@ -178,9 +178,9 @@ impl Disk for FailDisk {
         ensures bytes { OnOk result (IsRange (known_of self.old) at into.new) }
         ensures kept { Keeps known_of leaves_of moment_of was_image_of self.old self.new }
         ensures counted { Counted self.old.faults self.new.faults result }
-        ensures runs { Runs Kind.Read Asks self.old result self.new }
+        ensures runs { Runs DiskCall.Read Asks self.old result self.new }
     {
-        let result = if count_call(self.plan, &mut self.made, Kind::Read) {
+        let result = if count_call(self.plan, &mut self.made, DiskCall::Read) {
             Err(Failed)
         } else {
             self.disk.read_at(at, into)
@@ -198,9 +198,9 @@ impl Disk for FailDisk {
         ensures time { Elapses (moment_of self.old) (moment_of self.new) (was_image_of self.old) (was_image_of self.new)
             (leaves_of self.new) }
         ensures counted { Counted self.old.faults self.new.faults result }
-        ensures runs { Runs Kind.Write (Does (Write (record { at = at; bytes = piece.now }))) self.old result self.new }
+        ensures runs { Runs DiskCall.Write (PerformsAct (Write (record { at = at; bytes = piece.now }))) self.old result self.new }
     {
-        let result = if count_call(self.plan, &mut self.made, Kind::Write) {
+        let result = if count_call(self.plan, &mut self.made, DiskCall::Write) {
             Err(Failed)
         } else {
             self.disk.write_at(at, piece)
@@ -216,9 +216,9 @@ impl Disk for FailDisk {
         ensures time { Elapses (moment_of self.old) (moment_of self.new) (was_image_of self.old) (was_image_of self.new)
             (leaves_of self.new) }
         ensures counted { Counted self.old.faults self.new.faults result }
-        ensures runs { Runs Kind.Sync (Does Sync) self.old result self.new }
+        ensures runs { Runs DiskCall.Sync (PerformsAct Sync) self.old result self.new }
     {
-        let result = if count_call(self.plan, &mut self.made, Kind::Sync) {
+        let result = if count_call(self.plan, &mut self.made, DiskCall::Sync) {
             Err(Failed)
         } else {
             self.disk.sync()

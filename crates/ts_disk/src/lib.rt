@@ -12,6 +12,6 @@ mod picks;
 
 pub use acts::{Act, Piece};
 pub use disks::{Disk, Failed, MOST_BYTES};
-pub use fail_disks::{FailDisk, Kind, Plan};
+pub use fail_disks::{DiskCall, FailDisk, Plan};
 pub use file_disks::FileDisk;
 pub use mem_disks::MemDisk;

@@ -3,7 +3,7 @@ ghost use Rattle.std.specs.Prelude.{◌≡◌, ◌+◌, ◌<◌, ◌≤◌, true
 ghost use Rattle.ts_disk.specs.CrashImage.{written, Torn, Follows, LeavesNoMore, Only, Elapses, IsImage};
 ghost use Rattle.ts_disk.specs.Disk.{Counted, HasLength, HasRange, IsRange, Writes, Keeps};
 ghost use Rattle.ts_schema.specs.Counts.{one_more};
-ghost use Rattle.ts_disk.specs.MemDisk.{state_of, content, known, leaves, moment, WasImage, Does, Asks, written_at};
+ghost use Rattle.ts_disk.specs.MemDisk.{state_of, content, known, leaves, moment, WasImage, PerformsAct, Asks, written_at};
 ghost use Rattle.ts_disk.specs.Picks.{picked};
 ghost use Rattle.ts_disk.specs.ImageLaws.{counts_now, only_now, shows_an_image};
 ghost use Rattle.ts_disk.specs.declared.acts.Act.TheVariants.{Write, Sync};
@@ -111,7 +111,7 @@ impl MemDisk {
         requires most { at ≤ MOST_BYTES }
         requires range { at ≤ length (content self.old) }
         ensures most { OnOk result (at + length piece.now ≤ MOST_BYTES) }
-        ensures exact { Does (Write (record { at = at; bytes = piece.now })) self.old result self.new }
+        ensures exact { PerformsAct (Write (record { at = at; bytes = piece.now })) self.old result self.new }
     {
         if piece.len() as u64 > MOST_BYTES - at || self.put(at, piece).is_err() {
             self.count_fault();
@@ -122,7 +122,7 @@ impl MemDisk {
 
     /// Notes a sync, or counts a fault.
     fn try_sync(&mut self) -> Result<(), Failed>
-        ensures exact { Does Sync self.old result self.new }
+        ensures exact { PerformsAct Sync self.old result self.new }
     {
         if self.note_sync().is_err() {
             self.count_fault();
@@ -234,7 +234,7 @@ impl Disk for MemDisk {
         ensures time { Elapses (moment self.old) (moment self.new) (WasImage self.old) (WasImage self.new)
             (leaves self.new) }
         ensures counted { Counted self.old.faults self.new.faults result }
-        ensures exact { Does (Write (record { at = at; bytes = piece.now })) self.old result self.new }
+        ensures exact { PerformsAct (Write (record { at = at; bytes = piece.now })) self.old result self.new }
     {
         self.try_put(at, piece)
     }
@@ -246,7 +246,7 @@ impl Disk for MemDisk {
         ensures time { Elapses (moment self.old) (moment self.new) (WasImage self.old) (WasImage self.new)
             (leaves self.new) }
         ensures counted { Counted self.old.faults self.new.faults result }
-        ensures exact { Does Sync self.old result self.new }
+        ensures exact { PerformsAct Sync self.old result self.new }
     {
         self.try_sync()
     }

@@ -1,8 +1,8 @@
 -- The block that a session is in.
 use Rattle.std.proofs.Common.{◌≡◌, [], None, refl, ap, subst}
 use Rattle.stmt_syntax.specs.declared.statements.Stmt.{Stmt}
-use Rattle.ts_sessions.specs.declared.kinds.Kind.{Kind}
-use Rattle.ts_sessions.specs.declared.kinds.Kind.TheVariants as kinds
+use Rattle.ts_sessions.specs.declared.kinds.StatementKind.{StatementKind}
+use Rattle.ts_sessions.specs.declared.kinds.StatementKind.TheVariants as kinds
 use Rattle.ts_sessions.specs.Places.{Block, none, writing, reading, Places, enters}
 use Rattle.ts_sessions.specs.Step.{block_refusal, kind_of}
 
@@ -12,7 +12,7 @@ block_is p b e = ap (λ x. enters x p) e
 
 -- ---- outside a block
 
-only_outside : (b : Block) (k : Kind) → (block_refusal (writing [] 0) k ≡ None → ⊥) → (block_refusal (reading 0) k ≡ None → ⊥) → block_refusal b k ≡ None → b ≡ none
+only_outside : (b : Block) (k : StatementKind) → (block_refusal (writing [] 0) k ≡ None → ⊥) → (block_refusal (reading 0) k ≡ None → ⊥) → block_refusal b k ≡ None → b ≡ none
 only_outside none k f g e = refl
 only_outside (writing ops n) k f g e = absurd (f e)
 only_outside (reading at) k f g e = absurd (g e)

@@ -14,7 +14,7 @@ use Rattle.ts_model.specs.Roster.{roster}
 use Rattle.ts_model.specs.States.{State}
 use Rattle.ts_model.specs.declared.queries.Answer.{Answer}
 use Rattle.ts_model.specs.Answers.{answer}
-use Rattle.ts_sessions.specs.declared.kinds.Kind.TheVariants as kinds
+use Rattle.ts_sessions.specs.declared.kinds.StatementKind.TheVariants as kinds
 use Rattle.ts_model.specs.Reads.{reads as reads_of}
 use Rattle.result_text.specs.declared.replies.Said.{Said}
 use Rattle.result_text.specs.declared.replies.Said.TheVariants as said

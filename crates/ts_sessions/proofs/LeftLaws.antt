@@ -22,7 +22,7 @@ use Rattle.ts_sessions.specs.declared.changes.Change.TheVariants as changes
 use Rattle.ts_sessions.specs.declared.deeds.Deed.{Deed}
 use Rattle.ts_sessions.specs.declared.deeds.Next.{Next}
 use Rattle.ts_sessions.specs.declared.deeds.Next.TheVariants as nexts
-use Rattle.ts_sessions.specs.declared.kinds.Kind.TheVariants as kinds
+use Rattle.ts_sessions.specs.declared.kinds.StatementKind.TheVariants as kinds
 use Rattle.ts_sessions.specs.declared.name_checks.Meant.{Meant}
 use Rattle.ts_sessions.specs.declared.name_checks.Meant.TheVariants as meant
 use Rattle.ts_sessions.specs.declared.queries.Plan.{Plan}

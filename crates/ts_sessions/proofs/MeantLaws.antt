@@ -25,8 +25,8 @@ use Rattle.result_text.specs.declared.replies.Said.TheVariants as said
 use Rattle.ts_sessions.specs.declared.deeds.Deed.{Deed}
 use Rattle.ts_sessions.specs.declared.deeds.Next.{Next}
 use Rattle.ts_sessions.specs.declared.deeds.Next.TheVariants as nexts
-use Rattle.ts_sessions.specs.declared.kinds.Kind.{Kind}
-use Rattle.ts_sessions.specs.declared.kinds.Kind.TheVariants as kinds
+use Rattle.ts_sessions.specs.declared.kinds.StatementKind.{StatementKind}
+use Rattle.ts_sessions.specs.declared.kinds.StatementKind.TheVariants as kinds
 use Rattle.ts_sessions.specs.declared.name_checks.Meant.{Meant}
 use Rattle.ts_sessions.specs.declared.name_checks.Meant.TheVariants as meant
 use Rattle.ts_sessions.specs.declared.queries.Plan.{Plan}
@@ -55,7 +55,7 @@ pub record PlanFits (r : Roster) (plan : Plan) : Type 0 where
   pub asks : IsTrue (can_ask r plan.query)
 
 -- a statement of this kind means this by the names of a roster
-abbrev pub IsMeant : {T J : Type 0} → Roster → Kind → Meant T J → Type 0
+abbrev pub IsMeant : {T J : Type 0} → Roster → StatementKind → Meant T J → Type 0
 IsMeant r kind (meant.Refused q) = Unit {0}
 IsMeant r kind (meant.Shows plan) = PlanFits r plan
 IsMeant r kind (meant.Changes op) = kind ≡ kinds.Changes

@@ -14,7 +14,7 @@ use Rattle.stmt_check.specs.Check.{action_of, refusal_of}
 use Rattle.hier_agg.specs.declared.reads.UpperRead.{UpperRead}
 use Rattle.hier_agg.specs.declared.reads.UpperRead.TheVariants as uppers
 use Rattle.hier_agg.specs.Reads.{upper_read}
-use Rattle.ts_sessions.specs.declared.kinds.Kind.{Kind}
+use Rattle.ts_sessions.specs.declared.kinds.StatementKind.{StatementKind}
 use Rattle.ts_sessions.specs.declared.queries.Plan.{Plan}
 use Rattle.ts_sessions.specs.Places.{Block, none, reading, writing, Places, Turn, refuses}
 use Rattle.ts_sessions.specs.Procedures.{Procedure, ends}
@@ -58,15 +58,15 @@ read_holds C p does (Ok read) misread statement = statement read.0
 read_holds C p does (Err f) misread statement = misread f
 
 -- what looks twice is outside a block and makes an event
-pub twice_outside : (b : Block) (kind : Kind) → looks_twice b kind ≡ true → (b ≡ none) × (makes_event kind ≡ true)
+pub twice_outside : (b : Block) (kind : StatementKind) → looks_twice b kind ≡ true → (b ≡ none) × (makes_event kind ≡ true)
 twice_outside none kind e = (refl, e)
 twice_outside (writing ops n) kind e = absurd (true≢false (sym e))
 twice_outside (reading at) kind e = absurd (true≢false (sym e))
 
-pub once_outside : (b : Block) (kind : Kind) → looks_twice b kind ≡ false → b ≡ none → makes_event kind ≡ false
+pub once_outside : (b : Block) (kind : StatementKind) → looks_twice b kind ≡ false → b ≡ none → makes_event kind ≡ false
 once_outside b kind e outside = subst (λ x. looks_twice x kind ≡ false) outside e
 
-pub looks_once : (b : Block) (kind : Kind) → makes_event kind ≡ false → looks_twice b kind ≡ false
+pub looks_once : (b : Block) (kind : StatementKind) → makes_event kind ≡ false → looks_twice b kind ≡ false
 looks_once none kind e = e
 looks_once (writing ops n) kind e = refl
 looks_once (reading at) kind e = refl

@@ -22,7 +22,7 @@ use Rattle.stmt_check.specs.declared.actions.Action.TheVariants as actions
 use Rattle.stmt_check.specs.Check.{action_of, refusal_of}
 use Rattle.stmt_check.proofs.LaterLaws.{Stays, delete_later, drop_later, insert_later}
 use Rattle.result_text.specs.declared.replies.Said.TheVariants as said
-use Rattle.ts_sessions.specs.declared.kinds.Kind.TheVariants as kinds
+use Rattle.ts_sessions.specs.declared.kinds.StatementKind.TheVariants as kinds
 use Rattle.ts_sessions.specs.Procedures.{Procedure, sees, adds, ends, followed_by, ending_as, tries, tries_at}
 use Rattle.ts_sessions.specs.LineLaws.{ReadsWithin, RepliesAreSteady}
 use Rattle.ts_sessions.specs.Places.{Block, none, writing, reading, Places, Turn, cuts, enters, held_for, turns}

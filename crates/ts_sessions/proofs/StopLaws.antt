@@ -33,8 +33,8 @@ use Rattle.stmt_check.specs.declared.actions.Action.{Action}
 use Rattle.stmt_check.specs.declared.actions.Action.TheVariants as actions
 use Rattle.stmt_check.specs.Check.{action_of, refusal_of}
 use Rattle.result_text.specs.declared.replies.Said.TheVariants as said
-use Rattle.ts_sessions.specs.declared.kinds.Kind.{Kind}
-use Rattle.ts_sessions.specs.declared.kinds.Kind.TheVariants as kinds
+use Rattle.ts_sessions.specs.declared.kinds.StatementKind.{StatementKind}
+use Rattle.ts_sessions.specs.declared.kinds.StatementKind.TheVariants as kinds
 use Rattle.ts_sessions.specs.Gives.{Gives}
 use Rattle.ts_sessions.specs.Places.{Block, none, writing, reading, Places, Turn, cuts, enters, held_for}
 use Rattle.ts_sessions.specs.Procedures.{Procedure, sees, adds, ends, followed_by, ending_as, tries_at}
@@ -384,7 +384,7 @@ meets_reading last p bytes (stmts.Rows table tests) at e = meets_read last p byt
 
 -- ---- lines
 
-block_other : (b : Block) (kind : Kind) → Other (block_refusal b kind)
+block_other : (b : Block) (kind : StatementKind) → Other (block_refusal b kind)
 block_other none kinds.Defines = tt
 block_other none kinds.Changes = tt
 block_other none kinds.Asks = tt

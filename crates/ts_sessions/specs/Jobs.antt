@@ -3,13 +3,13 @@ use Rattle.std.specs.Prelude.{◌≡◌, ℕ, List, Option, Some, None}
 use Rattle.std.specs.Map.{set_value}
 use Rattle.std.specs.Ordering.{nat_cmp}
 use Rattle.std.specs.BTreeMap.{is_at, insert_entry}
-use Rattle.ts_sessions.specs.declared.endings.Held.{Held}
-use Rattle.ts_sessions.specs.declared.endings.Held.TheVariants.{Nothing, Lost, Job}
+use Rattle.ts_sessions.specs.declared.endings.HeldJob.{HeldJob}
+use Rattle.ts_sessions.specs.declared.endings.HeldJob.TheVariants.{Nothing, Lost, Job}
 use Rattle.ts_sessions.specs.declared.sessions.Snapshot.{Snapshot}
 use Rattle.ts_sessions.specs.Places.{held_for}
 
 -- what was held of a snapshot at a position
-abbrev pub took_of : {J : Type 0} → ℕ → Option J → Held J
+abbrev pub took_of : {J : Type 0} → ℕ → Option J → HeldJob J
 took_of at None = Lost at
 took_of at (Some job) = Job at job
 
@@ -22,7 +22,7 @@ abbrev pub with_job : {J : Type 0} → ℕ → ℕ → J → List (ℕ × Snapsh
 with_job c at job entries = insert_entry nat_cmp entries c (record { at = at; job = Some job })
 
 -- the job of the snapshot that is held for a refresh was taken, if there is one
-abbrev pub TakesJob : {J : Type 0} → ℕ → List (ℕ × Snapshot J) → Held J → List (ℕ × Snapshot J) → Type 0
+abbrev pub TakesJob : {J : Type 0} → ℕ → List (ℕ × Snapshot J) → HeldJob J → List (ℕ × Snapshot J) → Type 0
 TakesJob c old Nothing new = (held_for c old ≡ None) × (new ≡ old)
 TakesJob c old (Lost at) new = (held_for c old ≡ Some (record { at = at; job = None })) × (new ≡ without_job c at old)
 TakesJob c old (Job at job) new =

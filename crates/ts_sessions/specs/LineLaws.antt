@@ -11,7 +11,7 @@ use Rattle.stmt_syntax.specs.declared.statements.Stmt.{Stmt}
 use Rattle.stmt_check.specs.Check.{action_of, refusal_of}
 use Rattle.result_text.specs.declared.replies.Said.{Said}
 use Rattle.result_text.specs.declared.replies.Said.TheVariants as said
-use Rattle.ts_sessions.specs.declared.kinds.Kind.TheVariants as kinds
+use Rattle.ts_sessions.specs.declared.kinds.StatementKind.TheVariants as kinds
 use Rattle.ts_sessions.specs.declared.queries.Plan.{Plan}
 use Rattle.ts_sessions.specs.Made.{made_in}
 use Rattle.ts_sessions.specs.Places.{Block, none, writing, reading, Places, Turn, enters}

@@ -21,8 +21,8 @@ use Rattle.ts_sessions.specs.declared.deeds.Deed.TheVariants as deeds
 use Rattle.ts_sessions.specs.declared.deeds.Making.TheVariants as making
 use Rattle.ts_sessions.specs.declared.deeds.Next.{Next}
 use Rattle.ts_sessions.specs.declared.deeds.Next.TheVariants as nexts
-use Rattle.ts_sessions.specs.declared.kinds.Kind.{Kind}
-use Rattle.ts_sessions.specs.declared.kinds.Kind.TheVariants as kinds
+use Rattle.ts_sessions.specs.declared.kinds.StatementKind.{StatementKind}
+use Rattle.ts_sessions.specs.declared.kinds.StatementKind.TheVariants as kinds
 use Rattle.ts_sessions.specs.declared.name_checks.Meant.{Meant}
 use Rattle.ts_sessions.specs.declared.name_checks.Meant.TheVariants as meant
 use Rattle.ts_sessions.specs.declared.queries.Plan.{Plan}
@@ -33,7 +33,7 @@ use Rattle.ts_sessions.specs.Procedures.{Procedure, ends, looks}
 use Rattle.ts_sessions.specs.Step.{answers, calendar_plan, changes, in_form, least_start, plan_of, roll_up_plan, shown_in, unit_of}
 
 -- what a statement of this kind does stands in a history by names
-abbrev pub looks_at_names : Kind → Bool
+abbrev pub looks_at_names : StatementKind → Bool
 looks_at_names kinds.Defines = true
 looks_at_names kinds.Changes = true
 looks_at_names kinds.Asks = true

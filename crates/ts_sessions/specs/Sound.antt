@@ -11,8 +11,8 @@ use Rattle.stmt_check.specs.declared.actions.Action.{Action}
 use Rattle.stmt_check.specs.declared.actions.Action.TheVariants as actions
 use Rattle.stmt_check.specs.Check.{action_of, refusal_of}
 use Rattle.stmt_check.specs.Sound.{IsSound}
-use Rattle.ts_sessions.specs.declared.kinds.Kind.{Kind}
-use Rattle.ts_sessions.specs.declared.kinds.Kind.TheVariants as kinds
+use Rattle.ts_sessions.specs.declared.kinds.StatementKind.{StatementKind}
+use Rattle.ts_sessions.specs.declared.kinds.StatementKind.TheVariants as kinds
 
 -- what a statement of a text of so many bytes asks for is sound at each history at which nothing of it is refused
 abbrev pub AsksSoundly : ℕ → Stmt → Type 0
@@ -28,7 +28,7 @@ pub record StandsForAllowed {T : Type 0} (stands : T → History → Type 0) (sh
   pub fits : QueueFits queue history
 
 -- the kind of what a statement asks for
-abbrev pub kind_of_action : Action → Kind
+abbrev pub kind_of_action : Action → StatementKind
 kind_of_action (actions.Table def) = kinds.Defines
 kind_of_action (actions.Hyper t hyper) = kinds.Defines
 kind_of_action (actions.View def filled) = kinds.Defines

@@ -43,8 +43,8 @@ use Rattle.cal_bucket.specs.declared.plans.CalUnit.TheVariants as units
 use Rattle.cal_bucket.specs.Answers.{plan_rows}
 use Rattle.result_text.specs.declared.replies.Said.{Said}
 use Rattle.result_text.specs.declared.replies.Said.TheVariants as said
-use Rattle.ts_sessions.specs.declared.kinds.Kind.{Kind}
-use Rattle.ts_sessions.specs.declared.kinds.Kind.TheVariants as kinds
+use Rattle.ts_sessions.specs.declared.kinds.StatementKind.{StatementKind}
+use Rattle.ts_sessions.specs.declared.kinds.StatementKind.TheVariants as kinds
 use Rattle.ts_sessions.specs.declared.queries.Form.{Form}
 use Rattle.ts_sessions.specs.declared.queries.Form.TheVariants as forms
 use Rattle.ts_sessions.specs.declared.queries.Plan.{Plan}
@@ -68,7 +68,7 @@ misread (faults.Syntax place) = placed syntax place
 misread (faults.BadNumber place) = placed bad_number place
 
 -- the kind of a statement, as blocks let it pass or not
-abbrev pub kind_of : Stmt → Kind
+abbrev pub kind_of : Stmt → StatementKind
 kind_of (stmts.Table name cols) = kinds.Defines
 kind_of (stmts.Hyper table col interval) = kinds.Defines
 kind_of (stmts.View name only filled fold) = kinds.Defines
@@ -89,13 +89,13 @@ kind_of (stmts.Calendar number unit fold) = kinds.Asks
 kind_of (stmts.Rows table tests) = kinds.Asks
 
 -- why a statement of this kind may not be outside a block, where there is nothing to end
-abbrev pub refusal_outside : Kind → Option Refusal
+abbrev pub refusal_outside : StatementKind → Option Refusal
 refusal_outside kinds.Commits = Some (bare no_block)
 refusal_outside kinds.RollsBack = Some (bare no_block)
 refusal_outside other = None
 
 -- and in a write block, which lets changes and queries pass, and what ends it
-abbrev pub refusal_writing : Kind → Option Refusal
+abbrev pub refusal_writing : StatementKind → Option Refusal
 refusal_writing kinds.Changes = None
 refusal_writing kinds.Asks = None
 refusal_writing kinds.Commits = None
@@ -103,14 +103,14 @@ refusal_writing kinds.RollsBack = None
 refusal_writing other = Some (bare in_write_block)
 
 -- and in a read block, which lets queries pass, and what ends it
-abbrev pub refusal_reading : Kind → Option Refusal
+abbrev pub refusal_reading : StatementKind → Option Refusal
 refusal_reading kinds.Asks = None
 refusal_reading kinds.Commits = None
 refusal_reading kinds.RollsBack = None
 refusal_reading other = Some (bare in_read_block)
 
 -- and in any block
-abbrev pub block_refusal : Block → Kind → Option Refusal
+abbrev pub block_refusal : Block → StatementKind → Option Refusal
 block_refusal none kind = refusal_outside kind
 block_refusal (writing ops bytes) kind = refusal_writing kind
 block_refusal (reading at) kind = refusal_reading kind
@@ -378,13 +378,13 @@ read_at (reading at) h = prefix h at
 -- ---- looks
 
 -- statements of this kind make events by names
-abbrev pub makes_event : Kind → Bool
+abbrev pub makes_event : StatementKind → Bool
 makes_event kinds.Defines = true
 makes_event kinds.Changes = true
 makes_event other = false
 
 -- outside a block their names are looked at first, and the event then has a look of its own
-abbrev pub looks_twice : Block → Kind → Bool
+abbrev pub looks_twice : Block → StatementKind → Bool
 looks_twice none kind = makes_event kind
 looks_twice (writing ops n) kind = false
 looks_twice (reading at) kind = false
@@ -397,20 +397,20 @@ named_first p bytes stmt =
     (looks (λ h. acts p bytes h (action_of (roster g) stmt))))
 
 -- the reply to any other statement outside a block prints its look, unless it only begins a block
-abbrev pub begins : Kind → Bool
+abbrev pub begins : StatementKind → Bool
 begins kinds.Begins = true
 begins other = false
 
 -- in a write block with these operations it prints where names are refused, or a query is answered, or the operations
 -- take effect
-abbrev pub prints_writing : List Op → Kind → Option Refusal → Bool
+abbrev pub prints_writing : List Op → StatementKind → Option Refusal → Bool
 prints_writing ops kinds.Changes r = is_some r
 prints_writing ops kinds.Asks r = true
 prints_writing (op ∷ ops) kinds.Commits r = true
 prints_writing ops other r = false
 
 -- in a read block it prints the position of the block, whatever the look was
-abbrev pub prints : Block → Kind → Option Refusal → Bool
+abbrev pub prints : Block → StatementKind → Option Refusal → Bool
 prints none kind r = not (begins kind)
 prints (writing ops n) kind r = prints_writing ops kind r
 prints (reading at) kind r = false

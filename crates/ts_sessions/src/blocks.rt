@@ -5,7 +5,7 @@ ghost use Rattle.ts_sessions.specs.Places.{block_kind, queue_count as queue_coun
 ghost use Rattle.ts_sessions.specs.Sessions.{queued_on};
 ghost use Rattle.ts_sessions.specs.Step.{block_refusal, given_up as given_up_of, refusal_outside, refusal_reading, refusal_writing};
 
-use crate::kinds::Kind;
+use crate::kinds::StatementKind;
 use crate::refusals::bare;
 use result_text::Said;
 use ts_model::{Op, Refusal, codes};
@@ -112,7 +112,7 @@ impl<T> Open<T> {
     }
 
     /// Why a statement of this kind may not be, where it may not.
-    pub fn barrier(&self, kind: Kind) -> Option<Refusal>
+    pub fn barrier(&self, kind: StatementKind) -> Option<Refusal>
         ensures { result ≡ block_refusal (block_of self.now) kind }
     {
         match self {
@@ -124,36 +124,46 @@ impl<T> Open<T> {
 }
 
 /// Why a statement of this kind may not be outside a block.
-fn outside_block(kind: Kind) -> Option<Refusal>
+fn outside_block(kind: StatementKind) -> Option<Refusal>
     ensures { result ≡ refusal_outside kind }
 {
     match kind {
-        Kind::Defines | Kind::Changes | Kind::Asks | Kind::Snaps | Kind::Finishes => None,
-        Kind::Begins | Kind::BeginsRead => None,
-        Kind::Commits | Kind::RollsBack => Some(bare(codes::NO_BLOCK)),
+        StatementKind::Defines
+        | StatementKind::Changes
+        | StatementKind::Asks
+        | StatementKind::Snaps
+        | StatementKind::Finishes => None,
+        StatementKind::Begins | StatementKind::BeginsRead => None,
+        StatementKind::Commits | StatementKind::RollsBack => Some(bare(codes::NO_BLOCK)),
     }
 }
 
 /// Why a statement of this kind may not be in a write block.
-fn in_write_block(kind: Kind) -> Option<Refusal>
+fn in_write_block(kind: StatementKind) -> Option<Refusal>
     ensures { result ≡ refusal_writing kind }
 {
     match kind {
-        Kind::Changes | Kind::Asks | Kind::Commits | Kind::RollsBack => None,
-        Kind::Defines | Kind::Snaps | Kind::Finishes => Some(bare(codes::IN_WRITE_BLOCK)),
-        Kind::Begins | Kind::BeginsRead => Some(bare(codes::IN_WRITE_BLOCK)),
+        StatementKind::Changes
+        | StatementKind::Asks
+        | StatementKind::Commits
+        | StatementKind::RollsBack => None,
+        StatementKind::Defines | StatementKind::Snaps | StatementKind::Finishes => Some(bare(
+            codes::IN_WRITE_BLOCK,
+        )),
+        StatementKind::Begins | StatementKind::BeginsRead => Some(bare(codes::IN_WRITE_BLOCK)),
     }
 }
 
 /// Why a statement of this kind may not be in a read block.
-fn in_read_block(kind: Kind) -> Option<Refusal>
+fn in_read_block(kind: StatementKind) -> Option<Refusal>
     ensures { result ≡ refusal_reading kind }
 {
     match kind {
-        Kind::Asks | Kind::Commits | Kind::RollsBack => None,
-        Kind::Defines | Kind::Changes | Kind::Snaps | Kind::Finishes => {
-            Some(bare(codes::IN_READ_BLOCK))
-        }
-        Kind::Begins | Kind::BeginsRead => Some(bare(codes::IN_READ_BLOCK)),
+        StatementKind::Asks | StatementKind::Commits | StatementKind::RollsBack => None,
+        StatementKind::Defines
+        | StatementKind::Changes
+        | StatementKind::Snaps
+        | StatementKind::Finishes => { Some(bare(codes::IN_READ_BLOCK)) }
+        StatementKind::Begins | StatementKind::BeginsRead => Some(bare(codes::IN_READ_BLOCK)),
     }
 }

@@ -23,7 +23,7 @@ use ts_schema::{NoMemory, Seq};
 
 /// What a session holds for a refresh that is to be finished.
 #[derive(Drop)]
-pub(crate) enum Held<J> {
+pub(crate) enum HeldJob<J> {
     /// Nothing.
     Nothing,
     /// A snapshot at a position, whose job a store has taken.
@@ -94,15 +94,15 @@ where
     {
         match self.meant(number) {
             Some(cut) => match self.take_job(cut) {
-                Held::Job { at, job } => Deed::Finish {
+                HeldJob::Job { at, job } => Deed::Finish {
                     job,
                     finishing: Finishing::Held { cut, at },
                 },
-                Held::Lost { at: _ } => Deed::Refuse {
+                HeldJob::Lost { at: _ } => Deed::Refuse {
                     cut,
                     lacks: Lacks::Job,
                 },
-                Held::Nothing => Deed::Refuse {
+                HeldJob::Nothing => Deed::Refuse {
                     cut,
                     lacks: Lacks::Snapshot,
                 },
@@ -124,7 +124,7 @@ where
     }
 
     /// Takes the job of the snapshot that it holds for a refresh, and keeps the position.
-    fn take_job(&mut self, cut: u64) -> Held<T::Job>
+    fn take_job(&mut self, cut: u64) -> HeldJob<T::Job>
         ensures took { TakesJob cut self.old.held.entries result self.new.held.entries }
         ensures block { self.new.block ≡ self.old.block }
         ensures cut { self.new.cut ≡ self.old.cut }
@@ -133,17 +133,17 @@ where
     {
         match self.held.get_mut(&cut) {
             Some(snapshot) => took(snapshot.at, snapshot.job.take()),
-            None => Held::Nothing,
+            None => HeldJob::Nothing,
         }
     }
 }
 
 /// What was held of a snapshot at a position.
-fn took<J>(at: u64, job: Option<J>) -> Held<J>
+fn took<J>(at: u64, job: Option<J>) -> HeldJob<J>
     ensures { result ≡ took_of at job }
 {
     match job {
-        Some(job) => Held::Job { at, job },
-        None => Held::Lost { at },
+        Some(job) => HeldJob::Job { at, job },
+        None => HeldJob::Lost { at },
     }
 }

@@ -6,7 +6,7 @@ use stmt_syntax::Stmt;
 
 /// The kind of a statement.
 #[derive(Clone, Copy, Debug, PartialEq, Eq)]
-pub enum Kind {
+pub enum StatementKind {
     /// It makes or sets a relation, or refreshes an aggregate.
     Defines,
     /// It inserts or deletes rows.
@@ -28,27 +28,27 @@ pub enum Kind {
 }
 
 /// The kind of a statement.
-pub fn kind_of(stmt: &Stmt) -> Kind
+pub fn kind_of(stmt: &Stmt) -> StatementKind
     ensures { result ≡ kind_of_stmt stmt.now }
 {
     match stmt {
-        Stmt::Table { .. } => Kind::Defines,
-        Stmt::Hyper { .. } => Kind::Defines,
-        Stmt::View { .. } => Kind::Defines,
-        Stmt::Mode { .. } => Kind::Defines,
-        Stmt::Insert { .. } => Kind::Changes,
-        Stmt::Delete { .. } => Kind::Changes,
-        Stmt::Drop { .. } => Kind::Changes,
-        Stmt::Refresh { .. } => Kind::Defines,
-        Stmt::Cut { .. } => Kind::Defines,
-        Stmt::Snap { .. } => Kind::Snaps,
-        Stmt::Finish { .. } => Kind::Finishes,
-        Stmt::Begin => Kind::Begins,
-        Stmt::BeginRead => Kind::BeginsRead,
-        Stmt::Commit => Kind::Commits,
-        Stmt::Rollback => Kind::RollsBack,
-        Stmt::Buckets(_) => Kind::Asks,
-        Stmt::Calendar { .. } => Kind::Asks,
-        Stmt::Rows { .. } => Kind::Asks,
+        Stmt::Table { .. } => StatementKind::Defines,
+        Stmt::Hyper { .. } => StatementKind::Defines,
+        Stmt::View { .. } => StatementKind::Defines,
+        Stmt::Mode { .. } => StatementKind::Defines,
+        Stmt::Insert { .. } => StatementKind::Changes,
+        Stmt::Delete { .. } => StatementKind::Changes,
+        Stmt::Drop { .. } => StatementKind::Changes,
+        Stmt::Refresh { .. } => StatementKind::Defines,
+        Stmt::Cut { .. } => StatementKind::Defines,
+        Stmt::Snap { .. } => StatementKind::Snaps,
+        Stmt::Finish { .. } => StatementKind::Finishes,
+        Stmt::Begin => StatementKind::Begins,
+        Stmt::BeginRead => StatementKind::BeginsRead,
+        Stmt::Commit => StatementKind::Commits,
+        Stmt::Rollback => StatementKind::RollsBack,
+        Stmt::Buckets(_) => StatementKind::Asks,
+        Stmt::Calendar { .. } => StatementKind::Asks,
+        Stmt::Rows { .. } => StatementKind::Asks,
     }
 }

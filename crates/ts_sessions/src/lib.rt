@@ -38,7 +38,7 @@ mod tries;
 
 pub use actors::Actor;
 pub use blocks::{Block, Open, Queue};
-pub use kinds::{Kind, kind_of};
+pub use kinds::{StatementKind, kind_of};
 pub use refreshes::{Asked, Snapped, cut, finish, snapshot_of, take_snapshot};
 pub use refusals::{bare, placed};
 pub use replies::{Reply, StepEnd, replied, write_reply};

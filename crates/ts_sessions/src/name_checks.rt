@@ -5,7 +5,7 @@ ghost use Rattle.ts_model.specs.Allowed.{all_allowed};
 ghost use Rattle.ts_model.specs.History.{History};
 ghost use Rattle.ts_model.specs.States.{State};
 ghost use Rattle.stmt_check.specs.Check.{IsNumbered, refusal_of};
-ghost use Rattle.ts_sessions.specs.declared.kinds.Kind.TheVariants.{Changes};
+ghost use Rattle.ts_sessions.specs.declared.kinds.StatementKind.TheVariants.{Changes};
 ghost use Rattle.ts_sessions.specs.Deeds.{OpensTo, taken_next};
 ghost use Rattle.ts_sessions.specs.Held.{HoldsOf, places_in};
 ghost use Rattle.ts_sessions.specs.Meant.{asked_by as asked_by_action, asked_for, change_next, checked_as, left_of, looks_at_names, meant_by as meant_by_names, IsLeftOf};

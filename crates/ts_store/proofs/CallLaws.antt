@@ -21,7 +21,7 @@ use Rattle.engine_core.specs.Effects.{effect_of}
 use Rattle.engine_core.specs.Histories.{history_of, with_event}
 use Rattle.engine_core.proofs.ActLaws.{free_where_allowed, room_where_free}
 use Rattle.engine_core.proofs.StoreLaws.{kept_by_any, history_push}
-use Rattle.ts_store.specs.Stores.{StoreValue, Does, IsKept, numbers_above, seen, state_of}
+use Rattle.ts_store.specs.Stores.{StoreValue, StoreDoes, IsKept, numbers_above, seen, state_of}
 
 -- a store that is alone finds what it saw
 finds_itself : (s : State) → s.origin.faults ≤ s.faults → (IsTrue (stands_still s) → Rose s.origin.faults s.faults) → Found true s s
@@ -94,10 +94,10 @@ module _ {D : Type 0} (bytes : D → Option (List ℕ)) (may_leave : D → List 
 
   -- ---- calls
 
-  does_of : {A : Type 0} (act : History → Act A) (old new : StoreValue D) (outcome : Outcome A) → Kept old → Answered (act (seen old)) (state old) outcome (state new) → Does faults moment act old outcome new
+  does_of : {A : Type 0} (act : History → Act A) (old new : StoreValue D) (outcome : Outcome A) → Kept old → Answered (act (seen old)) (state old) outcome (state new) → StoreDoes faults moment act old outcome new
   does_of act old new outcome kept answered = record { found = state old; finds = finds_itself (state old) kept.counted kept.fell; answered = answered }
 
-  does_by : {A : Type 0} (act : History → Act A) (a : Act A) (old new : StoreValue D) (outcome : Outcome A) → Kept old → act (seen old) ≡ a → Answered a (state old) outcome (state new) → Does faults moment act old outcome new
+  does_by : {A : Type 0} (act : History → Act A) (a : Act A) (old new : StoreValue D) (outcome : Outcome A) → Kept old → act (seen old) ≡ a → Answered a (state old) outcome (state new) → StoreDoes faults moment act old outcome new
   does_by act a old new outcome kept is answered = does_of act old new outcome kept (subst (λ x. Answered x (state old) outcome (state new)) (sym is) answered)
 
   -- no call refuses an event that is allowed
@@ -108,28 +108,28 @@ module _ {D : Type 0} (bytes : D → Option (List ℕ)) (may_leave : D → List 
       ∙ cond-true (has_room h) (makes e (effect_of h e)) (refuses (refusal history_full h 0)) (room_where_free h e free)
 
   pub does_made : (old new : StoreValue D) (e : Event) (effect : Committed) → Kept old → allowed (seen old) e ≡ true → effect ≡ effect_of (seen old) e → Makes e (state old) (state new)
-      → Does faults moment (making_event e) old (Done effect) new
+      → StoreDoes faults moment (making_event e) old (Done effect) new
   does_made old new e effect kept fits told made = does_by (making_event e) (makes e (effect_of (seen old) e)) old new (Done effect) kept (makes_allowed (seen old) e fits) (told, made)
 
-  pub does_failed : (old new : StoreValue D) (e : Event) → Kept old → allowed (seen old) e ≡ true → Fails e (state old) (state new) → Does faults moment (making_event e) old DiskFault new
+  pub does_failed : (old new : StoreValue D) (e : Event) → Kept old → allowed (seen old) e ≡ true → Fails e (state old) (state new) → StoreDoes faults moment (making_event e) old DiskFault new
   does_failed old new e kept fits failed = does_by (making_event e) (makes e (effect_of (seen old) e)) old new DiskFault kept (makes_allowed (seen old) e fits) failed
 
   pub does_stopped : (old new : StoreValue D) (e : Event) (q : Refusal) → Kept old → allowed (seen old) e ≡ true → is_some old.failed ≡ true → q ≡ refusal stopped (seen old) 0 → Same faults old new
-      → Does faults moment (making_event e) old (Refused q) new
+      → StoreDoes faults moment (making_event e) old (Refused q) new
   does_stopped old new e q kept fits still told is = does_by (making_event e) (makes e (effect_of (seen old) e)) old new (Refused q) kept (makes_allowed (seen old) e fits) (still, told, keeps_state old new is)
 
-  pub does_refused : (old new : StoreValue D) (e : Event) (r : Refusal) → Kept old → call_refusal (seen old) e ≡ Some r → Same faults old new → Does faults moment (making_event e) old (Refused r) new
+  pub does_refused : (old new : StoreValue D) (e : Event) (r : Refusal) → Kept old → call_refusal (seen old) e ≡ Some r → Same faults old new → StoreDoes faults moment (making_event e) old (Refused r) new
   does_refused old new e r kept refused is =
       does_by (making_event e) (refuses r) old new (Refused r) kept (ap (λ o. unless o (making (seen old) e (effect_of (seen old) e))) refused) (refl, keeps_state old new is)
 
-  pub does_without_memory : {A : Type 0} (act : History → Act A) (old new : StoreValue D) → Kept old → Same faults old new → Does faults moment act old NoMemory new
+  pub does_without_memory : {A : Type 0} (act : History → Act A) (old new : StoreValue D) → Kept old → Same faults old new → StoreDoes faults moment act old NoMemory new
   does_without_memory act old new kept is = does_of act old new NoMemory kept (kept_by_any (act (seen old)) (state old) (state new) (keeps_state old new is))
 
   -- a call said something, or was refused, and nothing changed
-  pub does_say : {A : Type 0} (act : History → Act A) (old new : StoreValue D) (a b : A) → Kept old → act (seen old) ≡ returns a → b ≡ a → Same faults old new → Does faults moment act old (Done b) new
+  pub does_say : {A : Type 0} (act : History → Act A) (old new : StoreValue D) (a b : A) → Kept old → act (seen old) ≡ returns a → b ≡ a → Same faults old new → StoreDoes faults moment act old (Done b) new
   does_say act old new a b kept is told same_state = does_by act (returns a) old new (Done b) kept is (told, keeps_state old new same_state)
 
-  pub does_refuse : {A : Type 0} (act : History → Act A) (old new : StoreValue D) (r q : Refusal) → Kept old → act (seen old) ≡ refuses r → q ≡ r → Same faults old new → Does faults moment act old (Refused q) new
+  pub does_refuse : {A : Type 0} (act : History → Act A) (old new : StoreValue D) (r q : Refusal) → Kept old → act (seen old) ≡ refuses r → q ≡ r → Same faults old new → StoreDoes faults moment act old (Refused q) new
   does_refuse act old new r q kept is told same_state = does_by act (refuses r) old new (Refused q) kept is (told, keeps_state old new same_state)
 
   -- what is looked at where nothing changed

@@ -11,7 +11,7 @@ use Rattle.ts_store.specs.declared.recorders.Recorder.{Recorder}
 use Rattle.ts_store.specs.Images.{BeginSince}
 use Rattle.ts_store.specs.Safe.{IsSafe}
 use Rattle.ts_store.specs.Stands.{Stands, content_of}
-use Rattle.ts_store.specs.Stores.{StoreValue, Does, IsKept}
+use Rattle.ts_store.specs.Stores.{StoreValue, StoreDoes, IsKept}
 
 -- the store that has this recorder
 abbrev pub store_of : {D : Type 0} → Recorder D → D → ℕ → Bool → StoreValue D
@@ -35,7 +35,7 @@ abbrev pub DoesIn :
     {D A : Type 0} → (D → ℕ) → (D → ℕ) → (History → Act A) → D → ℕ → Bool → Recorder D → Outcome A → Recorder D
     → Type 0
 DoesIn faults moment act begun opened armed old outcome new =
-    Does faults moment act (store_of old begun opened armed) outcome (store_of new begun opened armed)
+    StoreDoes faults moment act (store_of old begun opened armed) outcome (store_of new begun opened armed)
 
 -- what is true of the store that has it stays so, whichever store it is
 abbrev pub StaysKept :

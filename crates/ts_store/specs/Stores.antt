@@ -113,7 +113,7 @@ pub record IsKept {D : Type 0} (bytes : D → Option (List ℕ)) (may_leave : D 
       → IsBetween (opening s) (seen s) s.failed c
 
 -- a call that does this, on a store that nobody else changes
-abbrev pub Does :
+abbrev pub StoreDoes :
     {D A : Type 0} → (D → ℕ) → (D → ℕ) → (History → Act A) → StoreValue D → Outcome A → StoreValue D → Type 0
-Does faults moment act old outcome new =
+StoreDoes faults moment act old outcome new =
     Called true (state_of faults moment old) act outcome (state_of faults moment new)

@@ -10,7 +10,7 @@ ghost use Rattle.ts_model.specs.Sound.{sound};
 ghost use Rattle.engine_state.specs.Stands.{StandsFor};
 ghost use Rattle.refresh_build.specs.Fitting.{JobFits};
 ghost use Rattle.ts_store.specs.Safe.{IsSafe};
-ghost use Rattle.ts_store.specs.Stores.{Does, known_of, seen, state_of};
+ghost use Rattle.ts_store.specs.Stores.{StoreDoes, known_of, seen, state_of};
 
 use crate::stores::Store;
 use engine_core::{Shot, cut_over, no_bucket, numbered};
@@ -46,7 +46,7 @@ impl<D: Disk> Backend for Store<D> {
 
     fn make_table(&mut self, def: TableDef) -> Outcome<u64>
         requires { IsTrue (sound (seen self.old) (Table def)) }
-        ensures called { Does D.faults D.moment (making_table def) self.old result self.new }
+        ensures called { StoreDoes D.faults D.moment (making_table def) self.old result self.new }
         ensures kin { known_of self.new ≡ known_of self.old }
         ensures safe { IsSafe D.bytes D.may_leave D.moment D.left_since self.old self.new }
     {
@@ -55,7 +55,7 @@ impl<D: Disk> Backend for Store<D> {
 
     fn make_hyper(&mut self, table: u32, hyper: Hyper) -> Outcome<u64>
         requires { IsTrue (sound (seen self.old) (HyperMade table hyper)) }
-        ensures called { Does D.faults D.moment (making_hyper table hyper) self.old result self.new }
+        ensures called { StoreDoes D.faults D.moment (making_hyper table hyper) self.old result self.new }
         ensures kin { known_of self.new ≡ known_of self.old }
         ensures safe { IsSafe D.bytes D.may_leave D.moment D.left_since self.old self.new }
     {
@@ -64,7 +64,7 @@ impl<D: Disk> Backend for Store<D> {
 
     fn make_view(&mut self, def: ViewDef) -> Outcome<u64>
         requires { IsTrue (sound (seen self.old) (View def)) }
-        ensures called { Does D.faults D.moment (making_view def) self.old result self.new }
+        ensures called { StoreDoes D.faults D.moment (making_view def) self.old result self.new }
         ensures kin { known_of self.new ≡ known_of self.old }
         ensures safe { IsSafe D.bytes D.may_leave D.moment D.left_since self.old self.new }
     {
@@ -73,7 +73,7 @@ impl<D: Disk> Backend for Store<D> {
 
     fn set_mode(&mut self, view: u32, only: bool) -> Outcome<u64>
         requires { IsTrue (sound (seen self.old) (Mode view only)) }
-        ensures called { Does D.faults D.moment (setting_mode view only) self.old result self.new }
+        ensures called { StoreDoes D.faults D.moment (setting_mode view only) self.old result self.new }
         ensures kin { known_of self.new ≡ known_of self.old }
         ensures safe { IsSafe D.bytes D.may_leave D.moment D.left_since self.old self.new }
     {
@@ -82,7 +82,7 @@ impl<D: Disk> Backend for Store<D> {
 
     fn commit(&mut self, ops: Seq<Op>) -> Outcome<Committed>
         requires { IsTrue (sound (seen self.old) (Commit ops)) }
-        ensures called { Does D.faults D.moment (committing ops) self.old result self.new }
+        ensures called { StoreDoes D.faults D.moment (committing ops) self.old result self.new }
         ensures kin { known_of self.new ≡ known_of self.old }
         ensures safe { IsSafe D.bytes D.may_leave D.moment D.left_since self.old self.new }
     {
@@ -93,7 +93,7 @@ impl<D: Disk> Backend for Store<D> {
         requires view { IsSome (view_of (roster (seen self.old)) view) }
         requires low { ForSome lo (λ t. IsTrue (is_time t)) }
         requires high { ForSome hi (λ t. IsTrue (is_time t)) }
-        ensures called { Does D.faults D.moment (cutting view lo hi) self.old result self.new }
+        ensures called { StoreDoes D.faults D.moment (cutting view lo hi) self.old result self.new }
         ensures kin { known_of self.new ≡ known_of self.old }
         ensures safe { IsSafe D.bytes D.may_leave D.moment D.left_since self.old self.new }
     {
@@ -112,7 +112,7 @@ impl<D: Disk> Backend for Store<D> {
 
     fn finish(&mut self, job: Job) -> Outcome<u64>
         requires { JobFits (seen self.old) job }
-        ensures called { Does D.faults D.moment (finishing job.cut job.snap) self.old result self.new }
+        ensures called { StoreDoes D.faults D.moment (finishing job.cut job.snap) self.old result self.new }
         ensures kin { known_of self.new ≡ known_of self.old }
         ensures safe { IsSafe D.bytes D.may_leave D.moment D.left_since self.old self.new }
     {

@@ -12,7 +12,7 @@ ghost use Rattle.ts_store.specs.Checkpoints.{StandsForImage, StandsSaved};
 ghost use Rattle.ts_store.specs.Images.{BeginSince, HasHeader, IsBetween, IsDurable, StandsForEither, latest};
 ghost use Rattle.ts_store.specs.Safe.{IsSafe, StopsBy};
 ghost use Rattle.ts_store.specs.Stands.{Stands};
-ghost use Rattle.ts_store.specs.Stores.{Does, IsKept, Rests, Tells, known_of, opening, seen, stop_at, store_at_start};
+ghost use Rattle.ts_store.specs.Stores.{StoreDoes, IsKept, Rests, Tells, known_of, opening, seen, stop_at, store_at_start};
 
 use crate::begun::Begun;
 use crate::checkpoints::{Checkpointed, checkpoint};
@@ -173,7 +173,7 @@ impl<D: Disk> Store<D> {
     pub(crate) fn make(&mut self, event: Event, job: Option<Job>) -> Outcome<Committed>
         requires sound { IsTrue (sound (seen self.old) event) }
         requires job { JobIsFor (seen self.old) event job }
-        ensures does { Does D.faults D.moment (making_event event) self.old result self.new }
+        ensures does { StoreDoes D.faults D.moment (making_event event) self.old result self.new }
         ensures known { known_of self.new ≡ known_of self.old }
         ensures safe { IsSafe D.bytes D.may_leave D.moment D.left_since self.old self.new }
     {

@@ -6,8 +6,8 @@ use Rattle.ts_io.specs.Whole.{AppendsPart}
 use Rattle.ts_model.specs.History.{History}
 use Rattle.ts_store.specs.Stands.{Stands}
 use Rattle.ts_top.specs.Stops.{status_of_print}
-use Rattle.ts_top.specs.declared.prints.Stop.{Stop}
-use Rattle.ts_top.specs.declared.prints.Stop.TheVariants as stops
+use Rattle.ts_top.specs.declared.prints.PrintStop.{PrintStop}
+use Rattle.ts_top.specs.declared.prints.PrintStop.TheVariants as stops
 use Rattle.ts_top.specs.Endings.{is_read_fault}
 use Rattle.ts_top.specs.Outcomes.{Outside, PrintedTo}
 use Rattle.ts_top.specs.declared.endings.Status.{Status}
@@ -45,7 +45,7 @@ pub not_bad_words : {T : Type 0} (status : Status) (text : History → List ℕ)
 not_bad_words status text unprinted o asked x outcome is = (λ bad. absurd (good_words status text unprinted o outcome bad), λ none. absurd (none_not_some x asked none is))
 
 -- what a call has printed, by what printing answered
-pub printed_to : {T : Type 0} (result : Result T Stop) (text : History → List ℕ) (unprinted : Type 0) (o : Outside) (h : History) → IfSome o.file_before (λ file. Stands file h) → OnOk result (Appends o.written_before o.written (text h)) → OnErr result (AppendsPart o.written_before o.written (text h)) → PrintedTo text (status_of_print result) unprinted o
+pub printed_to : {T : Type 0} (result : Result T PrintStop) (text : History → List ℕ) (unprinted : Type 0) (o : Outside) (h : History) → IfSome o.file_before (λ file. Stands file h) → OnOk result (Appends o.written_before o.written (text h)) → OnErr result (AppendsPart o.written_before o.written (text h)) → PrintedTo text (status_of_print result) unprinted o
 printed_to (Ok done) text unprinted o h stood all part = record { opening = h; stood = stood; ran = all }
 printed_to (Err stops.WriteFault) text unprinted o h stood all part = record { opening = h; stood = stood; ran = part }
 printed_to (Err stops.NoMemory) text unprinted o h stood all part = inr (record { opening = h; stood = stood; ran = part })

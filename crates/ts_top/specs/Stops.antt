@@ -2,20 +2,20 @@
 use Rattle.std.specs.Prelude.{Bool, true, false, Result, Ok, Err}
 use Rattle.ts_top.specs.declared.endings.Status.{Status}
 use Rattle.ts_top.specs.declared.endings.Status.TheVariants as status
-use Rattle.ts_top.specs.declared.prints.Stop.{Stop}
-use Rattle.ts_top.specs.declared.prints.Stop.TheVariants.{WriteFault, NoMemory}
+use Rattle.ts_top.specs.declared.prints.PrintStop.{PrintStop}
+use Rattle.ts_top.specs.declared.prints.PrintStop.TheVariants.{WriteFault, NoMemory}
 
-abbrev pub is_fault : Stop → Bool
+abbrev pub is_fault : PrintStop → Bool
 is_fault WriteFault = true
 is_fault NoMemory = false
 
 -- a write failed
-abbrev pub failed_writing : {T : Type 0} → Result T Stop → Bool
+abbrev pub failed_writing : {T : Type 0} → Result T PrintStop → Bool
 failed_writing (Ok done) = false
 failed_writing (Err stop) = is_fault stop
 
 -- how the call ends whose printing ended so
-abbrev pub status_of_print : {T : Type 0} → Result T Stop → Status
+abbrev pub status_of_print : {T : Type 0} → Result T PrintStop → Status
 status_of_print (Ok done) = status.Done
 status_of_print (Err WriteFault) = status.WriteFault
 status_of_print (Err NoMemory) = status.NoMemory

@@ -27,30 +27,30 @@ use ts_store::{Started, Store};
 
 /// Why printing stopped.
 #[derive(Clone, Copy, Debug, PartialEq, Eq)]
-enum Stop {
+enum PrintStop {
     /// The sink failed, and its count of faults rose.
     WriteFault,
     /// There was no memory.
     NoMemory,
 }
 
-impl From<NoMemory> for Stop {
-    ghost use Rattle.ts_top.specs.declared.prints.Stop.TheVariants as stops;
+impl From<NoMemory> for PrintStop {
+    ghost use Rattle.ts_top.specs.declared.prints.PrintStop.TheVariants as stops;
 
     ghost from_gives = { λ _ e. e ≡ stops.NoMemory };
 
-    fn from(_refused: NoMemory) -> Stop {
-        Stop::NoMemory
+    fn from(_refused: NoMemory) -> PrintStop {
+        PrintStop::NoMemory
     }
 }
 
-impl From<WriteFault> for Stop {
-    ghost use Rattle.ts_top.specs.declared.prints.Stop.TheVariants as stops;
+impl From<WriteFault> for PrintStop {
+    ghost use Rattle.ts_top.specs.declared.prints.PrintStop.TheVariants as stops;
 
     ghost from_gives = { λ _ e. e ≡ stops.WriteFault };
 
-    fn from(_failed: WriteFault) -> Stop {
-        Stop::WriteFault
+    fn from(_failed: WriteFault) -> PrintStop {
+        PrintStop::WriteFault
     }
 }
 
@@ -61,7 +61,7 @@ fn print_event<K: Sink>(
     number: u64,
     event: &Event,
     names: &Roster,
-) -> Result<(), Stop>
+) -> Result<(), PrintStop>
     ensures done { OnOk result (Appends (K.written sink.old) (K.written sink.new)
         (log_text number names.now event.now)) }
     ensures part { OnErr result (AppendsPart (K.written sink.old) (K.written sink.new)
@@ -81,7 +81,7 @@ fn print_events<K: Sink>(
     after: u64,
     events: &[Event],
     names: &Roster,
-) -> Result<(), Stop>
+) -> Result<(), PrintStop>
     requires room { after + length events.now < 2 ^ 64 }
     ensures done { OnOk result (Appends (K.written sink.old) (K.written sink.new)
         (lines_after names.now after events.now)) }
@@ -105,7 +105,7 @@ fn image_line(alloc: Global, pos: u64) -> Result<String, NoMemory>
 }
 
 /// Prints the line of the image that a history begins with, where there is one.
-fn print_base<K: Sink>(alloc: Global, sink: &mut K, base: &Option<Image>) -> Result<(), Stop>
+fn print_base<K: Sink>(alloc: Global, sink: &mut K, base: &Option<Image>) -> Result<(), PrintStop>
     ensures done { OnOk result (Appends (K.written sink.old) (K.written sink.new) (begun_text base.now)) }
     ensures part { OnErr result (AppendsPart (K.written sink.old) (K.written sink.new) (begun_text base.now)) }
     ensures counted { Counted (K.faults sink.old) (K.faults sink.new) (failed_writing result) }
@@ -121,7 +121,7 @@ fn print_base<K: Sink>(alloc: Global, sink: &mut K, base: &Option<Image>) -> Res
 }
 
 /// Prints the log of an engine's history.
-fn print_log<K: Sink>(alloc: Global, sink: &mut K, engine: &Engine) -> Result<(), Stop>
+fn print_log<K: Sink>(alloc: Global, sink: &mut K, engine: &Engine) -> Result<(), PrintStop>
     ensures done { OnOk result (Appends (K.written sink.old) (K.written sink.new)
         (log_of (history_of engine.now.past))) }
     ensures part { OnErr result (AppendsPart (K.written sink.old) (K.written sink.new)
@@ -175,7 +175,7 @@ fn check_text(alloc: Global, engine: &Engine) -> Result<Vec<u8>, NoMemory>
 }
 
 /// Prints the position of an engine's history, and the refreshes that wait.
-fn print_check<K: Sink>(alloc: Global, sink: &mut K, engine: &Engine) -> Result<(), Stop>
+fn print_check<K: Sink>(alloc: Global, sink: &mut K, engine: &Engine) -> Result<(), PrintStop>
     ensures done { OnOk result (Appends (K.written sink.old) (K.written sink.new)
         (check_of (history_of engine.now.past))) }
     ensures part { OnErr result (AppendsPart (K.written sink.old) (K.written sink.new)
@@ -188,7 +188,12 @@ fn print_check<K: Sink>(alloc: Global, sink: &mut K, engine: &Engine) -> Result<
 }
 
 /// Prints a text of an engine's history.
-fn print_text<K: Sink>(alloc: Global, sink: &mut K, engine: &Engine, text: Text) -> Result<(), Stop>
+fn print_text<K: Sink>(
+    alloc: Global,
+    sink: &mut K,
+    engine: &Engine,
+    text: Text,
+) -> Result<(), PrintStop>
     ensures done { OnOk result (Appends (K.written sink.old) (K.written sink.new)
         (text_of text (history_of engine.now.past))) }
     ensures part { OnErr result (AppendsPart (K.written sink.old) (K.written sink.new)
@@ -202,13 +207,13 @@ fn print_text<K: Sink>(alloc: Global, sink: &mut K, engine: &Engine, text: Text)
 }
 
 /// How the call ends whose printing ended so.
-fn status_of_print(printed: Result<(), Stop>) -> Status
+fn status_of_print(printed: Result<(), PrintStop>) -> Status
     ensures { result ≡ status_of_print printed }
 {
     match printed {
         Ok(()) => Status::Done,
-        Err(Stop::WriteFault) => Status::WriteFault,
-        Err(Stop::NoMemory) => Status::NoMemory,
+        Err(PrintStop::WriteFault) => Status::WriteFault,
+        Err(PrintStop::NoMemory) => Status::NoMemory,
     }
 }
 

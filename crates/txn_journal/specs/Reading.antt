@@ -18,10 +18,10 @@ use Rattle.txn_journal.specs.declared.journals.Standing.TheVariants.{Bare, Ready
 use Rattle.txn_journal.specs.declared.readers.Next.{Next}
 use Rattle.txn_journal.specs.declared.readers.Next.TheVariants.{Base, Payload, End, Damaged, DiskFault, NoMemory}
 use Rattle.txn_journal.specs.declared.openings.Found.{Found}
-use Rattle.txn_journal.specs.declared.readers.Taken.{Taken}
+use Rattle.txn_journal.specs.declared.readers.Fetched.{Fetched}
 use Rattle.txn_journal.specs.declared.versions.Version.{Version}
 use Rattle.txn_journal.specs.declared.versions.Version.TheVariants.{One}
-use Rattle.txn_journal.specs.declared.readers.Taken.TheVariants.{Done as Taking, DiskFault as TakeFault, NoMemory as TakeNothing}
+use Rattle.txn_journal.specs.declared.readers.Fetched.TheVariants.{Done as Taking, DiskFault as TakeFault, NoMemory as TakeNothing}
 
 -- ---- what is read
 
@@ -215,17 +215,17 @@ abbrev pub MayBegin : Option (List ℕ) → Found → Type 0
 MayBegin told found = MayBeginAt told found.start found.beginning
 
 -- the bytes of a payload were read, or not
-abbrev pub Takes : Taken → Option (List ℕ) → ℕ → List ℕ → Type 0
+abbrev pub Takes : Fetched → Option (List ℕ) → ℕ → List ℕ → Type 0
 Takes Taking told at payload = IsRange told at payload
 Takes TakeFault told at payload = ⊤
 Takes TakeNothing told at payload = ⊤
 
-abbrev pub IfTaken : Taken → Type 0 → Type 0
+abbrev pub IfTaken : Fetched → Type 0 → Type 0
 IfTaken Taking P = P
 IfTaken TakeFault P = ⊤
 IfTaken TakeNothing P = ⊤
 
-abbrev pub CountsTaken : Taken → ℕ → ℕ → Type 0
+abbrev pub CountsTaken : Fetched → ℕ → ℕ → Type 0
 CountsTaken Taking before now = now ≡ before
 CountsTaken TakeFault before now = Rose before now
 CountsTaken TakeNothing before now = now ≡ before

@@ -118,7 +118,7 @@ impl<D: Disk> Reader<D> {
             }
             Head::Frame { length, .. } => {
                 match read_payload(&mut self.disk, self.at + 5, length, &mut self.payload) {
-                    Taken::Done => {
+                    Fetched::Done => {
                         let at = self.at;
                         self.at += 5 + length;
                         if self.version.is_base(&self.payload) {
@@ -126,8 +126,8 @@ impl<D: Disk> Reader<D> {
                         }
                         Next::Payload(at)
                     }
-                    Taken::DiskFault => Next::DiskFault,
-                    Taken::NoMemory => Next::NoMemory,
+                    Fetched::DiskFault => Next::DiskFault,
+                    Fetched::NoMemory => Next::NoMemory,
                 }
             }
             Head::Short => Next::Damaged(self.at),
@@ -165,14 +165,14 @@ impl<D: Disk> Reader<D> {
 
 /// Whether the bytes of a payload were read.
 #[derive(Clone, Copy)]
-enum Taken {
+enum Fetched {
     Done,
     DiskFault,
     NoMemory,
 }
 
 /// Reads `count` bytes from place `at` on into a payload.
-fn read_payload<D: Disk>(disk: &mut D, at: u64, count: u64, payload: &mut Vec<u8>) -> Taken
+fn read_payload<D: Disk>(disk: &mut D, at: u64, count: u64, payload: &mut Vec<u8>) -> Fetched
     requires most { at + count ≤ MOST_BYTES }
     requires range { HasRange (D.bytes disk.old) (at + count) }
     ensures taken { Takes result (D.bytes disk.old) at payload.new.items }
@@ -181,10 +181,10 @@ fn read_payload<D: Disk>(disk: &mut D, at: u64, count: u64, payload: &mut Vec<u8
     ensures counted { CountsTaken result (D.faults disk.old) (D.faults disk.new) }
 {
     if payload.resize(count as usize, 0).is_err() {
-        return Taken::NoMemory;
+        return Fetched::NoMemory;
     }
     match disk.read_at(at, payload.as_mut_slice()) {
-        Ok(()) => Taken::Done,
-        Err(Failed) => Taken::DiskFault,
+        Ok(()) => Fetched::Done,
+        Err(Failed) => Fetched::DiskFault,
     }
 }

@@ -6,7 +6,7 @@ use Rattle.ts_model.specs.Calls.{cutting, refusal}
 use Rattle.ts_model.specs.History.{position}
 use Rattle.engine_core.specs.Acts.{making_event}
 use Rattle.engine_core.specs.Histories.{history_of}
-use Rattle.engine_core.specs.Stores.{Does}
+use Rattle.engine_core.specs.Stores.{EngineDoes}
 use Rattle.engine_core.proofs.ActLaws.{cut_by_window, cut_sound, answered_cut}
 use Rattle.engine_core.proofs.StoreLaws.{does_as, does_refuse, does_return}
 use Rattle.engine_core.proofs.makings.cut.Goals as goal
@@ -35,6 +35,6 @@ returns-in-Whole c =
     let old = c.args.engine.now.past in
     let h = history_of c.args.engine.now.past in
     let act_is = cut_by_window c.args.view c.args.lo c.args.hi h c.window.result (Whole c.in-Whole.span) c.requires.view c.window.ensures.window c.in-Whole.is in
-    subst (λ o. Does (cutting c.args.view c.args.lo c.args.hi) c.args.engine.now.past o c.make-outcome.new.engine.past) (sym c.cut_over.ensures)
+    subst (λ o. EngineDoes (cutting c.args.view c.args.lo c.args.hi) c.args.engine.now.past o c.make-outcome.new.engine.past) (sym c.cut_over.ensures)
     (does_as (λ r. CutMade r.pos c.in-Whole.span) (making_event (Cut c.args.view c.in-Whole.span)) (cutting c.args.view c.args.lo c.args.hi) old c.make-outcome.result c.make-outcome.new.engine.past
     (act_is ∙ answered_cut c.args.view c.in-Whole.span h) c.make-outcome.ensures)

@@ -4,7 +4,7 @@ use Rattle.ts_model.specs.Calls.{finishing}
 use Rattle.refresh_build.proofs.FittingLaws.{job_sound}
 use Rattle.engine_core.specs.Acts.{making_event}
 use Rattle.engine_core.specs.Histories.{history_of}
-use Rattle.engine_core.specs.Stores.{Does}
+use Rattle.engine_core.specs.Stores.{EngineDoes}
 use Rattle.engine_core.proofs.ActLaws.{answered_finish}
 use Rattle.engine_core.proofs.StoreLaws.{does_as}
 use Rattle.engine_core.proofs.makings.finish.Goals as goal
@@ -12,7 +12,7 @@ use Rattle.engine_core.proofs.makings.finish.Goals as goal
 pub returns : goal.returns
 returns c =
     let old = c.args.engine.now.past in
-    subst (λ o. Does (finishing c.args.job.cut c.args.job.snap) c.args.engine.now.past o c.make.new.engine.past) (sym c.numbered.ensures)
+    subst (λ o. EngineDoes (finishing c.args.job.cut c.args.job.snap) c.args.engine.now.past o c.make.new.engine.past) (sym c.numbered.ensures)
     (does_as (λ r. r.pos) (making_event (Built c.args.job.cut c.args.job.snap)) (finishing c.args.job.cut c.args.job.snap) old c.make.result c.make.new.engine.past (answered_finish c.args.job.cut c.args.job.snap (history_of old)) c.make.ensures)
 
 pub make-requires-clause-sound : goal.make-requires-clause-sound

@@ -3,7 +3,7 @@ use Rattle.ts_model.specs.declared.events.Event.TheVariants.{Mode}
 use Rattle.ts_model.specs.Calls.{setting_mode}
 use Rattle.engine_core.specs.Acts.{making_event}
 use Rattle.engine_core.specs.Histories.{history_of}
-use Rattle.engine_core.specs.Stores.{Does}
+use Rattle.engine_core.specs.Stores.{EngineDoes}
 use Rattle.engine_core.proofs.ActLaws.{answered_mode}
 use Rattle.engine_core.proofs.StoreLaws.{does_as}
 use Rattle.engine_core.proofs.makings.set_mode.Goals as goal
@@ -11,5 +11,5 @@ use Rattle.engine_core.proofs.makings.set_mode.Goals as goal
 pub returns : goal.returns
 returns c =
     let old = c.args.engine.now.past in
-    subst (λ o. Does (setting_mode c.args.view c.args.only) c.args.engine.now.past o c.make.new.engine.past) (sym c.numbered.ensures)
+    subst (λ o. EngineDoes (setting_mode c.args.view c.args.only) c.args.engine.now.past o c.make.new.engine.past) (sym c.numbered.ensures)
     (does_as (λ r. r.pos) (making_event (Mode c.args.view c.args.only)) (setting_mode c.args.view c.args.only) old c.make.result c.make.new.engine.past (answered_mode c.args.view c.args.only (history_of old)) c.make.ensures)

@@ -1,6 +1,6 @@
 use Rattle.std.proofs.Common.{◌≡◌, ◌∙◌, ◌<◌, ◌^◌, [], ◌∷◌, false, of_z, refl, rules, subst, sym, to_z, w64, None, Some}
 use Rattle.result_text.specs.declared.replies.Said.TheVariants as said
-use Rattle.ts_sessions.specs.declared.kinds.Kind.TheVariants.{Defines}
+use Rattle.ts_sessions.specs.declared.kinds.StatementKind.TheVariants.{Defines}
 use Rattle.ts_sessions.specs.Sessions.{AnswersSo, Stepped}
 use Rattle.ts_sessions.specs.Step.{block_refusal}
 use Rattle.policy_jobs.specs.Sessions.{places_in}

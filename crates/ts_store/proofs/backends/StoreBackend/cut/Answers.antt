@@ -12,7 +12,7 @@ use Rattle.engine_core.specs.Histories.{history_of}
 use Rattle.engine_core.specs.Values.{EngineValue}
 use Rattle.engine_core.proofs.ActLaws.{cut_by_window, cut_sound, answered_cut}
 use Rattle.engine_core.proofs.StoreLaws.{called_as}
-use Rattle.ts_store.specs.Stores.{Does, seen, state_of}
+use Rattle.ts_store.specs.Stores.{StoreDoes, seen, state_of}
 use Rattle.ts_store.proofs.CallLaws.{does_refuse, does_say}
 use Rattle.ts_store.proofs.KeptLaws.{safe_same}
 use Rattle.ts_store.proofs.backends.StoreBackend.cut.Goals as goal
@@ -33,7 +33,7 @@ returns-in-Whole-clause-called g c =
     let h = seen c.args.self.now in
     let covers = subst (λ (e : EngineValue). IfSome (view_of (roster (history_of e.past)) c.args.view) (λ def. c.window.result ≡ window c.args.view def (history_of e.past) c.args.lo c.args.hi)) c.engine.ensures.engine c.window.ensures.window in
     let act_is = cut_by_window c.args.view c.args.lo c.args.hi h c.window.result (Whole c.in-Whole.span) c.requires.view covers c.in-Whole.is in
-    subst (λ o. Does g.D.Disk.faults g.D.Disk.moment (cutting c.args.view c.args.lo c.args.hi) c.args.self.now o c.make-outcome.new.self) (sym c.cut_over.ensures)
+    subst (λ o. StoreDoes g.D.Disk.faults g.D.Disk.moment (cutting c.args.view c.args.lo c.args.hi) c.args.self.now o c.make-outcome.new.self) (sym c.cut_over.ensures)
     (called_as (λ r. CutMade r.pos c.in-Whole.span) (making_event (Cut c.args.view c.in-Whole.span)) (cutting c.args.view c.args.lo c.args.hi) (state_of g.D.Disk.faults g.D.Disk.moment c.args.self.now) c.make-outcome.result (state_of g.D.Disk.faults g.D.Disk.moment c.make-outcome.new.self)
     (act_is ∙ answered_cut c.args.view c.in-Whole.span h) c.make-outcome.ensures.does)
 

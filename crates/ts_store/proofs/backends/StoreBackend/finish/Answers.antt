@@ -5,12 +5,12 @@ use Rattle.refresh_build.proofs.FittingLaws.{job_sound}
 use Rattle.engine_core.specs.Acts.{making_event}
 use Rattle.engine_core.proofs.ActLaws.{answered_finish}
 use Rattle.engine_core.proofs.StoreLaws.{called_as}
-use Rattle.ts_store.specs.Stores.{Does, seen, state_of}
+use Rattle.ts_store.specs.Stores.{StoreDoes, seen, state_of}
 use Rattle.ts_store.proofs.backends.StoreBackend.finish.Goals as goal
 
 pub returns-clause-called : goal.returns-clause-called
 returns-clause-called g c =
-    subst (λ o. Does g.D.Disk.faults g.D.Disk.moment (finishing c.args.job.cut c.args.job.snap) c.args.self.now o c.make.new.self) (sym c.numbered.ensures)
+    subst (λ o. StoreDoes g.D.Disk.faults g.D.Disk.moment (finishing c.args.job.cut c.args.job.snap) c.args.self.now o c.make.new.self) (sym c.numbered.ensures)
     (called_as (λ r. r.pos) (making_event (Built c.args.job.cut c.args.job.snap)) (finishing c.args.job.cut c.args.job.snap) (state_of g.D.Disk.faults g.D.Disk.moment c.args.self.now) c.make.result (state_of g.D.Disk.faults g.D.Disk.moment c.make.new.self)
     (answered_finish c.args.job.cut c.args.job.snap (seen c.args.self.now)) c.make.ensures.does)
 

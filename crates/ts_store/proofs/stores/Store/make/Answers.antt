@@ -5,7 +5,7 @@ use Rattle.refresh_build.specs.Fitting.{JobIsFor}
 use Rattle.engine_core.specs.Acts.{making_event}
 use Rattle.ts_store.specs.Recorders.{store_of}
 use Rattle.ts_store.specs.Safe.{IsSafe}
-use Rattle.ts_store.specs.Stores.{StoreValue, Does, known_of, seen}
+use Rattle.ts_store.specs.Stores.{StoreValue, StoreDoes, known_of, seen}
 use Rattle.ts_store.proofs.stores.Store.make.Goals as goal
 
 pub make-requires-clause-history : goal.make-requires-clause-history
@@ -19,7 +19,7 @@ make-requires-clause-job g c = subst (λ (s : StoreValue g.row.D.Denot). JobIsFo
 
 pub returns-clause-does : goal.returns-clause-does
 returns-clause-does g c =
-    subst (λ (s : StoreValue g.row.D.Denot). Does g.D.Disk.faults g.D.Disk.moment (making_event c.args.event) s c.make.result (store_of c.make.new.self c.self.inside.begun c.self.inside.opened c.self.inside.armed)) c.self.view_is
+    subst (λ (s : StoreValue g.row.D.Denot). StoreDoes g.D.Disk.faults g.D.Disk.moment (making_event c.args.event) s c.make.result (store_of c.make.new.self c.self.inside.begun c.self.inside.opened c.self.inside.armed)) c.self.view_is
     (c.make.ensures.does c.self.inside.begun c.self.inside.opened c.self.inside.armed c.self.invariant)
 
 pub returns-clause-known : goal.returns-clause-known
