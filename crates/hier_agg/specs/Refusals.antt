@@ -5,7 +5,7 @@ use Rattle.std.specs.Ordering.{int_eq}
 use Rattle.ts_num.specs.declared.values.Fun.{Fun}
 use Rattle.ts_num.specs.declared.values.Fun.TheVariants.{CountAll, Count, Sum, Min, Max, Avg}
 use Rattle.ts_schema.specs.Counts.{raised_by}
-use Rattle.ts_model.specs.Numbers.{no_column, bad_width, too_many}
+use Rattle.ts_model.specs.Numbers.{no_column, bad_width, too_many, bad_rollup}
 use Rattle.ts_model.specs.Limits.{most_columns}
 use Rattle.ts_model.specs.declared.outcomes.Refusal.{Refusal}
 use Rattle.ts_model.specs.declared.views.ViewDef.{ViewDef}
@@ -17,10 +17,6 @@ use Rattle.stmt_check.specs.Folds.{columns_before, is_shift, is_step, output_cou
 use Rattle.stmt_check.specs.Queries.{is_bucket_column}
 use Rattle.stmt_check.specs.Refusals.{◌⊳◌, marked, missing, refused}
 use Rattle.hier_agg.specs.Plans.{agg_at}
-
--- a function that doesn't fit the column that it is to add up
-abbrev pub bad_rollup : ℕ
-bad_rollup = 28
 
 -- ---- columns
 

@@ -3,7 +3,7 @@ use Rattle.std.proofs.Common.{◌≡◌, ℕ, Bool, true, false, List, [], ◌�
 use Rattle.std.specs.Prelude.{not, nat_le, is_none, unwrap_or, ◌-ℤ◌, ⊤}
 use Rattle.ts_num.specs.declared.values.Fun.{Fun}
 use Rattle.ts_schema.specs.Counts.{raised_by}
-use Rattle.ts_model.specs.Numbers.{no_column, bad_width, too_many}
+use Rattle.ts_model.specs.Numbers.{no_column, bad_width, too_many, bad_rollup}
 use Rattle.ts_model.specs.Limits.{most_columns}
 use Rattle.ts_model.specs.declared.outcomes.Refusal.{Refusal}
 use Rattle.ts_model.specs.declared.rosters.Roster.{Roster}
@@ -25,7 +25,7 @@ use Rattle.hier_agg.specs.declared.reads.UpperRead.{UpperRead}
 use Rattle.hier_agg.specs.declared.reads.UpperRead.TheVariants as uppers
 use Rattle.hier_agg.specs.Plans.{agg_at}
 use Rattle.hier_agg.specs.Reads.{fold_read, plan_of, read_as, upper_read, view_numbered}
-use Rattle.hier_agg.specs.Refusals.{agg_named, agg_refusal, aggs_refusal, argument_refusal, bad_rollup, divided, fits, key_named, key_refusal, keys_refusal, tests_refusal, upper_refusal, width_refusal}
+use Rattle.hier_agg.specs.Refusals.{agg_named, agg_refusal, aggs_refusal, argument_refusal, divided, fits, key_named, key_refusal, keys_refusal, tests_refusal, upper_refusal, width_refusal}
 use Rattle.ts_sessions.proofs.RefusalCodes.{IsLooked, IsOther, Looked, looked, marked_looked, then_looked}
 
 -- ---- parts
