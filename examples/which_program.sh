@@ -16,8 +16,8 @@ cat >kit/rt <<'END'
 #!/bin/sh
 echo "$*" >>"$CALLS"
 case "$*" in
-  "all check "*)
-    printf '== low\nproved\n== tsctl\n%s\n== summary\n' "$SAYS"
+  "lib --jobs "*)
+    echo "$SAYS"
     [ "$SAYS" = proved ] ;;
   "run -- check")
     printf '#!/bin/sh\necho "proved: $*"\n' >out/tsctl

@@ -9,8 +9,7 @@ use crate::errors::ReadError;
 use crate::fields::{Field, put_few, put_many};
 use crate::numbers::{put_four, put_signed};
 use crate::reader::Reader;
-use ts_bucket::{Span, Width};
-use ts_model::limits::MOST_STEP;
+use ts_bucket::{MOST_STEP, Span, Width};
 use ts_model::{Fold, ViewDef};
 use ts_schema::NoMemory;
 

@@ -7,10 +7,9 @@ ghost use Rattle.hier_agg.specs.Refusals.{divided, width_refusal};
 
 use crate::stops::{NotPlanned, refuse_marked};
 use stmt_syntax::NamedFold;
-use ts_bucket::{Width, width};
+use ts_bucket::{MOST_STEP, Width, width};
 use ts_catalog::view_column;
 use ts_model::codes::{BAD_WIDTH, NO_COLUMN};
-use ts_model::limits::MOST_STEP;
 use ts_model::{Refusal, ViewDef};
 
 /// The width, where it fits that of the aggregate and the column is the bucket column.

@@ -1,20 +1,26 @@
 //! Widths, and the bucket of a time.
 
 ghost use Rattle.std.specs.Prelude.{◌≡◌, ◌↔◌, IsTrue, IsSome, IfSome};
-ghost use Rattle.ts_bucket.specs.Bucket.{IsWidth, IsBucketOf, IsNearTimes, IsInReach, bucket_of, first_of};
+ghost use Rattle.ts_bucket.specs.Bucket.{IsWidth, IsBucketOf, IsNearTimes, IsInReach, bucket_of, first_of, max_step};
+ghost use Rattle.ts_bucket.specs.declared.buckets.TheConstants as buckets;
 
 use crate::times::MIN_TIME;
 use crate::widths::Width;
 
 /// The greatest step of a width.
-const MAX_STEP: i64 = 1_099_511_627_776;
+pub const MOST_STEP: i64 = 1_099_511_627_776;
+
+/// States that this is the number of the definitions. It does nothing.
+pub fn step_law()
+    ensures step { buckets.MOST_STEP ≡ max_step }
+{}
 
 /// The width with this step and this shift, or `None` where they break its bounds.
 pub fn width(step: i64, shift: i64) -> Option<Width>
     ensures within { IsSome result ↔ IsWidth (record { step = step; shift = shift }) }
     ensures value { IfSome result (λ w. w ≡ record { step = step; shift = shift }) }
 {
-    if 0 < step && step <= MAX_STEP && 0 <= shift && shift < step {
+    if 0 < step && step <= MOST_STEP && 0 <= shift && shift < step {
         Some(Width { step, shift })
     } else {
         None

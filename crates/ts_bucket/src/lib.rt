@@ -10,7 +10,7 @@ mod whole_spans;
 mod widths;
 mod windows;
 
-pub use buckets::{bucket, first, width};
+pub use buckets::{MOST_STEP, bucket, first, step_law, width};
 pub use chunks::chunk_start;
 pub use spans::{Hull, Span};
 pub use times::{MAX_TIME, MIN_TIME, times_law};

@@ -1,6 +1,5 @@
 //! Limits of events, of statements and of scripts, where several crates test them.
 ghost use Rattle.std.specs.Prelude.{◌≡◌};
-ghost use Rattle.ts_bucket.specs.Bucket.{max_step};
 ghost use Rattle.ts_bucket.specs.Chunks.{max_interval};
 ghost use Rattle.ts_model.specs.Limits.{last_position, most_columns, most_relations, most_sessions};
 ghost use Rattle.ts_model.specs.declared.limits.TheConstants as limits;
@@ -17,9 +16,6 @@ pub const MOST_SESSIONS: usize = 64;
 /// The longest interval of a hypertable.
 pub const MOST_INTERVAL: i64 = 1_125_899_906_842_624;
 
-/// The greatest step of a width.
-pub const MOST_STEP: i64 = 1_099_511_627_776;
-
 /// No event comes after this position.
 pub const LAST_POSITION: u64 = 4_611_686_018_427_387_904;
 
@@ -29,6 +25,5 @@ pub fn limits_law()
     ensures columns { limits.MOST_COLUMNS ≡ most_columns }
     ensures sessions { limits.MOST_SESSIONS ≡ most_sessions }
     ensures interval { limits.MOST_INTERVAL ≡ max_interval }
-    ensures step { limits.MOST_STEP ≡ max_step }
     ensures position { limits.LAST_POSITION ≡ last_position }
 {}
