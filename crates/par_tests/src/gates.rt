@@ -1,6 +1,6 @@
 //! Gates that hold a worker before it finishes a refresh until another worker has come somewhere. A worker is
 //! held for a limited time, and a gate keeps whether that was too short: it is where workers run one after
-//! the other.
+//! the other. It also keeps whether it was told of a finish at all, which no contract says.
 use std::hint;
 use std::sync::atomic::{AtomicBool, Ordering};
 use ts_model::Gate;
@@ -22,6 +22,7 @@ fn comes(flag: &AtomicBool) -> bool {
 /// Holds session 1 until session 2 has replied.
 #[derive(Drop)]
 pub(crate) struct UntilReply {
+    held: AtomicBool,
     replied: AtomicBool,
     too_late: AtomicBool,
 }
@@ -29,21 +30,25 @@ pub(crate) struct UntilReply {
 impl UntilReply {
     pub(crate) fn new() -> UntilReply {
         UntilReply {
+            held: AtomicBool::new(false),
             replied: AtomicBool::new(false),
             too_late: AtomicBool::new(false),
         }
     }
 
-    /// Whether the reply came while session 1 was held.
+    /// Whether session 1 was held, and the reply came meanwhile.
     pub(crate) fn was_in_time(&self) -> bool {
-        !self.too_late.load(Ordering::SeqCst)
+        self.held.load(Ordering::SeqCst) && !self.too_late.load(Ordering::SeqCst)
     }
 }
 
 impl Gate for UntilReply {
     fn between(&self, session: u32) {
-        if session == 1 && !comes(&self.replied) {
-            self.too_late.store(true, Ordering::SeqCst);
+        if session == 1 {
+            self.held.store(true, Ordering::SeqCst);
+            if !comes(&self.replied) {
+                self.too_late.store(true, Ordering::SeqCst);
+            }
         }
     }
 
@@ -73,7 +78,9 @@ impl UntilBoth {
 
     /// Whether both were held at the same time.
     pub(crate) fn was_in_time(&self) -> bool {
-        !self.too_late.load(Ordering::SeqCst)
+        self.first.load(Ordering::SeqCst)
+            && self.second.load(Ordering::SeqCst)
+            && !self.too_late.load(Ordering::SeqCst)
     }
 
     // Sets the flag of the one, and waits for that of the other.
