@@ -10,6 +10,7 @@ mod lock;
 mod making;
 mod opening;
 mod pass;
+mod patience;
 mod plays;
 mod sharing;
 mod steps;

@@ -9,6 +9,7 @@ ghost use Rattle.turn_lock.specs.Steps.{at_stage, published, Found, waiting_with
 use crate::grown::Grown;
 use crate::lock::{END, NEXT, SERVING, TurnLock, VALUE};
 use crate::pass::Place;
+use crate::patience::{Patience, nap};
 use crate::plays::{Advance, Draw, Look, Post};
 use std::sync::Wait;
 use std::thread;
@@ -82,13 +83,25 @@ impl<V: Grown> TurnLock<V> {
         ensures begins { IsPrefix seat.old.me.0.seen (V.events result) }
         ensures stays { StaysClosed seat.old.me.0.shut seat.old.me.0.seen (V.closed result) (V.events result) }
     {
+        let mut patience = Patience::new();
         for _ in rt.forever() {
             if self.is_served(seat, ticket) {
                 return self.fetch(seat);
             }
-            thread::yield_now();
+            self.pause(rt, &mut patience, ticket);
         }
         unreachable!()
+    }
+
+    // Lets other threads go on: yields, or sleeps where the turn that is under way lasts.
+    fn pause<R: Wait>(&self, rt: &R, patience: &mut Patience, ticket: u64) {
+        let serving = self.table.shared.peek(SERVING);
+        if patience.ends(serving, ticket) {
+            let seen = (serving % 4_294_967_296) as u32;
+            self.table.shared.park_timeout(rt, SERVING, seen, nap());
+        } else {
+            thread::yield_now();
+        }
     }
 
     // Puts the value back, publishes where its events end, and serves the next ticket.
