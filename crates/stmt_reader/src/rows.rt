@@ -7,7 +7,7 @@ ghost use Rattle.stmt_reader.specs.Reading as spec;
 ghost use Rattle.stmt_reader.specs.declared.phrases.Separator.TheVariants as separators;
 
 use cell_rows::CellRows;
-use stmt_tokens::{Ahead, Mark, look, look_behind_blanks};
+use stmt_tokens::{Ahead, Mark, look, short_number_at};
 use ts_schema::NoMemory;
 
 /// A value of a row, and the byte behind it.
@@ -24,7 +24,13 @@ fn value_behind(text: &[u8], skip: usize) -> Option<Value>
     ensures read { IfSome result (λ v. spec.value (stream text.now skip) ≡ Ok (v.value, stream text.now v.end)) }
     ensures within { IfSome result (λ v. v.end ≤ length text.now) }
 {
-    let Ahead::Token { token, end, .. } = look_behind_blanks(text, skip) else {
+    if let Some(number) = short_number_at(text, skip) {
+        return Some(Value {
+            value: Some(number.value),
+            end: number.end,
+        });
+    }
+    let Ahead::Token { token, end, .. } = look(text, skip) else {
         return None;
     };
     let value = token.value()?;

@@ -4,4 +4,6 @@ pub mod Flow
 pub mod Lexemes
 pub mod Named
 pub mod Numerals
+pub mod ShortNumbers
+pub mod Spaces
 pub mod StatementLines

@@ -14,5 +14,6 @@ pub use keywords::Keyword;
 pub use lines::{LineKind, split_line};
 pub use names::name_of;
 pub use tokens::{
-    Ahead, Mark, Token, TokenAt, TokenKind, function_named, look, look_behind_blanks, next_token,
+    Ahead, Mark, NumberAt, Token, TokenAt, TokenKind, function_named, look, next_token,
+    short_number_at,
 };

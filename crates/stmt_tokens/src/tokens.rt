@@ -9,6 +9,7 @@ ghost use Rattle.stmt_syntax.specs.Limits.{longest_line};
 ghost use Rattle.stmt_tokens.specs.Bytes.{is_space, begins_word, continues_word, lower};
 ghost use Rattle.stmt_tokens.specs.Tokens as spec;
 ghost use Rattle.stmt_tokens.specs.Words.{mark_number, comparison_of_mark, is_keyword, is_mark, is_number, is_item, value_of, function_of, function_of_word, comparison_of, flag_of, is_spelled};
+ghost use Rattle.stmt_tokens.specs.Scan as seen;
 ghost use Rattle.stmt_tokens.specs.Scan.{view, view_lexeme, view_ahead, seen_lexeme, seen_next, SeenFits, i64_of, signed_number, shown_token};
 
 use crate::keywords::Keyword;
@@ -312,13 +313,29 @@ pub fn look(text: &[u8], skip: usize) -> Ahead<'_>
     ensures next { view_ahead result ≡ seen_next (spec.next text.now skip) }
     ensures fits { SeenFits skip (length text.now) (view_ahead result) }
 {
-    match lone_mark(text, skip) {
+    let begin = past_space(text, skip);
+    match lone_mark(text, begin) {
         Some(mark) => Ahead::Token {
             token: Token::Mark(mark),
-            begin: skip,
-            end: skip + 1,
+            begin,
+            end: begin + 1,
         },
-        None => look_behind_blanks(text, skip),
+        None => look_behind_blanks(text, begin),
+    }
+}
+
+/// The byte behind the space that stands directly after the first `skip` bytes, or `skip` where none does.
+#[inline]
+#[tactic(auto, using(crate::proofs::Spaces::next_past_space))]
+fn past_space(text: &[u8], skip: usize) -> usize
+    requires within { skip ≤ length text.now }
+    ensures next { spec.next text.now result ≡ spec.next text.now skip }
+    ensures behind { skip ≤ result }
+    ensures within { result ≤ length text.now }
+{
+    match text.get(skip) {
+        Some(b' ') => skip + 1,
+        _ => skip,
     }
 }
 
@@ -343,7 +360,7 @@ fn lone_mark(text: &[u8], skip: usize) -> Option<Mark>
 
 /// What comes after the blanks that stand there.
 #[inline]
-pub fn look_behind_blanks(text: &[u8], skip: usize) -> Ahead<'_>
+fn look_behind_blanks(text: &[u8], skip: usize) -> Ahead<'_>
     requires within { skip ≤ length text.now }
     ensures next { view_ahead result ≡ seen_next (spec.next text.now skip) }
     ensures fits { SeenFits skip (length text.now) (view_ahead result) }
@@ -490,6 +507,40 @@ fn number_of(text: &[u8], sign: usize, digits: Digits) -> Option<i64>
     } else {
         parse_i64(text).ok()
     }
+}
+
+/// A number, and where it stands. The bytes count from 0.
+#[derive(Clone, Copy, Debug)]
+pub struct NumberAt {
+    pub value: i64,
+    /// Its first byte.
+    pub begin: usize,
+    /// The byte behind it.
+    pub end: usize,
+}
+
+/// The number that comes after the first `skip` bytes of a text, where it is written with few digits and one space
+/// or none stands before it. Most values of a row are such. `None` says nothing.
+#[inline]
+pub fn short_number_at(text: &[u8], skip: usize) -> Option<NumberAt>
+    requires within { skip ≤ length text.now }
+    ensures next { IfSome result (λ n. seen.token (seen.number (Some n.value)) n.begin n.end
+        ≡ seen_next (spec.next text.now skip)) }
+    ensures within { IfSome result (λ n. n.end ≤ length text.now) }
+{
+    let begin = past_space(text, skip);
+    let (_, rest) = text.split_at(begin);
+    let sign = sign_len(rest);
+    let (_, unsigned) = rest.split_at(sign);
+    let digits = few_digits(unsigned);
+    if digits.len == 0 || digits.len == SHORT_NUMBER {
+        return None;
+    }
+    Some(NumberAt {
+        value: signed_number(sign, digits.value),
+        begin,
+        end: begin + (sign + digits.len),
+    })
 }
 
 /// The digits that stand in front. Few are read once, since most bytes of a statement are digits of short numbers.
