@@ -1,7 +1,7 @@
-//! Rows as they are read, whose values come to stand in one block.
-ghost use Rattle.std.specs.Prelude.{◌≡◌, ◌∷◌, ◌++◌, [], IfOk};
+//! Rows as they are read, whose values come to stand in blocks.
+ghost use Rattle.std.specs.Prelude.{◌≡◌, ◌∷◌, ◌++◌, [], IfOk, OnOk};
 ghost use Rattle.event_codec.specs.Reading.{Gives, few_of, items, many_of, row_at, value_at};
-ghost use Rattle.event_codec.specs.Blocks.{seen_as};
+ghost use Rattle.event_codec.specs.Blocks.{seen_as, timed_rows};
 
 use crate::errors::ReadError;
 use crate::fields::Field;
@@ -9,29 +9,54 @@ use crate::reader::Reader;
 use cell_rows::CellRows;
 use std::alloc::Global;
 use std::marker::Model;
+use std::mem;
 use ts_bucket::{MAX_TIME, MIN_TIME};
 use ts_schema::{NoMemory, Row, Seq, SharedSlice};
 
 /// Where a row has the count of its values, behind its time.
 const COUNT_AT: usize = 8;
 
-/// Rows that were read, with the values of all of them one after another. Contracts see the rows.
+/// No block has the values of more rows.
+const MANY: usize = 1024;
+
+/// Rows that were read, with the values of the last ones one after another. Contracts see the rows.
 #[derive(Drop)]
 struct Block {
+    /// The first ones, whose values stand in blocks.
+    rows: Vec<Row>,
+    /// The times and the values of the others.
     times: Vec<i64>,
     values: CellRows<Option<i64>>,
+    /// How many values these are.
+    cells: usize,
 }
 
 impl Model for Block {
-    ghost use Rattle.std.specs.Prelude.{◌≡◌, List, length};
+    ghost use Rattle.std.specs.Prelude.{◌≡◌, ◌++◌, List, length};
     ghost use Rattle.ts_schema.specs.declared.rows.Row.{Row};
     ghost use Rattle.event_codec.specs.Blocks.{timed_rows};
 
     ghost Value = { List Row };
 
-    ghost view = { λ b. timed_rows b.times.items b.values };
+    ghost view = { λ b. b.rows.items ++ timed_rows b.times.items b.values };
 
     ghost invariant = { λ b. length b.times.items ≡ length b.values };
+}
+
+/// Appends the rows of these times and values, which share one block of values from here on.
+fn push_rows(
+    into: &mut Vec<Row>,
+    alloc: Global,
+    times: &[i64],
+    values: CellRows<Option<i64>>,
+) -> Result<(), NoMemory>
+    ensures { OnOk result (into.new.items ≡ into.old.items ++ timed_rows times.now values) }
+{
+    let values = values.into_shared(alloc)?;
+    for (at, vals) in times.iter().zip(values.into_items()) {
+        into.push(Row { at: *at, vals })?;
+    }
+    Ok(())
 }
 
 impl Block {
@@ -41,35 +66,68 @@ impl Block {
         ensures { IfOk result (λ block. block ≡ []) }
     {
         let rows = (count as usize).min(bytes.len() / (COUNT_AT + 1));
+        let first = rows.min(MANY);
         let each = bytes.get(COUNT_AT).copied().unwrap_or(0);
-        let cells = rows.saturating_mul(usize::from(each)).min(bytes.len());
+        let cells = first.saturating_mul(usize::from(each)).min(bytes.len());
         let mut values = CellRows::new(alloc);
-        values.reserve(rows, cells)?;
+        values.reserve(first, cells)?;
         Ok(Block {
-            times: Vec::with_capacity(alloc, rows)?,
+            rows: Vec::with_capacity(alloc, rows)?,
+            times: Vec::with_capacity(alloc, first)?,
             values,
+            cells: 0,
         })
     }
 
-    /// Puts a row of this time and these values at the end.
-    fn push(&mut self, at: i64, vals: &[Option<i64>]) -> Result<(), NoMemory>
+    /// Puts the values of the last rows into a block.
+    fn seal(&mut self, alloc: Global) -> Result<(), NoMemory>
+        ensures { OnOk result (self.new ≡ self.old) }
+    {
+        let times = mem::replace(&mut self.times, Vec::new(alloc));
+        let values = mem::replace(&mut self.values, CellRows::new(alloc));
+        push_rows(&mut self.rows, alloc, times.as_slice(), values)
+    }
+
+    /// The same, where they are many, with room for as many again.
+    fn seal_many(&mut self, alloc: Global) -> Result<(), NoMemory>
+        ensures { OnOk result (self.new ≡ self.old) }
+    {
+        if self.times.len() < MANY {
+            return Ok(());
+        }
+        let cells = mem::replace(&mut self.cells, 0);
+        self.seal(alloc)?;
+        self.times.reserve(MANY)?;
+        self.values.reserve(MANY, cells)?;
+        Ok(())
+    }
+
+    /// Puts a row of this time and these values at the end, into the block that is made.
+    fn put(&mut self, at: i64, vals: &[Option<i64>]) -> Result<(), NoMemory>
         ensures { IfOk result (λ _. self.new ≡ self.old ++ record { at = at; vals = vals.now } ∷ []) }
     {
         self.times.reserve(1)?;
         self.values.push(vals)?;
         self.times.push_reserved(at);
+        self.cells = self.cells.saturating_add(vals.len());
         Ok(())
     }
 
-    /// The rows, which share one block of values from here on.
+    /// The same, into a block of its own where that one has many.
+    fn push(&mut self, alloc: Global, at: i64, vals: &[Option<i64>]) -> Result<(), NoMemory>
+        ensures { IfOk result (λ _. self.new ≡ self.old ++ record { at = at; vals = vals.now } ∷ []) }
+    {
+        self.seal_many(alloc)?;
+        self.put(at, vals)
+    }
+
+    /// The rows. Each shares a block of values with those beside it from here on.
     fn into_rows(self, alloc: Global) -> Result<Seq<Row>, NoMemory>
         ensures { IfOk result (λ rows. rows ≡ self) }
     {
-        let values = self.values.into_shared(alloc)?;
-        let mut rows = Vec::with_capacity(alloc, self.times.len())?;
-        for (at, vals) in self.times.as_slice().iter().zip(values.into_items()) {
-            rows.push(Row { at: *at, vals })?;
-        }
+        let mut rows = self.rows;
+        let times = self.times;
+        push_rows(&mut rows, alloc, times.as_slice(), self.values)?;
         Ok(Seq::of(rows))
     }
 }
@@ -121,12 +179,12 @@ impl Reader<'_> {
         let mut vals = Vec::new(self.alloc());
         for _ in 0..count {
             let at = self.row_into(&mut vals)?;
-            block.push(at, vals.as_slice())?;
+            block.push(self.alloc(), at, vals.as_slice())?;
         }
         Ok(block)
     }
 
-    /// A count of four bytes and so many rows, which share one block of values.
+    /// A count of four bytes and so many rows, which share blocks of values.
     pub(crate) fn rows(&mut self) -> Result<Seq<Row>, ReadError>
         ensures { Gives result (many_of row_at self.old) self.new }
     {

@@ -5,7 +5,7 @@ use Rattle.std.specs.VecDeque.{deque_items}
 use Rattle.ts_schema.specs.declared.rows.Row.{Row}
 use Rattle.event_codec.specs.Blocks.{timed_rows}
 use Rattle.event_codec.proofs.BlockLaws.{no_time, no_values}
-use Rattle.event_codec.proofs.blocks.Block.into_rows.Goals as goal
+use Rattle.event_codec.proofs.blocks.push_rows.Goals as goal
 
 pub returns : goal.returns
 returns c =
@@ -15,4 +15,4 @@ returns c =
       | inl x ↦ no_time a (deque_items b) x.1.0
       | inr x ↦ no_values a (deque_items b) (omega (arith, b.ok.0, x.1.0))
     ] in
-    c.of.ensures.items ∙ sym (append-nil c.loop-at.rows.items) ∙ ap (λ (rows : List Row). c.loop-at.rows.items ++ rows) (sym none) ∙ c.loop-at.invariant
+    sym (append-nil c.loop-at.into.items) ∙ ap (λ (rows : List Row). c.loop-at.into.items ++ rows) (sym none) ∙ c.loop-at.invariant
