@@ -1,5 +1,5 @@
 //! Chunks of a table.
-ghost use Rattle.std.specs.Prelude.{◌≡◌, ◌≤ℤ◌, ◌<ℤ◌, ◌++◌, [], length, map, true, ℤ, IfOk, OnOk, OnErr};
+ghost use Rattle.std.specs.Prelude.{◌≡◌, ◌≤ℤ◌, ◌<ℤ◌, ◌++◌, [], length, map, true, ℤ, IfOk, IfSome, OnOk, OnErr};
 ghost use Rattle.seg_rows.specs.Hulls.{hull_of};
 ghost use Rattle.seg_rows.specs.Versions.{AsOften, after_kill, latest_at, newborn, rows_at, taken_at};
 ghost use Rattle.ts_schema.specs.Counts.{raised_by, RaisedUpTo};
@@ -19,6 +19,9 @@ use ts_schema::{NoMemory, Row, Seq, Steps, Test};
 
 /// No value holds more versions, which is far beyond any memory.
 const MOST_VERSIONS: u64 = 4_611_686_018_427_387_904;
+
+/// A span that meets chunks with no more versions is not parted.
+const FEW_VERSIONS: u64 = 4096;
 
 /// Rows by the chunks that hold their times. Contracts see the interval and the list of all versions
 /// that were ever put there, removed or not.
@@ -249,6 +252,17 @@ impl Chunks {
         ensures held { result ≡ held_near self.now.interval span self.now.versions }
     {
         self.tree.held(span_reach(self.interval, span))
+    }
+
+    /// A start of a chunk that parts a span, where the chunks that meet it have many versions and one begins
+    /// within.
+    pub fn middle(&self, span: Span) -> Option<i64>
+        ensures inside { IfSome result (λ t. (span.lo <ℤ t) × (t <ℤ span.hi)) }
+    {
+        if self.held(span) <= FEW_VERSIONS {
+            return None;
+        }
+        self.tree.start_in(span)
     }
 
     /// The greatest time that is visible at a position, and `None` exactly where no version is.

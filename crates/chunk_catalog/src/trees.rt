@@ -1,5 +1,5 @@
 //! Chunks in the order of their starts, in a balanced tree of which a change copies one path.
-ghost use Rattle.std.specs.Prelude.{◌≡◌, ◌<◌, ◌+◌, ◌^◌, ◌++◌, ℕ, List, [], suc, max, true, length, map, IfOk, OnOk, OnErr};
+ghost use Rattle.std.specs.Prelude.{◌≡◌, ◌<◌, ◌<ℤ◌, ◌+◌, ◌^◌, ◌++◌, ℕ, List, [], suc, max, true, length, map, IfOk, IfSome, OnOk, OnErr};
 ghost use Rattle.std.specs.Arc.{arc_value};
 ghost use Rattle.seg_rows.specs.Hulls.{hull_at, hull_of, joined_hull};
 ghost use Rattle.seg_rows.specs.Versions.{died_out, latest_at, later_time, rows_at, taken_at, HasMore};
@@ -262,6 +262,25 @@ impl Tree {
             Node::Empty => 0,
             Node::Fork(left, chunk, right, _, _, _) => {
                 left.held(reach) + chunk.count_in(reach) + right.held(reach)
+            }
+        }
+    }
+
+    /// The start of a chunk inside a span, of those the one nearest to the top.
+    pub fn start_in(&self, span: Span) -> Option<i64>
+        ensures inside { IfSome result (λ t. (span.lo <ℤ t) × (t <ℤ span.hi)) }
+    {
+        match &self.node {
+            Node::Empty => None,
+            Node::Fork(left, chunk, right, _, _, _) => {
+                let start = chunk.start();
+                if start <= span.lo {
+                    return right.start_in(span);
+                }
+                if start >= span.hi {
+                    return left.start_in(span);
+                }
+                Some(start)
             }
         }
     }

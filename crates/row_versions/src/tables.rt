@@ -1,5 +1,5 @@
 //! Tables.
-ghost use Rattle.std.specs.Prelude.{◌≡◌, ℕ, ℤ, [], ◌∷◌, true, IfOk};
+ghost use Rattle.std.specs.Prelude.{◌≡◌, ◌<ℤ◌, ℕ, ℤ, [], ◌∷◌, true, IfOk, IfSome};
 ghost use Rattle.ts_schema.specs.Counts.{Ticks};
 ghost use Rattle.seg_rows.specs.Versions.{latest_at, rows_of};
 ghost use Rattle.chunk_catalog.specs.Chunks.{HaveTimes};
@@ -107,6 +107,14 @@ impl Table {
             Ticks result near steps.old steps.new }
     {
         self.chunks.scan_part(pos, span, part, steps)
+    }
+
+    /// A time that parts a span near its middle, where many rows were ever inserted in the chunks that meet it,
+    /// so that no chunk is parted.
+    pub fn middle(&self, span: Span) -> Option<i64>
+        ensures inside { IfSome result (λ t. (span.lo <ℤ t) × (t <ℤ span.hi)) }
+    {
+        self.chunks.middle(span)
     }
 
     /// The greatest time that is visible at a position, and `None` exactly where no row is.
