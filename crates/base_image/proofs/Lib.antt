@@ -14,3 +14,4 @@ pub mod HeldLaws
 pub mod ShiftLaws
 pub mod ReadLaws
 pub mod TakingLaws
+pub mod OutlineLaws

@@ -8,3 +8,4 @@ pub mod Held
 pub mod Taking
 pub mod Answering
 pub mod Laws
+pub mod Outlines

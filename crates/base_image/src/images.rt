@@ -3,7 +3,7 @@ ghost use Rattle.std.specs.Prelude.{◌≡◌, ◌++◌, ◌∷◌, ◌==◌, �
 ghost use Rattle.ts_model.specs.Valid.{valid};
 ghost use Rattle.event_codec.specs.Growing.{Grows};
 ghost use Rattle.event_codec.specs.Reading.{Gives, byte_where};
-ghost use Rattle.event_codec.specs.Spelling.{many};
+ghost use Rattle.event_codec.specs.Spelling.{eight, many};
 ghost use Rattle.base_image.specs.Formed.{IsWritable};
 ghost use Rattle.base_image.specs.Reading.{image_at, roster_at, whole_image};
 ghost use Rattle.base_image.specs.Spelling as spelling;
@@ -32,17 +32,28 @@ fn put_refreshes(image: &Image, out: &mut Vec<u8>) -> Result<(), NoMemory>
     put_many(&image.done, out)
 }
 
-/// Appends the rows and what comes after them.
+/// Appends what comes after the rows.
 #[tactic(auto, using(event_codec::proofs::GrowthLaws::grows_on, std::proofs::lemmas::List::append_assoc))]
-fn put_from_rows(image: &Image, out: &mut Vec<u8>) -> Result<(), NoMemory>
+pub(crate) fn put_behind(image: &Image, out: &mut Vec<u8>) -> Result<(), NoMemory>
     requires { IsWritable image.now }
-    ensures put { OnOk result (out.new.items ≡ out.old.items ++ (many framed image.now.rows
-        ++ (many saved image.now.views ++ (many waiting image.now.waiting ++ many finished image.now.done)))) }
+    ensures put { OnOk result (out.new.items ≡ out.old.items ++ (many saved image.now.views
+        ++ (many waiting image.now.waiting ++ many finished image.now.done))) }
     ensures grows { Grows out.old.items out.new.items }
 {
-    put_many(&image.rows, out)?;
     put_many(&image.views, out)?;
     put_refreshes(image, out)
+}
+
+/// Appends what comes before the rows.
+#[tactic(auto, using(event_codec::proofs::GrowthLaws::grows_by, event_codec::proofs::GrowthLaws::grows_on, std::proofs::lemmas::List::append_assoc))]
+pub(crate) fn put_front(image: &Image, out: &mut Vec<u8>) -> Result<(), NoMemory>
+    requires { IsWritable image.now }
+    ensures put { OnOk result (out.new.items ≡ out.old.items ++ 8 ∷ (eight image.now.pos ++ many framed image.now.roster)) }
+    ensures grows { Grows out.old.items out.new.items }
+{
+    out.push(IMAGE_KIND)?;
+    put_eight(out, image.pos)?;
+    put_many(&image.roster, out)
 }
 
 /// Appends an image.
@@ -52,10 +63,9 @@ fn put_whole(image: &Image, out: &mut Vec<u8>) -> Result<(), NoMemory>
     ensures put { OnOk result (out.new.items ≡ out.old.items ++ spelling.image image.now) }
     ensures grows { Grows out.old.items out.new.items }
 {
-    out.push(IMAGE_KIND)?;
-    put_eight(out, image.pos)?;
-    put_many(&image.roster, out)?;
-    put_from_rows(image, out)
+    put_front(image, out)?;
+    put_many(&image.rows, out)?;
+    put_behind(image, out)
 }
 
 /// Reads the byte that images begin with.

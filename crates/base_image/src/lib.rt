@@ -4,6 +4,7 @@
 #![tactic(auto)]
 
 mod answers;
+mod flows;
 mod frames;
 mod groups;
 mod held;
@@ -11,6 +12,7 @@ mod images;
 pub mod laws;
 mod makings;
 mod orders;
+mod outlines;
 mod parts;
 mod ranges;
 mod refreshes;
@@ -21,12 +23,15 @@ mod sizes;
 mod states;
 mod sums;
 mod takes;
+mod tallies;
 mod validity;
 mod views;
 mod waits;
 
 pub use answers::{ReadImage, read};
 pub use images::{put, put_image_bytes};
+pub use outlines::{Outline, outline_of};
 pub use sizes::size;
 pub use states::Imaged;
 pub use takes::take;
+pub use tallies::Tally;

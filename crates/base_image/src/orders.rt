@@ -10,13 +10,18 @@ ghost use Rattle.base_image.specs.Rising.{spans_of};
 use std::cmp::Ordering;
 use ts_bucket::Span;
 use ts_model::{Finished, SavedGroup, SavedLast, Waiting};
-use ts_schema::{Row, row_order, values_order};
+use ts_schema::{Row, values_order};
 
-/// Whether a row may stand before another.
+/// Whether a row may stand before another. Their other columns are looked at only where the times are the
+/// same.
 fn may_precede(row: &Row, next: &Row) -> bool
     ensures { result ≡ not (is_gt (row_cmp row.now next.now)) }
 {
-    !row_order(row, next).is_gt()
+    match row.at.cmp(&next.at) {
+        Ordering::Less => true,
+        Ordering::Equal => !values_order(row.vals.items(), next.vals.items()).is_gt(),
+        Ordering::Greater => false,
+    }
 }
 
 /// Whether rows stand in order.

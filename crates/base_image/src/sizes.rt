@@ -23,7 +23,7 @@ fn bytes_of_value(value: Option<i64>) -> u64
     }
 }
 
-fn bytes_of_values(values: &[Option<i64>]) -> u64
+pub(crate) fn bytes_of_values(values: &[Option<i64>]) -> u64
     ensures { result ≡ min (sum_by value_bytes values.now) (2 ^ 64 - 1) }
 {
     let mut total = 0u64;

@@ -7,7 +7,7 @@ use ts_schema::{NoMemory, Row, Seq};
 /// it stands for a history is a relation between what it holds and that history, and each of its promises
 /// is for every history that it stands for.
 pub trait Imaged {
-    ghost use Rattle.std.specs.Prelude.{◌≡◌, ◌≤◌, [], ◌∷◌, length, Some, IsSome, IfOk};
+    ghost use Rattle.std.specs.Prelude.{◌≡◌, ◌≤◌, ℕ, List, [], ◌∷◌, length, Some, IsSome, IfOk};
     ghost use Rattle.ts_bucket.specs.Ranges.{IsWholeRange};
     ghost use Rattle.ts_model.specs.declared.views.ViewDef.{ViewDef};
     ghost use Rattle.ts_model.specs.History.{History, position};
@@ -16,9 +16,14 @@ pub trait Imaged {
     ghost use Rattle.ts_model.specs.Roster.{roster, table_of, view_of};
     ghost use Rattle.ts_model.specs.Rows.{rows};
     ghost use Rattle.image_laws.specs.Images.{finished_upto};
+    ghost use Rattle.ts_schema.specs.declared.rows.Row.{Row as RowValue};
+    ghost use Rattle.base_image.specs.Outlines.{rows_in, span_rows};
     ghost use Rattle.base_image.specs.Taking.{AreDirty, AreLasts, AreLeft};
 
     ghost stands: { Self → History → Type 0 };
+
+    /// The rows of each table, by its number.
+    ghost held: { Self → ℕ → List RowValue };
 
     /// The position of the history.
     fn position(&self) -> u64
@@ -34,6 +39,16 @@ pub trait Imaged {
     fn rows(&self, table: u32) -> Result<Seq<Row>, NoMemory>
         requires table { (h : History) → stands self.now h → IsSome (table_of (roster h) table) }
         ensures rows { (h : History) → stands self.now h → IfOk result (λ found. found ≡ rows table h) };
+
+    /// Spans whose rows, one span after another, are those of a table. Those of one span are few, or of one
+    /// chunk.
+    fn spans(&self, table: u32) -> Result<Seq<Span>, NoMemory>
+        ensures spans { IfOk result (λ spans. span_rows (held self.now table) spans ≡ held self.now table) }
+        ensures held { (h : History) → stands self.now h → held self.now table ≡ rows table h };
+
+    /// The rows of a table whose times lie in a span, in order.
+    fn rows_in(&self, table: u32, span: Span) -> Result<Seq<Row>, NoMemory>
+        ensures rows { IfOk result (λ found. found ≡ rows_in span (held self.now table)) };
 
     /// The last refreshes of an aggregate, as ranges that are as long as can be.
     fn lasts(&self, view: u32) -> Result<Seq<SavedLast>, NoMemory>

@@ -71,7 +71,7 @@ fn saved_view<I: Imaged>(alloc: Global, of: &I, view: u32) -> Result<SavedView, 
 }
 
 /// What is kept of each aggregate of a history.
-fn saved_views<I: Imaged>(alloc: Global, of: &I) -> Result<Seq<SavedView>, NoMemory>
+pub(crate) fn saved_views<I: Imaged>(alloc: Global, of: &I) -> Result<Seq<SavedView>, NoMemory>
     ensures saved { (h : History) → I.stands of.now h → IfOk result (AreKept h (length (roster h).views)) }
 {
     let mut views = Seq::new(alloc);

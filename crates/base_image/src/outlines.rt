@@ -1,0 +1,73 @@
+//! The image of a history whose rows stay in the state that stands for it.
+ghost use Rattle.std.specs.Prelude.{◌≡◌, ◌≤◌, ◌<◌, ◌-◌, ◌^◌, ◌++◌, ◌∷◌, ℕ, List, length, min, true, IfOk, OnOk};
+ghost use Rattle.ts_schema.specs.declared.rows.Row.{Row as RowValue};
+ghost use Rattle.ts_model.specs.History.{History};
+ghost use Rattle.ts_model.specs.Valid.{valid};
+ghost use Rattle.image_laws.specs.Images.{IsImage};
+ghost use Rattle.event_codec.specs.Growing.{Grows};
+ghost use Rattle.event_codec.specs.Spelling.{four};
+ghost use Rattle.std.specs.List.{flat_map};
+ghost use Rattle.base_image.specs.Formed.{IsWritable};
+ghost use Rattle.base_image.specs.Outlines.{commits, whole, IsOutline};
+ghost use Rattle.base_image.specs.Spelling as spelling;
+
+use crate::flows::put_commits;
+use crate::images::{put_behind, put_front};
+use crate::makings::roster_events;
+use crate::sizes::size;
+use crate::states::Imaged;
+use crate::takes::saved_views;
+use crate::tallies::{Tally, bytes_of_commits, table_tallies};
+use std::alloc::Global;
+use ts_model::Image;
+use ts_schema::{NoMemory, Seq};
+
+/// The image of a history, but for its rows: of each table it has how many they are.
+#[derive(Drop)]
+pub struct Outline {
+    /// The image without rows.
+    pub rest: Image,
+    /// The tallies of the tables.
+    pub tallies: Seq<Tally>,
+}
+
+/// That of the history that a state stands for. It holds few of the state's rows at a time.
+pub fn outline_of<I: Imaged>(alloc: Global, of: &I) -> Result<Outline, NoMemory>
+    ensures outline { IfOk result (IsOutline (I.held of.now)) }
+    ensures image { (h : History) → I.stands of.now h
+        → IfOk result (λ outline. IsImage h (whole (I.held of.now) outline)) }
+{
+    let tallies = table_tallies(alloc, of)?;
+    let rest = Image {
+        pos: of.position(),
+        roster: roster_events(alloc, of.roster())?,
+        rows: Seq::new(alloc),
+        views: saved_views(alloc, of)?,
+        waiting: of.waiting()?,
+        done: of.done()?,
+    };
+    Ok(Outline { rest, tallies })
+}
+
+impl Outline {
+    /// How many bytes the image has, or 2^64 - 1 where they are more. It takes no memory.
+    pub fn size(&self) -> u64
+        ensures size { (held : ℕ → List RowValue) → IsOutline held self.now
+            → result ≡ min (length (spelling.image (whole held self.now))) (2 ^ 64 - 1) }
+    {
+        size(&self.rest).saturating_add(bytes_of_commits(self.tallies.items()))
+    }
+
+    /// Appends the bytes of the image, where it is valid. The rows are those of the state that it was taken of,
+    /// of which it holds few at a time.
+    pub fn put<I: Imaged>(&self, of: &I, out: &mut Vec<u8>) -> Result<(), NoMemory>
+        requires outline { IsOutline (I.held of.now) self.now }
+        requires valid { valid (whole (I.held of.now) self.now) ≡ true }
+        requires few { length (spelling.image (whole (I.held of.now) self.now)) < 2 ^ 32 }
+        ensures put { OnOk result (out.new.items ≡ out.old.items ++ spelling.image (whole (I.held of.now) self.now)) }
+    {
+        put_front(&self.rest, out)?;
+        put_commits(of, self.tallies.items(), out)?;
+        put_behind(&self.rest, out)
+    }
+}

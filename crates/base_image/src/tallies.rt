@@ -1,0 +1,129 @@
+//! How many rows the tables of a state have, and how many bytes these have in an image.
+ghost use Rattle.std.specs.Prelude.{◌≡◌, ◌≤◌, ◌-◌, ◌^◌, ◌==◌, ◌++◌, [], length, List, min, not, sum_by, IfOk};
+ghost use Rattle.std.specs.List.{count_by};
+ghost use Rattle.ts_schema.specs.declared.rows.Row.{Row as RowValue};
+ghost use Rattle.ts_model.specs.Bytes.{row_bytes};
+ghost use Rattle.ts_model.specs.History.{History};
+ghost use Rattle.ts_model.specs.Roster.{roster};
+ghost use Rattle.ts_model.specs.Rows.{rows};
+ghost use Rattle.image_laws.specs.Images.{row_events};
+ghost use Rattle.base_image.specs.Outlines.{commit_bytes, commits, span_rows, tallies, tally_of};
+
+use crate::sizes::bytes_of_values;
+use crate::states::Imaged;
+use std::alloc::Global;
+use ts_bucket::Span;
+use ts_schema::{NoMemory, Row, Seq};
+
+/// How many rows a table has, and how many bytes they have, each told up to the last count of 64 bits.
+#[derive(Clone, Copy, Debug, PartialEq, Eq)]
+pub struct Tally {
+    /// The rows.
+    pub rows: u64,
+    /// Their bytes.
+    pub bytes: u64,
+}
+
+/// That of no row.
+fn none() -> Tally
+    ensures { result ≡ tally_of [] }
+{
+    Tally { rows: 0, bytes: 0 }
+}
+
+fn bytes_of_row(row: &Row) -> u64
+    ensures { result ≡ min (row_bytes row.now) (2 ^ 64 - 1) }
+{
+    bytes_of_values(row.vals.items()).saturating_add(9)
+}
+
+fn bytes_of_rows(rows: &[Row]) -> u64
+    ensures { result ≡ min (sum_by row_bytes rows.now) (2 ^ 64 - 1) }
+{
+    let mut total = 0u64;
+    for row in rows {
+        total = total.saturating_add(bytes_of_row(row));
+    }
+    total
+}
+
+/// The same with more rows.
+fn with_more(tally: Tally, more: &[Row]) -> Tally
+    ensures { (so_far : List RowValue) → tally ≡ tally_of so_far → result ≡ tally_of (so_far ++ more.now) }
+{
+    Tally {
+        rows: tally.rows.saturating_add(more.len() as u64),
+        bytes: tally.bytes.saturating_add(bytes_of_rows(more)),
+    }
+}
+
+/// That of the rows of these spans.
+fn tally_spans<I: Imaged>(of: &I, table: u32, spans: &[Span]) -> Result<Tally, NoMemory>
+    ensures { IfOk result (λ tally. tally ≡ tally_of (span_rows (I.held of.now table) spans.now)) }
+{
+    let mut tally = none();
+    for span in spans {
+        let rows = of.rows_in(table, *span)?;
+        tally = with_more(tally, rows.items());
+    }
+    Ok(tally)
+}
+
+/// That of a table.
+fn table_tally<I: Imaged>(of: &I, table: u32) -> Result<Tally, NoMemory>
+    ensures tally { IfOk result (λ tally. tally ≡ tally_of (I.held of.now table)) }
+    ensures held { (h : History) → I.stands of.now h → I.held of.now table ≡ rows table h }
+{
+    let spans = of.spans(table)?;
+    tally_spans(of, table, spans.items())
+}
+
+/// Those of all tables.
+pub fn table_tallies<I: Imaged>(alloc: Global, of: &I) -> Result<Seq<Tally>, NoMemory>
+    ensures tallied { IfOk result (λ all. all ≡ tallies (I.held of.now) 0 (length all)) }
+    ensures few { IfOk result (λ all. length all ≤ 64) }
+    ensures held { (h : History) → I.stands of.now h
+        → IfOk result (λ all. commits (I.held of.now) 0 (length all) ≡ row_events h 0 (length (roster h).tables)) }
+{
+    let mut all = Seq::new(alloc);
+    for table in 0..of.roster().tables.len() {
+        all.push(table_tally(of, table as u32)?)?;
+    }
+    Ok(all)
+}
+
+/// Whether there is a row.
+fn has_rows(tally: &Tally) -> bool
+    ensures { result ≡ not (tally.now.rows == 0) }
+{
+    tally.rows != 0
+}
+
+/// How many of these tables have rows.
+pub fn count_held(tallies: &[Tally]) -> usize
+    ensures { result ≡ count_by (λ tally. not (tally.rows == 0)) tallies.now }
+{
+    tallies.iter().filter(|tally| has_rows(tally)).count()
+}
+
+/// The bytes of the commit of a table's rows, where there are some.
+fn bytes_of_commit(tally: &Tally) -> u64
+    ensures { result ≡ min (commit_bytes tally.now) (2 ^ 64 - 1) }
+{
+    if has_rows(tally) {
+        tally.bytes.saturating_add(18)
+    } else {
+        0
+    }
+}
+
+/// The bytes of the commits of these tables' rows.
+pub fn bytes_of_commits(tallies: &[Tally]) -> u64
+    ensures { result ≡ min (sum_by commit_bytes tallies.now) (2 ^ 64 - 1) }
+{
+    let mut total = 0u64;
+    for tally in tallies {
+        total = total.saturating_add(bytes_of_commit(tally));
+    }
+    total
+}
