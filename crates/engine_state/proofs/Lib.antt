@@ -24,3 +24,4 @@ pub mod RefoldLaws
 pub mod ResumedTables
 pub mod ResumedViews
 pub mod ResumedStates
+pub mod PartedLaws

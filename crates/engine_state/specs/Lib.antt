@@ -12,3 +12,4 @@ pub mod Nexts
 pub mod Shown
 pub mod Refolding
 pub mod Resumed
+pub mod Parted

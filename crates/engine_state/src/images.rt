@@ -33,7 +33,7 @@ pub(crate) fn all_times() -> Span
 }
 
 /// These rows in row order.
-fn sorted(rows: Seq<Row>) -> Result<Seq<Row>, NoMemory>
+pub(crate) fn sorted(rows: Seq<Row>) -> Result<Seq<Row>, NoMemory>
     ensures { IfOk result (λ sorted. sorted ≡ in_order rows) }
 {
     let mut items = rows.into_items();
@@ -167,9 +167,12 @@ impl Parts {
 }
 
 impl Imaged for State {
+    ghost use Rattle.engine_state.specs.Parted.{state_rows};
     ghost use Rattle.engine_state.specs.Stands.{StandsFor};
 
     ghost stands = { λ s h. StandsFor h s };
+
+    ghost held = { state_rows };
 
     fn position(&self) -> u64 {
         self.parts.position
@@ -181,6 +184,14 @@ impl Imaged for State {
 
     fn rows(&self, table: u32) -> Result<Seq<Row>, NoMemory> {
         self.parts.rows(self.alloc, table)
+    }
+
+    fn spans(&self, table: u32) -> Result<Seq<Span>, NoMemory> {
+        self.parts.spans(self.alloc, table)
+    }
+
+    fn rows_in(&self, table: u32, span: Span) -> Result<Seq<Row>, NoMemory> {
+        self.parts.rows_in(self.alloc, table, span)
     }
 
     fn lasts(&self, view: u32) -> Result<Seq<SavedLast>, NoMemory> {

@@ -7,6 +7,7 @@ mod cuts;
 mod finishes;
 mod images;
 mod jobs;
+mod parted;
 mod parts;
 mod queues;
 mod refolds;
