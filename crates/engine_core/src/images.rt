@@ -9,8 +9,11 @@ use ts_schema::{NoMemory, Row, Seq};
 impl Imaged for Engine {
     ghost use Rattle.std.specs.Prelude.{◌≡◌};
     ghost use Rattle.engine_core.specs.Histories.{history_of};
+    ghost use Rattle.ts_model.specs.Rows.{rows};
 
     ghost stands = { λ e h. history_of e.past ≡ h };
+
+    ghost held = { λ e t. rows t (history_of e.past) };
 
     fn position(&self) -> u64 {
         self.length()
@@ -22,6 +25,14 @@ impl Imaged for Engine {
 
     fn rows(&self, table: u32) -> Result<Seq<Row>, NoMemory> {
         self.state().rows(table)
+    }
+
+    fn spans(&self, table: u32) -> Result<Seq<Span>, NoMemory> {
+        self.state().spans(table)
+    }
+
+    fn rows_in(&self, table: u32, span: Span) -> Result<Seq<Row>, NoMemory> {
+        self.state().rows_in(table, span)
     }
 
     fn lasts(&self, view: u32) -> Result<Seq<SavedLast>, NoMemory> {

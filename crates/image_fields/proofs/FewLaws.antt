@@ -12,12 +12,14 @@ use Rattle.ts_model.specs.declared.images.SavedGroup.{SavedGroup}
 use Rattle.ts_model.specs.declared.images.SavedView.{SavedView}
 use Rattle.ts_model.specs.declared.images.Sums.{Sums}
 use Rattle.ts_model.specs.declared.views.ViewDef.{ViewDef}
+use Rattle.ts_model.specs.declared.events.Event.{Event}
 use Rattle.ts_model.specs.History.{History}
 use Rattle.ts_model.specs.Refreshes.{last}
 use Rattle.ts_model.specs.Roster.{roster, view_of}
 use Rattle.ts_model.specs.Saved.{group_of, groups_among, nothing_saved, saved, summary_of}
 use Rattle.ts_model.specs.Valid.{valid}
 use Rattle.ts_model.specs.Allowed.{all_allowed}
+use Rattle.base_image.specs.Outlines.{with_rows}
 use Rattle.image_laws.specs.Images.{AreFew, ImagesAreValid, IsImage, groups_left, was_left}
 use Rattle.image_fields.specs.Counts.{few_in_group, few_in_image, few_in_view, few_rows}
 
@@ -52,3 +54,7 @@ are_few h i is few n def b view whole left =
 -- the image of an allowed history is valid where its groups are of few rows
 pub is_valid : (h : History) (i : Image) → ImagesAreValid → all_allowed h ≡ true → IsImage h i → few_in_image i ≡ true → valid i ≡ true
 is_valid h i law allowed is few = law h i allowed (are_few h i is few) is
+
+-- the same of one with these commits as its rows
+pub is_valid_with : (h : History) (events : List Event) (i : Image) → ImagesAreValid → all_allowed h ≡ true → IsImage h (with_rows events i) → few_in_image i ≡ true → valid (with_rows events i) ≡ true
+is_valid_with h events i law allowed is few = is_valid h (with_rows events i) law allowed is few

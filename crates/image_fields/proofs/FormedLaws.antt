@@ -7,6 +7,7 @@ use Rattle.ts_bucket.specs.Bucket.{is_bucket}
 use Rattle.ts_bucket.specs.declared.spans.Span.{Span}
 use Rattle.ts_schema.specs.declared.rows.Row.{Row}
 use Rattle.ts_schema.proofs.Cases.{int_lt-true}
+use Rattle.ts_model.specs.declared.events.Event.{Event}
 use Rattle.ts_model.specs.declared.images.Image.{Image}
 use Rattle.ts_model.specs.declared.images.SavedLast.{SavedLast}
 use Rattle.ts_model.specs.declared.images.SavedView.{SavedView}
@@ -19,6 +20,7 @@ use Rattle.ts_model.specs.Valid.{dirty_fits, done_fits, groups_fit, has_lasts, i
 use Rattle.ts_model.proofs.ValidLaws.{image_rows, valid_is}
 use Rattle.event_codec.specs.Formed.{IsSpan}
 use Rattle.base_image.specs.Formed.{Any, HasCounts, IsFormed, IsLast, IsSaved, IsWaiting}
+use Rattle.base_image.specs.Outlines.{with_rows}
 use Rattle.base_image.specs.Spelling.{image}
 use Rattle.base_image.proofs.WritableLaws.{writable}
 use Rattle.image_fields.specs.Fields.{HasFields, HasLast, HasSaved, HasSpan, HasWaiting}
@@ -98,3 +100,7 @@ formed i ok few has =
       waiting = (counts.waiting.0, are_waiting (image_roster i) i.pos i.waiting (and_parts _ _ v.waiting).0 has.waiting);
       done = (counts.done.0, has.done);
     }
+
+-- the same of an image with these commits as its rows
+pub formed_with : (i : Image) (events : List Event) → HasFields i → valid (with_rows events i) ≡ true → length (image (with_rows events i)) < 2 ^ 32 → IsFormed (with_rows events i)
+formed_with i events has ok few = formed (with_rows events i) ok few (record { pos = has.pos; views = has.views; waiting = has.waiting; done = has.done })

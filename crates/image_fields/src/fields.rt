@@ -1,11 +1,13 @@
 //! The parts of an image are in the range of their fields. Each function states it of a part, and does
 //! nothing.
-ghost use Rattle.std.specs.Prelude.{◌≡◌, ◌<◌, ◌^◌, length, true};
+ghost use Rattle.std.specs.Prelude.{◌≡◌, ◌<◌, ◌^◌, List, length, true};
 ghost use Rattle.std.specs.List.{AllByRecursion};
 ghost use Rattle.event_codec.specs.Formed.{IsEight, IsFour, IsValue, IsWord};
 ghost use Rattle.base_image.specs.Formed.{IsFinished, IsFormed, IsGroup, IsSums, IsWide};
+ghost use Rattle.base_image.specs.Outlines.{with_rows};
 ghost use Rattle.base_image.specs.Spelling as spelling;
 ghost use Rattle.ts_model.specs.Valid.{valid};
+ghost use Rattle.ts_model.specs.declared.events.Event.{Event};
 ghost use Rattle.image_fields.specs.Fields.{HasLast, HasSaved, HasSpan, HasWaiting, HasFields};
 
 use ts_bucket::Span;
@@ -180,12 +182,11 @@ fn fields_law(image: &Image)
     done_law(image.done.items());
 }
 
-/// All parts of a valid image.
-#[tactic(auto, using(crate::proofs::FormedLaws::formed))]
+/// All parts of an image that is valid with these commits as its rows.
+#[tactic(auto, using(crate::proofs::FormedLaws::formed_with))]
 pub fn image_law(image: &Image)
-    requires valid { valid image.now ≡ true }
-    requires few { length (spelling.image image.now) < 2 ^ 32 }
-    ensures formed { IsFormed image.now }
+    ensures formed { (events : List Event) → valid (with_rows events image.now) ≡ true
+        → length (spelling.image (with_rows events image.now)) < 2 ^ 32 → IsFormed (with_rows events image.now) }
 {
     fields_law(image);
 }

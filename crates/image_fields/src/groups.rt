@@ -1,5 +1,7 @@
 //! Whether the groups of an image are of few rows, as those of a valid one are.
-ghost use Rattle.std.specs.Prelude.{◌≡◌, true};
+ghost use Rattle.std.specs.Prelude.{◌≡◌, List, true};
+ghost use Rattle.base_image.specs.Outlines.{with_rows};
+ghost use Rattle.ts_model.specs.declared.events.Event.{Event};
 ghost use Rattle.ts_model.specs.Allowed.{all_allowed};
 ghost use Rattle.ts_model.specs.History.{History};
 ghost use Rattle.ts_model.specs.Valid.{valid};
@@ -33,11 +35,12 @@ pub fn groups_are_few(image: &Image) -> bool
     image.views.items().iter().all(|view| view_is_few(view))
 }
 
-/// The image of an allowed history is valid where its groups are of few rows. It does nothing.
-#[tactic(auto, using(crate::proofs::FewLaws::is_valid))]
+/// The image of an allowed history is valid where its groups are of few rows, also where its own rows stand
+/// elsewhere. It does nothing.
+#[tactic(auto, using(crate::proofs::FewLaws::is_valid_with))]
 pub fn validity_law(_image: &Image)
-    ensures { (h : History) → all_allowed h ≡ true → IsImage h _image.now → few_in_image _image.now ≡ true
-        → valid _image.now ≡ true }
+    ensures { (h : History) (events : List Event) → all_allowed h ≡ true → IsImage h (with_rows events _image.now)
+        → few_in_image _image.now ≡ true → valid (with_rows events _image.now) ≡ true }
 {
     images_are_valid();
 }

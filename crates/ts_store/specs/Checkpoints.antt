@@ -1,10 +1,12 @@
 -- What a checkpoint answers, and what it leaves on the disk.
 use Rattle.std.specs.Prelude.{◌≡◌, ◌≢◌, ◌⊎◌, ℕ, ◌<◌, ◌≤◌, ◌^◌, ◌-◌, true, min, List, [], length, Option, Some, None, ⊤}
 use Rattle.ts_schema.specs.Faults.{Rose}
+use Rattle.ts_schema.specs.declared.rows.Row.{Row}
 use Rattle.ts_disk.specs.CrashImage.{Only}
 use Rattle.ts_model.specs.declared.events.Event.{Event}
 use Rattle.ts_model.specs.declared.images.Image.{Image}
 use Rattle.ts_model.specs.History.{History, Begins, position, resumed}
+use Rattle.ts_model.specs.Rows.{rows}
 use Rattle.ts_model.specs.Valid.{valid}
 use Rattle.image_laws.specs.Images.{IsImage}
 use Rattle.base_image.specs.Formed.{IsFormed as IsFormedImage}
@@ -34,6 +36,10 @@ pub record IsImageOf (h : History) (payload : List ℕ) : Type 0 where
   pub is_valid : valid image ≡ true
   pub formed : IsFormedImage image
   pub spelled : payload ≡ images.image image
+
+-- the rows of each table of a history, by its number
+abbrev pub held_rows : History → ℕ → List Row
+held_rows h t = rows t h
 
 -- the frame of the image is made, or the image is too long
 abbrev pub Saves : Saved → History → ℕ → Type 0

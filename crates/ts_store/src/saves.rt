@@ -2,15 +2,15 @@
 ghost use Rattle.std.specs.Prelude.{◌≡◌, ◌<◌, ◌^◌, length, true, IfOk};
 ghost use Rattle.ts_model.specs.Allowed.{all_allowed};
 ghost use Rattle.ts_model.specs.Valid.{valid};
+ghost use Rattle.base_image.specs.Outlines.{whole, IsOutline};
 ghost use Rattle.base_image.specs.Spelling as images;
 ghost use Rattle.engine_core.specs.Histories.{history_of};
-ghost use Rattle.ts_store.specs.Checkpoints.{Saves};
+ghost use Rattle.ts_store.specs.Checkpoints.{Saves, held_rows};
 
-use base_image::{put_image_bytes, size, take};
+use base_image::{Outline, outline_of};
 use engine_core::Engine;
 use image_fields::{groups_are_few, image_law, validity_law};
 use std::alloc::Global;
-use ts_model::Image;
 use ts_schema::NoMemory;
 use txn_journal::{Frame, close_frame, open_frame};
 
@@ -25,39 +25,47 @@ pub(crate) enum Saved {
     NoMemory,
 }
 
-/// Takes all memory for the image of an engine's history, where it has at most so many bytes.
+/// Takes all memory for the image of an engine's history, where it has at most so many bytes. Beside the frame it
+/// holds few of the engine's rows at a time.
 pub(crate) fn save(alloc: Global, engine: &Engine, most: u64) -> Saved
     requires allowed { all_allowed (history_of engine.now.past) ≡ true }
     requires most { most < 2 ^ 32 }
     ensures saves { Saves result (history_of engine.now.past) most }
 {
-    let Ok(image) = take(alloc, engine) else {
+    let Ok(outline) = outline_of(alloc, engine) else {
         return Saved::NoMemory;
     };
     // No memory holds so many rows as a group would need to be refused here.
-    if !groups_are_few(&image) {
+    if !groups_are_few(&outline.rest) {
         return Saved::NoMemory;
     }
-    validity_law(&image);
-    let bytes = size(&image);
+    validity_law(&outline.rest);
+    let bytes = outline.size();
     if bytes > most {
         return Saved::TooLong(bytes);
     }
-    image_law(&image);
-    match image_frame(alloc, &image, bytes) {
+    image_law(&outline.rest);
+    match image_frame(alloc, engine, &outline, bytes) {
         Ok(frame) => Saved::Framed { frame, bytes },
         Err(NoMemory) => Saved::NoMemory,
     }
 }
 
-/// The frame of an image of so many bytes. It is filled in place: no payload is copied.
-fn image_frame(alloc: Global, image: &Image, bytes: u64) -> Result<Frame, NoMemory>
-    requires valid { valid image.now ≡ true }
-    requires bytes { bytes ≡ length (images.image image.now) }
+/// The frame of the image of an engine's history, of so many bytes. It is filled in place: no payload is copied.
+fn image_frame(
+    alloc: Global,
+    engine: &Engine,
+    outline: &Outline,
+    bytes: u64,
+) -> Result<Frame, NoMemory>
+    requires outline { IsOutline (held_rows (history_of engine.now.past)) outline.now }
+    requires valid { valid (whole (held_rows (history_of engine.now.past)) outline.now) ≡ true }
+    requires bytes { bytes ≡ length (images.image (whole (held_rows (history_of engine.now.past)) outline.now)) }
     requires few { bytes < 2 ^ 32 }
-    ensures frame { IfOk result (λ frame. frame ≡ images.image image.now) }
+    ensures frame { IfOk result (λ frame.
+        frame ≡ images.image (whole (held_rows (history_of engine.now.past)) outline.now)) }
 {
     let mut framed = open_frame(alloc, bytes as usize)?;
-    put_image_bytes(image, &mut framed)?;
+    outline.put(engine, &mut framed)?;
     close_frame(framed)
 }
