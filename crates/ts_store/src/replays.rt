@@ -22,7 +22,7 @@ use std::alloc::Global;
 use std::thread::Threads;
 use ts_disk::Disk;
 use ts_model::Event;
-use ts_schema::{NoMemory, Steps};
+use ts_schema::{NoMemory, Seq, Steps};
 use txn_journal::{Journal, Next, Reader};
 
 /// What reading the events of a journal found.
@@ -71,7 +71,7 @@ pub(crate) fn replay<R: Threads + Sync, D: Disk>(
     let mut engine = engine;
     'events: loop {
         match reader.next() {
-            Next::Base(at) => match take_base(alloc, &mut engine, reader.payload()) {
+            Next::Base(at) => match take_base(alloc, &mut engine, reader.take_out(alloc)) {
                 Taken::Done => {}
                 Taken::NoEvent => {
                     return Replayed::Damaged {
@@ -109,11 +109,13 @@ pub(crate) fn replay<R: Threads + Sync, D: Disk>(
     }
 }
 
-/// Puts the engine of a base's image in the place of another.
-fn take_base(alloc: Global, engine: &mut Engine, payload: &[u8]) -> Taken
-    ensures resumed { Resumes result payload.now engine.new.past }
+/// Puts the engine of a base's image in the place of another. The base's bytes are given back before it is made.
+fn take_base(alloc: Global, engine: &mut Engine, payload: Seq<u8>) -> Taken
+    ensures resumed { Resumes result payload engine.new.past }
 {
-    match read(alloc, payload) {
+    let found = read(alloc, payload.items());
+    drop(payload);
+    match found {
         ReadImage::Image(image) => match Engine::from_image(alloc, image, &mut Steps::new(())) {
             Ok(made) => {
                 *engine = made;

@@ -13,7 +13,9 @@ use crate::journals::{Journal, Standing};
 use crate::versions::Version;
 use std::alloc::Global;
 use std::marker::Model;
+use std::mem;
 use ts_disk::{Disk, Failed, MOST_BYTES};
+use ts_schema::Seq;
 
 /// Reads the payloads of a journal in order, and holds one of them at a time. It writes nothing.
 #[derive(Drop)]
@@ -139,6 +141,17 @@ impl<D: Disk> Reader<D> {
         ensures payload { result.now ≡ self.now.payload }
     {
         &self.payload
+    }
+
+    /// The same, taken out of the reader, which holds it no longer.
+    pub fn take_out(&mut self, alloc: Global) -> Seq<u8>
+        ensures payload { result ≡ self.old.payload }
+        ensures disk { self.new.disk ≡ self.old.disk }
+        ensures place { self.new.at ≡ self.old.at }
+        ensures read { (file : List ℕ) (content : Content) → HasRead D.bytes self.old file content
+            → HasRead D.bytes self.new file content }
+    {
+        Seq::of(mem::replace(&mut self.payload, Vec::new(alloc)))
     }
 
     /// The journal, once the end was found.

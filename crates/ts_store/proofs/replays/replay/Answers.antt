@@ -1,5 +1,6 @@
 use Rattle.std.proofs.Common.{List, ℕ, sym, ◌∙◌, ap, subst}
 use Rattle.engine_core.specs.Histories.{history_of}
+use Rattle.ts_disk.specs.Disk.{Keeps}
 use Rattle.txn_journal.specs.Contents.{Content}
 use Rattle.txn_journal.specs.Reading.{HasRead, based_on, with_next}
 use Rattle.txn_journal.proofs.Moments.{keeps_both}
@@ -15,9 +16,9 @@ events-preserved g c =
     record {
       read = λ file has.
           let step = c.in-Payload.ensures.steps file before (c.events.invariant.read file has) in
-          let more = taken_more c.payload-in-Payload.result.now old new c.in-Done-take_payload.ensures.taken ∙ ap (with_next before) c.payload-in-Payload.ensures.payload in
+          let more = taken_more c.payload.result.now old new c.in-Done-take_payload.ensures.taken ∙ ap (with_next before) c.payload.ensures.payload in
           subst (λ (now : Content). HasRead g.D.Disk.bytes c.next.new.self file now) (sym more) step.1;
-      sound = taken_sound c.payload-in-Payload.result.now old new c.events.invariant.sound c.in-Done-take_payload.ensures.taken;
+      sound = taken_sound c.payload.result.now old new c.events.invariant.sound c.in-Done-take_payload.ensures.taken;
       kept = keeps_both g.D.Disk.bytes g.D.Disk.may_leave g.D.Disk.moment g.D.Disk.left_since c.args.reader.disk c.events.reader.disk c.next.new.self.disk c.events.invariant.kept c.next.ensures.kept;
       counted = c.in-Payload.ensures.counted ∙ c.events.invariant.counted;
     }
@@ -29,11 +30,13 @@ events-preserved-in-Done g c =
     record {
       read = λ file has.
           let step = c.in-Base.ensures.steps file before (c.events.invariant.read file has) in
-          let now = resumed_counts c.payload.result.now new c.in-Done.ensures.resumed ∙ ap based_on c.payload.ensures.payload in
-          subst (λ (now : Content). HasRead g.D.Disk.bytes c.next.new.self file now) (sym now) step.1;
-      sound = resumed_sound c.payload.result.now new c.in-Done.ensures.resumed;
-      kept = keeps_both g.D.Disk.bytes g.D.Disk.may_leave g.D.Disk.moment g.D.Disk.left_since c.args.reader.disk c.events.reader.disk c.next.new.self.disk c.events.invariant.kept c.next.ensures.kept;
-      counted = c.in-Base.ensures.counted ∙ c.events.invariant.counted;
+          let now = resumed_counts c.take_out.result new c.in-Done.ensures.resumed ∙ ap based_on c.take_out.ensures.payload in
+          subst (λ (now : Content). HasRead g.D.Disk.bytes c.take_out.new.self file now) (sym now)
+          (c.take_out.ensures.read file (based_on c.next.new.self.payload) step.1);
+      sound = resumed_sound c.take_out.result new c.in-Done.ensures.resumed;
+      kept = subst (λ (disk : g.row.D.Denot). Keeps g.D.Disk.bytes g.D.Disk.may_leave g.D.Disk.moment g.D.Disk.left_since c.args.reader.disk disk) (sym c.take_out.ensures.disk)
+          (keeps_both g.D.Disk.bytes g.D.Disk.may_leave g.D.Disk.moment g.D.Disk.left_since c.args.reader.disk c.events.reader.disk c.next.new.self.disk c.events.invariant.kept c.next.ensures.kept);
+      counted = ap g.D.Disk.faults c.take_out.ensures.disk ∙ c.in-Base.ensures.counted ∙ c.events.invariant.counted;
     }
 
 pub returns-in-End-clause-at_rest : goal.returns-in-End-clause-at_rest
