@@ -5,4 +5,5 @@ pub mod PartLaws
 pub mod PlaceLaws
 pub mod ReachLaws
 pub mod SpareLaws
+pub mod StartLaws
 pub mod TreeLaws

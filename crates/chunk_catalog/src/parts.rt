@@ -1,4 +1,5 @@
 //! New rows by the chunks that hold their times.
+ghost use Rattle.std.specs.Ordering.{int_eq};
 ghost use Rattle.std.specs.Prelude.{◌≡◌, ◌<◌, ◌+◌, ◌-◌, ◌^◌, ◌++◌, length, drop, map, slice_index_or, vec_len, true, IfOk, OnOk};
 ghost use Rattle.ts_bucket.specs.Bucket.{is_time};
 ghost use Rattle.ts_schema.specs.declared.rows.Row.{Row};
@@ -6,7 +7,7 @@ ghost use Rattle.seg_rows.specs.Versions.{newborn, AsOften, HasMore};
 ghost use Rattle.chunk_catalog.specs.Chunks.{HaveTimes};
 ghost use Rattle.ts_bucket.specs.Chunks.{IsInterval, chunk_start};
 ghost use Rattle.chunk_catalog.specs.Places.{in_chunk};
-ghost use Rattle.chunk_catalog.specs.Parts.{AreIn, placed_rows};
+ghost use Rattle.chunk_catalog.specs.Parts.{AreIn, IsStart, placed_rows};
 
 use crate::trees::Tree;
 use seg_rows::{Segment, copied_rows};
@@ -113,15 +114,25 @@ fn part_begin(interval: i64, start: i64, rows: &[Row]) -> usize
     requires interval { IsInterval interval }
     requires times { HaveTimes rows.now }
     requires some { 0 < length rows.now }
+    requires start { IsStart interval start }
     requires last { (row : Row) → chunk_start interval (slice_index_or rows.now (length rows.now - 1) row).at ≡ start }
     ensures within { result < length rows.now }
     ensures here { AreIn interval start (drop result rows.now) }
 {
     let mut from = rows.len() - 1;
-    while from > 0 && chunk_of(interval, &rows[from - 1]) == start {
+    while from > 0 && is_in(interval, start, &rows[from - 1]) {
         from -= 1;
     }
     from
+}
+
+/// Whether the chunk with this start holds the time of a row. It takes no division.
+fn is_in(interval: i64, start: i64, row: &Row) -> bool
+    requires interval { IsInterval interval }
+    requires start { IsStart interval start }
+    ensures { result ≡ int_eq start (chunk_start interval row.now.at) }
+{
+    start <= row.at && row.at < start + interval
 }
 
 /// The start of the chunk that holds the time of a row.
@@ -129,6 +140,7 @@ fn chunk_of(interval: i64, row: &Row) -> i64
     requires interval { IsInterval interval }
     requires time { is_time row.now.at ≡ true }
     ensures start { result ≡ chunk_start interval row.now.at }
+    ensures some { IsStart interval result }
 {
     ts_bucket::chunk_start(interval, row.at)
 }
