@@ -1,6 +1,6 @@
 //! New rows by the chunks that hold their times.
 ghost use Rattle.std.specs.Ordering.{int_eq};
-ghost use Rattle.std.specs.Prelude.{◌≡◌, ◌<◌, ◌+◌, ◌-◌, ◌^◌, ◌++◌, length, drop, map, slice_index_or, vec_len, true, IfOk, OnOk};
+ghost use Rattle.std.specs.Prelude.{◌≡◌, ◌<◌, ◌≤◌, ◌+◌, ◌-◌, ◌^◌, ◌++◌, length, drop, map, slice_index_or, vec_len, true, IfOk, OnOk};
 ghost use Rattle.ts_bucket.specs.Bucket.{is_time};
 ghost use Rattle.ts_schema.specs.declared.rows.Row.{Row};
 ghost use Rattle.seg_rows.specs.Versions.{newborn, AsOften, HasMore};
@@ -12,6 +12,7 @@ ghost use Rattle.chunk_catalog.specs.Parts.{AreIn, IsStart, placed_rows};
 use crate::trees::Tree;
 use seg_rows::{Segment, copied_rows};
 use std::alloc::Global;
+use std::mem;
 use ts_schema::{NoMemory, Row, Seq};
 
 /// No segment of new rows has more of them.
@@ -105,8 +106,22 @@ fn last_part(interval: i64, rows: &mut Vec<Row>) -> Result<Part, NoMemory>
     let from = part_begin(interval, start, items);
     Ok(Part {
         start,
-        rows: rows.split_off(from)?,
+        rows: taken_from(rows, from)?,
     })
+}
+
+/// Takes the rows from a place on off. Where these are all of them, none moves.
+fn taken_from(rows: &mut Vec<Row>, from: usize) -> Result<Vec<Row>, NoMemory>
+    requires within { from ≤ vec_len rows.old }
+    ensures split { IfOk result (λ taken. rows.old.items ≡ rows.new.items ++ taken.items) }
+    ensures rest { OnOk result (vec_len rows.new ≡ from) }
+    ensures taken { IfOk result (λ taken. taken.items ≡ drop from rows.old.items) }
+{
+    if from == 0 {
+        let none = Vec::new(*rows.allocator());
+        return Ok(mem::replace(rows, none));
+    }
+    Ok(rows.split_off(from)?)
 }
 
 /// The first of the last rows that are all in one chunk, of which this is the start.
