@@ -9,6 +9,7 @@
 //! - `runs`: items of a list from a place on.
 //! - `builders`: lists made of runs of others and of new items.
 //! - `iter`: the items of a list, one after another.
+//! - `slices`: items of a list that stand together, as a list of their own.
 #![tactic(auto)]
 
 mod blocks;
@@ -19,8 +20,10 @@ mod lists;
 mod parts;
 mod runs;
 mod shelves;
+mod slices;
 
 pub use blocks::BLOCK_LEN;
 pub use builders::Builder;
 pub use iter::Iter;
 pub use lists::BlockList;
+pub use slices::Slice;

@@ -1,5 +1,5 @@
 //! Lists.
-ghost use Rattle.std.specs.Prelude.{◌≡◌, ◌==◌, ◌+◌, ◌-◌, ◌<◌, ◌≤◌, [], ◌∷◌, ◌++◌, length, take, drop, slice_index_or, vec_len, vec_capacity, IfOk, IfSome, OnOk, OnErr};
+ghost use Rattle.std.specs.Prelude.{◌≡◌, ◌==◌, ◌+◌, ◌-◌, ◌^◌, ◌<◌, ◌≤◌, [], ◌∷◌, ◌++◌, length, take, drop, slice_index_or, vec_len, vec_capacity, IfOk, IfSome, OnOk, OnErr};
 ghost use Rattle.std.specs.Arc.{arc_value};
 ghost use Rattle.block_list.specs.Blocks.{IsRun, IsRunFrom, block_len, shared_if};
 ghost use Rattle.block_list.specs.Lists.{room_of, spliced};
@@ -10,6 +10,7 @@ use crate::clones::joined;
 use crate::iter::Iter;
 use crate::runs::{block_in, copy_if, items_if, run_in};
 use crate::shelves::{Blocks, Shelf};
+use crate::slices::Slice;
 use std::alloc::Global;
 use std::marker::Model;
 use std::sync::Arc;
@@ -61,6 +62,7 @@ impl<T> BlockList<T> {
     /// How many items there are.
     pub fn len(&self) -> usize
         ensures len { result ≡ length self.now.items }
+        ensures few { result < 2 ^ 63 }
     {
         self.blocks.len() + items_if(&self.newest).len() + self.own.len()
     }
@@ -134,6 +136,17 @@ impl<T: Clone + Drop> BlockList<T> {
             newest: copy_if(&self.newest)?,
             own: joined(self.alloc, &self.own, &[])?,
         })
+    }
+
+    /// The items from place `from` on and below place `to`, in the blocks that they are in, as a list
+    /// that shares them. It costs what a `copy` does.
+    pub fn slice(&self, from: usize, to: usize) -> Result<Slice<T>, NoMemory>
+        requires order { from ≤ to }
+        requires within { to ≤ length self.now.items }
+        requires faithful { (x y : T) → T.is_clone x y → x ≡ y }
+        ensures items { IfOk result (λ slice. slice ≡ take (to - from) (drop from self.now.items)) }
+    {
+        Ok(Slice::of(self.copy()?, from, to))
     }
 
     /// The same list, all of whose items are shared from here on, so that a copy of it is a count.

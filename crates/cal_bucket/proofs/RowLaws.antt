@@ -20,7 +20,7 @@ use Rattle.ts_model.specs.declared.tables.TableDef.{TableDef}
 use Rattle.cal_bucket.specs.Laws.{ColumnsShowRows, FittingRowsAreShown}
 use Rattle.cal_bucket.specs.Answers.{rows_of_plan}
 use Rattle.cal_bucket.specs.Rows.{number_of, row_shown, IsValue, ShowARow}
-use Rattle.cell_groups.specs.Cells.{value_of}
+use Rattle.partial_agg.specs.Summaries.{value_of}
 use Rattle.cell_groups.specs.Room.{ShowWords}
 use Rattle.cal_bucket.specs.Cells.{ShowsAValue, BeginWithATime}
 

@@ -1,10 +1,11 @@
 -- The cells of a row stand for the moved row.
-use Rattle.std.proofs.Common.{◌≡◌, ℕ, zero, suc, ◌+◌, ◌<◌, ◌≤◌, ◌&&◌, List, [], ◌∷◌, ◌++◌, map, take, drop, length, get_or, Option, Some, None, sym, ap, refl, ◌∙◌, arith, ℤ}
+use Rattle.std.proofs.Common.{◌≡◌, ℕ, zero, suc, ◌+◌, ◌<◌, ◌≤◌, ◌&&◌, List, [], ◌∷◌, ◌++◌, map, take, drop, length, get_or, Option, Some, None, unwrap_or, IsSomeAnd, IsTrue, sym, subst, ap, refl, ◌∙◌, arith, ℤ, pos}
 use Rattle.std.specs.Prelude.{nat_lt}
 use Rattle.std.specs.List.{AllByRecursion}
 use Rattle.std.proofs.lemmas.Bool.{ltb-false, ltb-true}
 use Rattle.std.proofs.lemmas.Bool.Decides.{nat_tests}
 use Rattle.ts_num.specs.declared.values.Datum.{Datum}
+use Rattle.ts_bucket.specs.Bucket.{is_time}
 use Rattle.ts_num.specs.declared.values.Datum.TheVariants.{Null, Int, Ratio}
 use Rattle.ts_schema.specs.declared.rows.Row.{Row}
 use Rattle.ts_schema.specs.declared.conditions.Test.{Test}
@@ -12,12 +13,13 @@ use Rattle.ts_schema.specs.Rows.{field_of}
 use Rattle.ts_schema.specs.Conditions.{compares, passes_all}
 use Rattle.ts_schema.proofs.Cases.{by_test}
 use Rattle.ts_model.specs.declared.views.Agg.{Agg}
+use Rattle.ts_model.specs.Results.{cell_at}
 use Rattle.ts_model.specs.Scratch.{fold_rows, keys_of}
 use Rattle.partial_agg.specs.declared.groups.Group.{Group}
-use Rattle.partial_agg.specs.Summaries.{Summary, summary}
+use Rattle.partial_agg.specs.Summaries.{Summary, summary, value_of}
 use Rattle.group_fold.specs.Grouping.{row_group, row_parts}
 use Rattle.cell_groups.specs.declared.shapes.Shape.{Shape}
-use Rattle.cell_groups.specs.Cells.{cell_at, cells_pass, value_of}
+use Rattle.cell_groups.specs.Cells.{cells_pass}
 use Rattle.cell_groups.specs.Groups.{keys_at, rows_shown}
 use Rattle.cell_groups.specs.Kept.{needed, needed_parts, row_needs}
 use Rattle.cell_groups.specs.Taken.{with_rows}
@@ -45,6 +47,21 @@ time_cell zero (Int n ∷ cells) h = refl
 time_cell zero (Ratio r ∷ cells) h = absurd h
 time_cell (suc at) [] h = absurd h
 time_cell (suc at) (d ∷ cells) h = time_cell at cells h
+
+time_begun : (cells : List Datum) → BeginWithATime cells → IsTrue (is_time (first_number cells))
+time_begun [] h = absurd h
+time_begun (Null ∷ cells) h = absurd h
+time_begun (Int n ∷ cells) h = h
+time_begun (Ratio r ∷ cells) h = absurd h
+
+-- the cell at the place of the time shows one
+pub time_is_shown : (at : ℕ) (cells : List Datum) → ShowARow at cells → IsSomeAnd (cell_at cells at) (λ n. IsTrue (is_time n))
+time_is_shown at cells shown =
+    let begin = (cells_fit at cells shown).time in
+    subst (λ v. IsSomeAnd v (λ n. IsTrue (is_time n))) (sym (time_cell at cells begin)) (time_begun (drop at cells) begin)
+
+pub time_is : (at : ℕ) (cells : List Datum) → ShowARow at cells → unwrap_or (cell_at cells at) (pos 0) ≡ (row_shown at cells).at
+time_is at cells shown = ap (λ v. unwrap_or v (pos 0)) (time_cell at cells (cells_fit at cells shown).time)
 
 -- the other cells, before the time and behind it
 cell_before : (at : ℕ) (cells : List Datum) (k : ℕ) → at < length cells → k < at → get_or (map value_of cells) k None ≡ get_or (map number_of (take at cells) ++ map number_of (drop 1 (drop at cells))) k None

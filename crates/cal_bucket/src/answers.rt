@@ -11,10 +11,8 @@ use crate::gathers::gather;
 use crate::plans::CalPlan;
 use crate::shapes::{shape_of, tests_among};
 use cell_groups::{Stop, rows_of};
-use cell_rows::CellRows;
 use std::alloc::Global;
-use ts_model::Answer;
-use ts_num::Datum;
+use ts_model::{Answer, ResultRows};
 use ts_schema::{NoMemory, Seq};
 
 /// The rows of a table, which `lower` shows, grouped by buckets of the calendar. Its counts and sums are never too
@@ -33,11 +31,7 @@ pub fn cal_answer(alloc: Global, plan: &CalPlan, lower: &Answer) -> Result<Answe
 }
 
 /// The result rows, from the rows that an answer shows.
-fn answer_rows(
-    alloc: Global,
-    plan: &CalPlan,
-    lower: &CellRows<Datum>,
-) -> Result<CellRows<Datum>, NoMemory>
+fn answer_rows(alloc: Global, plan: &CalPlan, lower: &ResultRows) -> Result<ResultRows, NoMemory>
     requires number { IsNumber plan.now.number }
     requires shown { AllByRecursion (ShowARow plan.now.at) lower.now }
     ensures { IfOk result (λ rows. rows ≡ plan_rows plan.now lower.now) }
@@ -47,7 +41,7 @@ fn answer_rows(
     let gathered = gather(alloc, plan, &shape, tests.as_slice(), lower)?;
     let _rows = lower.len();
     match rows_of(alloc, &shape, gathered) {
-        Ok(rows) => Ok(rows),
+        Ok(rows) => Ok(ResultRows::of_cells(alloc, rows)),
         Err(Stop::NoMemory) => Err(NoMemory),
         Err(Stop::TooGreat) => unreachable!(),
     }

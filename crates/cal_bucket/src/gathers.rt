@@ -7,6 +7,7 @@ ghost use Rattle.cell_groups.specs.Room.{AreOfRows, ShowWords};
 ghost use Rattle.cell_groups.specs.Taken.{AreGathered, taken_in, with_rows};
 ghost use Rattle.group_fold.specs.Merging.{with_group};
 ghost use Rattle.group_fold.specs.Gathering.{ordered};
+ghost use Rattle.ts_model.specs.Results.{row_cells};
 ghost use Rattle.cal_bucket.specs.Buckets.{IsNumber};
 ghost use Rattle.cal_bucket.specs.Named.{NamesItsTimes};
 ghost use Rattle.cal_bucket.specs.Rows.{ShowARow};
@@ -15,10 +16,9 @@ ghost use Rattle.cal_bucket.specs.Shapes.{named_group};
 use crate::buckets::{Bucket, bucket_with, no_bucket};
 use crate::plans::CalPlan;
 use crate::rows::time_of;
-use cell_groups::{CellGroups, Shape, Stop, passes};
-use cell_rows::CellRows;
+use cell_groups::{CellGroups, RowCells, Shape, Stop, passes};
 use std::alloc::Global;
-use ts_num::Datum;
+use ts_model::{ResultRow, ResultRows};
 use ts_schema::{NoMemory, Test};
 
 /// The groups of the rows that pass every test, by the names of their buckets.
@@ -27,7 +27,7 @@ pub(crate) fn gather<'a>(
     plan: &CalPlan,
     shape: &Shape,
     tests: &[Test],
-    lower: &'a CellRows<Datum>,
+    lower: &'a ResultRows,
 ) -> Result<CellGroups<'a>, NoMemory>
     requires number { IsNumber plan.now.number }
     requires shown { AllByRecursion (ShowARow plan.now.at) lower.now }
@@ -39,8 +39,8 @@ pub(crate) fn gather<'a>(
     let _rows = lower.len();
     let mut gathered = CellGroups::new(alloc);
     let mut bucket = no_bucket();
-    for cells in lower.iter() {
-        take_row(alloc, plan, shape, tests, cells, &mut bucket, &mut gathered)?;
+    for row in lower.iter() {
+        take_row(alloc, plan, shape, tests, row, &mut bucket, &mut gathered)?;
     }
     Ok(gathered)
 }
@@ -51,25 +51,26 @@ fn take_row<'a>(
     plan: &CalPlan,
     shape: &Shape,
     tests: &[Test],
-    cells: &'a [Datum],
+    row: ResultRow<'a>,
     bucket: &mut Bucket,
     gathered: &mut CellGroups<'a>,
 ) -> Result<(), NoMemory>
     requires number { IsNumber plan.now.number }
-    requires shown { ShowARow plan.now.at cells.now }
+    requires shown { ShowARow plan.now.at (row_cells row) }
     requires names { NamesItsTimes plan.now.unit plan.now.number bucket.old }
     requires gathered { AreGathered shape.now gathered.old }
     requires room { AreOfRows (2 ^ 64 - 2) (as_groups shape.now gathered.old.groups.items) }
     ensures names { NamesItsTimes plan.now.unit plan.now.number bucket.new }
     ensures groups { OnOk result (ordered (as_groups shape.now gathered.new.groups.items)
-        ≡ taken_in (cells_pass tests.now) (named_group plan.now shape.now) cells.now (ordered (as_groups shape.now gathered.old.groups.items))) }
+        ≡ taken_in (cells_pass tests.now) (named_group plan.now shape.now) (row_cells row.entry) (ordered (as_groups shape.now gathered.old.groups.items))) }
     ensures gathered { OnOk result (AreGathered shape.now gathered.new) }
     ensures few { (n : ℕ) → AreOfRows n (as_groups shape.now gathered.old.groups.items) → OnOk result (AreOfRows (n + 1) (as_groups shape.now gathered.new.groups.items)) }
 {
-    if !passes(cells, tests) {
+    let cells = RowCells::of(row, 0);
+    if !passes(&cells, tests) {
         return Ok(());
     }
-    *bucket = bucket_with(plan.unit, plan.number, *bucket, time_of(plan.at, cells));
+    *bucket = bucket_with(plan.unit, plan.number, *bucket, time_of(plan.at, &cells));
     take_words(alloc, shape, i128::from(bucket.start), cells, gathered)
 }
 
@@ -78,14 +79,14 @@ fn take_words<'a>(
     alloc: Global,
     shape: &Shape,
     start: i128,
-    cells: &'a [Datum],
+    cells: RowCells<'a>,
     gathered: &mut CellGroups<'a>,
 ) -> Result<(), NoMemory>
-    requires words { ShowWords cells.now }
+    requires words { ShowWords cells }
     requires gathered { AreGathered shape.now gathered.old }
     requires room { AreOfRows (2 ^ 64 - 2) (as_groups shape.now gathered.old.groups.items) }
     ensures groups { OnOk result (ordered (as_groups shape.now gathered.new.groups.items)
-        ≡ with_group (cells_at shape.now start cells.now) (ordered (as_groups shape.now gathered.old.groups.items))) }
+        ≡ with_group (cells_at shape.now start cells.entry) (ordered (as_groups shape.now gathered.old.groups.items))) }
     ensures gathered { OnOk result (AreGathered shape.now gathered.new) }
     ensures few { (n : ℕ) → AreOfRows n (as_groups shape.now gathered.old.groups.items) → OnOk result (AreOfRows (n + 1) (as_groups shape.now gathered.new.groups.items)) }
 {

@@ -1,31 +1,27 @@
 //! The times of the rows that an answer shows.
-ghost use Rattle.std.specs.Prelude.{◌≡◌, IsTrue};
+ghost use Rattle.std.specs.Prelude.{◌≡◌, IsSomeAnd, IsTrue, pos, unwrap_or};
 ghost use Rattle.ts_bucket.specs.Bucket.{is_time};
-ghost use Rattle.cal_bucket.specs.Cells.{BeginWithATime};
-ghost use Rattle.cal_bucket.specs.Rows.{ShowARow, first_number, row_shown};
+ghost use Rattle.cal_bucket.specs.Rows.{ShowARow, row_shown};
 
-use ts_num::Datum;
+use cell_groups::RowCells;
 
-/// The time that the first of these cells shows.
-fn time_shown(cells: &[Datum]) -> i64
-    requires { BeginWithATime cells.now }
-    ensures value { result ≡ first_number cells.now }
+/// The time that a cell shows.
+fn time_shown(value: Option<i128>) -> i64
+    requires { IsSomeAnd value (λ n. IsTrue (is_time n)) }
+    ensures value { result ≡ unwrap_or value (pos 0) }
     ensures time { IsTrue (is_time result) }
 {
-    match cells {
-        [Datum::Int(n), ..] => *n as i64,
-        [Datum::Null, ..] => unreachable!(),
-        [Datum::Ratio(_), ..] => unreachable!(),
-        [] => unreachable!(),
+    match value {
+        Some(n) => n as i64,
+        None => unreachable!(),
     }
 }
 
 /// The time of the row that cells show.
-pub(crate) fn time_of(at: u32, cells: &[Datum]) -> i64
+pub(crate) fn time_of(at: u32, cells: &RowCells<'_>) -> i64
     requires { ShowARow at cells.now }
     ensures value { result ≡ (row_shown at cells.now).at }
     ensures time { IsTrue (is_time result) }
 {
-    let (_before, from) = cells.split_at(at as usize);
-    time_shown(from)
+    time_shown(cells.value_at(at))
 }

@@ -13,7 +13,7 @@ use jiff::civil::date;
 use std::alloc::Global;
 use std::test::Fail;
 use ts_bucket::{MAX_TIME, MIN_TIME, Width};
-use ts_model::{Agg, Answer, Fold};
+use ts_model::{Agg, Answer, Fold, ResultRow, ResultRows};
 use ts_num::{Datum, Fun};
 use ts_schema::{Cmp, Seq, Test};
 
@@ -159,6 +159,14 @@ fn plan(alloc: Global, above: i64) -> Result<CalPlan, Fail>
     })
 }
 
+/// Whether this is a row with these cells.
+fn shows(row: Option<ResultRow<'_>>, cells: &[Datum]) -> bool {
+    match row {
+        Some(ResultRow::Cells(found)) => found == cells,
+        Some(ResultRow::Group { .. }) | None => false,
+    }
+}
+
 #[test]
 fn months_are_named_by_their_starts(rt: HostRuntime) -> Result<(), Fail> {
     let alloc = rt.alloc();
@@ -169,7 +177,7 @@ fn months_are_named_by_their_starts(rt: HostRuntime) -> Result<(), Fail> {
     put(&mut rows, 951_868_801, Some(7), Some(3))?;
     put(&mut rows, 951_868_802, None, Some(4))?;
     let lower = Answer {
-        rows,
+        rows: ResultRows::of_cells(alloc, rows),
         stale: Seq::new(alloc),
     };
     let answer = cal_answer(alloc, &plan(alloc, 949_363_200)?, &lower)?;
@@ -188,7 +196,7 @@ fn months_are_named_by_their_starts(rt: HostRuntime) -> Result<(), Fail> {
             Datum::Int(least),
             Datum::Int(most),
         ];
-        assert!(rt; found.next() == Some(&row[..]));
+        assert!(rt; shows(found.next(), &row));
     }
     assert!(rt; found.next().is_none());
     Ok(())
@@ -198,7 +206,7 @@ fn months_are_named_by_their_starts(rt: HostRuntime) -> Result<(), Fail> {
 fn no_rows_show_none(rt: HostRuntime) -> Result<(), Fail> {
     let alloc = rt.alloc();
     let lower = Answer {
-        rows: CellRows::new(alloc),
+        rows: ResultRows::none(alloc),
         stale: Seq::new(alloc),
     };
     let answer = cal_answer(alloc, &plan(alloc, 0)?, &lower)?;

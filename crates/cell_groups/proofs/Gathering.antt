@@ -74,7 +74,7 @@ module _ (shape : Shape) (b : ℤ) (cells : List Datum) (gs : List CellGroup) wh
 
   -- a row in its group
   pub ordered-row : (at : ℕ) (was now : CellGroup) → IsRowAt shape b cells gs at → was ≡ get_or gs at was
-      → now.start ≡ was.start → now.first.now ≡ was.first.now → parts_of shape.aggs now ≡ joined_parts (parts_of shape.aggs was) (as_parts shape.aggs (row_tallies shape.aggs cells))
+      → now.start ≡ was.start → now.first ≡ was.first → parts_of shape.aggs now ≡ joined_parts (parts_of shape.aggs was) (as_parts shape.aggs (row_tallies shape.aggs cells))
       → ordered (as_groups shape (set gs at now)) ≡ with_group (cells_at shape b cells) (ordered (as_groups shape gs))
   ordered-row at was now place is start first parts =
       let before : as_group shape was ≡ get_or (as_groups shape gs) at (as_group shape was) = ap (as_group shape) is ∙ sym (get_or-map (as_group shape) gs at was (as_group shape was) place.within) in
@@ -90,7 +90,7 @@ module _ (shape : Shape) (b : ℤ) (cells : List Datum) (gs : List CellGroup) wh
       ∙ ap (λ x. with_group x (ordered (as_groups shape gs))) is
 
   -- groups that are in order stay so
-  pub order-row : (at : ℕ) (was now : CellGroup) → IsRowAt shape b cells gs at → was ≡ get_or gs at was → now.start ≡ was.start → now.first.now ≡ was.first.now
+  pub order-row : (at : ℕ) (was now : CellGroup) → IsRowAt shape b cells gs at → was ≡ get_or gs at was → now.start ≡ was.start → now.first ≡ was.first
       → AreInOrder (as_groups shape gs) → AreInOrder (as_groups shape (set gs at now))
   order-row at was now place is start first up =
       let before : as_group shape was ≡ get_or (as_groups shape gs) at (as_group shape was) = ap (as_group shape) is ∙ sym (get_or-map (as_group shape) gs at was (as_group shape was) place.within) in
@@ -126,13 +126,13 @@ module _ (shape : Shape) (b : ℤ) (cells : List Datum) (gs : List CellGroup) wh
         (row_kept n (as_groups shape gs) at (as_group shape was) (row_needs shape.aggs cells) rows (place_kept at was place).within few (row_taken shape.aggs cells) (row_words shape.aggs cells words))
 
 -- the group of one row
-pub alone_is : (shape : Shape) (b : ℤ) (cells : List Datum) (g : CellGroup) → g.start ≡ b → g.first.now ≡ cells → g.tallies ≡ None → as_group shape g ≡ cells_at shape b cells
+pub alone_is : (shape : Shape) (b : ℤ) (cells : List Datum) (g : CellGroup) → g.start ≡ b → g.first ≡ cells → g.tallies ≡ None → as_group shape g ≡ cells_at shape b cells
 alone_is shape b cells g start first none =
     let made : ℤ → List (Option ℤ) → List Summary → Group = λ s ks ps. record { start = s; keys = ks; parts = ps } in
-    let parts : parts_of shape.aggs g ≡ row_needs shape.aggs g.first.now =
-    ap (λ (o : Option (List Tally)). as_parts shape.aggs (unwrap_or o (row_tallies shape.aggs g.first.now))) none ∙ as_row shape.aggs g.first.now in
-    ap (λ s. made s (keys_at shape.keys g.first.now) (parts_of shape.aggs g)) start
-    ∙ ap (made b (keys_at shape.keys g.first.now)) parts
+    let parts : parts_of shape.aggs g ≡ row_needs shape.aggs g.first =
+    ap (λ (o : Option (List Tally)). as_parts shape.aggs (unwrap_or o (row_tallies shape.aggs g.first))) none ∙ as_row shape.aggs g.first in
+    ap (λ s. made s (keys_at shape.keys g.first) (parts_of shape.aggs g)) start
+    ∙ ap (made b (keys_at shape.keys g.first)) parts
     ∙ ap (λ cs. made b (keys_at shape.keys cs) (row_needs shape.aggs cs)) first
 
 -- no groups are gathered, of no rows

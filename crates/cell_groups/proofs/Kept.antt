@@ -19,7 +19,7 @@ use Rattle.group_fold.proofs.Parts.{part_step, parts_whole}
 use Rattle.cell_groups.specs.declared.groups.CellGroup.{CellGroup}
 use Rattle.cell_groups.specs.declared.shapes.Shape.{Shape}
 use Rattle.cell_groups.specs.declared.tallies.Tally.{Tally}
-use Rattle.cell_groups.specs.Cells.{cell_at}
+use Rattle.ts_model.specs.Results.{cell_at}
 use Rattle.cell_groups.specs.Groups.{HasTallies, as_group, as_groups, group_shown, keys_at, needed_group, row_shown, rows_shown, tallies_of}
 use Rattle.cell_groups.specs.Kept.{as_part, as_parts, bound, cell_shown, cell_tally, least_part, most_part, needed, needed_parts, row_needs, row_tallies, sum_part, tallies_shown, tally_shown}
 
@@ -157,8 +157,8 @@ shown_row (a ∷ aggs) cells = ap (λ ds. cell_shown cells a ∷ ds) (shown_row 
 -- what a group adds up to has a tally for each column
 pub tallies_fit : (aggs : List Agg) (g : CellGroup) → HasTallies aggs g → length (tallies_of aggs g) ≡ length aggs
 tallies_fit aggs g h =
-    elim g.tallies as (λ o. IfSome o (λ ts. length ts ≡ length aggs) → length (unwrap_or o (row_tallies aggs g.first.now)) ≡ length aggs) [
-      | None ↦ λ k. length-row_tallies aggs g.first.now
+    elim g.tallies as (λ o. IfSome o (λ ts. length ts ≡ length aggs) → length (unwrap_or o (row_tallies aggs g.first)) ≡ length aggs) [
+      | None ↦ λ k. length-row_tallies aggs g.first
       | Some ts ↦ λ k. k
     ] h
 
@@ -213,6 +213,6 @@ needed_shown shape (g ∷ gs) =
 pub kept_shown : (shape : Shape) (gs : List CellGroup) → map (group_shown shape) gs ≡ rows_shown shape (as_groups shape gs)
 kept_shown shape [] = refl
 kept_shown shape (g ∷ gs) =
-    let row : List Datum → List Datum = λ ds. Int g.start ∷ (map shown_or_null (keys_at shape.keys g.first.now) ++ ds) in
+    let row : List Datum → List Datum = λ ds. Int g.start ∷ (map shown_or_null (keys_at shape.keys g.first) ++ ds) in
     ap (λ ds. row ds ∷ map (group_shown shape) gs) (tallies_are shape.aggs (tallies_of shape.aggs g))
     ∙ ap (λ rows. row_shown shape (as_group shape g) ∷ rows) (kept_shown shape gs)

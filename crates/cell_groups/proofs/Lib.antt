@@ -1,3 +1,4 @@
+pub mod CellLaws
 pub mod Gathering
 pub mod Kept
 pub mod Room

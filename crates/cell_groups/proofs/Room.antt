@@ -19,7 +19,8 @@ use Rattle.partial_agg.specs.Summaries.{Summary, joined, summary}
 use Rattle.group_fold.specs.Merging.{joined_parts, merged, with_group}
 use Rattle.group_fold.proofs.AnyOrder.{gathered, gathered-permuted}
 use Rattle.group_fold.proofs.Insertions.{by_order}
-use Rattle.cell_groups.specs.Cells.{cell_at, value_of}
+use Rattle.partial_agg.specs.Summaries.{value_of}
+use Rattle.ts_model.specs.Results.{cell_at}
 use Rattle.group_fold.proofs.Parts.{part_before}
 use Rattle.cell_groups.specs.declared.tallies.Tally.{Tally}
 use Rattle.cell_groups.specs.Kept.{as_part, as_parts, needed, row_needs}

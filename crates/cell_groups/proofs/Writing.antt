@@ -1,9 +1,10 @@
 -- Groups that come in order: one more behind the last, or a row more in it.
-use Rattle.std.proofs.Common.{◌≡◌, ◌∙◌, ℤ, List, [], ◌∷◌, ◌++◌, map, Option, Some, None, append-nil, refl, sym, ap, subst, arith}
+use Rattle.std.proofs.Common.{◌≡◌, ◌∙◌, ℕ, ℤ, List, [], ◌∷◌, ◌++◌, map, Option, Some, None, append-nil, refl, sym, ap, subst, arith}
 use Rattle.std.specs.Option.{option_to_list}
 use Rattle.std.specs.List.Sorted.{IsStrictlySortedBy}
 use Rattle.std.specs.declared.cmp.Ordering.TheVariants.{Equal, Less}
 use Rattle.std.proofs.lemmas.List.{map-append}
+use Rattle.cell_rows.specs.Parts.{AreParts, parts}
 use Rattle.ts_num.specs.declared.values.Datum.{Datum}
 use Rattle.partial_agg.specs.declared.groups.Group.{Group}
 use Rattle.partial_agg.specs.Groups.{AreInOrder, group_cmp}
@@ -57,6 +58,18 @@ pub all_written : (shape : Shape) (groups : List Group) (rows whole : List (List
 all_written shape groups rows whole None put w =
     put ∙ append-nil rows ∙ w.shown ∙ ap (rows_shown shape) w.all.0 ∙ ap (rows_shown shape) (sym w.all.1)
 all_written shape groups rows whole (Some g) put w = put ∙ shown_more shape w.ended g rows w.shown ∙ ap (rows_shown shape) (sym w.all)
+
+-- ---- where the rows stand
+
+-- with no place where a row ends there is none
+pub no_rows : (ends : List ℕ) (cells : List Datum) → ends ≡ [] → parts 0 ends cells ≡ []
+no_rows ends cells none = ap (λ es. parts 0 es cells) none
+
+pub no_rows_are : (ends : List ℕ) (cells : List Datum) → ends ≡ [] → cells ≡ [] → AreParts 0 ends cells
+no_rows_are ends cells none no_cell = subst (λ es. AreParts 0 es cells) (sym none) no_cell
+
+pub same_rows : (ends ends' : List ℕ) (cells cells' : List Datum) → cells ≡ cells' → ends ≡ ends' → parts 0 ends cells ≡ parts 0 ends' cells'
+same_rows ends ends' cells cells' same alike = ap (λ es. parts 0 es cells) alike ∙ ap (parts 0 ends') same
 
 module _ (shape : Shape) (b : ℤ) (cells : List Datum) (groups : List Group) (rows : List (List Datum)) where
   -- the group of a row behind the last

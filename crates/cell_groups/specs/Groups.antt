@@ -11,7 +11,7 @@ use Rattle.partial_agg.specs.Summaries.{Summary}
 use Rattle.cell_groups.specs.declared.groups.CellGroup.{CellGroup}
 use Rattle.cell_groups.specs.declared.shapes.Shape.{Shape}
 use Rattle.cell_groups.specs.declared.tallies.Tally.{Tally}
-use Rattle.cell_groups.specs.Cells.{cell_at}
+use Rattle.ts_model.specs.Results.{cell_at}
 use Rattle.cell_groups.specs.Kept.{as_parts, needed_parts, row_needs, row_tallies, tallies_shown}
 
 -- the keys of a row
@@ -30,14 +30,14 @@ needed_group aggs g = record { start = g.start; keys = g.keys; parts = needed_pa
 
 -- what the columns of a group add up to
 abbrev pub tallies_of : List Agg → CellGroup → List Tally
-tallies_of aggs g = unwrap_or g.tallies (row_tallies aggs g.first.now)
+tallies_of aggs g = unwrap_or g.tallies (row_tallies aggs g.first)
 
 abbrev pub parts_of : List Agg → CellGroup → List Summary
 parts_of aggs g = as_parts aggs (tallies_of aggs g)
 
 -- what is kept of a group
 abbrev pub as_group : Shape → CellGroup → Group
-as_group shape g = record { start = g.start; keys = keys_at shape.keys g.first.now; parts = parts_of shape.aggs g }
+as_group shape g = record { start = g.start; keys = keys_at shape.keys g.first; parts = parts_of shape.aggs g }
 
 abbrev pub as_groups : Shape → List CellGroup → List Group
 as_groups shape groups = map (as_group shape) groups
@@ -52,7 +52,7 @@ HaveTallies aggs groups = AllByRecursion (HasTallies aggs) groups
 -- the result row of a group
 abbrev pub group_shown : Shape → CellGroup → List Datum
 group_shown shape g =
-    Int g.start ∷ (map shown_or_null (keys_at shape.keys g.first.now) ++ tallies_shown shape.aggs (tallies_of shape.aggs g))
+    Int g.start ∷ (map shown_or_null (keys_at shape.keys g.first) ++ tallies_shown shape.aggs (tallies_of shape.aggs g))
 
 -- the result rows of groups, of which each aggregate shows its part
 abbrev pub row_shown : Shape → Group → List Datum

@@ -7,7 +7,7 @@ use Rattle.ts_num.specs.declared.values.Fun.TheVariants.{CountAll, Count, Sum, M
 use Rattle.ts_model.specs.declared.views.Agg.{Agg}
 use Rattle.partial_agg.specs.Summaries.{Summary, mean_shown, sum_shown, summary}
 use Rattle.cell_groups.specs.declared.tallies.Tally.{Tally}
-use Rattle.cell_groups.specs.Cells.{cell_at}
+use Rattle.ts_model.specs.Results.{cell_at}
 
 -- ---- one column
 

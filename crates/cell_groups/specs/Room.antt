@@ -6,7 +6,7 @@ use Rattle.ts_num.specs.declared.values.Datum.{Datum}
 use Rattle.ts_model.specs.Limits.{is_word}
 use Rattle.partial_agg.specs.declared.groups.Group.{Group}
 use Rattle.partial_agg.specs.Summaries.{Summary}
-use Rattle.cell_groups.specs.Cells.{value_of}
+use Rattle.partial_agg.specs.Summaries.{value_of}
 
 -- the counts of a part take 64 bits, and its sum 128
 pub record CanBeKept (p : Summary) : Type 0 where

@@ -1,5 +1,6 @@
 -- Result rows of groups that come in order, each written as its group ends.
 use Rattle.std.specs.Prelude.{◌≡◌, ⊤, ℤ, List, [], ◌∷◌, ◌++◌, Option, Some, None}
+use Rattle.cell_rows.specs.Parts.{AreParts, parts}
 use Rattle.std.specs.declared.cmp.Ordering.{Ordering}
 use Rattle.std.specs.declared.cmp.Ordering.TheVariants.{Less}
 use Rattle.ts_num.specs.declared.values.Datum.{Datum}
@@ -9,9 +10,18 @@ use Rattle.partial_agg.specs.Groups.{AreInOrder}
 use Rattle.group_fold.specs.Merging.{joined_parts}
 use Rattle.cell_groups.specs.declared.groups.CellGroup.{CellGroup}
 use Rattle.cell_groups.specs.declared.shapes.Shape.{Shape}
+use Rattle.cell_groups.specs.declared.written.WrittenGroups.{WrittenGroups}
 use Rattle.cell_groups.specs.Groups.{as_group, parts_of, rows_shown}
 use Rattle.cell_groups.specs.Kept.{as_parts, row_tallies}
 use Rattle.cell_groups.specs.Taken.{row_cmp}
+
+-- the result rows that have been written, whose cells stand one row after another
+abbrev pub rows_written : WrittenGroups → List (List Datum)
+rows_written w = parts 0 w.ends.items w.cells.items
+
+-- the cells end where the last of these rows does
+abbrev pub AreRows : WrittenGroups → Type 0
+AreRows w = AreParts 0 w.ends.items w.cells.items
 
 -- groups are those that have ended, and then the last one, if there is one
 abbrev pub EndWith : Shape → List Group → Option CellGroup → List Group → Type 0
@@ -33,7 +43,7 @@ last_cmp shape (Some g) b cells = row_cmp shape g b cells
 -- a group has taken in a row
 pub record HasTaken (aggs : List Agg) (cells : List Datum) (old new : CellGroup) : Type 0 where
   pub start : new.start ≡ old.start
-  pub first : new.first.now ≡ old.first.now
+  pub first : new.first ≡ old.first
   pub parts : parts_of aggs new ≡ joined_parts (parts_of aggs old) (as_parts aggs (row_tallies aggs cells))
 
 -- the last group has, if there is one

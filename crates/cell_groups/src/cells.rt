@@ -1,40 +1,61 @@
 //! The cells of a row, read as values.
-ghost use Rattle.std.specs.Prelude.{◌≡◌};
+ghost use Rattle.std.specs.Prelude.{◌≡◌, drop};
 ghost use Rattle.ts_schema.specs.Conditions.{compares};
-ghost use Rattle.cell_groups.specs.Cells.{cell_at, cells_pass, passes_test, value_of};
+ghost use Rattle.ts_model.specs.Results.{cell_at, row_cells};
+ghost use Rattle.cell_groups.specs.Cells.{cells_pass, passes_test};
 
-use ts_num::Datum;
+use std::marker::Model;
+use ts_model::ResultRow;
 use ts_schema::{Cmp, Test};
 
-/// The whole number that a cell shows.
-fn value(cell: &Datum) -> Option<i128>
-    ensures { result ≡ value_of cell.now }
-{
-    match cell {
-        Datum::Int(v) => Some(*v),
-        Datum::Null | Datum::Ratio(_) => None,
+/// The cells of a row of an answer, but for so many at its start. Contracts see them as a list. Where a
+/// group shows the row no cell is made: what is asked for is read off the group.
+#[derive(Drop)]
+pub struct RowCells<'a> {
+    row: ResultRow<'a>,
+    skip: u32,
+}
+
+impl<'a> Model for RowCells<'a> {
+    ghost use Rattle.std.specs.Prelude.{List, drop};
+    ghost use Rattle.ts_num.specs.declared.values.Datum.{Datum};
+    ghost use Rattle.ts_model.specs.Results.{row_cells};
+
+    ghost Value = { List Datum };
+
+    ghost view = { λ c. drop c.skip (row_cells c.row) };
+}
+
+impl<'a> RowCells<'a> {
+    /// The cells of a row but its first `skip`.
+    pub fn of(row: ResultRow<'a>, skip: u32) -> RowCells<'a>
+        ensures cells { result ≡ drop skip (row_cells row.entry) }
+    {
+        RowCells { row, skip }
+    }
+
+    /// The value of the cell at a place: the whole number that it shows, and none for NULL, for a mean and
+    /// where there is no cell.
+    #[tactic(auto, using(crate::proofs::CellLaws::cell_behind))]
+    pub fn value_at(&self, place: u32) -> Option<i128>
+        ensures value { result ≡ cell_at self.now place }
+    {
+        self.row.value_at(self.skip as usize + place as usize)
     }
 }
 
-/// The value of the cell at a place.
-pub(crate) fn value_at(cells: &[Datum], place: u32) -> Option<i128>
-    ensures { result ≡ cell_at cells.now place }
-{
-    value(cells.get(place as usize)?)
-}
-
 /// Whether the cells of a row pass every test. The columns of the tests are places among the cells.
-pub fn passes(cells: &[Datum], tests: &[Test]) -> bool
+pub fn passes(cells: &RowCells<'_>, tests: &[Test]) -> bool
     ensures passes { result ≡ cells_pass tests.now cells.now }
 {
     tests.iter().all(|test| passes_one(cells, test))
 }
 
 /// Whether the cells of a row pass one test.
-fn passes_one(cells: &[Datum], test: &Test) -> bool
+fn passes_one(cells: &RowCells<'_>, test: &Test) -> bool
     ensures { result ≡ passes_test cells.now test.now }
 {
-    holds(test.cmp, value_at(cells, test.col), test.num)
+    holds(test.cmp, cells.value_at(test.col), test.num)
 }
 
 /// Whether a comparison of a value with a number is true.

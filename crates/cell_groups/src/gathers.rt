@@ -7,6 +7,7 @@ ghost use Rattle.cell_groups.specs.Groups.{as_groups, cells_at};
 ghost use Rattle.cell_groups.specs.Room.{AreOfRows, ShowWords};
 ghost use Rattle.cell_groups.specs.Taken.{AreGathered, ComesLast, IsAfter, IsPlace, IsRowAt};
 
+use crate::cells::RowCells;
 use crate::groups::{CellGroup, group_of, take_row};
 use crate::orders::order_beside;
 use crate::prints::print_of;
@@ -15,7 +16,6 @@ use crate::stops::Stop;
 use std::alloc::Global;
 use std::cmp::Ordering;
 use std::collections::HashMap;
-use ts_num::Datum;
 use ts_schema::NoMemory;
 
 /// Where the group of a row stands.
@@ -63,18 +63,18 @@ impl<'a> CellGroups<'a> {
         alloc: Global,
         shape: &Shape,
         start: i128,
-        cells: &'a [Datum],
+        cells: RowCells<'a>,
     ) -> Result<(), Stop>
         requires { AreGathered shape.now self.old }
-        ensures groups { OnOk result (ordered (as_groups shape.now self.new.groups.items) ≡ with_group (cells_at shape.now start cells.now) (ordered (as_groups shape.now self.old.groups.items))) }
+        ensures groups { OnOk result (ordered (as_groups shape.now self.new.groups.items) ≡ with_group (cells_at shape.now start cells.entry) (ordered (as_groups shape.now self.old.groups.items))) }
         ensures gathered { OnOk result (AreGathered shape.now self.new) }
-        ensures few { (n : ℕ) → AreOfRows n (as_groups shape.now self.old.groups.items) → ShowWords cells.now → OnOk result (AreOfRows (n + 1) (as_groups shape.now self.new.groups.items)) }
-        ensures room { (n : ℕ) → AreOfRows n (as_groups shape.now self.old.groups.items) → ShowWords cells.now → n + 1 < 2 ^ 64 → IsOkUnless result (Stop.NoMemory) }
+        ensures few { (n : ℕ) → AreOfRows n (as_groups shape.now self.old.groups.items) → ShowWords cells.entry → OnOk result (AreOfRows (n + 1) (as_groups shape.now self.new.groups.items)) }
+        ensures room { (n : ℕ) → AreOfRows n (as_groups shape.now self.old.groups.items) → ShowWords cells.entry → n + 1 < 2 ^ 64 → IsOkUnless result (Stop.NoMemory) }
     {
-        match self.find(shape, start, cells) {
+        match self.find(shape, start, &cells) {
             Place::At(at) => {
                 self.last = at;
-                take_row(alloc, shape.aggs.items(), &mut self.groups[at], cells)
+                take_row(alloc, shape.aggs.items(), &mut self.groups[at], &cells)
             }
             Place::End => Ok(self.put_last(group_of(start, cells))?),
             Place::Unknown => Ok(self.put(shape, group_of(start, cells))?),
@@ -83,7 +83,7 @@ impl<'a> CellGroups<'a> {
 
     /// Where the group of a row stands. That of the row before and the one behind it are looked at first:
     /// in each bucket the same keys come up, mostly in the same order.
-    fn find(&self, shape: &Shape, start: i128, cells: &[Datum]) -> Place
+    fn find(&self, shape: &Shape, start: i128, cells: &RowCells<'_>) -> Place
         ensures { IsPlace shape.now start cells.now self.now.groups.items result }
     {
         match order_at(self.groups.as_slice(), self.last, shape, start, cells) {
@@ -94,7 +94,7 @@ impl<'a> CellGroups<'a> {
     }
 
     /// The same of a row that comes after the group of the row before.
-    fn find_after(&self, shape: &Shape, start: i128, cells: &[Datum]) -> Place
+    fn find_after(&self, shape: &Shape, start: i128, cells: &RowCells<'_>) -> Place
         requires { IsAfter shape.now start cells.now self.now.groups.items self.now.last }
         ensures { IsPlace shape.now start cells.now self.now.groups.items result }
     {
@@ -111,7 +111,7 @@ impl<'a> CellGroups<'a> {
     }
 
     /// The same where neither that group nor the one behind it is the row's.
-    fn find_away(&self, shape: &Shape, start: i128, cells: &[Datum]) -> Place
+    fn find_away(&self, shape: &Shape, start: i128, cells: &RowCells<'_>) -> Place
         ensures { IsPlace shape.now start cells.now self.now.groups.items result }
     {
         let groups = self.groups.as_slice();
@@ -149,7 +149,7 @@ impl<'a> CellGroups<'a> {
         if self.in_order {
             self.note_places(shape)?;
         }
-        let print = print_of(shape.keys.items(), group.start, group.first);
+        let print = print_of(shape.keys.items(), group.start, &group.first);
         self.places.insert(print, self.groups.len())?;
         self.put_last(group)
     }
@@ -163,7 +163,7 @@ impl<'a> CellGroups<'a> {
         self.places.reserve(self.groups.len())?;
         for at in 0..self.groups.len() {
             let group = &self.groups[at];
-            let print = print_of(shape.keys.items(), group.start, group.first);
+            let print = print_of(shape.keys.items(), group.start, &group.first);
             self.places.insert(print, at)?;
         }
         Ok(())
@@ -176,7 +176,7 @@ fn order_at(
     at: usize,
     shape: &Shape,
     start: i128,
-    cells: &[Datum],
+    cells: &RowCells<'_>,
 ) -> Option<Ordering>
     ensures same { result ≡ Some Equal → IsRowAt shape.now start cells.now groups.now at }
     ensures after { result ≡ Some Less → IsAfter shape.now start cells.now groups.now at }
@@ -191,7 +191,7 @@ fn place_at(
     at: usize,
     shape: &Shape,
     start: i128,
-    cells: &[Datum],
+    cells: &RowCells<'_>,
 ) -> Place
     ensures { IsPlace shape.now start cells.now groups.now result }
 {
@@ -202,7 +202,7 @@ fn place_at(
 }
 
 /// Whether the group of a row comes after the last of these, or there is none.
-fn is_behind(groups: &[CellGroup<'_>], shape: &Shape, start: i128, cells: &[Datum]) -> bool
+fn is_behind(groups: &[CellGroup<'_>], shape: &Shape, start: i128, cells: &RowCells<'_>) -> bool
     ensures { result ≡ true → ComesLast shape.now start cells.now groups.now }
 {
     match groups {

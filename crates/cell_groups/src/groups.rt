@@ -6,12 +6,11 @@ ghost use Rattle.cell_groups.specs.Groups.{HasTallies, parts_of, tallies_of};
 ghost use Rattle.cell_groups.specs.Kept.{as_parts, row_tallies};
 ghost use Rattle.cell_groups.specs.Room.{CanBeKept};
 
-use crate::cells::value_at;
+use crate::cells::RowCells;
 use crate::stops::Stop;
 use crate::tallies::{Tally, add_row, add_tallies, tally_of};
 use std::alloc::Global;
 use ts_model::Agg;
-use ts_num::Datum;
 use ts_schema::{NoMemory, Seq};
 
 /// A group of rows of an answer. It reads its keys off its first row, and takes no memory of its own until a
@@ -20,16 +19,16 @@ use ts_schema::{NoMemory, Seq};
 pub struct CellGroup<'a> {
     /// The start of its bucket.
     pub start: i128,
-    /// The cells of its first row.
-    pub first: &'a [Datum],
+    /// The cells of its first row that count.
+    pub first: RowCells<'a>,
     /// What its columns add up to, from the second row on.
     pub tallies: Option<Seq<Tally>>,
 }
 
 /// The group of one row, in the bucket that starts at `start`.
-pub(crate) fn group_of(start: i128, cells: &[Datum]) -> CellGroup<'_>
+pub(crate) fn group_of(start: i128, cells: RowCells<'_>) -> CellGroup<'_>
     ensures start { result.start ≡ start }
-    ensures first { result.first.now ≡ cells.now }
+    ensures first { result.first ≡ cells.entry }
     ensures tallies { result.tallies ≡ None }
 {
     CellGroup {
@@ -40,12 +39,12 @@ pub(crate) fn group_of(start: i128, cells: &[Datum]) -> CellGroup<'_>
 }
 
 /// The tallies of a row.
-fn tallies_of_row(alloc: Global, aggs: &[Agg], cells: &[Datum]) -> Result<Seq<Tally>, NoMemory>
+fn tallies_of_row(alloc: Global, aggs: &[Agg], cells: &RowCells<'_>) -> Result<Seq<Tally>, NoMemory>
     ensures { IfOk result (λ tallies. tallies ≡ row_tallies aggs.now cells.now) }
 {
     let mut tallies = Vec::with_capacity(alloc, aggs.len())?;
     for agg in aggs {
-        tallies.push(tally_of(agg.fun, value_at(cells, agg.col)))?;
+        tallies.push(tally_of(agg.fun, cells.value_at(agg.col)))?;
     }
     Ok(Seq::of(tallies))
 }
@@ -58,12 +57,12 @@ fn take_tallies(
 ) -> Result<Seq<Tally>, NoMemory>
     ensures tallies { IfOk result (λ tallies. tallies ≡ tallies_of aggs.now group.old) }
     ensures start { group.new.start ≡ group.old.start }
-    ensures first { group.new.first.now ≡ group.old.first.now }
+    ensures first { group.new.first ≡ group.old.first }
     ensures none { group.new.tallies ≡ None }
 {
     match group.tallies.take() {
         Some(tallies) => Ok(tallies),
-        None => tallies_of_row(alloc, aggs, group.first),
+        None => tallies_of_row(alloc, aggs, &group.first),
     }
 }
 
@@ -72,11 +71,11 @@ pub(crate) fn take_row(
     alloc: Global,
     aggs: &[Agg],
     group: &mut CellGroup<'_>,
-    cells: &[Datum],
+    cells: &RowCells<'_>,
 ) -> Result<(), Stop>
     requires { HasTallies aggs.now group.old }
     ensures start { group.new.start ≡ group.old.start }
-    ensures first { group.new.first.now ≡ group.old.first.now }
+    ensures first { group.new.first ≡ group.old.first }
     ensures many { HasTallies aggs.now group.new }
     ensures parts { OnOk result (parts_of aggs.now group.new ≡ joined_parts (parts_of aggs.now group.old) (as_parts aggs.now (row_tallies aggs.now cells.now))) }
     ensures room { AllByRecursion CanBeKept (joined_parts (parts_of aggs.now group.old) (as_parts aggs.now (row_tallies aggs.now cells.now))) → IsOkUnless result (Stop.NoMemory) }
@@ -84,7 +83,7 @@ pub(crate) fn take_row(
     if let Some(tallies) = &mut group.tallies {
         return add_row(aggs, tallies, cells);
     }
-    let mut tallies = tallies_of_row(alloc, aggs, group.first)?;
+    let mut tallies = tallies_of_row(alloc, aggs, &group.first)?;
     add_row(aggs, &mut tallies, cells)?;
     group.tallies = Some(tallies);
     Ok(())
@@ -100,7 +99,7 @@ pub(crate) fn take_group(
     requires mine { HasTallies aggs.now group.old }
     requires theirs { HasTallies aggs.now other.old }
     ensures start { group.new.start ≡ group.old.start }
-    ensures first { group.new.first.now ≡ group.old.first.now }
+    ensures first { group.new.first ≡ group.old.first }
     ensures many { HasTallies aggs.now group.new }
     ensures parts { OnOk result (parts_of aggs.now group.new ≡ joined_parts (parts_of aggs.now group.old) (parts_of aggs.now other.old)) }
     ensures room { AllByRecursion CanBeKept (joined_parts (parts_of aggs.now group.old) (parts_of aggs.now other.old)) → IsOkUnless result (Stop.NoMemory) }

@@ -23,7 +23,7 @@ mod stops;
 mod tallies;
 mod written;
 
-pub use cells::passes;
+pub use cells::{RowCells, passes};
 pub use gathers::CellGroups;
 pub use groups::CellGroup;
 pub use results::rows_of;

@@ -8,7 +8,7 @@ ghost use Rattle.cell_groups.specs.Groups.{HasTallies, HaveTallies, as_group, as
 ghost use Rattle.cell_groups.specs.Room.{AreOfRows};
 ghost use Rattle.cell_groups.specs.Taken.{AreGathered, IsNotAfter, place_cmp, row_cmp};
 
-use crate::cells::value_at;
+use crate::cells::RowCells;
 use crate::gathers::CellGroups;
 use crate::groups::{CellGroup, take_group};
 use crate::shapes::Shape;
@@ -16,7 +16,6 @@ use crate::stops::Stop;
 use std::alloc::Global;
 use std::cmp::Ordering;
 use std::collections::VecDeque;
-use ts_num::Datum;
 
 /// How a group compares with that of a row in the bucket that starts at `start`: by bucket, and then by keys,
 /// where NULL is greater than every number.
@@ -24,24 +23,24 @@ pub(crate) fn order_beside(
     shape: &Shape,
     group: &CellGroup<'_>,
     start: i128,
-    cells: &[Datum],
+    cells: &RowCells<'_>,
 ) -> Ordering
     ensures { result ≡ row_cmp shape.now group.now start cells.now }
 {
     match group.start.cmp(&start) {
         Ordering::Less => Ordering::Less,
-        Ordering::Equal => keys_order(shape.keys.items(), group.first, cells),
+        Ordering::Equal => keys_order(shape.keys.items(), &group.first, cells),
         Ordering::Greater => Ordering::Greater,
     }
 }
 
 /// The keys of two rows, from left to right.
-fn keys_order(keys: &[u32], a: &[Datum], b: &[Datum]) -> Ordering
+fn keys_order(keys: &[u32], a: &RowCells<'_>, b: &RowCells<'_>) -> Ordering
     ensures { result ≡ values_cmp (keys_at keys.now a.now) (keys_at keys.now b.now) }
 {
     match keys {
         [] => Ordering::Equal,
-        [key, more_keys @ ..] => match key_order(value_at(a, *key), value_at(b, *key)) {
+        [key, more_keys @ ..] => match key_order(a.value_at(*key), b.value_at(*key)) {
             Ordering::Less => Ordering::Less,
             Ordering::Equal => keys_order(more_keys, a, b),
             Ordering::Greater => Ordering::Greater,
@@ -65,7 +64,7 @@ fn key_order(a: Option<i128>, b: Option<i128>) -> Ordering
 fn order_of(shape: &Shape, a: &CellGroup<'_>, b: &CellGroup<'_>) -> Ordering
     ensures { result ≡ place_cmp shape.now a.now b.now }
 {
-    order_beside(shape, a, b.start, b.first)
+    order_beside(shape, a, b.start, &b.first)
 }
 
 /// Groups in order by bucket and keys, where those of the same bucket and keys are merged.

@@ -1,13 +1,12 @@
 //! Prints: numbers that rows of the same bucket and keys share, and others seldom do.
 
-use crate::cells::value_at;
-use ts_num::Datum;
+use crate::cells::RowCells;
 
 /// The print of a row, in the bucket that starts at `start`.
-pub(crate) fn print_of(keys: &[u32], start: i128, cells: &[Datum]) -> u64 {
+pub(crate) fn print_of(keys: &[u32], start: i128, cells: &RowCells<'_>) -> u64 {
     let mut print = mixed(0, Some(start));
     for key in keys {
-        print = mixed(print, value_at(cells, *key));
+        print = mixed(print, cells.value_at(*key));
     }
     print
 }

@@ -1,5 +1,6 @@
 //! What groups show.
 ghost use Rattle.std.specs.Prelude.{◌≡◌, ◌++◌, ◌∷◌, ◌<◌, ◌^◌, ℕ, [], map, IfOk, IsOkUnless, OnOk};
+ghost use Rattle.cell_rows.specs.Parts.{AreParts, parts};
 ghost use Rattle.ts_num.specs.Aggregates.{shown_or_null};
 ghost use Rattle.group_fold.specs.Gathering.{ordered};
 ghost use Rattle.cell_groups.specs.Groups.{as_groups, group_shown, keys_at, rows_shown, tallies_of};
@@ -7,7 +8,7 @@ ghost use Rattle.cell_groups.specs.Kept.{cell_shown, tallies_shown};
 ghost use Rattle.cell_groups.specs.Room.{AreOfRows};
 ghost use Rattle.cell_groups.specs.Taken.{AreGathered};
 
-use crate::cells::value_at;
+use crate::cells::RowCells;
 use crate::gathers::CellGroups;
 use crate::groups::CellGroup;
 use crate::orders::in_order;
@@ -43,13 +44,14 @@ fn shown_rows(
 ) -> Result<CellRows<Datum>, NoMemory>
     ensures { IfOk result (λ rows. rows ≡ map (group_shown shape.now) groups.now) }
 {
-    let mut rows = CellRows::new(alloc);
     let mut cells = Vec::new(alloc);
-    rows.reserve(groups.len(), groups.len().saturating_mul(width_of(shape)))?;
+    let mut ends = Vec::new(alloc);
+    cells.reserve(groups.len().saturating_mul(width_of(shape)))?;
+    ends.reserve(groups.len())?;
     for group in groups {
-        put_group(shape, group, &mut cells, &mut rows)?;
+        put_group(shape, group, &mut cells, &mut ends)?;
     }
-    Ok(rows)
+    Ok(CellRows::of(cells, ends))
 }
 
 /// How many cells a result row has.
@@ -59,28 +61,38 @@ pub(crate) fn width_of(shape: &Shape) -> usize {
         .saturating_add(shape.aggs.len())
 }
 
-/// Appends the result row of a group. It is made where there is room for cells, of which none stays.
+/// Appends the result row of a group where it stays: its cells, and the place where they end.
 pub(crate) fn put_group(
     shape: &Shape,
     group: &CellGroup<'_>,
     cells: &mut Vec<Datum>,
-    rows: &mut CellRows<Datum>,
+    ends: &mut Vec<usize>,
 ) -> Result<(), NoMemory>
-    ensures { OnOk result (rows.new ≡ rows.old ++ group_shown shape.now group.now ∷ []) }
+    requires parts { AreParts 0 ends.old.items cells.old.items }
+    ensures parts { OnOk result (AreParts 0 ends.new.items cells.new.items) }
+    ensures shown { OnOk result (parts 0 ends.new.items cells.new.items
+        ≡ parts 0 ends.old.items cells.old.items ++ group_shown shape.now group.now ∷ []) }
 {
-    cells.clear();
+    put_cells(shape, group, cells)?;
+    ends.push(cells.as_slice().len())?;
+    Ok(())
+}
+
+/// Appends the cells of a group's result row.
+fn put_cells(shape: &Shape, group: &CellGroup<'_>, cells: &mut Vec<Datum>) -> Result<(), NoMemory>
+    ensures { OnOk result (cells.new.items ≡ cells.old.items ++ group_shown shape.now group.now) }
+{
     cells.push(Datum::Int(group.start))?;
-    put_keys(shape.keys.items(), group.first, cells)?;
-    put_parts(shape.aggs.items(), group, cells)?;
-    rows.push(cells.as_slice())
+    put_keys(shape.keys.items(), &group.first, cells)?;
+    put_parts(shape.aggs.items(), group, cells)
 }
 
 /// Appends the keys of a row as they are shown.
-fn put_keys(keys: &[u32], row: &[Datum], cells: &mut Vec<Datum>) -> Result<(), NoMemory>
+fn put_keys(keys: &[u32], row: &RowCells<'_>, cells: &mut Vec<Datum>) -> Result<(), NoMemory>
     ensures { IfOk result (λ _. cells.new.items ≡ cells.old.items ++ map shown_or_null (keys_at keys.now row.now)) }
 {
     for key in keys {
-        cells.push(shown(value_at(row, *key)))?;
+        cells.push(shown(row.value_at(*key)))?;
     }
     Ok(())
 }
@@ -100,17 +112,17 @@ fn put_parts(aggs: &[Agg], group: &CellGroup<'_>, cells: &mut Vec<Datum>) -> Res
     ensures { OnOk result (cells.new.items ≡ cells.old.items ++ tallies_shown aggs.now (tallies_of aggs.now group.now)) }
 {
     match &group.tallies {
-        None => put_row(aggs, group.first, cells),
+        None => put_row(aggs, &group.first, cells),
         Some(tallies) => put_tallies(aggs, tallies.items(), cells),
     }
 }
 
 /// Appends what each aggregate shows of one row.
-fn put_row(aggs: &[Agg], row: &[Datum], cells: &mut Vec<Datum>) -> Result<(), NoMemory>
+fn put_row(aggs: &[Agg], row: &RowCells<'_>, cells: &mut Vec<Datum>) -> Result<(), NoMemory>
     ensures { OnOk result (cells.new.items ≡ cells.old.items ++ map (cell_shown row.now) aggs.now) }
 {
     for agg in aggs {
-        cells.push(shown_alone(agg.fun, value_at(row, agg.col)))?;
+        cells.push(shown_alone(agg.fun, row.value_at(agg.col)))?;
     }
     Ok(())
 }

@@ -8,7 +8,7 @@ ghost use Rattle.group_fold.specs.Merging.{joined_parts};
 ghost use Rattle.cell_groups.specs.Kept.{as_part, as_parts, bound, cell_tally, row_tallies, tally_shown};
 ghost use Rattle.cell_groups.specs.Room.{CanBeKept};
 
-use crate::cells::value_at;
+use crate::cells::RowCells;
 use crate::stops::Stop;
 use ts_model::Agg;
 use ts_num::{Datum, Fun, lowest};
@@ -146,7 +146,11 @@ fn greater_of(a: Option<i128>, b: Option<i128>) -> Option<i128>
 }
 
 /// Adds the cells of a row to tallies.
-pub(crate) fn add_row(aggs: &[Agg], tallies: &mut Seq<Tally>, cells: &[Datum]) -> Result<(), Stop>
+pub(crate) fn add_row(
+    aggs: &[Agg],
+    tallies: &mut Seq<Tally>,
+    cells: &RowCells<'_>,
+) -> Result<(), Stop>
     requires { length tallies.old ≡ length aggs.now }
     ensures many { length tallies.new ≡ length aggs.now }
     ensures parts { OnOk result (as_parts aggs.now tallies.new ≡ joined_parts (as_parts aggs.now tallies.old) (as_parts aggs.now (row_tallies aggs.now cells.now))) }
@@ -154,7 +158,7 @@ pub(crate) fn add_row(aggs: &[Agg], tallies: &mut Seq<Tally>, cells: &[Datum]) -
 {
     for k in 0..aggs.len() {
         let agg = &aggs[k];
-        let own = tally_of(agg.fun, value_at(cells, agg.col));
+        let own = tally_of(agg.fun, cells.value_at(agg.col));
         let Some(tally) = both(agg.fun, tallies.get(k), &own) else {
             return Err(Stop::TooGreat);
         };

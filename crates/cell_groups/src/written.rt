@@ -5,8 +5,9 @@ ghost use Rattle.std.specs.declared.cmp.Ordering.TheVariants.{Greater};
 ghost use Rattle.partial_agg.specs.declared.groups.Group.{Group};
 ghost use Rattle.group_fold.specs.Merging.{with_group};
 ghost use Rattle.cell_groups.specs.Groups.{HasTallies, cells_at, group_shown, rows_shown};
-ghost use Rattle.cell_groups.specs.Written.{AreWritten, TakesRow, last_cmp};
+ghost use Rattle.cell_groups.specs.Written.{AreRows, AreWritten, TakesRow, last_cmp, rows_written};
 
+use crate::cells::RowCells;
 use crate::groups::{CellGroup, group_of, take_row};
 use crate::orders::order_beside;
 use crate::results::{put_group, width_of};
@@ -22,12 +23,12 @@ use ts_schema::NoMemory;
 /// The result rows of groups that come in order: that of each is written as the next group begins.
 #[derive(Drop)]
 pub struct WrittenGroups<'a> {
-    /// The result rows of the groups before the last.
-    pub rows: CellRows<Datum>,
+    /// The result rows of the groups before the last: their cells, one row after another.
+    pub cells: Vec<Datum>,
+    /// Where each of these rows ends.
+    pub ends: Vec<usize>,
     /// The last group, if there is one.
     pub last: Option<CellGroup<'a>>,
-    /// Room for the cells of a result row.
-    cells: Vec<Datum>,
 }
 
 impl<'a> WrittenGroups<'a> {
@@ -37,14 +38,17 @@ impl<'a> WrittenGroups<'a> {
         shape: &Shape,
         many: usize,
     ) -> Result<WrittenGroups<'a>, NoMemory>
-        ensures none { IfOk result (λ written. AreWritten shape.now [] written.rows written.last) }
+        ensures none { IfOk result (λ written. AreWritten shape.now [] (rows_written written) written.last) }
+        ensures rows { IfOk result AreRows }
     {
-        let mut rows = CellRows::new(alloc);
-        rows.reserve(many, many.saturating_mul(width_of(shape)))?;
+        let mut cells = Vec::new(alloc);
+        let mut ends = Vec::new(alloc);
+        cells.reserve(many.saturating_mul(width_of(shape)))?;
+        ends.reserve(many)?;
         Ok(WrittenGroups {
-            rows,
+            cells,
+            ends,
             last: None,
-            cells: Vec::new(alloc),
         })
     }
 
@@ -55,22 +59,24 @@ impl<'a> WrittenGroups<'a> {
         alloc: Global,
         shape: &Shape,
         start: i128,
-        cells: &'a [Datum],
+        cells: RowCells<'a>,
     ) -> Result<bool, Stop>
-        requires { IfSome self.old.last (HasTallies shape.now.aggs) }
+        requires tallies { IfSome self.old.last (HasTallies shape.now.aggs) }
+        requires rows { AreRows self.old }
         ensures tallies { OnOk result (IfSome self.new.last (HasTallies shape.now.aggs)) }
-        ensures taken { (groups : List Group) → AreWritten shape.now groups self.old.rows self.old.last
+        ensures rows { OnOk result (AreRows self.new) }
+        ensures taken { (groups : List Group) → AreWritten shape.now groups (rows_written self.old) self.old.last
             → IfOk result (λ taken. taken ≡ true
-            → AreWritten shape.now (with_group (cells_at shape.now start cells.now) groups) self.new.rows self.new.last) }
-        ensures left { IfOk result (λ taken. taken ≡ false → last_cmp shape.now self.old.last start cells.now ≡ Greater) }
+            → AreWritten shape.now (with_group (cells_at shape.now start cells.entry) groups) (rows_written self.new) self.new.last) }
+        ensures left { IfOk result (λ taken. taken ≡ false → last_cmp shape.now self.old.last start cells.entry ≡ Greater) }
     {
-        match self.order(shape, start, cells) {
+        match self.order(shape, start, &cells) {
             Ordering::Less => {
                 self.begin(shape, group_of(start, cells))?;
                 Ok(true)
             }
             Ordering::Equal => {
-                self.add(alloc, shape.aggs.items(), cells)?;
+                self.add(alloc, shape.aggs.items(), &cells)?;
                 Ok(true)
             }
             Ordering::Greater => Ok(false),
@@ -78,7 +84,7 @@ impl<'a> WrittenGroups<'a> {
     }
 
     /// How the last group compares with that of a row. Where there is none, the row's comes behind it.
-    fn order(&self, shape: &Shape, start: i128, cells: &[Datum]) -> Ordering
+    fn order(&self, shape: &Shape, start: i128, cells: &RowCells<'_>) -> Ordering
         ensures { result ≡ last_cmp shape.now self.now.last start cells.now }
     {
         match &self.last {
@@ -88,11 +94,12 @@ impl<'a> WrittenGroups<'a> {
     }
 
     /// Takes a row into the last group.
-    fn add(&mut self, alloc: Global, aggs: &[Agg], cells: &[Datum]) -> Result<(), Stop>
+    fn add(&mut self, alloc: Global, aggs: &[Agg], cells: &RowCells<'_>) -> Result<(), Stop>
         requires { IfSome self.old.last (HasTallies aggs.now) }
         ensures taken { OnOk result (TakesRow aggs.now cells.now self.old.last self.new.last) }
         ensures tallies { IfSome self.new.last (HasTallies aggs.now) }
-        ensures rows { self.new.rows ≡ self.old.rows }
+        ensures cells { self.new.cells.items ≡ self.old.cells.items }
+        ensures ends { self.new.ends.items ≡ self.old.ends.items }
     {
         match &mut self.last {
             None => Ok(()),
@@ -102,7 +109,9 @@ impl<'a> WrittenGroups<'a> {
 
     /// Goes on to the next group: the last one has ended.
     fn begin(&mut self, shape: &Shape, next: CellGroup<'a>) -> Result<(), NoMemory>
-        ensures rows { OnOk result (self.new.rows ≡ self.old.rows ++ map (group_shown shape.now) (option_to_list self.old.last)) }
+        requires { AreRows self.old }
+        ensures are_rows { OnOk result (AreRows self.new) }
+        ensures rows { OnOk result (rows_written self.new ≡ rows_written self.old ++ map (group_shown shape.now) (option_to_list self.old.last)) }
         ensures last { OnOk result (self.new.last ≡ Some next.entry) }
     {
         self.end(shape)?;
@@ -112,22 +121,30 @@ impl<'a> WrittenGroups<'a> {
 
     /// Writes the result row of the last group.
     fn end(&mut self, shape: &Shape) -> Result<(), NoMemory>
-        ensures rows { OnOk result (self.new.rows ≡ self.old.rows ++ map (group_shown shape.now) (option_to_list self.old.last)) }
+        requires { AreRows self.old }
+        ensures are_rows { OnOk result (AreRows self.new) }
+        ensures rows { OnOk result (rows_written self.new ≡ rows_written self.old ++ map (group_shown shape.now) (option_to_list self.old.last)) }
         ensures last { self.new.last ≡ self.old.last }
     {
         match &self.last {
             None => Ok(()),
-            Some(group) => put_group(shape, group, &mut self.cells, &mut self.rows),
+            Some(group) => put_group(shape, group, &mut self.cells, &mut self.ends),
         }
     }
 
     /// The result rows of all groups.
     pub fn finish(self, shape: &Shape) -> Result<CellRows<Datum>, NoMemory>
-        ensures rows { (groups : List Group) → AreWritten shape.now groups self.entry.rows self.entry.last
+        requires { AreRows self }
+        ensures rows { (groups : List Group) → AreWritten shape.now groups (rows_written self.entry) self.entry.last
             → IfOk result (λ rows. rows ≡ rows_shown shape.now groups) }
     {
         let mut written = self;
         written.end(shape)?;
-        Ok(written.rows)
+        let WrittenGroups {
+            cells,
+            ends,
+            last: _,
+        } = written;
+        Ok(CellRows::of(cells, ends))
     }
 }

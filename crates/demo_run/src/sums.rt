@@ -7,12 +7,11 @@ ghost use Rattle.ts_model.specs.Roster.{roster, view_of};
 ghost use Rattle.ts_model.specs.Rows.{rows};
 ghost use Rattle.demo_run.specs.Sums.{all_buckets, all_rows, first_start, last_of, number_of, summary_of, total_of};
 
-use cell_rows::CellRows;
 use result_text::Summary;
 use std::alloc::Global;
 use std::thread::Threads;
 use ts_bucket::{Span, first};
-use ts_model::{Answer, Query, Shown};
+use ts_model::{Answer, Query, ResultRows, Shown};
 use ts_num::Datum;
 use ts_schema::{NoMemory, Seq, Steps};
 
@@ -39,7 +38,7 @@ pub(crate) fn summary_of<R: Threads + Sync, T: Shown>(
         events: shot.position(),
         rows,
         groups: answer.rows.len() as u64,
-        total: total_of(&answer.rows)?,
+        total: total_of(alloc, &answer.rows)?,
         stale: answer.stale,
         min: first_start(shot),
         reads,
@@ -90,7 +89,7 @@ fn last_answer<R: Threads + Sync, T: Shown>(
             shot.answer(rt, &query, &mut Steps::new(Summing))
         }
         None => Ok(Answer {
-            rows: CellRows::new(alloc),
+            rows: ResultRows::none(alloc),
             stale: Seq::new(alloc),
         }),
     }
@@ -107,12 +106,15 @@ fn first_start<T: Shown>(shot: &T) -> i64
 }
 
 /// The sum of the last column of rows. For one that takes more than 128 bits there is no room.
-fn total_of(rows: &CellRows<Datum>) -> Result<i128, NoMemory>
+fn total_of(alloc: Global, rows: &ResultRows) -> Result<i128, NoMemory>
     ensures { IfOk result (λ total. total ≡ total_of rows.now) }
 {
     let mut total = 0i128;
+    let mut cells = Vec::new(alloc);
     for row in rows.iter() {
-        match total.checked_add(last_number(row)) {
+        cells.clear();
+        row.put_cells(&mut cells)?;
+        match total.checked_add(last_number(cells.as_slice())) {
             Some(sum) => total = sum,
             None => return Err(NoMemory),
         }

@@ -25,16 +25,14 @@ use crate::parts::Parts;
 use crate::scans::{TableAt, TimedRows};
 use crate::states::State;
 use crate::views::ViewState;
-use block_list::Iter;
-use cell_rows::CellRows;
+use block_list::Slice;
 use chunk_catalog::passing_span;
 use partial_agg::Group;
 use realtime_union::{folded_rows, live_span, passing_rows, union_rows};
 use std::alloc::Global;
 use std::thread::Threads;
 use ts_bucket::Span;
-use ts_model::{Answer, Fold, Query, ViewDef};
-use ts_num::Datum;
+use ts_model::{Answer, Fold, Query, ResultRows, ViewDef};
 use ts_schema::{NoMemory, Seq, Steps, Test};
 
 /// The rows of a hypertable that pass every test, with all their columns, where the time column is at
@@ -46,7 +44,7 @@ fn passing<L>(
     at: u32,
     tests: &Seq<Test>,
     steps: &mut Steps<L>,
-) -> Result<CellRows<Datum>, NoMemory>
+) -> Result<ResultRows, NoMemory>
     requires interval { IsInterval rows.now.table.now.rows.interval }
     requires times { HaveTimes (seen_rows rows.now.position rows.now.table.now) }
     requires stored { HaveTimes (stored_rows rows.now.table.now) }
@@ -69,7 +67,7 @@ fn folded<R: Threads + Sync, L>(
     table: u32,
     fold: &Fold,
     steps: &mut Steps<L>,
-) -> Result<CellRows<Datum>, NoMemory>
+) -> Result<ResultRows, NoMemory>
     requires interval { IsInterval rows.now.table.now.rows.interval }
     requires times { HaveTimes (seen_rows rows.now.position rows.now.table.now) }
     requires stored { HaveTimes (stored_rows rows.now.table.now) }
@@ -86,15 +84,15 @@ fn united<R: Threads + Sync, L>(
     alloc: Global,
     rows: &TableAt<'_>,
     def: &ViewDef,
-    kept: Iter<'_, Group>,
+    kept: Slice<Group>,
     mark: Option<i64>,
     starts: Span,
     steps: &mut Steps<L>,
-) -> Result<CellRows<Datum>, NoMemory>
+) -> Result<ResultRows, NoMemory>
     requires times { HaveTimes (seen_rows rows.now.position rows.now.table.now) }
     requires near { ChunksAreNear rows.now.table.now.rows.interval (stored_rows rows.now.table.now) }
     ensures rows { IfOk result (λ shown. shown
-        ≡ union_rows def.now kept.entry mark starts (in_order (seen_rows rows.now.position rows.now.table.now))) }
+        ≡ union_rows def.now kept mark starts (in_order (seen_rows rows.now.position rows.now.table.now))) }
     ensures read { Ticks result (view_reads def.now mark starts rows.now.table.now) steps.old steps.new }
 {
     let live = live_span(def.fold.width, starts, mark);
@@ -170,7 +168,7 @@ fn view_answer<R: Threads + Sync, L>(
 {
     let _so_far = steps.count();
     let mark = view.mark();
-    let kept = view.groups().within(starts);
+    let kept = view.groups().slice(starts)?;
     let entries = rows.table.log().entries();
     let stale = view.log().stale_with(entries, starts, mark)?;
     let shown = united(rt, alloc, rows, def, kept, mark, starts, steps)?;

@@ -144,7 +144,8 @@ impl Parts {
             → IfOk result (AreLeft view def h (span ∷ [])) }
     {
         let seen = self.view_seen(view);
-        saved_groups(alloc, seen.state.groups().within(span))
+        let left = seen.state.groups().slice(span)?;
+        saved_groups(alloc, left.iter())
     }
 
     /// The watermark of an aggregate.

@@ -11,7 +11,6 @@
 //! - `pieces`: the groups of many lists of rows, in as many threads as serve.
 //! - `scans`: the rows of some spans, in pieces.
 //! - `spans`: the groups of the rows of some spans: one scan for each span, folded in pieces.
-//! - `results`: what a group shows.
 //! - `laws`: groups of some of the rows, and of some of the buckets.
 #![tactic(auto)]
 
@@ -24,7 +23,6 @@ mod members;
 mod near_places;
 mod orders;
 mod pieces;
-mod results;
 mod scans;
 mod spans;
 
@@ -32,5 +30,4 @@ pub use foldings::Folding;
 pub use folds::fold;
 pub use joins::join_parts;
 pub use pieces::fold_pieces;
-pub use results::{put_cells, put_values};
 pub use spans::fold_spans;

@@ -10,13 +10,12 @@ use Rattle.ts_model.specs.declared.views.Agg.{Agg}
 use Rattle.ts_model.specs.Groups.{shown_each}
 use Rattle.partial_agg.specs.declared.groups.Group.{Group}
 use Rattle.partial_agg.specs.Groups.{group_cmp}
-use Rattle.partial_agg.specs.Summaries.{Summary, summary, joined, shown, sum_shown}
+use Rattle.partial_agg.specs.Summaries.{Summary, summary, joined, shown, sum_shown, value_of}
 use Rattle.group_fold.specs.Merging.{joined_parts, merged, with_group}
 use Rattle.group_fold.proofs.Insertions.{by_order}
 use Rattle.ts_schema.specs.Rows.{values_cmp}
 use Rattle.std.specs.Ordering.{int_cmp, ordering_then}
 use Rattle.hier_agg.specs.Plans.{added_by, is_additive}
-use Rattle.hier_agg.specs.Upper.{value_of}
 
 -- ---- one part
 

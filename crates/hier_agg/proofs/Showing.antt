@@ -21,7 +21,7 @@ use Rattle.ts_model.specs.declared.views.Fold.{Fold}
 use Rattle.ts_model.specs.Scratch.{bucket_rows, fold_rows, group_rows, key_lists, keys_of, occurring_buckets, scratch_of, with_keys}
 use Rattle.ts_model.specs.Groups.{cells_of, column, group_at, groups_in, groups_of, shown_each}
 use Rattle.partial_agg.specs.declared.groups.Group.{Group}
-use Rattle.partial_agg.specs.Summaries.{Summary, summary, shown}
+use Rattle.partial_agg.specs.Summaries.{Summary, summary, shown, value_of}
 use Rattle.group_fold.specs.Grouping.{row_group, row_parts}
 use Rattle.group_fold.specs.Merging.{with_group}
 use Rattle.group_fold.proofs.Occurring.{all-map, all-flat_map, all-once}
@@ -30,7 +30,7 @@ use Rattle.group_fold.proofs.Scratches.{groups_show_scratch}
 use Rattle.hier_agg.specs.declared.plans.UpperPlan.{UpperPlan}
 use Rattle.hier_agg.specs.Plans.{IsAdditive, PlanFits, agg_at, composed, row_count}
 use Rattle.hier_agg.specs.Regroup.{coarse, keys_pass, regroup}
-use Rattle.hier_agg.specs.Upper.{adds_up, answer_test, row_of, rows_within, upper_fold, upper_rows, value_of}
+use Rattle.hier_agg.specs.Upper.{adds_up, answer_test, row_of, rows_within, upper_fold, upper_rows}
 use Rattle.hier_agg.proofs.Alike.{AlikeGroup, AlikeGroups, AlikeParts, Alike, NoneIsZero, alike_cell, alike_with_group, none_is_zero, parts_shown}
 use Rattle.hier_agg.proofs.Regrouping.{all_each, grouping_in_two_steps, regroup-more}
 

@@ -1,8 +1,7 @@
 -- The cells behind the bucket of an answer's row stand for the row of the upper fold.
-use Rattle.std.proofs.Common.{◌≡◌, ℕ, suc, ◌&&◌, List, [], ◌∷◌, map, get_or, Option, None, ℤ, ◌+ℤ◌, ◌≤ℤ◌, ◌<ℤ◌, true, sym, refl, ap, ◌∙◌, subst}
+use Rattle.std.proofs.Common.{◌≡◌, ℕ, suc, ◌&&◌, List, [], ◌∷◌, map, Option, unwrap_or, ℤ, pos, ◌+ℤ◌, ◌≤ℤ◌, ◌<ℤ◌, true, sym, refl, ap, ◌∙◌, subst}
 use Rattle.std.specs.List.{AllByRecursion}
 use Rattle.ts_num.specs.declared.values.Datum.{Datum}
-use Rattle.ts_num.specs.declared.values.Datum.TheVariants.{Null, Int, Ratio}
 use Rattle.ts_bucket.specs.Bucket.{IsWidth, WidthValue, bucket_of, is_bucket}
 use Rattle.ts_bucket.proofs.BucketLaws.{holds-from_parts, holds-one, is_bucket-bucket_of}
 use Rattle.ts_schema.specs.declared.conditions.Test.{Test}
@@ -10,11 +9,12 @@ use Rattle.ts_schema.specs.Conditions.{compares, passes_all}
 use Rattle.ts_schema.specs.Rows.{field_of}
 use Rattle.ts_model.specs.declared.views.Agg.{Agg}
 use Rattle.ts_model.specs.declared.views.Fold.{Fold}
+use Rattle.ts_model.specs.Results.{cell_at}
 use Rattle.ts_model.specs.Scratch.{keys_of}
 use Rattle.partial_agg.specs.declared.groups.Group.{Group}
 use Rattle.partial_agg.specs.Summaries.{Summary, summary}
 use Rattle.group_fold.specs.Grouping.{row_parts}
-use Rattle.cell_groups.specs.Cells.{cell_at, cells_pass, value_of as value_in}
+use Rattle.cell_groups.specs.Cells.{cells_pass}
 use Rattle.cell_groups.specs.Groups.{keys_at, rows_shown}
 use Rattle.cell_groups.specs.Kept.{needed, needed_parts, row_needs}
 use Rattle.cell_groups.specs.Taken.{with_rows}
@@ -22,22 +22,18 @@ use Rattle.cell_groups.proofs.Shown.{StandFor, gathered_show}
 use Rattle.hier_agg.specs.declared.plans.UpperPlan.{UpperPlan}
 use Rattle.hier_agg.specs.Plans.{added_by, agg_at}
 use Rattle.hier_agg.specs.Taken.{added_at, columns_of, row_group_of, row_passes, shape_of}
-use Rattle.hier_agg.specs.Upper.{adds_up, answer_test, row_of, upper_fold, upper_rows, value_of}
+use Rattle.hier_agg.specs.Upper.{adds_up, answer_test, row_of, upper_fold, upper_rows}
 
 -- ---- one cell
 
-same_value : (d : Datum) → value_in d ≡ value_of d
-same_value Null = refl
-same_value (Int v) = refl
-same_value (Ratio q) = refl
-
-same_values : (cells : List Datum) → map value_in cells ≡ map value_of cells
-same_values [] = refl
-same_values (d ∷ cells) = ap (λ v. v ∷ map value_in cells) (same_value d) ∙ ap (λ vs. value_of d ∷ vs) (same_values cells)
-
 cell_is : (cells : List Datum) (c : ℕ) → cell_at (columns_of cells) c ≡ field_of (row_of cells) (suc c)
 cell_is [] c = refl
-cell_is (b ∷ cells) c = ap (λ vs. get_or vs c None) (same_values cells)
+cell_is (b ∷ cells) c = refl
+
+-- the bucket of a row
+pub start_shown : (cells : List Datum) → unwrap_or (cell_at cells 0) (pos 0) ≡ (row_of cells).at
+start_shown [] = refl
+start_shown (b ∷ cells) = refl
 
 -- ---- one row
 

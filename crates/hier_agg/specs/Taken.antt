@@ -1,5 +1,5 @@
 -- How the code groups the rows of an answer: by the cells behind their buckets.
-use Rattle.std.specs.Prelude.{ℕ, Bool, List, [], ◌∷◌, map}
+use Rattle.std.specs.Prelude.{ℕ, Bool, List, drop, map}
 use Rattle.ts_num.specs.declared.values.Datum.{Datum}
 use Rattle.ts_bucket.specs.Bucket.{bucket_of}
 use Rattle.ts_model.specs.declared.views.Agg.{Agg}
@@ -14,8 +14,7 @@ use Rattle.hier_agg.specs.Upper.{row_of}
 
 -- the cells of a row behind its bucket
 abbrev pub columns_of : List Datum → List Datum
-columns_of [] = []
-columns_of (b ∷ cells) = cells
+columns_of cells = drop 1 cells
 
 -- what adds the column at this place up
 abbrev pub added_at : Fold → ℕ → Agg

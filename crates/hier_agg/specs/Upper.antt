@@ -1,12 +1,12 @@
 -- The upper answer: its rows are the aggregation from scratch of the rows of the lower one, and its stale ranges the
 -- wider ones.
-use Rattle.std.specs.Prelude.{ℕ, suc, ℤ, pos, List, [], ◌∷◌, map, filter, Option, Some, None, unwrap_or}
+use Rattle.std.specs.Prelude.{ℕ, suc, ℤ, pos, List, [], ◌∷◌, map, filter, unwrap_or}
 use Rattle.ts_num.specs.declared.values.Datum.{Datum}
-use Rattle.ts_num.specs.declared.values.Datum.TheVariants.{Null, Int, Ratio}
 use Rattle.ts_bucket.specs.Bucket.{holds}
 use Rattle.ts_bucket.specs.declared.widths.Width.{Width}
 use Rattle.ts_schema.specs.declared.conditions.Test.{Test}
 use Rattle.ts_schema.specs.declared.rows.Row.{Row}
+use Rattle.partial_agg.specs.Summaries.{value_of}
 use Rattle.ts_model.specs.declared.queries.Answer.{Answer}
 use Rattle.ts_model.specs.declared.views.Agg.{Agg}
 use Rattle.ts_model.specs.declared.views.Fold.{Fold}
@@ -14,12 +14,6 @@ use Rattle.ts_model.specs.Scratch.{fold_rows}
 use Rattle.hier_agg.specs.declared.plans.UpperPlan.{UpperPlan}
 use Rattle.hier_agg.specs.Plans.{added_by, agg_at}
 use Rattle.hier_agg.specs.Stale.{upper_stale}
-
--- the whole number that a cell shows, None for NULL
-abbrev pub value_of : Datum → Option ℤ
-value_of Null = None
-value_of (Int v) = Some v
-value_of (Ratio q) = None
 
 -- a row of an answer as a row of a table: its bucket is the time, its keys and aggregates are the other columns
 abbrev pub row_of : List Datum → Row

@@ -15,7 +15,7 @@ use crate::writes::write_in_order;
 use cell_groups::{Shape, Stop, rows_of};
 use cell_rows::CellRows;
 use std::alloc::Global;
-use ts_model::{Answer, Fold, ViewDef};
+use ts_model::{Answer, Fold, ResultRows, ViewDef};
 use ts_num::{Datum, Fun};
 use ts_schema::NoMemory;
 
@@ -33,7 +33,10 @@ pub fn answer_upper(
 {
     let rows = answer_rows(alloc, plan, &def.fold, &lower.rows)?;
     let stale = widen(alloc, &plan.width, &lower.stale)?;
-    Ok(Answer { rows, stale })
+    Ok(Answer {
+        rows: ResultRows::of_cells(alloc, rows),
+        stale,
+    })
 }
 
 /// The rows of the upper answer, from those of the lower one. For a sum that takes more than 128 bits
@@ -42,7 +45,7 @@ fn answer_rows(
     alloc: Global,
     plan: &UpperPlan,
     lower: &Fold,
-    rows: &CellRows<Datum>,
+    rows: &ResultRows,
 ) -> Result<CellRows<Datum>, NoMemory>
     ensures { IfOk result (λ upper. upper ≡ upper_rows lower.now plan.now rows.now) }
 {
@@ -58,7 +61,7 @@ fn rolled_rows(
     plan: &UpperPlan,
     lower: &Fold,
     shape: &Shape,
-    rows: &CellRows<Datum>,
+    rows: &ResultRows,
 ) -> Result<CellRows<Datum>, NoMemory>
     ensures { IfOk result (λ upper. upper
         ≡ rows_shown shape.now (with_rows (row_passes plan.now) (row_group_of plan.now shape.now) rows.now [])) }
@@ -71,7 +74,7 @@ fn rolled_rows(
 }
 
 /// For how many result rows there is to be room at first: where the buckets stay as wide, each row may be one.
-fn room_for(plan: &UpperPlan, lower: &Fold, rows: &CellRows<Datum>) -> usize {
+fn room_for(plan: &UpperPlan, lower: &Fold, rows: &ResultRows) -> usize {
     if plan.width.step == lower.width.step {
         return rows.len();
     }
@@ -83,7 +86,7 @@ fn gathered_rows(
     alloc: Global,
     plan: &UpperPlan,
     shape: &Shape,
-    rows: &CellRows<Datum>,
+    rows: &ResultRows,
 ) -> Result<CellRows<Datum>, NoMemory>
     ensures { IfOk result (λ upper. upper
         ≡ rows_shown shape.now (with_rows (row_passes plan.now) (row_group_of plan.now shape.now) rows.now [])) }

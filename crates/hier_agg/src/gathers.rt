@@ -3,6 +3,7 @@ ghost use Rattle.std.specs.Prelude.{◌≡◌, [], IfOk, OnOk};
 ghost use Rattle.cell_groups.specs.Groups.{as_groups};
 ghost use Rattle.cell_groups.specs.Taken.{AreGathered, taken_in, with_rows};
 ghost use Rattle.group_fold.specs.Gathering.{ordered};
+ghost use Rattle.ts_model.specs.Results.{row_cells};
 ghost use Rattle.hier_agg.specs.Taken.{row_group_of, row_passes};
 ghost use Rattle.hier_agg.specs.Wides.{HoldsItsNumbers};
 
@@ -10,9 +11,8 @@ use crate::plans::UpperPlan;
 use crate::rows::{columns_of, passes_to};
 use crate::wides::{WideBucket, no_bucket};
 use cell_groups::{CellGroups, Shape, Stop};
-use cell_rows::CellRows;
 use std::alloc::Global;
-use ts_num::Datum;
+use ts_model::{ResultRow, ResultRows};
 use ts_schema::NoMemory;
 
 /// The groups of the rows whose keys pass.
@@ -20,7 +20,7 @@ pub(crate) fn gather<'a>(
     alloc: Global,
     plan: &UpperPlan,
     shape: &Shape,
-    rows: &'a CellRows<Datum>,
+    rows: &'a ResultRows,
 ) -> Result<CellGroups<'a>, NoMemory>
     ensures groups { IfOk result (λ gathered. ordered (as_groups shape.now gathered.groups.items)
         ≡ with_rows (row_passes plan.now) (row_group_of plan.now shape.now) rows.now []) }
@@ -28,8 +28,8 @@ pub(crate) fn gather<'a>(
 {
     let mut gathered = CellGroups::new(alloc);
     let mut bucket = no_bucket();
-    for cells in rows.iter() {
-        take_row(alloc, plan, shape, cells, &mut bucket, &mut gathered)?;
+    for row in rows.iter() {
+        take_row(alloc, plan, shape, row, &mut bucket, &mut gathered)?;
     }
     Ok(gathered)
 }
@@ -40,7 +40,7 @@ fn take_row<'a>(
     alloc: Global,
     plan: &UpperPlan,
     shape: &Shape,
-    cells: &'a [Datum],
+    row: ResultRow<'a>,
     bucket: &mut WideBucket,
     gathered: &mut CellGroups<'a>,
 ) -> Result<(), NoMemory>
@@ -48,13 +48,13 @@ fn take_row<'a>(
     requires gathered { AreGathered shape.now gathered.old }
     ensures numbers { HoldsItsNumbers plan.now.width bucket.new }
     ensures groups { OnOk result (ordered (as_groups shape.now gathered.new.groups.items)
-        ≡ taken_in (row_passes plan.now) (row_group_of plan.now shape.now) cells.now (ordered (as_groups shape.now gathered.old.groups.items))) }
+        ≡ taken_in (row_passes plan.now) (row_group_of plan.now shape.now) (row_cells row.entry) (ordered (as_groups shape.now gathered.old.groups.items))) }
     ensures gathered { OnOk result (AreGathered shape.now gathered.new) }
 {
-    if !passes_to(plan, cells, bucket)? {
+    if !passes_to(plan, row, bucket)? {
         return Ok(());
     }
-    match gathered.take(alloc, shape, bucket.start, columns_of(cells)) {
+    match gathered.take(alloc, shape, bucket.start, columns_of(row)) {
         Ok(()) => Ok(()),
         Err(Stop::NoMemory) | Err(Stop::TooGreat) => Err(NoMemory),
     }

@@ -3,7 +3,8 @@ ghost use Rattle.std.specs.Prelude.{◌≡◌, List, [], true, IfOk, IfSome, OnO
 ghost use Rattle.partial_agg.specs.declared.groups.Group.{Group};
 ghost use Rattle.cell_groups.specs.Groups.{HasTallies, rows_shown};
 ghost use Rattle.cell_groups.specs.Taken.{taken_in, with_rows};
-ghost use Rattle.cell_groups.specs.Written.{AreWritten};
+ghost use Rattle.cell_groups.specs.Written.{AreRows, AreWritten, rows_written};
+ghost use Rattle.ts_model.specs.Results.{row_cells};
 ghost use Rattle.hier_agg.specs.Taken.{row_group_of, row_passes};
 ghost use Rattle.hier_agg.specs.Wides.{HoldsItsNumbers};
 
@@ -13,6 +14,7 @@ use crate::wides::{WideBucket, no_bucket};
 use cell_groups::{Shape, Stop, WrittenGroups};
 use cell_rows::CellRows;
 use std::alloc::Global;
+use ts_model::{ResultRow, ResultRows};
 use ts_num::Datum;
 use ts_schema::NoMemory;
 
@@ -23,15 +25,15 @@ pub(crate) fn write_in_order(
     plan: &UpperPlan,
     shape: &Shape,
     many: usize,
-    rows: &CellRows<Datum>,
+    rows: &ResultRows,
 ) -> Result<Option<CellRows<Datum>>, NoMemory>
     ensures { IfOk result (λ written. IfSome written (λ upper. upper
         ≡ rows_shown shape.now (with_rows (row_passes plan.now) (row_group_of plan.now shape.now) rows.now []))) }
 {
     let mut written = WrittenGroups::with_room(alloc, shape, many)?;
     let mut bucket = no_bucket();
-    for cells in rows.iter() {
-        if !write_row(alloc, plan, shape, cells, &mut bucket, &mut written)? {
+    for row in rows.iter() {
+        if !write_row(alloc, plan, shape, row, &mut bucket, &mut written)? {
             return Ok(None);
         }
     }
@@ -44,22 +46,24 @@ fn write_row<'a>(
     alloc: Global,
     plan: &UpperPlan,
     shape: &Shape,
-    cells: &'a [Datum],
+    row: ResultRow<'a>,
     bucket: &mut WideBucket,
     written: &mut WrittenGroups<'a>,
 ) -> Result<bool, NoMemory>
     requires numbers { HoldsItsNumbers plan.now.width bucket.old }
     requires tallies { IfSome written.old.last (HasTallies shape.now.aggs) }
+    requires rows { AreRows written.old }
     ensures numbers { HoldsItsNumbers plan.now.width bucket.new }
     ensures tallies { OnOk result (IfSome written.new.last (HasTallies shape.now.aggs)) }
-    ensures written { (groups : List Group) → AreWritten shape.now groups written.old.rows written.old.last
+    ensures rows { OnOk result (AreRows written.new) }
+    ensures written { (groups : List Group) → AreWritten shape.now groups (rows_written written.old) written.old.last
         → IfOk result (λ came. came ≡ true
-        → AreWritten shape.now (taken_in (row_passes plan.now) (row_group_of plan.now shape.now) cells.now groups) written.new.rows written.new.last) }
+        → AreWritten shape.now (taken_in (row_passes plan.now) (row_group_of plan.now shape.now) (row_cells row.entry) groups) (rows_written written.new) written.new.last) }
 {
-    if !passes_to(plan, cells, bucket)? {
+    if !passes_to(plan, row, bucket)? {
         return Ok(true);
     }
-    match written.take(alloc, shape, bucket.start, columns_of(cells)) {
+    match written.take(alloc, shape, bucket.start, columns_of(row)) {
         Ok(came) => Ok(came),
         Err(Stop::NoMemory) | Err(Stop::TooGreat) => Err(NoMemory),
     }

@@ -7,7 +7,7 @@ ghost use Rattle.mat_rows.specs.Replacing.{replaced, within};
 
 use crate::making::{in_blocks, keep, keep_within};
 use crate::search::places;
-use block_list::{BlockList, Builder, Iter};
+use block_list::{BlockList, Builder, Iter, Slice};
 use partial_agg::Group;
 use std::alloc::Global;
 use std::marker::Model;
@@ -106,12 +106,13 @@ impl MatRows {
         })
     }
 
-    /// The groups whose buckets start in a span, one after another.
-    pub fn within(&self, span: Span) -> Iter<'_, Group>
-        ensures groups { result ≡ within span self.now }
+    /// The groups whose buckets start in a span, in the blocks that they are in, which the result
+    /// shares. It is a count.
+    pub fn slice(&self, span: Span) -> Result<Slice<Group>, NoMemory>
+        ensures groups { IfOk result (λ groups. groups ≡ within span self.now) }
     {
         let (start, end) = places(&self.groups, span);
-        self.groups.range(start, end)
+        self.groups.slice(start, end)
     }
 }
 

@@ -1,5 +1,5 @@
 -- What a column sums up to, for every aggregate function at once.
-use Rattle.std.specs.Prelude.{◌≡◌, ℕ, zero, suc, ◌+◌, ◌-◌, ◌*◌, ◌^◌, ◌<◌, ◌≤◌, List, [], ◌∷◌, ◌++◌, length, Option, ℤ, pos, ◌+ℤ◌, ◌≤ℤ◌, neg_ℤ}
+use Rattle.std.specs.Prelude.{◌≡◌, ℕ, zero, suc, ◌+◌, ◌-◌, ◌*◌, ◌^◌, ◌<◌, ◌≤◌, List, [], ◌∷◌, ◌++◌, length, Option, None, Some, ℤ, pos, ◌+ℤ◌, ◌≤ℤ◌, neg_ℤ}
 use Rattle.ts_num.specs.Aggregates.{values as values_in, sum_of, least_of, greatest_of, lesser, greater, shown_or_null}
 use Rattle.ts_num.specs.Fractions.{lowest_terms}
 use Rattle.ts_num.specs.declared.values.Fun.{Fun}
@@ -62,6 +62,12 @@ shown Sum s = sum_shown s.values s.sum
 shown Min s = shown_or_null s.least
 shown Max s = shown_or_null s.most
 shown Avg s = mean_shown s.values s.sum
+
+-- the whole number that a cell shows, None for NULL
+abbrev pub value_of : Datum → Option ℤ
+value_of Null = None
+value_of (Int v) = Some v
+value_of (Ratio q) = None
 
 -- there are no more values than rows and fewer than 2^62 rows, and the sum is one of so many 64-bit values
 pub record IsBounded (count values : ℕ) (sum : ℤ) : Type 0 where

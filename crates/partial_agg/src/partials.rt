@@ -1,7 +1,7 @@
 //! The partial aggregate of a column, and what a function shows of it.
 ghost use Rattle.std.specs.Prelude.{◌≡◌, ◌+◌, ◌-◌, ◌^◌, ◌<◌, List, [], ◌∷◌, Option, ℤ};
 ghost use Rattle.ts_num.specs.Aggregates.{aggregate, shown_or_null};
-ghost use Rattle.partial_agg.specs.Summaries.{IsBounded, joined, mean_shown, shown, sum_shown, summary, TakesIn, TakesInAll};
+ghost use Rattle.partial_agg.specs.Summaries.{IsBounded, joined, mean_shown, shown, sum_shown, summary, TakesIn, TakesInAll, value_of};
 
 use std::marker::Model;
 use ts_num::{Datum, Fun, greater, lesser, lowest};
@@ -107,6 +107,20 @@ impl Partial {
         }
     }
 
+    /// The whole number that an aggregate function shows of the rows: none where it shows NULL or a mean.
+    pub fn number(&self, fun: Fun) -> Option<i128>
+        ensures number { result ≡ value_of (shown fun self.now) }
+    {
+        match fun {
+            Fun::CountAll => Some(i128::from(self.count)),
+            Fun::Count => Some(i128::from(self.values)),
+            Fun::Sum => sum_number(self.values, self.sum),
+            Fun::Min => number(self.least),
+            Fun::Max => number(self.most),
+            Fun::Avg => mean_number(self.values, self.sum),
+        }
+    }
+
     /// States what holds of every partial aggregate. It does nothing.
     pub fn bounds(&self)
         ensures { IsBounded self.now.count self.now.values self.now.sum }
@@ -142,5 +156,35 @@ fn mean(values: u64, sum: i128) -> Datum
     match values {
         0 => Datum::Null,
         _ => Datum::Ratio(lowest(sum, values)),
+    }
+}
+
+/// A number, where it isn't missing.
+fn number(v: Option<i64>) -> Option<i128>
+    ensures { result ≡ value_of (shown_or_null v) }
+{
+    match v {
+        None => None,
+        Some(v) => Some(i128::from(v)),
+    }
+}
+
+/// The sum of so many values as a number.
+fn sum_number(values: u64, sum: i128) -> Option<i128>
+    ensures { result ≡ value_of (sum_shown values sum) }
+{
+    match values {
+        0 => None,
+        _ => Some(sum),
+    }
+}
+
+/// The mean of so many values as a whole number: none, since it is shown as a ratio.
+fn mean_number(values: u64, sum: i128) -> Option<i128>
+    ensures { result ≡ value_of (mean_shown values sum) }
+{
+    match values {
+        0 => None,
+        _ => None,
     }
 }

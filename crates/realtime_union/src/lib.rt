@@ -4,7 +4,6 @@
 pub mod laws;
 mod live;
 mod passing;
-mod shown;
 mod tables;
 mod unions;
 

@@ -10,9 +10,8 @@ ghost use Rattle.realtime_union.specs.Whole.{all_reads, passing};
 
 use crate::tables::whole_time;
 use cell_rows::CellRows;
-use group_fold::put_values;
 use std::alloc::Global;
-use ts_model::RowsAt;
+use ts_model::{ResultRows, RowsAt, put_values};
 use ts_num::Datum;
 use ts_schema::{NoMemory, Row, Seq, Steps, Test, passes, row_order};
 
@@ -26,7 +25,7 @@ pub fn passing_rows<W: RowsAt, L>(
     at: u32,
     tests: &Seq<Test>,
     steps: &mut Steps<L>,
-) -> Result<CellRows<Datum>, NoMemory>
+) -> Result<ResultRows, NoMemory>
     requires times { HaveTimes (W.visible rows.now table) }
     ensures rows { IfOk result (λ shown. shown ≡ passing at tests.now (W.visible rows.now table)) }
     ensures read { Ticks result (all_reads (W.interval rows.now table) (W.stored rows.now table)) steps.old steps.new }
@@ -34,7 +33,8 @@ pub fn passing_rows<W: RowsAt, L>(
     let _so_far = steps.count();
     let found = all_rows(rows, table, steps)?;
     let sorted = passing_in_order(found, tests)?;
-    columns_of_each(alloc, at, sorted.as_slice())
+    let cells = columns_of_each(alloc, at, sorted.as_slice())?;
+    Ok(ResultRows::of_cells(alloc, cells))
 }
 
 /// All rows of a hypertable.

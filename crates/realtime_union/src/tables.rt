@@ -8,15 +8,13 @@ ghost use Rattle.group_fold.specs.Spans.{HaveTimes};
 ghost use Rattle.realtime_union.specs.Live.{all_times};
 ghost use Rattle.realtime_union.specs.Whole.{all_reads};
 
-use crate::shown::{make_room, show};
-use cell_rows::CellRows;
+use block_list::Slice;
 use group_fold::fold_spans;
 use partial_agg::Group;
 use std::alloc::Global;
 use std::thread::Threads;
 use ts_bucket::{MAX_TIME, MIN_TIME, Span};
-use ts_model::{Fold, RowsAt};
-use ts_num::Datum;
+use ts_model::{Fold, ResultRows, RowsAt};
 use ts_schema::{NoMemory, Seq, Steps};
 
 /// The result rows of a grouping over all rows of a hypertable, by one scan of all times. It counts one
@@ -28,18 +26,15 @@ pub fn folded_rows<R: Threads + Sync, W: RowsAt, L>(
     table: u32,
     plan: &Fold,
     steps: &mut Steps<L>,
-) -> Result<CellRows<Datum>, NoMemory>
+) -> Result<ResultRows, NoMemory>
     requires times { HaveTimes (W.visible rows.now table) }
     ensures rows { IfOk result (λ shown. shown ≡ fold_rows plan.now (in_order (W.visible rows.now table))) }
     ensures read { Ticks result (all_reads (W.interval rows.now table) (W.stored rows.now table)) steps.old steps.new }
 {
     let _so_far = steps.count();
     let groups = all_groups(rt, alloc, rows, table, plan, steps)?;
-    let mut cells = Vec::new(alloc);
-    let mut ends = Vec::new(alloc);
-    make_room(plan, groups.len(), &mut cells, &mut ends)?;
-    show(plan, groups.items(), &mut cells, &mut ends)?;
-    Ok(CellRows::of(cells, ends))
+    let aggs = plan.aggs.copy()?;
+    Ok(ResultRows::of_groups(alloc, aggs, Slice::none(alloc), groups))
 }
 
 /// The groups of all rows.

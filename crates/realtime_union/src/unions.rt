@@ -7,49 +7,41 @@ ghost use Rattle.ts_model.specs.Rows.{in_order};
 ghost use Rattle.group_fold.specs.Spans.{HaveTimes};
 ghost use Rattle.realtime_union.specs.Live.{IsLiveSpan, live_groups, live_reads, union_rows};
 
-use crate::shown::{make_room, show, show_each};
-use block_list::Iter;
-use cell_rows::CellRows;
+use block_list::Slice;
 use group_fold::fold_spans;
 use partial_agg::Group;
 use std::alloc::Global;
 use std::thread::Threads;
 use ts_bucket::Span;
-use ts_model::{RowsAt, ViewDef};
-use ts_num::Datum;
+use ts_model::{ResultRows, RowsAt, ViewDef};
 use ts_schema::{NoMemory, Seq, Steps};
 
 /// The result rows of an aggregate for the buckets asked for: those of its materialised groups, which
 /// lie below its mark, and then, where it doesn't show materialised rows only, those of the rows of
 /// the live buckets, whose span `live_span` gives, by one scan. It counts one step for each stored row in the
-/// chunks that meet a bucket of that scan.
+/// chunks that meet a bucket of that scan. No cell is made: the materialised groups stay where they are.
 pub fn union_rows<R: Threads + Sync, W: RowsAt, L>(
     rt: &R,
     alloc: Global,
     rows: &W,
     def: &ViewDef,
-    kept: Iter<'_, Group>,
+    kept: Slice<Group>,
     live: Span,
     steps: &mut Steps<L>,
-) -> Result<CellRows<Datum>, NoMemory>
+) -> Result<ResultRows, NoMemory>
     requires whole { IsWholeSpan def.now.fold.width live }
     requires times { HaveTimes (W.visible rows.now def.now.table) }
     ensures rows { IfOk result (λ shown. (mark : Option ℤ) (starts : SpanValue)
         → IsLiveSpan def.now.fold.width mark starts live
-        → shown ≡ union_rows def.now kept.entry mark starts (in_order (W.visible rows.now def.now.table))) }
+        → shown ≡ union_rows def.now kept mark starts (in_order (W.visible rows.now def.now.table))) }
     ensures read { Ticks result
         (live_reads def.now (W.interval rows.now def.now.table) (W.stored rows.now def.now.table) live)
         steps.old steps.new }
 {
     let _so_far = steps.count();
     let live = live_of(rt, alloc, rows, def, live, steps)?;
-    let mut cells = Vec::new(alloc);
-    let mut ends = Vec::new(alloc);
-    let count = kept.len().saturating_add(live.len());
-    make_room(&def.fold, count, &mut cells, &mut ends)?;
-    show_each(&def.fold, kept, &mut cells, &mut ends)?;
-    show(&def.fold, live.items(), &mut cells, &mut ends)?;
-    Ok(CellRows::of(cells, ends))
+    let aggs = def.fold.aggs.copy()?;
+    Ok(ResultRows::of_groups(alloc, aggs, kept, live))
 }
 
 /// The groups of the live buckets, or none where materialised rows only are shown.

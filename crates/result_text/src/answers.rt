@@ -1,12 +1,16 @@
 //! The texts of answers.
-ghost use Rattle.std.specs.Prelude.{◌≡◌, ◌++◌, codes, OnErr, OnOk};
+ghost use Rattle.std.specs.Prelude.{◌≡◌, ◌++◌, codes, map, OnErr, OnOk};
+ghost use Rattle.ts_num.specs.Aggregates.{shown_or_null};
+ghost use Rattle.ts_num.specs.Texts.{datum_text};
+ghost use Rattle.ts_model.specs.Groups.{cells_by, shown_each};
+ghost use Rattle.ts_model.specs.Results.{row_cells};
 ghost use Rattle.result_text.specs.Answers.{answer_counts, answer_head, answer_lines, answer_place, answer_text, cells_text, more_cells, queue_text, queued_answer_text, rows_text, stale_text};
 
 use crate::pieces::Text;
 use crate::spans::put_span;
-use cell_rows::CellRows;
+use partial_agg::{Group, Partial};
 use ts_bucket::Span;
-use ts_model::Answer;
+use ts_model::{Agg, Answer, ResultRow, ResultRows};
 use ts_num::Datum;
 use ts_schema::NoMemory;
 
@@ -114,7 +118,7 @@ fn put_queue(text: &mut Text, queue: Option<u64>) -> Result<(), NoMemory>
 }
 
 /// Appends a line for each row.
-fn put_rows(text: &mut Text, rows: &CellRows<Datum>) -> Result<(), NoMemory>
+fn put_rows(text: &mut Text, rows: &ResultRows) -> Result<(), NoMemory>
     ensures written { OnOk result (text.new.after ≡ text.old.after ++ rows_text rows.now) }
     ensures kept { text.new.before ≡ text.old.before }
 {
@@ -125,20 +129,31 @@ fn put_rows(text: &mut Text, rows: &CellRows<Datum>) -> Result<(), NoMemory>
 }
 
 /// Appends a row as a line.
-fn put_row(text: &mut Text, row: &[Datum]) -> Result<(), NoMemory>
-    ensures written { OnOk result (text.new.after ≡ text.old.after ++ (cells_text row.now ++ codes "\n")) }
+fn put_row(text: &mut Text, row: ResultRow<'_>) -> Result<(), NoMemory>
+    ensures written { OnOk result (text.new.after ≡ text.old.after ++ (cells_text (row_cells row.entry) ++ codes "\n")) }
     ensures kept { text.new.before ≡ text.old.before }
 {
-    put_cells(text, row)?;
+    put_row_cells(text, row)?;
     text.bytes(b"\n")
 }
 
 /// Appends the cells of a row.
-fn put_cells(text: &mut Text, row: &[Datum]) -> Result<(), NoMemory>
-    ensures written { OnOk result (text.new.after ≡ text.old.after ++ cells_text row.now) }
+fn put_row_cells(text: &mut Text, row: ResultRow<'_>) -> Result<(), NoMemory>
+    ensures written { OnOk result (text.new.after ≡ text.old.after ++ cells_text (row_cells row.entry)) }
     ensures kept { text.new.before ≡ text.old.before }
 {
     match row {
+        ResultRow::Cells(cells) => put_cells(text, cells),
+        ResultRow::Group { aggs, group } => put_group(text, aggs, group),
+    }
+}
+
+/// Appends cells.
+fn put_cells(text: &mut Text, cells: &[Datum]) -> Result<(), NoMemory>
+    ensures written { OnOk result (text.new.after ≡ text.old.after ++ cells_text cells.now) }
+    ensures kept { text.new.before ≡ text.old.before }
+{
+    match cells {
         [] => Ok(()),
         [first, more @ ..] => {
             text.datum(first)?;
@@ -155,6 +170,59 @@ fn put_more(text: &mut Text, more: &[Datum]) -> Result<(), NoMemory>
     for datum in more {
         text.bytes(b"|")?;
         text.datum(datum)?;
+    }
+    Ok(())
+}
+
+/// Appends the cells of a group, of which none is made.
+#[tactic(auto, using(crate::proofs::Appending::cells_in_two))]
+fn put_group(text: &mut Text, aggs: &[Agg], group: &Group) -> Result<(), NoMemory>
+    ensures written { OnOk result (text.new.after ≡ text.old.after ++ cells_text (cells_by aggs.now group.now)) }
+    ensures kept { text.new.before ≡ text.old.before }
+{
+    text.signed(i128::from(group.start))?;
+    put_keys(text, group.keys.items())?;
+    put_parts(text, aggs, group.parts.items())
+}
+
+/// Appends the keys of a group.
+fn put_keys(text: &mut Text, keys: &[Option<i64>]) -> Result<(), NoMemory>
+    ensures written { OnOk result (text.new.after ≡ text.old.after ++ more_cells (map shown_or_null keys.now)) }
+    ensures kept { text.new.before ≡ text.old.before }
+{
+    for key in keys {
+        text.bytes(b"|")?;
+        put_key(text, *key)?;
+    }
+    Ok(())
+}
+
+/// Appends a number, or NULL where it is missing.
+fn put_key(text: &mut Text, key: Option<i64>) -> Result<(), NoMemory>
+    ensures written { OnOk result (text.new.after ≡ text.old.after ++ datum_text (shown_or_null key)) }
+    ensures kept { text.new.before ≡ text.old.before }
+{
+    match key {
+        Some(key) => text.signed(i128::from(key)),
+        None => text.datum(&Datum::Null),
+    }
+}
+
+/// Appends what each aggregate of a group shows of its part.
+fn put_parts(text: &mut Text, aggs: &[Agg], parts: &[Partial]) -> Result<(), NoMemory>
+    ensures written { OnOk result (text.new.after ≡ text.old.after ++ more_cells (shown_each aggs.now parts.now)) }
+    ensures kept { text.new.before ≡ text.old.before }
+{
+    let mut aggs_left = aggs;
+    let mut parts_left = parts;
+    while let [agg, more_aggs @ ..] = aggs_left {
+        let [part, more_parts @ ..] = parts_left else {
+            return Ok(());
+        };
+        text.bytes(b"|")?;
+        text.datum(&part.finish(agg.fun))?;
+        aggs_left = more_aggs;
+        parts_left = more_parts;
     }
     Ok(())
 }

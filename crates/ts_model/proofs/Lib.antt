@@ -26,3 +26,4 @@ pub mod WaitingLaws
 pub mod FinishLaws
 pub mod ClipLaws
 pub mod FieldLaws
+pub mod ResultLaws

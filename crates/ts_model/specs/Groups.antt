@@ -51,9 +51,13 @@ shown_each [] parts = []
 shown_each (agg ∷ aggs) [] = []
 shown_each (agg ∷ aggs) (part ∷ parts) = shown agg.fun part ∷ shown_each aggs parts
 
--- the result row of a group: the bucket, the keys, and each aggregate
+-- the result row of a group: the bucket, the keys, and each of these aggregates
+abbrev pub cells_by : List Agg → Group → List Datum
+cells_by aggs group = Int group.start ∷ (map shown_or_null group.keys ++ shown_each aggs group.parts)
+
+-- the same of the aggregates of a fold
 abbrev pub cells_of : Fold → Group → List Datum
-cells_of fold group = Int group.start ∷ (map shown_or_null group.keys ++ shown_each fold.aggs group.parts)
+cells_of fold group = cells_by fold.aggs group
 
 -- ---- what rows have to have
 

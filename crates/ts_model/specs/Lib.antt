@@ -6,6 +6,7 @@ pub mod Effect
 pub mod Scratch
 pub mod Groups
 pub mod Refreshes
+pub mod Results
 pub mod Answers
 pub mod Windows
 pub mod Pending

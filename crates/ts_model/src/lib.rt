@@ -4,6 +4,7 @@
 #![tactic(auto)]
 
 mod backends;
+mod cells;
 pub mod codes;
 mod events;
 mod gates;
@@ -13,6 +14,7 @@ pub mod limits;
 mod outcomes;
 mod queries;
 mod refreshes;
+mod results;
 mod rosters;
 mod scans;
 mod snapshots;
@@ -20,12 +22,14 @@ mod tables;
 mod views;
 
 pub use backends::Backend;
+pub use cells::put_values;
 pub use events::{Event, Op};
 pub use gates::{Gate, NoGate};
 pub use images::{Finished, Image, SavedGroup, SavedLast, SavedView, Sums};
 pub use outcomes::{Committed, CutDone, Outcome, Refusal};
 pub use queries::{Answer, Query};
 pub use refreshes::{Pending, Waiting, Window};
+pub use results::{ResultIter, ResultRow, ResultRows};
 pub use rosters::Roster;
 pub use scans::RowsAt;
 pub use snapshots::Shown;

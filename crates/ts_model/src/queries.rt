@@ -1,10 +1,9 @@
 //! Queries and answers.
 ghost use Rattle.std.specs.Prelude.{◌≡◌, IfOk};
 
+use crate::results::ResultRows;
 use crate::views::Fold;
-use cell_rows::CellRows;
 use ts_bucket::Span;
-use ts_num::Datum;
 use ts_schema::{NoMemory, Seq, Test};
 
 /// A question about a history.
@@ -22,7 +21,7 @@ pub enum Query {
 #[derive(Drop, Debug)]
 pub struct Answer {
     /// Its rows, in order.
-    pub rows: CellRows<Datum>,
+    pub rows: ResultRows,
     /// The stale buckets among those asked for, as ranges.
     pub stale: Seq<Span>,
 }

@@ -15,7 +15,7 @@ returns-in-Ok c =
     let own = shape_of plan.at plan.fold in
     let tests : c.as_slice.result.now ≡ map (test_among plan.at) plan.fold.tests =
     c.as_slice.ensures.value ∙ c.in_ok-tests.ensures ∙ ap (map (test_among plan.at)) c.items.ensures.items in
-    c.in-Ok.ensures.rows ∙ ap (rows_shown shape) c.in_ok-gathered.ensures.groups
+    c.of_cells.ensures.rows ∙ c.in-Ok.ensures.rows ∙ ap (rows_shown shape) c.in_ok-gathered.ensures.groups
     ∙ ap (λ s. rows_shown s (with_rows (cells_pass c.as_slice.result.now) (named_group plan s) lower [])) c.in_ok-shape.ensures
     ∙ ap (λ ts. rows_shown own (with_rows (cells_pass ts) (named_group plan own) lower [])) tests
     ∙ gathered_by_name plan lower c.requires.shown

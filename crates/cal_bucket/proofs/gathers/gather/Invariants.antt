@@ -11,12 +11,12 @@ use Rattle.cal_bucket.specs.Shapes.{named_group}
 use Rattle.cal_bucket.proofs.gathers.gather.Given as goal
 
 -- what was taken in and what is left make the whole
-abbrev pub invariant-loop-cells : goal.invariant-loop-cells
-invariant-loop-cells l = record {
-  left : AllByRecursion (ShowARow l.fn.plan.at) l.cells-iterator;
+abbrev pub invariant-loop-row : goal.invariant-loop-row
+invariant-loop-row l = record {
+  left : AllByRecursion (ShowARow l.fn.plan.at) l.row-iterator;
   names : NamesItsTimes l.fn.plan.unit l.fn.plan.number l.bucket;
-  taken : with_rows (cells_pass l.tests) (named_group l.fn.plan l.shape) l.cells-iterator (ordered (as_groups l.shape l.gathered.groups.items)) ≡ with_rows (cells_pass l.tests) (named_group l.fn.plan l.shape) l.fn.lower [];
+  taken : with_rows (cells_pass l.tests) (named_group l.fn.plan l.shape) l.row-iterator (ordered (as_groups l.shape l.gathered.groups.items)) ≡ with_rows (cells_pass l.tests) (named_group l.fn.plan l.shape) l.fn.lower [];
   gathered : AreGathered l.shape l.gathered;
-  to_come : length l.cells-iterator ≤ length l.fn.lower;
-  few : AreOfRows (length l.fn.lower - length l.cells-iterator) (as_groups l.shape l.gathered.groups.items);
+  to_come : length l.row-iterator ≤ length l.fn.lower;
+  few : AreOfRows (length l.fn.lower - length l.row-iterator) (as_groups l.shape l.gathered.groups.items);
 }

@@ -8,7 +8,7 @@ use Rattle.cell_groups.proofs.results.put_parts.Goals as goal
 pub returns-in-None : goal.returns-in-None
 returns-in-None c =
     let aggs = c.args.aggs.now in
-    let row = c.args.group.now.first.now in
+    let row = c.args.group.now.first in
     let before = c.args.cells.now.items in
     on_ok_weaker c.put_row.result
     (λ is. is ∙ ap (λ ds. before ++ ds) (shown_row aggs row)

@@ -14,3 +14,9 @@ returns-in_err-shown-clause-read g c =
     (λ _. c.united.new.steps ≡ raised_by (view_reads def c.args.view.now.mark c.args.starts table) c.args.steps.now)
     (λ _. RaisedUpTo (view_reads def c.args.view.now.mark c.args.starts table) c.args.steps.now c.united.new.steps)
     c.from_residual-in_err-shown.ensures.0 (λ _. read)
+
+pub returns-clause-read : goal.returns-clause-read
+returns-clause-read g c =
+    let def = c.args.def.now in
+    let table = c.args.rows.now.table.now in
+    subst (λ (m : Option ℤ). c.united.new.steps ≡ raised_by (view_reads def m c.args.starts table) c.args.steps.now) c.mark-mark.ensures.mark c.in_ok-shown.ensures.read

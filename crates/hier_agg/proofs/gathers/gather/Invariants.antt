@@ -7,9 +7,9 @@ use Rattle.hier_agg.specs.Wides.{HoldsItsNumbers}
 use Rattle.hier_agg.proofs.gathers.gather.Given as goal
 
 -- what was taken in and what is left make the whole
-abbrev pub invariant-loop-cells : goal.invariant-loop-cells
-invariant-loop-cells l = record {
+abbrev pub invariant-loop-row : goal.invariant-loop-row
+invariant-loop-row l = record {
   numbers : HoldsItsNumbers l.plan.width l.bucket;
-  taken : with_rows (row_passes l.plan) (row_group_of l.plan l.shape) l.cells-iterator (ordered (as_groups l.shape l.gathered.groups.items)) ≡ with_rows (row_passes l.plan) (row_group_of l.plan l.shape) l.rows [];
+  taken : with_rows (row_passes l.plan) (row_group_of l.plan l.shape) l.row-iterator (ordered (as_groups l.shape l.gathered.groups.items)) ≡ with_rows (row_passes l.plan) (row_group_of l.plan l.shape) l.rows [];
   gathered : AreGathered l.shape l.gathered;
 }

@@ -1,6 +1,6 @@
 use Rattle.std.proofs.Common.{◌≡◌, ◌++◌, length}
 use Rattle.ts_model.specs.Groups.{shown_each}
-use Rattle.group_fold.proofs.results.put_parts.Given as goal
+use Rattle.ts_model.proofs.cells.put_parts.Given as goal
 
 abbrev pub invariant-loop-aggs_left : goal.invariant-loop-aggs_left
 invariant-loop-aggs_left l = l.cells.items ++ shown_each l.aggs_left l.parts_left ≡ l.initial.cells.items ++ shown_each l.aggs l.parts

@@ -1,0 +1,103 @@
+//! What a group shows: its result row, made or read cell by cell.
+ghost use Rattle.std.specs.Prelude.{◌≡◌, ◌++◌, map, IfOk};
+ghost use Rattle.ts_num.specs.Aggregates.{shown_or_null};
+ghost use Rattle.partial_agg.specs.Summaries.{value_of};
+ghost use Rattle.ts_model.specs.Groups.{cells_by, shown_each};
+ghost use Rattle.ts_model.specs.Results.{cell_at};
+
+use crate::views::Agg;
+use partial_agg::{Group, Partial};
+use ts_num::Datum;
+use ts_schema::NoMemory;
+
+/// Appends the cells of a group's result row: the start of its bucket, its keys, and what each aggregate
+/// shows.
+pub(crate) fn put_group(aggs: &[Agg], group: &Group, cells: &mut Vec<Datum>) -> Result<(), NoMemory>
+    ensures appended { IfOk result (λ _. cells.new.items ≡ cells.old.items ++ cells_by aggs.now group.now) }
+{
+    cells.push(Datum::Int(i128::from(group.start)))?;
+    put_values(group.keys.items(), cells)?;
+    put_parts(aggs, group.parts.items(), cells)
+}
+
+/// Appends values as they are shown: numbers, or NULL.
+pub fn put_values(values: &[Option<i64>], cells: &mut Vec<Datum>) -> Result<(), NoMemory>
+    ensures appended { IfOk result (λ _. cells.new.items ≡ cells.old.items ++ map shown_or_null values.now) }
+{
+    for value in values {
+        cells.push(shown(*value))?;
+    }
+    Ok(())
+}
+
+/// A number, or NULL.
+fn shown(value: Option<i64>) -> Datum
+    ensures { result ≡ shown_or_null value }
+{
+    match value {
+        None => Datum::Null,
+        Some(value) => Datum::Int(i128::from(value)),
+    }
+}
+
+/// Appends what each aggregate shows of its part.
+fn put_parts(aggs: &[Agg], parts: &[Partial], cells: &mut Vec<Datum>) -> Result<(), NoMemory>
+    ensures { IfOk result (λ _. cells.new.items ≡ cells.old.items ++ shown_each aggs.now parts.now) }
+{
+    let mut aggs_left = aggs;
+    let mut parts_left = parts;
+    while let [agg, more_aggs @ ..] = aggs_left {
+        let [part, more_parts @ ..] = parts_left else {
+            return Ok(());
+        };
+        cells.push(part.finish(agg.fun))?;
+        aggs_left = more_aggs;
+        parts_left = more_parts;
+    }
+    Ok(())
+}
+
+/// The value of the cell at a place of a row whose cells are made.
+pub(crate) fn cell_value(cells: &[Datum], place: usize) -> Option<i128>
+    ensures { result ≡ cell_at cells.now place }
+{
+    match cells.get(place)? {
+        Datum::Int(v) => Some(*v),
+        Datum::Null | Datum::Ratio(_) => None,
+    }
+}
+
+/// The value of the cell at a place of a group's result row. The row isn't made.
+#[tactic(auto, using(crate::proofs::ResultLaws::value_of_key, crate::proofs::ResultLaws::value_behind))]
+pub(crate) fn group_value(aggs: &[Agg], group: &Group, place: usize) -> Option<i128>
+    ensures { result ≡ cell_at (cells_by aggs.now group.now) place }
+{
+    let keys = group.keys.items();
+    if place == 0 {
+        return Some(i128::from(group.start));
+    }
+    if place <= keys.len() {
+        return number(keys[place - 1]);
+    }
+    part_value(aggs, group.parts.items(), place - 1 - keys.len())
+}
+
+/// A number, where it isn't missing.
+fn number(value: Option<i64>) -> Option<i128>
+    ensures { result ≡ value_of (shown_or_null value) }
+{
+    match value {
+        None => None,
+        Some(value) => Some(i128::from(value)),
+    }
+}
+
+/// The whole number that the aggregate at a place shows of its part.
+#[tactic(auto, using(crate::proofs::ResultLaws::value_of_part, crate::proofs::ResultLaws::no_agg, crate::proofs::ResultLaws::no_part))]
+fn part_value(aggs: &[Agg], parts: &[Partial], at: usize) -> Option<i128>
+    ensures { result ≡ cell_at (shown_each aggs.now parts.now) at }
+{
+    let agg = aggs.get(at)?;
+    let part = parts.get(at)?;
+    part.number(agg.fun)
+}

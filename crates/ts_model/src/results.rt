@@ -1,0 +1,188 @@
+//! The rows of an answer.
+ghost use Rattle.std.specs.Prelude.{◌≡◌, ◌==◌, [], ◌++◌, length, map, IfOk};
+ghost use Rattle.std.specs.Iterator.{YieldsFirstBy, item_count};
+ghost use Rattle.ts_model.specs.Groups.{cells_by};
+ghost use Rattle.ts_model.specs.Results.{cell_at, row_cells};
+
+use crate::cells::{cell_value, group_value, put_group};
+use crate::views::Agg;
+use block_list::Slice;
+use cell_rows::CellRows;
+use partial_agg::Group;
+use std::alloc::Global;
+use std::marker::Model;
+use ts_num::Datum;
+use ts_schema::{NoMemory, Seq};
+
+/// The rows of an answer, as lists of cells: rows whose cells are made, and behind them those of groups,
+/// whose cells are made as they are read. So an answer of many groups takes no memory for its cells, nor
+/// for groups that a store keeps, which it shares.
+#[derive(Drop, Debug)]
+pub struct ResultRows {
+    /// Rows whose cells are made.
+    cells: CellRows<Datum>,
+    /// What the groups show.
+    aggs: Seq<Agg>,
+    /// Groups that a store keeps.
+    kept: Slice<Group>,
+    /// Groups behind them.
+    live: Seq<Group>,
+    /// How many rows there are.
+    len: usize,
+}
+
+impl Model for ResultRows {
+    ghost use Rattle.std.specs.Prelude.{◌≡◌, ◌+◌, ◌++◌, List, length, map};
+    ghost use Rattle.ts_num.specs.declared.values.Datum.{Datum};
+    ghost use Rattle.ts_model.specs.Groups.{cells_by};
+
+    ghost Value = { List (List Datum) };
+
+    ghost view = { λ r. r.cells ++ map (cells_by r.aggs) (r.kept ++ r.live) };
+
+    ghost invariant = { λ r. r.len ≡ length r.cells + (length r.kept + length r.live) };
+}
+
+impl ResultRows {
+    /// No row. It takes no memory.
+    pub fn none(alloc: Global) -> ResultRows
+        ensures rows { result ≡ [] }
+    {
+        ResultRows::of_cells(alloc, CellRows::new(alloc))
+    }
+
+    /// Rows whose cells are made. It takes no memory.
+    pub fn of_cells(alloc: Global, cells: CellRows<Datum>) -> ResultRows
+        ensures rows { result ≡ cells }
+    {
+        let len = cells.len();
+        ResultRows {
+            cells,
+            aggs: Seq::new(alloc),
+            kept: Slice::none(alloc),
+            live: Seq::new(alloc),
+            len,
+        }
+    }
+
+    /// The rows of groups that show these aggregates, first of those that a store keeps. It takes no
+    /// memory.
+    pub fn of_groups(
+        alloc: Global,
+        aggs: Seq<Agg>,
+        kept: Slice<Group>,
+        live: Seq<Group>,
+    ) -> ResultRows
+        ensures rows { result ≡ map (cells_by aggs) (kept ++ live) }
+    {
+        let len = kept.len() + live.items().len();
+        ResultRows {
+            cells: CellRows::new(alloc),
+            aggs,
+            kept,
+            live,
+            len,
+        }
+    }
+
+    /// How many rows there are.
+    pub fn len(&self) -> usize
+        ensures len { result ≡ length self.now }
+    {
+        self.len
+    }
+
+    /// Whether there is no row.
+    pub fn is_empty(&self) -> bool
+        ensures empty { result ≡ (length self.now == 0) }
+    {
+        self.len() == 0
+    }
+
+    /// The rows, one after another.
+    pub fn iter(&self) -> ResultIter<'_>
+        ensures rows { result ≡ self.now }
+    {
+        ResultIter {
+            cells: self.cells.iter(),
+            aggs: self.aggs.items(),
+            kept: self.kept.iter(),
+            live: self.live.items(),
+        }
+    }
+}
+
+/// A row of an answer. Contracts see its cells as `row_cells`.
+#[derive(Clone, Copy, Debug)]
+pub enum ResultRow<'a> {
+    /// Its cells.
+    Cells(&'a [Datum]),
+    /// The group that shows them, and the aggregates that it shows.
+    Group { aggs: &'a [Agg], group: &'a Group },
+}
+
+impl<'a> ResultRow<'a> {
+    /// Appends its cells.
+    pub fn put_cells(&self, cells: &mut Vec<Datum>) -> Result<(), NoMemory>
+        ensures appended { IfOk result (λ _. cells.new.items ≡ cells.old.items ++ row_cells self.now) }
+    {
+        match self {
+            ResultRow::Cells(row) => {
+                cells.extend_from_slice(row)?;
+                Ok(())
+            }
+            ResultRow::Group { aggs, group } => put_group(aggs, group, cells),
+        }
+    }
+
+    /// The value of the cell at a place: the whole number that it shows, and none for NULL, for a mean and
+    /// where there is no cell.
+    pub fn value_at(&self, place: usize) -> Option<i128>
+        ensures value { result ≡ cell_at (row_cells self.now) place }
+    {
+        match self {
+            ResultRow::Cells(row) => cell_value(row, place),
+            ResultRow::Group { aggs, group } => group_value(aggs, group, place),
+        }
+    }
+}
+
+/// The rows of an answer that are left. Contracts see them as lists of cells.
+#[derive(Drop)]
+pub struct ResultIter<'a> {
+    cells: cell_rows::Iter<'a, Datum>,
+    aggs: &'a [Agg],
+    kept: block_list::Iter<'a, Group>,
+    live: &'a [Group],
+}
+
+impl<'a> Model for ResultIter<'a> {
+    ghost use Rattle.std.specs.Prelude.{◌++◌, List, map};
+    ghost use Rattle.ts_num.specs.declared.values.Datum.{Datum};
+    ghost use Rattle.ts_model.specs.Groups.{cells_by};
+
+    ghost Value = { List (List Datum) };
+
+    ghost view = { λ i. i.cells ++ map (cells_by i.aggs.now) (i.kept ++ i.live.now) };
+}
+
+impl<'a> Iterator for ResultIter<'a> {
+    type Item = ResultRow<'a>;
+
+    ghost next_gives = { YieldsFirstBy row_cells (λ i. i) };
+
+    ghost remaining = { item_count (λ i. i) };
+
+    fn next(&mut self) -> Option<ResultRow<'a>> {
+        if let Some(cells) = self.cells.next() {
+            return Some(ResultRow::Cells(cells));
+        }
+        let aggs = self.aggs;
+        if let Some(group) = self.kept.next() {
+            return Some(ResultRow::Group { aggs, group });
+        }
+        let (group, live) = self.live.split_first()?;
+        self.live = live;
+        Some(ResultRow::Group { aggs, group })
+    }
+}
