@@ -39,10 +39,9 @@ pub fn demo<R: Threads + Sync>(
 {
     let mut store = empty_store(rt, alloc)?;
     let reads = run_script(rt, alloc, number, &mut store)?;
-    Ok(Demonstration {
-        text: summary_text(rt, alloc, number, &store, reads)?,
-        reads,
-    })
+    let text = summary_text(rt, alloc, number, &store, reads)?;
+    let _disk = store.close();
+    Ok(Demonstration { text, reads })
 }
 
 /// The summary of a demonstration whose script led to the history of a store and looked at so many stored

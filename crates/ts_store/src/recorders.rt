@@ -20,6 +20,7 @@ use crate::drafts::{Draft, draft_of};
 use engine_core::Engine;
 use refresh_build::Job;
 use std::alloc::Global;
+use std::mem::forget;
 use ts_disk::Disk;
 use ts_model::codes::STOPPED;
 use ts_model::{Committed, Event, Outcome, Refusal};
@@ -159,11 +160,15 @@ impl<D: Disk> Recorder<D> {
         }
     }
 
-    /// The disk.
+    /// The disk. What the engine holds stays with the process, which is at its end: the system takes it back
+    /// at once, and letting go of it piece by piece would take time.
     pub(crate) fn into_disk(self) -> D
         ensures { result ≡ self.journal.disk }
     {
-        let journal = self.journal;
+        let Recorder {
+            engine, journal, ..
+        } = self;
+        forget(engine);
         journal.close()
     }
 }

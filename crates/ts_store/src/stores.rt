@@ -116,7 +116,8 @@ impl<D: Disk> Store<D> {
         answer
     }
 
-    /// The disk.
+    /// The disk. A store is closed as its program ends, so what the engine holds stays with the process, and
+    /// isn't let go of piece by piece.
     pub fn close(self) -> D
         ensures disk { result ≡ self.journal.disk }
         // Where the disk told its bytes at the start, this is what reads give.
@@ -131,8 +132,7 @@ impl<D: Disk> Store<D> {
             → IsBetween (opening self) (seen self) self.failed c }
     {
         let recorder = self.recorder;
-        let journal = recorder.journal;
-        journal.close()
+        recorder.into_disk()
     }
 
     /// Puts the image of the store's history behind its journal, where it has at most so many bytes: all

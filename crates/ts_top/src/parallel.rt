@@ -28,6 +28,7 @@ use par_run::{ParEnd, ParLine, ParStop, par as run_in_parallel};
 use policy_jobs::PolicySession;
 use run_transcript::transcript_of;
 use std::alloc::Global;
+use std::mem::forget;
 use std::sync::Wait;
 use std::thread::Threads;
 use transcript::{Transcript, is_ascii, send_transcript};
@@ -147,7 +148,12 @@ fn print_executed<K: Sink>(
     ensures counted { Counted (K.faults sink.old) (K.faults sink.new) (is_write_fault result) }
 {
     match transcript_of(alloc, start, names, lines) {
-        Ok(transcript) => print_made(sink, &transcript, refused),
+        Ok(transcript) => {
+            let status = print_made(sink, &transcript, refused);
+            // The call ends behind it, so it stays with the process.
+            forget(transcript);
+            status
+        }
         Err(NoMemory) => Status::NoMemory,
     }
 }
@@ -183,7 +189,12 @@ fn print_run<K: Sink>(alloc: Global, replies: Replies, sink: &mut K, replied: Re
     ensures counted { CountedAfterPrinting replies result (K.faults sink.old) (K.faults sink.new) }
 {
     match replies {
-        Replies::Plain => { print_replies(sink, replied.text.items(), replied.fault, replied.stop) }
+        Replies::Plain => {
+            let status = print_replies(sink, replied.text.items(), replied.fault, replied.stop);
+            // The call ends behind them, so they stay with the process.
+            forget(replied);
+            status
+        }
         Replies::Json => print_transcript(alloc, sink, replied),
     }
 }

@@ -7,7 +7,7 @@ use Rattle.ts_store.proofs.KeptLaws.{shows_header}
 use Rattle.ts_store.proofs.stores.Store.close.Goals as goal
 
 pub returns-clause-disk : goal.returns-clause-disk
-returns-clause-disk g c = c.close.ensures.disk ∙ ap (λ (s : StoreValue g.row.D.Denot). s.journal.disk) c.self.view_is
+returns-clause-disk g c = c.into_disk.ensures ∙ ap (λ (s : StoreValue g.row.D.Denot). s.journal.disk) c.self.view_is
 
 pub returns-clause-shown : goal.returns-clause-shown
 returns-clause-shown g c =
