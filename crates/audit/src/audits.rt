@@ -16,6 +16,7 @@ use crate::pasts::Known;
 use crate::talks::{JudgedTalks, judge_talks};
 use engine_core::{Timeline, begun_at, end_of};
 use std::alloc::Global;
+use std::mem::forget;
 use std::thread::Threads;
 use transcript::{ReadTranscript, Talk, Transcript, read_transcript};
 use ts_model::{Event, Image};
@@ -23,6 +24,8 @@ use ts_schema::{NoMemory, Steps};
 
 /// Whether a history explains the transcript that a text is, or where it doesn't. The history begins with an
 /// image, where there is one, and goes on with these events, each of which was allowed after those before it.
+/// The transcript and the states of the history stay with the process: an audit is the last thing that its
+/// program does, and letting go of them piece by piece would take a sixth of its time.
 pub fn audit<R: Threads + Sync>(
     rt: &R,
     alloc: Global,
@@ -36,7 +39,9 @@ pub fn audit<R: Threads + Sync>(
 {
     match read_transcript(alloc, text) {
         ReadTranscript::Transcript(transcript) => {
-            match judge(rt, alloc, base, events, &transcript) {
+            let judged = judge(rt, alloc, base, events, &transcript);
+            forget(transcript);
+            match judged {
                 Ok(audit) => audit,
                 Err(NoMemory) => Audit::NoMemory,
             }
@@ -93,8 +98,12 @@ fn judge_replies<R: Threads + Sync>(
     let start = transcript.start;
     let talks = transcript.sessions.items();
     let steps = &mut Steps::new(());
-    let timeline = Timeline::of(rt, alloc, base, events, start, steps)?;
-    match judge_talks(rt, alloc, &Known { timeline }, start, talks, steps)? {
+    let known = Known {
+        timeline: Timeline::of(rt, alloc, base, events, start, steps)?,
+    };
+    let judged = judge_talks(rt, alloc, &known, start, talks, steps)?;
+    forget(known);
+    match judged {
         JudgedTalks::Unexplained(place) => Ok(Audit::No {
             session: place.session,
             reply: place.reply,
