@@ -20,8 +20,8 @@ use Rattle.engine_state.specs.Afters.{CountsAre}
 use Rattle.engine_state.specs.Stands.{StandsFor}
 use Rattle.engine_core.specs.Effects.{effect_of}
 use Rattle.engine_core.specs.Histories.{begun_by, history_of}
-use Rattle.engine_core.specs.Timelines.{AreMoments, IsMomentOf, IsTimeline, MomentValue}
-use Rattle.engine_core.specs.Values.{Past}
+use Rattle.engine_core.specs.Timelines.{AreMoments, IsMomentOf, IsTimeline}
+use Rattle.engine_core.specs.Values.{MomentValue, Past}
 
 -- ---- positions
 
@@ -162,7 +162,7 @@ first_whole past = ap (λ es. begun_by past.base ▸▸ es) (take_all (length pa
 
 -- ---- what an event did
 
-effect_by : (g : History) (e : Event) (p inserted removed : ℕ) → p ≡ suc (position g) → CountsAre g e inserted removed → record { pos = p; inserted = inserted; removed = removed } ≡ effect_of g e
+pub effect_by : (g : History) (e : Event) (p inserted removed : ℕ) → p ≡ suc (position g) → CountsAre g e inserted removed → record { pos = p; inserted = inserted; removed = removed } ≡ effect_of g e
 effect_by g (Table def) p inserted removed is c = λ i. record { pos = is i; inserted = c.0 i; removed = c.1 i }
 effect_by g (Hyper t hyper) p inserted removed is c = λ i. record { pos = is i; inserted = c.0 i; removed = c.1 i }
 effect_by g (View def) p inserted removed is c = λ i. record { pos = is i; inserted = c.0 i; removed = c.1 i }

@@ -27,5 +27,5 @@ effect_of h (Built cut snap) = moves_none h
 -- it was prepared for this history: its event is allowed next, and its state stands for the history with it
 pub record IsPreparedFor (h : History) (p : PreparedValue) : Type 0 where
   pub allowed : allowed h p.event ≡ true
-  pub stands : StandsFor (h ▸ p.event) p.state
-  pub counts : CountsAre h p.event p.inserted p.removed
+  pub stands : StandsFor (h ▸ p.event) p.moment.state
+  pub counts : CountsAre h p.event p.moment.inserted p.moment.removed

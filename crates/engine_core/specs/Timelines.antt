@@ -6,13 +6,7 @@ use Rattle.ts_model.specs.History.{History, ◌▸◌, base_position, position, 
 use Rattle.engine_state.specs.Afters.{CountsAre}
 use Rattle.engine_state.specs.Stands.{StateValue, StandsFor}
 use Rattle.engine_core.specs.Histories.{history_of}
-use Rattle.engine_core.specs.Values.{Past}
-
--- what contracts see of what is kept of a history: its state, and how many rows its last event appended and took away
-pub record MomentValue : Type 0 where
-  pub state : StateValue
-  pub inserted : ℕ
-  pub removed : ℕ
+use Rattle.engine_core.specs.Values.{MomentValue, Past}
 
 -- it is kept of this history
 pub record IsMomentOf (h : History) (m : MomentValue) : Type 0 where

@@ -14,9 +14,13 @@ pub record EngineValue : Type 0 where
   pub past : Past
   pub room : ℕ
 
--- of what was prepared: an event, the state after it, and how many rows the event appends and takes away
-pub record PreparedValue : Type 0 where
-  pub event : Event
+-- of what is kept of a history: its state, and how many rows its last event appended and took away
+pub record MomentValue : Type 0 where
   pub state : StateValue
   pub inserted : ℕ
   pub removed : ℕ
+
+-- of what was prepared: an event, and what is kept of the history with it
+pub record PreparedValue : Type 0 where
+  pub event : Event
+  pub moment : MomentValue

@@ -20,6 +20,7 @@ ghost use Rattle.refresh_build.specs.Fitting.{IsJobOf, JobIsFor};
 ghost use Rattle.engine_core.specs.Effects.{IsPreparedFor};
 ghost use Rattle.engine_core.specs.Histories.{begun_by, history_of, past_from, with_event};
 
+use crate::moments::Moment;
 use crate::prepared::Prepared;
 use crate::shots::Shot;
 use engine_state::State;
@@ -116,9 +117,9 @@ fn prepared_for(
     ensures prepared { (h : History) → StandsFor h state.now → IsTrue (allowed h event) → JobIsFor h event job →
         IfOk result (λ prepared. IsPreparedFor h prepared) }
 {
-    let after = state.after(&event, job)?;
-    let made = Arc::new(alloc, after.state)?;
-    Ok(Prepared::of(event, made, after.inserted, after.removed))
+    let moved = state.after(&event, job)?;
+    let moment = Moment::of(alloc, moved)?;
+    Ok(Prepared::of(event, moment))
 }
 
 /// Why the call that makes an event is refused.

@@ -1,7 +1,12 @@
 //! What is kept of a history at a position.
-use engine_state::State;
+ghost use Rattle.std.specs.Prelude.{◌≡◌, IfOk};
+
+use engine_state::{Moved, State};
+use std::alloc::Global;
 use std::marker::Model;
 use std::sync::Arc;
+use ts_model::Committed;
+use ts_schema::NoMemory;
 
 /// The state of a history, and how many rows its last event moved over all tables.
 #[derive(Drop)]
@@ -16,7 +21,7 @@ pub(crate) struct Moment {
 
 impl Model for Moment {
     ghost use Rattle.std.specs.Arc.{arc_value};
-    ghost use Rattle.engine_core.specs.Timelines.{MomentValue};
+    ghost use Rattle.engine_core.specs.Values.{MomentValue};
 
     ghost Value = { MomentValue };
 
@@ -25,4 +30,36 @@ impl Model for Moment {
       inserted = m.inserted;
       removed = m.removed;
     } };
+}
+
+impl Moment {
+    /// What is kept of a state that an event led to.
+    pub(crate) fn of(alloc: Global, moved: Moved<State>) -> Result<Moment, NoMemory>
+        ensures moment { IfOk result (λ moment. moment ≡ record {
+          state = moved.made;
+          inserted = moved.inserted;
+          removed = moved.removed;
+        }) }
+    {
+        Ok(Moment {
+            state: Arc::new(alloc, moved.made)?,
+            inserted: moved.inserted,
+            removed: moved.removed,
+        })
+    }
+
+    /// What the last event did: its number, and how many rows it moved.
+    pub(crate) fn effect(&self) -> Committed
+        ensures effect { result ≡ record {
+          pos = self.now.state.position;
+          inserted = self.now.inserted;
+          removed = self.now.removed;
+        } }
+    {
+        Committed {
+            pos: self.state.position(),
+            inserted: self.inserted,
+            removed: self.removed,
+        }
+    }
 }

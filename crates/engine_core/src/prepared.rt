@@ -4,53 +4,40 @@ ghost use Rattle.std.specs.Arc.{arc_value};
 ghost use Rattle.ts_model.specs.History.{History};
 ghost use Rattle.engine_core.specs.Effects.{IsPreparedFor, effect_of};
 
+use crate::moments::Moment;
 use engine_state::State;
 use std::marker::Model;
 use std::sync::Arc;
 use ts_model::{Committed, Event};
 
-/// An event, and the state after it.
+/// An event, and what is kept of the history with it.
 #[derive(Drop)]
 pub struct Prepared {
     event: Event,
-    state: Arc<State>,
-    inserted: u64,
-    removed: u64,
+    moment: Moment,
 }
 
 impl Model for Prepared {
     ghost use Rattle.engine_core.specs.Values.{PreparedValue};
-    ghost use Rattle.std.specs.Arc.{arc_value};
 
     ghost Value = { PreparedValue };
 
-    ghost view = { λ p. record {
-      event = p.event;
-      state = arc_value p.state;
-      inserted = p.inserted;
-      removed = p.removed;
-    } };
+    ghost view = { λ p. record { event = p.event; moment = p.moment } };
 }
 
 impl Prepared {
-    pub(crate) fn of(event: Event, state: Arc<State>, inserted: u64, removed: u64) -> Prepared
-        ensures of { result ≡
-            record { event = event; state = arc_value state; inserted = inserted; removed = removed } }
+    pub(crate) fn of(event: Event, moment: Moment) -> Prepared
+        ensures of { result ≡ record { event = event; moment = moment } }
     {
-        Prepared {
-            event,
-            state,
-            inserted,
-            removed,
-        }
+        Prepared { event, moment }
     }
 
     /// The event and the state.
     pub(crate) fn into_parts(self) -> (Event, Arc<State>)
         ensures event { result.0 ≡ self.event }
-        ensures state { arc_value result.1 ≡ self.state }
+        ensures state { arc_value result.1 ≡ self.moment.state }
     {
-        (self.event, self.state)
+        (self.event, self.moment.state)
     }
 
     /// The event.
@@ -64,10 +51,6 @@ impl Prepared {
     pub fn effect(&self) -> Committed
         ensures effect { (h : History) → IsPreparedFor h self.now → result ≡ effect_of h self.now.event }
     {
-        Committed {
-            pos: self.state.position(),
-            inserted: self.inserted,
-            removed: self.removed,
-        }
+        self.moment.effect()
     }
 }

@@ -18,7 +18,7 @@ ghost use Rattle.engine_core.specs.Timelines.{IsMomentOf, MayFollow};
 use crate::engines::begun_at;
 use crate::moments::Moment;
 use crate::shots::Shot;
-use engine_state::{After, State};
+use engine_state::State;
 use refresh_build::Job;
 use std::alloc::Global;
 use std::marker::Model;
@@ -100,23 +100,8 @@ fn next<R: Threads + Sync>(
 {
     let job = job_of(rt, state, event)?;
     let after = state.after(event, job)?;
-    let moment = moment_of(alloc, after)?;
+    let moment = Moment::of(alloc, after)?;
     Ok(moment)
-}
-
-/// What is kept of a state that an event led to.
-fn moment_of(alloc: Global, after: After) -> Result<Moment, NoMemory>
-    ensures moment { IfOk result (λ moment. moment ≡ record {
-      state = after.state;
-      inserted = after.inserted;
-      removed = after.removed;
-    }) }
-{
-    Ok(Moment {
-        state: Arc::new(alloc, after.state)?,
-        inserted: after.inserted,
-        removed: after.removed,
-    })
 }
 
 /// Keeps a moment, where its position is to be kept.
@@ -259,11 +244,6 @@ impl<'a> Timeline<'a> {
             → result ≡ effect_of (prefix (history_of self.now.past) position) e }
     {
         let _end = self.length();
-        let moment = self.moment(position + 1);
-        Committed {
-            pos: moment.state.position(),
-            inserted: moment.inserted,
-            removed: moment.removed,
-        }
+        self.moment(position + 1).effect()
     }
 }

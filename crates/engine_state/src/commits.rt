@@ -6,29 +6,11 @@ ghost use Rattle.row_versions.specs.Tables.{is_on};
 ghost use Rattle.engine_state.specs.Lists.{Each};
 ghost use Rattle.engine_state.specs.Steps.{AllFrom, AsksIf, GoesIf, TableAsks, TableGoes, appended_to, rows_before, sum_from, taken_from};
 
-use crate::tables::{Moved, TableState};
+use crate::moves::Moved;
+use crate::tables::TableState;
 use std::alloc::Global;
 use ts_model::Op;
 use ts_schema::{NoMemory, Seq};
-
-/// What operations made of a table, which has a state where it is a hypertable.
-#[derive(Drop)]
-struct MovedIf {
-    table: Option<TableState>,
-    inserted: u64,
-    removed: u64,
-}
-
-/// What operations made of all tables.
-#[derive(Drop)]
-pub(crate) struct Moves {
-    /// The states of the tables after them.
-    pub tables: Seq<Option<TableState>>,
-    /// How many rows they appended, over all tables.
-    pub inserted: u64,
-    /// How many rows they took away.
-    pub removed: u64,
-}
 
 /// Whether an operation is on the table with this number.
 fn is_on(op: &Op, number: u32) -> bool
@@ -59,9 +41,9 @@ fn moved(
     ops: &Seq<Op>,
     number: u32,
     pos: u64,
-) -> Result<Moved, NoMemory>
+) -> Result<Moved<TableState>, NoMemory>
     requires { TableAsks ops.now pos number table.now }
-    ensures goes { IfOk result (λ m. TableGoes ops.now pos number table.now m.table) }
+    ensures goes { IfOk result (λ m. TableGoes ops.now pos number table.now m.made) }
     ensures inserted { IfOk result (λ m. m.inserted ≡ length (all_appended number ops.now)) }
     ensures removed { IfOk result (λ m. m.removed ≡ length (all_taken number ops.now (rows_before pos table.now))) }
 {
@@ -69,7 +51,7 @@ fn moved(
         return table.after_ops(alloc, ops, number, pos);
     }
     Ok(Moved {
-        table: table.copy()?,
+        made: table.copy()?,
         inserted: 0,
         removed: 0,
     })
@@ -82,22 +64,22 @@ fn after_ops_if(
     ops: &Seq<Op>,
     number: u32,
     pos: u64,
-) -> Result<MovedIf, NoMemory>
+) -> Result<Moved<Option<TableState>>, NoMemory>
     requires { AsksIf ops.now pos number table.now }
-    ensures goes { IfOk result (λ m. GoesIf ops.now pos number table.now m.table) }
+    ensures goes { IfOk result (λ m. GoesIf ops.now pos number table.now m.made) }
     ensures inserted { IfOk result (λ m. m.inserted ≡ appended_to ops.now number table.now) }
     ensures removed { IfOk result (λ m. m.removed ≡ taken_from ops.now pos number table.now) }
 {
     match table {
-        None => Ok(MovedIf {
-            table: None,
+        None => Ok(Moved {
+            made: None,
             inserted: 0,
             removed: 0,
         }),
         Some(table) => {
             let moved = moved(alloc, table, ops, number, pos)?;
-            Ok(MovedIf {
-                table: Some(moved.table),
+            Ok(Moved {
+                made: Some(moved.made),
                 inserted: moved.inserted,
                 removed: moved.removed,
             })
@@ -122,10 +104,10 @@ pub(crate) fn all_after(
     tables: &[Option<TableState>],
     ops: &Seq<Op>,
     pos: u64,
-) -> Result<Moves, NoMemory>
+) -> Result<Moved<Seq<Option<TableState>>>, NoMemory>
     requires few { length tables.now ≤ 2 ^ 32 }
     requires asks { AllFrom (AsksIf ops.now pos) 0 tables.now }
-    ensures goes { IfOk result (λ m. Each (GoesIf ops.now pos) tables.now m.tables) }
+    ensures goes { IfOk result (λ m. Each (GoesIf ops.now pos) tables.now m.made) }
     ensures inserted { IfOk result (λ m. m.inserted ≡ sum_from (appended_to ops.now) 0 tables.now) }
     ensures removed { IfOk result (λ m. m.removed ≡ sum_from (taken_from ops.now pos) 0 tables.now) }
 {
@@ -136,10 +118,10 @@ pub(crate) fn all_after(
         let moved = after_ops_if(alloc, table, ops, i as u32, pos)?;
         inserted = sum(inserted, moved.inserted)?;
         removed = sum(removed, moved.removed)?;
-        after.push(moved.table)?;
+        after.push(moved.made)?;
     }
-    Ok(Moves {
-        tables: after,
+    Ok(Moved {
+        made: after,
         inserted,
         removed,
     })

@@ -7,6 +7,7 @@ mod cuts;
 mod finishes;
 mod images;
 mod jobs;
+mod moves;
 mod parted;
 mod parts;
 mod queues;
@@ -21,6 +22,7 @@ mod tables;
 mod views;
 mod windows;
 
-pub use states::{After, State};
+pub use moves::Moved;
+pub use states::State;
 pub use tables::TableState;
 pub use views::ViewState;

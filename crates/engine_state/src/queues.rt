@@ -37,7 +37,7 @@ impl Parts {
     {
         let _so_far = steps.count();
         let step = self.with_ops(alloc, ops)?;
-        step.parts.answer(rt, alloc, query, steps)
+        step.made.answer(rt, alloc, query, steps)
     }
 
     /// What the query shows with a queue of operations on top, which may be empty.

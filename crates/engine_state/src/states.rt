@@ -9,6 +9,7 @@ ghost use Rattle.engine_state.specs.Afters.{IsNext};
 ghost use Rattle.engine_state.specs.Nexts.{Counts, GoesTo, WindowIs};
 ghost use Rattle.engine_state.specs.Stands.{StandsFor};
 
+use crate::moves::Moved;
 use crate::parts::Parts;
 use refresh_build::Job;
 use std::alloc::Global;
@@ -31,17 +32,6 @@ impl Model for State {
     ghost view = { λ s. s.parts };
 
     ghost invariant = { λ s. Stands s.parts };
-}
-
-/// A state after one more event, and what the event did.
-#[derive(Drop)]
-pub struct After {
-    /// The state.
-    pub state: State,
-    /// How many rows the event appended, over all tables.
-    pub inserted: u64,
-    /// How many rows it took away.
-    pub removed: u64,
 }
 
 impl State {
@@ -96,17 +86,18 @@ impl State {
     }
 
     /// The state after an event that is consistent with the history. One that finishes a refresh comes
-    /// with a job of it. The state itself stays as it was, and the two share what the event leaves alone.
-    pub fn after(&self, event: &Event, job: Option<Job>) -> Result<After, NoMemory>
+    /// with a job of it. The state itself stays as it was, and the two share what the event leaves alone. Rows
+    /// are counted over all tables.
+    pub fn after(&self, event: &Event, job: Option<Job>) -> Result<Moved<State>, NoMemory>
         requires next { IsNext self.now event.now job }
-        ensures stands { IfOk result (λ after. GoesTo self.now event.now job after.state) }
+        ensures stands { IfOk result (λ after. GoesTo self.now event.now job after.made) }
         ensures counts { IfOk result (λ after. Counts self.now event.now after.inserted after.removed) }
     {
         let step = self.parts.after(self.alloc, event, &job)?;
-        Ok(After {
-            state: State {
+        Ok(Moved {
+            made: State {
                 alloc: self.alloc,
-                parts: step.parts,
+                parts: step.made,
             },
             inserted: step.inserted,
             removed: step.removed,

@@ -7,6 +7,7 @@ ghost use Rattle.engine_state.specs.Nexts.{Counts, FinishesTo, GoesTo, ModesTo, 
 use crate::commits::all_after;
 use crate::cuts::all_fed;
 use crate::finishes::finished;
+use crate::moves::Moved;
 use crate::parts::Parts;
 use crate::tables::TableState;
 use crate::views::ViewState;
@@ -15,30 +16,6 @@ use std::alloc::Global;
 use ts_bucket::Span;
 use ts_model::{Event, Hyper, Op, ViewDef};
 use ts_schema::{NoMemory, Seq};
-
-/// What an event made of the parts of a state.
-#[derive(Drop)]
-pub(crate) struct Step {
-    /// The parts after it.
-    pub parts: Parts,
-    /// How many rows it appended, over all tables.
-    pub inserted: u64,
-    /// How many rows it took away.
-    pub removed: u64,
-}
-
-/// What an event made that moves no row.
-fn still(parts: Parts) -> Step
-    ensures parts { result.parts ≡ parts }
-    ensures inserted { result.inserted ≡ 0 }
-    ensures removed { result.removed ≡ 0 }
-{
-    Step {
-        parts,
-        inserted: 0,
-        removed: 0,
-    }
-}
 
 impl Parts {
     /// The parts after a table was made.
@@ -87,22 +64,22 @@ impl Parts {
     }
 
     /// What operations made of the parts.
-    pub(crate) fn with_ops(&self, alloc: Global, ops: &Seq<Op>) -> Result<Step, NoMemory>
+    pub(crate) fn with_ops(&self, alloc: Global, ops: &Seq<Op>) -> Result<Moved<Parts>, NoMemory>
         requires next { IsNext self.now (Commit ops.now) None }
-        ensures stands { IfOk result (λ step. StepsTo self.now (Commit ops.now) step.parts) }
-        ensures counts { IfOk result (λ step. Counts self.now (Commit ops.now) step.inserted step.removed) }
+        ensures stands { IfOk result (λ m. StepsTo self.now (Commit ops.now) m.made) }
+        ensures counts { IfOk result (λ m. Counts self.now (Commit ops.now) m.inserted m.removed) }
     {
         let position = self.next_position()?;
         let moves = all_after(alloc, self.tables.items(), ops, position)?;
         let parts = Parts {
             position,
             roster: self.same_roster()?,
-            tables: moves.tables,
+            tables: moves.made,
             views: self.views.copy()?,
             refreshes: self.refreshes.copy()?,
         };
-        Ok(Step {
-            parts,
+        Ok(Moved {
+            made: parts,
             inserted: moves.inserted,
             removed: moves.removed,
         })
@@ -155,22 +132,22 @@ impl Parts {
         alloc: Global,
         event: &Event,
         job: &Option<Job>,
-    ) -> Result<Step, NoMemory>
+    ) -> Result<Moved<Parts>, NoMemory>
         requires next { IsNext self.now event.now job.now }
-        ensures stands { IfOk result (λ step. GoesTo self.now event.now job.now step.parts) }
-        ensures counts { IfOk result (λ step. Counts self.now event.now step.inserted step.removed) }
+        ensures stands { IfOk result (λ m. GoesTo self.now event.now job.now m.made) }
+        ensures counts { IfOk result (λ m. Counts self.now event.now m.inserted m.removed) }
     {
         match event {
-            Event::Table(_) => Ok(still(self.with_table(alloc, event)?)),
+            Event::Table(_) => Ok(Moved::still(self.with_table(alloc, event)?)),
             Event::Hyper { table, hyper } => {
-                Ok(still(self.with_hyper(alloc, event, *table, *hyper)?))
+                Ok(Moved::still(self.with_hyper(alloc, event, *table, *hyper)?))
             }
-            Event::View(def) => Ok(still(self.with_view(alloc, event, def)?)),
-            Event::Mode { .. } => Ok(still(self.with_mode(alloc, event)?)),
+            Event::View(def) => Ok(Moved::still(self.with_view(alloc, event, def)?)),
+            Event::Mode { .. } => Ok(Moved::still(self.with_mode(alloc, event)?)),
             Event::Commit(ops) => self.with_ops(alloc, ops),
-            Event::Cut { view, span } => Ok(still(self.with_cut(alloc, *view, *span)?)),
+            Event::Cut { view, span } => Ok(Moved::still(self.with_cut(alloc, *view, *span)?)),
             Event::Built { .. } => match job {
-                Some(job) => Ok(still(self.with_job(alloc, job)?)),
+                Some(job) => Ok(Moved::still(self.with_job(alloc, job)?)),
                 None => unreachable!(),
             },
         }

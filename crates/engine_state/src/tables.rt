@@ -7,6 +7,7 @@ ghost use Rattle.coverage.specs.Notes.{logged};
 ghost use Rattle.engine_state.specs.Notes.{noted_in};
 ghost use Rattle.engine_state.specs.Steps.{TableAsks, TableCut, TableGoes, rows_before};
 
+use crate::moves::Moved;
 use inval_log::InvalLog;
 use row_versions::{Applied, Table};
 use std::alloc::{AllocError, Global};
@@ -35,17 +36,6 @@ impl Model for TableState {
     ghost Value = { TableValue };
 
     ghost view = { λ t. record { rows = t.parts.value.rows; log = t.parts.value.log } };
-}
-
-/// What operations made of a hypertable.
-#[derive(Drop)]
-pub(crate) struct Moved {
-    /// Its state after them.
-    pub table: TableState,
-    /// How many rows they appended.
-    pub inserted: u64,
-    /// How many rows they took away.
-    pub removed: u64,
 }
 
 /// The log after the hull of a commit was noted, where it has one.
@@ -152,9 +142,9 @@ impl TableState {
         ops: &Seq<Op>,
         table: u32,
         pos: u64,
-    ) -> Result<Moved, NoMemory>
+    ) -> Result<Moved<TableState>, NoMemory>
         requires { TableAsks ops.now pos table self.now }
-        ensures goes { IfOk result (λ m. TableGoes ops.now pos table self.now m.table) }
+        ensures goes { IfOk result (λ m. TableGoes ops.now pos table self.now m.made) }
         ensures inserted { IfOk result (λ m. m.inserted ≡ length (all_appended table ops.now)) }
         ensures removed { IfOk result (λ m. m.removed
             ≡ length (all_taken table ops.now (rows_before pos self.now))) }
@@ -165,7 +155,7 @@ impl TableState {
         } = self.rows().apply(ops, table, pos)?;
         let log = noted(self.log(), effect.hull, pos)?;
         Ok(Moved {
-            table: TableState::of(alloc, rows, log)?,
+            made: TableState::of(alloc, rows, log)?,
             inserted: effect.inserted,
             removed: effect.removed,
         })

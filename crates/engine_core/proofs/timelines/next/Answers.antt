@@ -11,5 +11,5 @@ returns g c = record {
       let job = c.in_ok-job.ensures.job h stands ok in
       let consistent = consistent_next h c.args.event.now ok in
       subst (IsMomentOf (h ▸ c.args.event.now)) (sym c.in_ok-moment.ensures.moment)
-      (next_moment h c.args.event.now (record { state = c.in_ok-after.after.state; inserted = c.in_ok-after.after.inserted; removed = c.in_ok-after.after.removed }) (c.in_ok-after.ensures.stands h stands consistent job) (c.in_ok-after.ensures.counts h stands consistent));
+      (next_moment h c.args.event.now (record { state = c.in_ok-after.after.made; inserted = c.in_ok-after.after.inserted; removed = c.in_ok-after.after.removed }) (c.in_ok-after.ensures.stands h stands consistent job) (c.in_ok-after.ensures.counts h stands consistent));
 }

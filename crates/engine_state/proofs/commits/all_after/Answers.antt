@@ -15,7 +15,7 @@ loop-i-preserved c =
     let appended = appended_to c.args.ops.now in
     let taken = taken_from c.args.ops.now c.args.pos in
     let moved = c.in_ok-moved.ensures in (
-      subst (Each goes (take (c.loop-i.i + 1) tables)) (sym c.in_ok-push.ensures.pushed) (each_taken goes tables c.loop-i.after c.loop-i.i c.index-tables-i.result c.in_ok-moved.moved.table c.loop-i-test.true c.index-tables-i.is c.loop-i.invariant.0 moved.goes),
+      subst (Each goes (take (c.loop-i.i + 1) tables)) (sym c.in_ok-push.ensures.pushed) (each_taken goes tables c.loop-i.after c.loop-i.i c.index-tables-i.result c.in_ok-moved.moved.made c.loop-i-test.true c.index-tables-i.is c.loop-i.invariant.0 moved.goes),
       c.in_ok-inserted.ensures ∙ ap (λ n. n + c.in_ok-moved.moved.inserted) c.loop-i.invariant.1 ∙ ap (λ n. sum_from appended 0 (take c.loop-i.i tables) + n) moved.inserted ∙ sym (sum_taken appended tables c.loop-i.i c.index-tables-i.result c.loop-i-test.true c.index-tables-i.is),
       c.in_ok-removed.ensures ∙ ap (λ n. n + c.in_ok-moved.moved.removed) c.loop-i.invariant.2 ∙ ap (λ n. sum_from taken 0 (take c.loop-i.i tables) + n) moved.removed ∙ sym (sum_taken taken tables c.loop-i.i c.index-tables-i.result c.loop-i-test.true c.index-tables-i.is),
     )

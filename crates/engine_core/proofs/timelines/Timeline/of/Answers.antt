@@ -4,8 +4,8 @@ use Rattle.ts_model.proofs.AllowedLaws.{allowed_begins}
 use Rattle.ts_model.proofs.HistoryLaws.{begins_followed}
 use Rattle.engine_state.specs.Stands.{StandsFor, StateValue}
 use Rattle.engine_core.specs.Histories.{begun_by}
-use Rattle.engine_core.specs.Timelines.{IsMomentOf, MomentValue}
-use Rattle.engine_core.specs.Values.{Past}
+use Rattle.engine_core.specs.Timelines.{IsMomentOf}
+use Rattle.engine_core.specs.Values.{MomentValue, Past}
 use Rattle.engine_core.proofs.EventLaws.{base_of}
 use Rattle.engine_core.proofs.TimelineLaws.{AreKept, first_next, kept_none, next_allowed, next_kept, timeline_made, up_to}
 use Rattle.engine_core.proofs.timelines.Timeline.of.Goals as goal

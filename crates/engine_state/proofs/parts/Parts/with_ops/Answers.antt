@@ -23,9 +23,9 @@ pub returns-clause-stands : goal.returns-clause-stands
 returns-clause-stands c = λ h st ok.
     let s = c.args.self.now in
     let same : c.items.result.now ≡ s.tables = c.items.ensures.items ∙ ap (λ (s : StateValue). s.tables) c.self.view_is in
-    let goes : Each (GoesIf c.args.ops.now (suc s.position)) s.tables c.in_ok-moves.moves.tables =
-    subst (λ pos. Each (GoesIf c.args.ops.now pos) s.tables c.in_ok-moves.moves.tables) c.in_ok-position.ensures.next
-    (subst (λ (xs : List (Option TableValue)). Each (GoesIf c.args.ops.now c.in_ok-position.position) xs c.in_ok-moves.moves.tables) same c.in_ok-moves.ensures.goes) in
+    let goes : Each (GoesIf c.args.ops.now (suc s.position)) s.tables c.in_ok-moves.moves.made =
+    subst (λ pos. Each (GoesIf c.args.ops.now pos) s.tables c.in_ok-moves.moves.made) c.in_ok-position.ensures.next
+    (subst (λ (xs : List (Option TableValue)). Each (GoesIf c.args.ops.now c.in_ok-position.position) xs c.in_ok-moves.moves.made) same c.in_ok-moves.ensures.goes) in
     state_of_commit h c.args.ops.now s _ (and_from _ _ st.consistent ok) st c.in_ok-position.ensures.next c.in_ok-same_roster.ensures.same goes
     (c.in_ok-copy.ensures.same ∙ ap (λ (s : StateValue). s.views) c.self.view_is)
     (c.in_ok-copy-2.ensures.same ∙ ap (λ (s : StateValue). s.refreshes) c.self.view_is)
