@@ -21,7 +21,7 @@ ghost use Rattle.engine_state.specs.Scans.{seen_rows, stored_rows};
 ghost use Rattle.engine_state.specs.Shown.{IsShown, view_reads};
 ghost use Rattle.engine_state.specs.Stands.{Stands, StandsFor};
 
-use crate::parts::Parts;
+use crate::parts::StateParts;
 use crate::scans::{TableAt, TimedRows};
 use crate::states::State;
 use crate::views::ViewState;
@@ -175,7 +175,7 @@ fn view_answer<R: Threads + Sync, L>(
     Ok(Answer { rows: shown, stale })
 }
 
-impl Parts {
+impl StateParts {
     /// The rows of a hypertable that pass every test.
     fn rows_shown<L>(
         &self,

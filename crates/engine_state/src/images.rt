@@ -11,7 +11,7 @@ ghost use Rattle.realtime_union.specs.Live.{all_times};
 ghost use Rattle.engine_state.specs.Images.{last_of, saved_group, sums_of};
 ghost use Rattle.engine_state.specs.Stands.{Stands, StandsFor};
 
-use crate::parts::Parts;
+use crate::parts::StateParts;
 use crate::states::State;
 use base_image::Imaged;
 use block_list::Iter;
@@ -94,7 +94,7 @@ fn saved_groups(alloc: Global, groups: Iter<'_, Group>) -> Result<Seq<SavedGroup
     Ok(saved)
 }
 
-impl Parts {
+impl StateParts {
     /// The rows of a table, in order. A table that is no hypertable has none.
     fn rows(&self, alloc: Global, table: u32) -> Result<Seq<Row>, NoMemory>
         requires stands { Stands self.now }

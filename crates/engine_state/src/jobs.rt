@@ -13,7 +13,7 @@ ghost use Rattle.engine_state.specs.Afters.{IsNextFinish};
 ghost use Rattle.engine_state.specs.Shown.{IsRefreshOf};
 ghost use Rattle.engine_state.specs.Stands.{Stands, StandsFor};
 
-use crate::parts::Parts;
+use crate::parts::StateParts;
 use crate::scans::TableAt;
 use crate::states::State;
 use refresh_build::{Job, Refresh, build, build_ranges};
@@ -21,7 +21,7 @@ use std::alloc::Global;
 use std::thread::Threads;
 use ts_schema::{NoMemory, Steps};
 
-impl Parts {
+impl StateParts {
     /// The refresh with this number, to be made of the rows of a position.
     fn refresh(&self, cut: u64, snap: u64) -> Refresh
         requires waits { IsTrue (is_waiting (pending_in self.now.refreshes cut)) }

@@ -8,7 +8,7 @@ ghost use Rattle.engine_state.specs.Parted.{AreChained, state_rows};
 ghost use Rattle.engine_state.specs.Stands.{Stands, StandsFor};
 
 use crate::images::{all_times, sorted};
-use crate::parts::Parts;
+use crate::parts::StateParts;
 use row_versions::Table;
 use std::alloc::Global;
 use ts_bucket::Span;
@@ -46,7 +46,7 @@ fn all_parts(alloc: Global, rows: &Table) -> Result<Seq<Span>, NoMemory>
     Ok(spans)
 }
 
-impl Parts {
+impl StateParts {
     /// Spans whose rows, one span after another, are those of a table.
     pub(crate) fn spans(&self, alloc: Global, table: u32) -> Result<Seq<Span>, NoMemory>
         requires stands { Stands self.now }

@@ -16,7 +16,7 @@ use ts_schema::{NoMemory, Seq};
 
 /// The parts of a state. Contracts see what they see of a state.
 #[derive(Drop)]
-pub(crate) struct Parts {
+pub(crate) struct StateParts {
     /// The position of the history.
     pub position: u64,
     /// Its tables and aggregates.
@@ -29,7 +29,7 @@ pub(crate) struct Parts {
     pub refreshes: Refreshes,
 }
 
-impl Model for Parts {
+impl Model for StateParts {
     ghost use Rattle.std.specs.Arc.{arc_value};
     ghost use Rattle.engine_state.specs.Stands.{StateValue};
 
@@ -44,9 +44,9 @@ impl Model for Parts {
     } };
 }
 
-impl Parts {
+impl StateParts {
     /// The parts of the state of no event.
-    pub(crate) fn none(alloc: Global) -> Result<Parts, NoMemory>
+    pub(crate) fn none(alloc: Global) -> Result<StateParts, NoMemory>
         ensures position { IfOk result (λ parts. parts.position ≡ 0) }
         ensures roster { IfOk result (λ parts. parts.roster ≡ no_relations) }
         ensures tables { IfOk result (λ parts. parts.tables ≡ []) }
@@ -57,7 +57,7 @@ impl Parts {
             tables: Seq::new(alloc),
             views: Seq::new(alloc),
         };
-        Ok(Parts {
+        Ok(StateParts {
             position: 0,
             roster: Arc::new(alloc, roster)?,
             tables: Seq::new(alloc),
@@ -85,7 +85,7 @@ impl Parts {
     }
 
     /// The parts one event later, whose roster is that after the event, and the rest as it was.
-    pub(crate) fn with_roster(&self, alloc: Global, event: &Event) -> Result<Parts, NoMemory>
+    pub(crate) fn with_roster(&self, alloc: Global, event: &Event) -> Result<StateParts, NoMemory>
         ensures position { IfOk result (λ new. new.position ≡ suc self.now.position) }
         ensures roster { IfOk result (λ new. new.roster ≡ roster_after self.now.roster event.now) }
         ensures tables { IfOk result (λ new. new.tables ≡ self.now.tables) }
@@ -93,7 +93,7 @@ impl Parts {
         ensures refreshes { IfOk result (λ new. new.refreshes ≡ self.now.refreshes) }
     {
         let roster = after_event(&self.roster, event)?;
-        Ok(Parts {
+        Ok(StateParts {
             position: self.next_position()?,
             roster: Arc::new(alloc, roster)?,
             tables: self.tables.copy()?,

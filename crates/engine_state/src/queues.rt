@@ -11,14 +11,14 @@ ghost use Rattle.ts_model.specs.Roster.{roster};
 ghost use Rattle.engine_state.specs.Afters.{IsNext};
 ghost use Rattle.engine_state.specs.Stands.{Stands, StandsFor};
 
-use crate::parts::Parts;
+use crate::parts::StateParts;
 use crate::states::State;
 use std::alloc::Global;
 use std::thread::Threads;
 use ts_model::{Answer, Op, Query};
 use ts_schema::{NoMemory, Seq, Steps};
 
-impl Parts {
+impl StateParts {
     /// What the query shows after a commit of these operations.
     fn answer_after<R: Threads + Sync, L>(
         &self,

@@ -7,7 +7,7 @@ ghost use Rattle.ts_model.specs.Valid.{valid};
 ghost use Rattle.engine_state.specs.Refolding.{rows_refolded};
 ghost use Rattle.engine_state.specs.Stands.{StandsFor};
 
-use crate::parts::Parts;
+use crate::parts::StateParts;
 use crate::refolds::refolded;
 use crate::resumed_tables::resumed_tables;
 use crate::resumed_views::resumed_views;
@@ -33,9 +33,13 @@ fn made_roster(alloc: Global, events: &[Event]) -> Result<Roster, NoMemory>
     Ok(made)
 }
 
-impl Parts {
+impl StateParts {
     /// The parts of the state of the history that begins with an image.
-    fn from_image<L>(alloc: Global, image: &Image, steps: &mut Steps<L>) -> Result<Parts, NoMemory>
+    fn from_image<L>(
+        alloc: Global,
+        image: &Image,
+        steps: &mut Steps<L>,
+    ) -> Result<StateParts, NoMemory>
         requires valid { valid image.now ≡ true }
         ensures stands { IfOk result (StandsFor (resumed image.now)) }
         ensures read { Ticks result (rows_refolded image.now) steps.old steps.new }
@@ -44,7 +48,7 @@ impl Parts {
         let roster = made_roster(alloc, image.roster.items())?;
         let tables = resumed_tables(alloc, &roster, image)?;
         let anew = refolded(alloc, &roster, image, steps)?;
-        let mut parts = Parts {
+        let mut parts = StateParts {
             position: image.pos,
             roster: Arc::new(alloc, roster)?,
             tables,
@@ -70,7 +74,7 @@ impl State {
     {
         Ok(State {
             alloc,
-            parts: Parts::from_image(alloc, image, steps)?,
+            parts: StateParts::from_image(alloc, image, steps)?,
         })
     }
 }

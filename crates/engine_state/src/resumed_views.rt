@@ -14,7 +14,7 @@ ghost use Rattle.engine_state.specs.Resumed.{IsKeptOf, IsSavedOf, ResumedAt};
 ghost use Rattle.engine_state.specs.Stands.{ViewAt};
 ghost use Rattle.engine_state.specs.Views.{ViewStands};
 
-use crate::parts::Parts;
+use crate::parts::StateParts;
 use crate::tables::TableState;
 use crate::views::ViewState;
 use mat_log::MatLog;
@@ -137,7 +137,7 @@ fn resumed_view(
 /// the tables, and these are the groups of all rows.
 pub(crate) fn resumed_views(
     alloc: Global,
-    parts: &Parts,
+    parts: &StateParts,
     image: &Image,
     anew: &Seq<MatRows>,
 ) -> Result<Seq<ViewState>, NoMemory>

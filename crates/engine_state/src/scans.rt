@@ -11,7 +11,7 @@ ghost use Rattle.engine_state.specs.Shown.{IsTableOf, IsViewOf};
 ghost use Rattle.engine_state.specs.Stands.{Stands, StandsFor};
 ghost use Rattle.engine_state.specs.Tables.{table_at};
 
-use crate::parts::Parts;
+use crate::parts::StateParts;
 use crate::tables::TableState;
 use crate::views::ViewState;
 use ts_bucket::Span;
@@ -93,7 +93,7 @@ pub(crate) struct ViewSeen<'a> {
     pub rows: TableAt<'a>,
 }
 
-impl Parts {
+impl StateParts {
     /// What makes the table with this number a hypertable.
     pub(crate) fn hyper(&self, number: u32) -> Hyper
         requires there { IsSome (hyper_of self.now.roster number) }

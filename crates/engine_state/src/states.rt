@@ -10,7 +10,7 @@ ghost use Rattle.engine_state.specs.Nexts.{Counts, GoesTo, WindowIs};
 ghost use Rattle.engine_state.specs.Stands.{StandsFor};
 
 use crate::moves::Moved;
-use crate::parts::Parts;
+use crate::parts::StateParts;
 use refresh_build::Job;
 use std::alloc::Global;
 use std::marker::Model;
@@ -21,7 +21,7 @@ use ts_schema::{NoMemory, Seq};
 #[derive(Drop)]
 pub struct State {
     pub(crate) alloc: Global,
-    pub(crate) parts: Parts,
+    pub(crate) parts: StateParts,
 }
 
 impl Model for State {
@@ -41,7 +41,7 @@ impl State {
     {
         Ok(State {
             alloc,
-            parts: Parts::none(alloc)?,
+            parts: StateParts::none(alloc)?,
         })
     }
 

@@ -8,7 +8,7 @@ use crate::commits::all_after;
 use crate::cuts::all_fed;
 use crate::finishes::finished;
 use crate::moves::Moved;
-use crate::parts::Parts;
+use crate::parts::StateParts;
 use crate::tables::TableState;
 use crate::views::ViewState;
 use refresh_build::Job;
@@ -17,9 +17,9 @@ use ts_bucket::Span;
 use ts_model::{Event, Hyper, Op, ViewDef};
 use ts_schema::{NoMemory, Seq};
 
-impl Parts {
+impl StateParts {
     /// The parts after a table was made.
-    fn with_table(&self, alloc: Global, event: &Event) -> Result<Parts, NoMemory>
+    fn with_table(&self, alloc: Global, event: &Event) -> Result<StateParts, NoMemory>
         ensures stands { IfOk result (TablesTo self.now event.now) }
     {
         let mut new = self.with_roster(alloc, event)?;
@@ -34,7 +34,7 @@ impl Parts {
         event: &Event,
         table: u32,
         hyper: Hyper,
-    ) -> Result<Parts, NoMemory>
+    ) -> Result<StateParts, NoMemory>
         requires event { event.now ≡ HyperMade table hyper }
         requires next { IsNext self.now (HyperMade table hyper) None }
         ensures stands { IfOk result (StepsTo self.now (HyperMade table hyper)) }
@@ -46,7 +46,7 @@ impl Parts {
     }
 
     /// The parts after an aggregate was made.
-    fn with_view(&self, alloc: Global, event: &Event, def: &ViewDef) -> Result<Parts, NoMemory>
+    fn with_view(&self, alloc: Global, event: &Event, def: &ViewDef) -> Result<StateParts, NoMemory>
         requires event { event.now ≡ View def.now }
         ensures stands { IfOk result (StepsTo self.now (View def.now)) }
     {
@@ -57,21 +57,25 @@ impl Parts {
     }
 
     /// The parts after an aggregate was set to a mode.
-    fn with_mode(&self, alloc: Global, event: &Event) -> Result<Parts, NoMemory>
+    fn with_mode(&self, alloc: Global, event: &Event) -> Result<StateParts, NoMemory>
         ensures stands { IfOk result (ModesTo self.now event.now) }
     {
         self.with_roster(alloc, event)
     }
 
     /// What operations made of the parts.
-    pub(crate) fn with_ops(&self, alloc: Global, ops: &Seq<Op>) -> Result<Moved<Parts>, NoMemory>
+    pub(crate) fn with_ops(
+        &self,
+        alloc: Global,
+        ops: &Seq<Op>,
+    ) -> Result<Moved<StateParts>, NoMemory>
         requires next { IsNext self.now (Commit ops.now) None }
         ensures stands { IfOk result (λ m. StepsTo self.now (Commit ops.now) m.made) }
         ensures counts { IfOk result (λ m. Counts self.now (Commit ops.now) m.inserted m.removed) }
     {
         let position = self.next_position()?;
         let moves = all_after(alloc, self.tables.items(), ops, position)?;
-        let parts = Parts {
+        let parts = StateParts {
             position,
             roster: self.same_roster()?,
             tables: moves.made,
@@ -86,7 +90,7 @@ impl Parts {
     }
 
     /// The parts after a refresh was cut.
-    fn with_cut(&self, alloc: Global, view: u32, span: Span) -> Result<Parts, NoMemory>
+    fn with_cut(&self, alloc: Global, view: u32, span: Span) -> Result<StateParts, NoMemory>
         requires next { IsNext self.now (Cut view span) None }
         ensures stands { IfOk result (StepsTo self.now (Cut view span)) }
     {
@@ -96,7 +100,7 @@ impl Parts {
         let views = all_fed(alloc, self.views.items(), number, table)?;
         let mut tables = self.tables.copy()?;
         tables.set(number as usize, Some(table.emptied(alloc, span.hi)?));
-        Ok(Parts {
+        Ok(StateParts {
             position,
             roster: self.same_roster()?,
             tables,
@@ -106,7 +110,7 @@ impl Parts {
     }
 
     /// The parts after a refresh was finished with a job.
-    fn with_job(&self, alloc: Global, job: &Job) -> Result<Parts, NoMemory>
+    fn with_job(&self, alloc: Global, job: &Job) -> Result<StateParts, NoMemory>
         requires next { IsNext self.now (Built job.now.cut job.now.snap) (Some job.now) }
         ensures stands { IfOk result (FinishesTo self.now job.now) }
     {
@@ -116,7 +120,7 @@ impl Parts {
         let mut views = self.views.copy()?;
         views.set(job.view as usize, done);
         let position = self.next_position()?;
-        Ok(Parts {
+        Ok(StateParts {
             position,
             roster: self.same_roster()?,
             tables: self.tables.copy()?,
@@ -132,7 +136,7 @@ impl Parts {
         alloc: Global,
         event: &Event,
         job: &Option<Job>,
-    ) -> Result<Moved<Parts>, NoMemory>
+    ) -> Result<Moved<StateParts>, NoMemory>
         requires next { IsNext self.now event.now job.now }
         ensures stands { IfOk result (λ m. GoesTo self.now event.now job.now m.made) }
         ensures counts { IfOk result (λ m. Counts self.now event.now m.inserted m.removed) }

@@ -20,12 +20,12 @@ use ts_schema::{NoMemory, Seq};
 /// The state of a hypertable, which its copies share.
 #[derive(Drop)]
 pub struct TableState {
-    parts: Arc<Parts>,
+    parts: Arc<TableParts>,
 }
 
 /// What is shared.
 #[derive(Drop)]
-struct Parts {
+struct TableParts {
     rows: Table,
     log: InvalLog,
 }
@@ -99,7 +99,7 @@ impl TableState {
         ensures log { IfOk result (λ t. t.log ≡ log) }
     {
         Ok(TableState {
-            parts: Arc::new(alloc, Parts { rows, log })?,
+            parts: Arc::new(alloc, TableParts { rows, log })?,
         })
     }
 

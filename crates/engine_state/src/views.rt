@@ -18,12 +18,12 @@ use ts_schema::NoMemory;
 /// The state of an aggregate, which its copies share.
 #[derive(Drop)]
 pub struct ViewState {
-    parts: Arc<Parts>,
+    parts: Arc<ViewParts>,
 }
 
 /// What is shared.
 #[derive(Drop)]
-struct Parts {
+struct ViewParts {
     table: u32,
     log: MatLog,
     groups: MatRows,
@@ -87,7 +87,7 @@ impl ViewState {
         Ok(ViewState {
             parts: Arc::new(
                 alloc,
-                Parts {
+                ViewParts {
                     table,
                     log,
                     groups,

@@ -6,11 +6,11 @@ ghost use Rattle.ts_model.specs.Roster.{view_of};
 ghost use Rattle.engine_state.specs.Nexts.{WindowIs};
 ghost use Rattle.engine_state.specs.Stands.{Stands};
 
-use crate::parts::Parts;
+use crate::parts::StateParts;
 use event_check::window;
 use ts_model::Window;
 
-impl Parts {
+impl StateParts {
     /// The buckets that a refresh of an aggregate covers whose window is from `lo` on and below `hi`.
     pub(crate) fn window(&self, view: u32, lo: Option<i64>, hi: Option<i64>) -> Window
         requires stands { Stands self.now }

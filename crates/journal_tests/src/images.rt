@@ -10,7 +10,7 @@ const TABLE: [u8; 13] = [1, 1, 0x6d, 2, 4, 0x74, 0x69, 0x6d, 0x65, 1, 1, 0x76, 0
 
 /// What differs between images of a hypertable and an aggregate over buckets of 10.
 #[derive(Clone, Copy)]
-struct Parts {
+struct ImageParts {
     pos: u64,
     /// The bucket of the saved group.
     start: i64,
@@ -23,7 +23,7 @@ struct Parts {
 
 /// An image with buckets from 100 to 200 refreshed, bucket 110 dirty, one refresh that waits and one that
 /// was finished.
-const PARTS: Parts = Parts {
+const PARTS: ImageParts = ImageParts {
     pos: 9,
     start: 110,
     mark: 200,
@@ -52,7 +52,7 @@ fn put_roster(alloc: Global, out: &mut Vec<u8>) -> Result<(), Fail> {
     put_event(out, 40, view.as_slice())
 }
 
-fn put_view(out: &mut Vec<u8>, parts: Parts) -> Result<(), Fail> {
+fn put_view(out: &mut Vec<u8>, parts: ImageParts) -> Result<(), Fail> {
     put_four(out, 1)?;
     put_signed(out, 100)?;
     put_signed(out, 200)?;
@@ -75,7 +75,7 @@ fn put_view(out: &mut Vec<u8>, parts: Parts) -> Result<(), Fail> {
     Ok(())
 }
 
-fn bytes_of(alloc: Global, parts: Parts) -> Result<Vec<u8>, Fail> {
+fn bytes_of(alloc: Global, parts: ImageParts) -> Result<Vec<u8>, Fail> {
     let mut out = Vec::new(alloc);
     out.push(8)?;
     put_eight(&mut out, parts.pos)?;
@@ -94,7 +94,7 @@ fn bytes_of(alloc: Global, parts: Parts) -> Result<Vec<u8>, Fail> {
     Ok(out)
 }
 
-fn is_refused(rt: &impl Abort, alloc: Global, parts: Parts) -> Result<(), Fail> {
+fn is_refused(rt: &impl Abort, alloc: Global, parts: ImageParts) -> Result<(), Fail> {
     let bytes = bytes_of(alloc, parts)?;
     assert!(rt; read(alloc, bytes.as_slice()) == ReadImage::BadImage);
     Ok(())
@@ -117,25 +117,25 @@ fn a_valid_image_is_read(rt: HostRuntime) -> Result<(), Fail> {
 #[test]
 fn no_other_image_is_read(rt: HostRuntime) -> Result<(), Fail> {
     let cases = [
-        Parts { pos: 6, ..PARTS },
-        Parts {
+        ImageParts { pos: 6, ..PARTS },
+        ImageParts {
             pos: 4_611_686_018_427_387_905,
             ..PARTS
         },
-        Parts {
+        ImageParts {
             start: 120,
             ..PARTS
         },
-        Parts {
+        ImageParts {
             start: 111,
             ..PARTS
         },
-        Parts { mark: 110, ..PARTS },
-        Parts { mark: 201, ..PARTS },
-        Parts { cut: 10, ..PARTS },
-        Parts { cut: 0, ..PARTS },
-        Parts { cut: 5, ..PARTS },
-        Parts { done: 6, ..PARTS },
+        ImageParts { mark: 110, ..PARTS },
+        ImageParts { mark: 201, ..PARTS },
+        ImageParts { cut: 10, ..PARTS },
+        ImageParts { cut: 0, ..PARTS },
+        ImageParts { cut: 5, ..PARTS },
+        ImageParts { done: 6, ..PARTS },
     ];
     for parts in cases {
         is_refused(&rt, rt.alloc(), parts)?;
