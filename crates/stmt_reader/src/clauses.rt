@@ -103,9 +103,27 @@ impl Reader<'_> {
     {
         let mut rows = CellRows::new(self.alloc());
         let room = Seq::new(self.alloc());
+        let begin = self.read_len();
         let values = self.row(room)?;
         rows.push(values.items())?;
+        self.make_room(begin, &mut rows, values.len())?;
         self.more_rows(rows, values)
+    }
+
+    /// Makes room for as many rows of so many values as there may be in what is left of the text, where all of
+    /// them are as long as the one that begins there.
+    fn make_room(
+        &self,
+        begin: usize,
+        rows: &mut CellRows<Option<i64>>,
+        count: usize,
+    ) -> Result<(), NoMemory>
+        ensures { rows.new ≡ rows.old }
+    {
+        let end = self.read_len();
+        let left = self.text().len().saturating_sub(end);
+        let more = left / end.saturating_sub(begin).max(1);
+        rows.reserve(more, more.saturating_mul(count))
     }
 
     /// Reads one more row each time a comma comes next. The memory of `room` takes the values of each in turn.

@@ -358,8 +358,9 @@ fn lone_mark(text: &[u8], skip: usize) -> Option<Mark>
     }
 }
 
-/// What comes after the blanks that stand there.
-#[inline]
+/// What comes after the blanks that stand there. It stays a function of its own, so that what looks for a mark
+/// stays short.
+#[inline(never)]
 fn look_behind_blanks(text: &[u8], skip: usize) -> Ahead<'_>
     requires within { skip ≤ length text.now }
     ensures next { view_ahead result ≡ seen_next (spec.next text.now skip) }
