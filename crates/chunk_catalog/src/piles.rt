@@ -24,8 +24,9 @@ use ts_schema::{NoMemory, Row, Seq, Steps, Test};
 /// Segments that together have at most so many versions are joined in any case.
 const FEW: u64 = 16;
 
-/// No joined segment has more versions.
-const MANY: u64 = 1024;
+/// No joined segment has more versions. With so many a segment costs a scan little beside its rows, and to join
+/// larger ones would copy each row again, and keep where each was born.
+const MANY: u64 = 128;
 
 /// Segments in order. Contracts see their versions, and how many levels there are.
 #[cycle(pile)]
