@@ -1,11 +1,15 @@
 -- Going over a list by a place and what is left.
-use Rattle.std.proofs.Common.{◌≡◌, ◌∙◌, refl, ap, sym, arith, ℕ, ℤ, ◌+◌, ◌<◌, List, [], ◌∷◌, length, take, drop, get_or, nat_le, Bool, ◌&&◌, Option, None, ◌⊎◌, inl, inr}
-use Rattle.std.proofs.lemmas.List.{drop_more, take_more}
+use Rattle.std.proofs.Common.{◌≡◌, ◌∙◌, refl, ap, sym, subst, arith, ℕ, ℤ, ◌+◌, ◌<◌, List, [], ◌∷◌, length, take, drop, get_or, ◌-◌, ◌≤◌, ◌++◌, nat_le, Bool, ◌&&◌, Option, None, ◌⊎◌, inl, inr}
+use Rattle.std.proofs.lemmas.List.{append_assoc, drop_more, take_more, length-drop, length-append, length-map, drop-drop}
+use Rattle.std.proofs.Math.Seq.{take-append_seam, drop-append_seam}
 use Rattle.ts_schema.specs.declared.columns.Column.{Column}
 use Rattle.stmt_check.specs.Refusals.{◌⊳◌, marked, missing, refused}
 use Rattle.stmt_check.specs.Tables.{columns_refusal, is_among, is_column}
-use Rattle.stmt_check.specs.Rows.{list_refusal, values_refusal}
+use Rattle.stmt_check.specs.Rows.{list_refusal, others_of, picked, row_of, rows_of, values_refusal}
 use Rattle.stmt_check.specs.declared.inserts.Rule.{Rule}
+use Rattle.stmt_check.specs.declared.inserts.Shape.{Shape}
+use Rattle.std.specs.List.{flat_map}
+use Rattle.ts_schema.specs.declared.rows.Row.{Row}
 use Rattle.ts_catalog.specs.Columns.{column_from}
 use Rattle.ts_model.specs.declared.tables.TableInfo.{TableInfo}
 use Rattle.stmt_syntax.specs.declared.statements.NamedAgg.{NamedAgg}
@@ -48,3 +52,40 @@ no_value_left pos (rule ∷ rules) (value ∷ values) none =
       | inl first ↦ absurd (omega (arith, first))
       | inr second ↦ absurd (omega (arith, second))
     ]
+
+-- ---- parts of a block
+
+-- what stands in front of what is left of a block, and what is left behind it
+pub record IsPart {X : Type 0} (block part rest : List X) (from to : ℕ) : Type 0 where
+  pub order : from ≤ to
+  pub within : to ≤ length block
+  pub items : take (to - from) (drop from block) ≡ part
+  pub left : drop to block ≡ rest
+
+pub next_part : {X : Type 0} (block part rest : List X) (from : ℕ) → from ≤ length block → drop from block ≡ part ++ rest → IsPart block part rest from (from + length part)
+next_part block part rest from le h =
+    let have : length (drop from block) ≡ length block - from = length-drop from block in
+    let sum : length (drop from block) ≡ length part + length rest = ap length h ∙ length-append part rest in
+    let size : from + length part - from ≡ length part = omega arith in
+    record {
+      order = omega arith;
+      within = omega (arith, have, sum);
+      items = ap (λ n. take n (drop from block)) size ∙ ap (take (length part)) h ∙ take-append_seam part rest;
+      left = sym (drop-drop (length part) from block) ∙ ap (drop (length part)) h ∙ drop-append_seam part rest;
+    }
+
+-- the values of the next row stand in front of what is left of the block
+pub next_values : (shape : Shape) (block : List (Option ℤ)) (rows : List (List (Option ℤ))) (values : List (Option ℤ)) (rest : List (List (Option ℤ))) (from n : ℕ) → from ≤ length block → drop from block ≡ flat_map (others_of shape) rows → rows ≡ values ∷ rest → n ≡ length shape.others → IsPart block (others_of shape values) (flat_map (others_of shape) rest) from (from + n)
+next_values shape block rows values rest from n le left first count =
+    let size : n ≡ length (others_of shape values) = count ∙ sym (length-map shape.others (picked values)) in
+    subst (λ k. IsPart block (others_of shape values) (flat_map (others_of shape) rest) from (from + k)) (sym size)
+    (next_part block (others_of shape values) (flat_map (others_of shape) rest) from le (left ∙ ap (flat_map (others_of shape)) first))
+
+-- one row more is made, and one less is left
+pub row_made : (shape : Shape) (made new all : List Row) (rows : List (List (Option ℤ))) (values : List (Option ℤ)) (rest : List (List (Option ℤ))) (row : Row) → made ++ rows_of shape rows ≡ all → rows ≡ values ∷ rest → row ≡ row_of shape.time shape.others values → new ≡ made ++ row ∷ [] → new ++ rows_of shape rest ≡ all
+row_made shape made new all rows values rest row before first is more =
+    ap (λ n. n ++ rows_of shape rest) more
+    ∙ append_assoc made (row ∷ []) (rows_of shape rest)
+    ∙ ap (λ r. made ++ r ∷ rows_of shape rest) is
+    ∙ ap (λ rs. made ++ rows_of shape rs) (sym first)
+    ∙ before

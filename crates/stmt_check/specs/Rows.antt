@@ -100,6 +100,10 @@ abbrev pub time_place : ℕ → Option (List (List ℕ)) → ℕ → List Column
 time_place at names k [] = None
 time_place at names k (c ∷ cs) = if at == k then place_in names k c else time_place at names (k + 1) cs
 
+-- the values of all columns but the time that values written in this order give
+abbrev pub others_of : Shape → List (Option ℤ) → List (Option ℤ)
+others_of shape values = map (picked values) shape.others
+
 -- the row that values written in the order of these names give
 abbrev pub row_of : Option ℕ → List (Option ℕ) → List (Option ℤ) → Row
 row_of time others values = record { at = unwrap_or (picked values time) (nonneg 0); vals = map (picked values) others }

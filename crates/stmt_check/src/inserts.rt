@@ -1,8 +1,9 @@
 //! Rows to be inserted.
-ghost use Rattle.std.specs.Prelude.{◌≡◌, ◌<◌, ◌^◌, ◌==◌, ◌||◌, [], ◌∷◌, ◌++◌, length, map, slice_index_or, None, IfOk};
+ghost use Rattle.std.specs.Prelude.{◌≡◌, ◌<◌, ◌^◌, ◌==◌, ◌||◌, [], ◌++◌, length, map, slice_index_or, None, IfOk};
+ghost use Rattle.std.specs.List.{flat_map};
 ghost use Rattle.ts_catalog.specs.Columns.{place_from};
 ghost use Rattle.stmt_check.specs.Results.{Checks, Passes};
-ghost use Rattle.stmt_check.specs.Rows.{blank_column, leaves_out, list_refusal, list_refusal_of, other_places, picked, place_in, row_of, row_refusal, rows_of, rows_refusal, rule_of, rules_from, shape_of, time_place, value_refusal, value_rules, values_refusal, ChecksRows};
+ghost use Rattle.stmt_check.specs.Rows.{blank_column, leaves_out, list_refusal, list_refusal_of, other_places, others_of, picked, place_in, row_of, row_refusal, rows_of, rows_refusal, rule_of, rules_from, shape_of, time_place, value_refusal, value_rules, values_refusal, ChecksRows};
 ghost use Rattle.stmt_check.specs.Tables.{is_among};
 
 use crate::actions::NotResolved;
@@ -10,6 +11,7 @@ use crate::limits::MAX_ROWS;
 use crate::refusals::{present, refuse_if, refuse_marked};
 use cell_rows::CellRows;
 use std::alloc::Global;
+use std::sync::Arc;
 use ts_bucket::{MAX_TIME, MIN_TIME};
 use ts_catalog::column_place;
 use ts_model::codes::{NAME_TAKEN, NO_COLUMN, NULL_VALUE, TOO_MANY, VALUE_COUNT};
@@ -307,50 +309,49 @@ fn make_rows(
 ) -> Result<Seq<Row>, NoMemory>
     ensures { IfOk result (λ made. made ≡ rows_of shape.now rows.now) }
 {
-    let others = other_values(alloc, shape, rows)?;
+    let block = Arc::new(alloc, Seq::of(other_values(alloc, shape, rows)?))?;
+    let _total = block.len();
     let mut made = Vec::with_capacity(alloc, rows.len())?;
-    for (values, vals) in rows.iter().zip(others.into_items()) {
+    let mut from = 0;
+    for values in rows.iter() {
+        let to = from + shape.others.len();
         made.push(Row {
             at: value_at(values, shape.time).unwrap_or(0),
-            vals,
+            vals: SharedSlice::part(&block, from, to)?,
         })?;
+        from = to;
     }
     Ok(Seq::of(made))
 }
 
-/// For each row the values of all columns but the time, in declared order.
+/// The values of all columns but the time, in declared order, one row after another.
 fn other_values(
     alloc: Global,
     shape: &Shape,
     rows: &CellRows<Option<i64>>,
-) -> Result<Seq<SharedSlice<Option<i64>>>, NoMemory>
-    ensures { IfOk result (λ others. others ≡ map (λ values. map (picked values) shape.now.others) rows.now) }
+) -> Result<Vec<Option<i64>>, NoMemory>
+    ensures { IfOk result (λ others. others.items ≡ flat_map (others_of shape.now) rows.now) }
 {
-    let count = rows.len();
-    let mut others = CellRows::new(alloc);
-    others.reserve(count, count.saturating_mul(shape.others.len()))?;
-    let mut cells = Vec::new(alloc);
+    let count = rows.len().saturating_mul(shape.others.len());
+    let mut others = Vec::with_capacity(alloc, count)?;
     for values in rows.iter() {
-        pick_others(shape, values, &mut cells, &mut others)?;
+        append_others(shape.others.items(), values, &mut others)?;
     }
-    others.into_shared(alloc)
+    Ok(others)
 }
 
-/// Appends a row of the values of all columns but the time, in declared order. It is made where there is room
-/// for cells, of which none stays.
-fn pick_others(
-    shape: &Shape,
+/// Appends the values at these places.
+fn append_others(
+    places: &[Option<usize>],
     values: &[Option<i64>],
-    cells: &mut Vec<Option<i64>>,
-    others: &mut CellRows<Option<i64>>,
+    others: &mut Vec<Option<i64>>,
 ) -> Result<(), NoMemory>
-    ensures { IfOk result (λ _. others.new ≡ others.old ++ map (picked values.now) shape.now.others ∷ []) }
+    ensures { IfOk result (λ _. others.new.items ≡ others.old.items ++ map (picked values.now) places.now) }
 {
-    cells.clear();
-    for place in shape.others.items() {
-        cells.push(value_at(values, *place))?;
+    for place in places {
+        others.push(value_at(values, *place))?;
     }
-    others.push(cells.as_slice())
+    Ok(())
 }
 
 /// The value at a place, or NULL where a column is left out.

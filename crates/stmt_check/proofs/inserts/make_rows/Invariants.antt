@@ -1,10 +1,12 @@
-use Rattle.std.proofs.Common.{◌≡◌, ◌++◌, map}
-use Rattle.std.specs.VecDeque.{deque_items}
-use Rattle.stmt_check.specs.Rows.{picked, rows_of}
+use Rattle.std.proofs.Common.{◌≡◌, ◌≤◌, ◌++◌, drop, length}
+use Rattle.std.specs.Arc.{arc_value}
+use Rattle.std.specs.List.{flat_map}
+use Rattle.stmt_check.specs.Rows.{others_of, rows_of}
 use Rattle.stmt_check.proofs.inserts.make_rows.Given as goal
 
--- the values that are left are those of the rows that are left, and with these the rows so far are all of them
+-- what is left of the block are the values of the rows that are left, and with these the rows so far are all of them
 abbrev pub invariant-loop-values : goal.invariant-loop-values
 invariant-loop-values l =
-    (deque_items l.values-iterator.b.rest ≡ map (λ values. map (picked values) l.fn.shape.others) l.values-iterator.a)
-    × (l.made.items ++ rows_of l.fn.shape l.values-iterator.a ≡ rows_of l.fn.shape l.fn.rows)
+    (l.from ≤ length (arc_value l.block))
+    × (drop l.from (arc_value l.block) ≡ flat_map (others_of l.fn.shape) l.values-iterator)
+    × (l.made.items ++ rows_of l.fn.shape l.values-iterator ≡ rows_of l.fn.shape l.fn.rows)

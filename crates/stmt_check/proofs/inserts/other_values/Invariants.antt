@@ -1,7 +1,8 @@
-use Rattle.std.proofs.Common.{◌≡◌, ◌++◌, map}
-use Rattle.stmt_check.specs.Rows.{picked}
+use Rattle.std.proofs.Common.{◌≡◌, ◌++◌}
+use Rattle.std.specs.List.{flat_map}
+use Rattle.stmt_check.specs.Rows.{others_of}
 use Rattle.stmt_check.proofs.inserts.other_values.Given as goal
 
--- the rows so far, and those of the rows that are left
+-- the values so far, and those of the rows that are left
 abbrev pub invariant-loop-values : goal.invariant-loop-values
-invariant-loop-values l = l.others ++ map (λ values. map (picked values) l.fn.shape.others) l.values-iterator ≡ map (λ values. map (picked values) l.fn.shape.others) l.fn.rows
+invariant-loop-values l = l.others.items ++ flat_map (others_of l.fn.shape) l.values-iterator ≡ flat_map (others_of l.fn.shape) l.fn.rows
