@@ -7,7 +7,7 @@ ghost use Rattle.stmt_reader.specs.Reading as spec;
 ghost use Rattle.stmt_reader.specs.declared.phrases.Separator.TheVariants as separators;
 
 use cell_rows::CellRows;
-use stmt_tokens::{Ahead, Mark, look, short_number_at};
+use stmt_tokens::{Ahead, Mark, lone_mark_at, look, short_number_at};
 use ts_schema::NoMemory;
 
 /// A value of a row, and the byte behind it.
@@ -40,6 +40,23 @@ fn value_behind(text: &[u8], skip: usize) -> Option<Value>
 /// The byte behind this mark, where it comes after the first `skip` bytes of a text.
 #[inline]
 fn mark_behind(text: &[u8], skip: usize, mark: Mark) -> Option<usize>
+    requires within { skip ≤ length text.now }
+    ensures here { IfSome result (λ _. heads (is_mark mark) (stream text.now skip) ≡ true) }
+    ensures behind { IfSome result (λ end. stream text.now end ≡ tail (stream text.now skip)) }
+    ensures within { IfSome result (λ end. end ≤ length text.now) }
+{
+    let Some(found) = lone_mark_at(text, skip) else {
+        return mark_behind_blanks(text, skip, mark);
+    };
+    if !found.mark.is(mark) {
+        return None;
+    }
+    Some(found.end)
+}
+
+/// The same, wherever the mark stands. It stays a function of its own, since marks seldom stand so.
+#[inline(never)]
+fn mark_behind_blanks(text: &[u8], skip: usize, mark: Mark) -> Option<usize>
     requires within { skip ≤ length text.now }
     ensures here { IfSome result (λ _. heads (is_mark mark) (stream text.now skip) ≡ true) }
     ensures behind { IfSome result (λ end. stream text.now end ≡ tail (stream text.now skip)) }

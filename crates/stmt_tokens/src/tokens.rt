@@ -82,6 +82,14 @@ impl Mark {
         self as u8
     }
 
+    /// Whether it is this mark.
+    #[inline]
+    pub fn is(self, mark: Mark) -> bool
+        ensures { result ≡ is_mark mark (seen.mark self) }
+    {
+        self.number() == mark.number()
+    }
+
     /// The comparison that it stands for.
     pub fn comparison(self) -> Option<Cmp>
         ensures { result ≡ comparison_of_mark self }
@@ -143,7 +151,7 @@ impl<'a> Token<'a> {
         ensures { result ≡ is_mark mark (view self.entry) }
     {
         match self {
-            Token::Mark(own) => own.number() == mark.number(),
+            Token::Mark(own) => own.is(mark),
             Token::Word(_) | Token::Number(_) | Token::Quoted(_) => false,
         }
     }
@@ -313,15 +321,43 @@ pub fn look(text: &[u8], skip: usize) -> Ahead<'_>
     ensures next { view_ahead result ≡ seen_next (spec.next text.now skip) }
     ensures fits { SeenFits skip (length text.now) (view_ahead result) }
 {
-    let begin = past_space(text, skip);
-    match lone_mark(text, begin) {
-        Some(mark) => Ahead::Token {
+    match lone_mark_at(text, skip) {
+        Some(MarkAt { mark, begin, end }) => Ahead::Token {
             token: Token::Mark(mark),
             begin,
-            end: begin + 1,
+            end,
         },
-        None => look_behind_blanks(text, begin),
+        None => look_behind_blanks(text, skip),
     }
+}
+
+/// A mark, and where it stands. The bytes count from 0.
+#[derive(Clone, Copy, Debug)]
+pub struct MarkAt {
+    pub mark: Mark,
+    /// Its first byte.
+    pub begin: usize,
+    /// The byte behind it.
+    pub end: usize,
+}
+
+/// The mark that comes after the first `skip` bytes of a text, where one space or none stands before it and its byte
+/// begins no longer one. Most marks are such. `None` says nothing.
+#[inline]
+pub fn lone_mark_at(text: &[u8], skip: usize) -> Option<MarkAt>
+    requires within { skip ≤ length text.now }
+    ensures next { IfSome result (λ m. seen.token (seen.mark m.mark) m.begin m.end
+        ≡ seen_next (spec.next text.now skip)) }
+    ensures behind { IfSome result (λ m. (skip ≤ m.begin) × (m.begin < m.end)) }
+    ensures within { IfSome result (λ m. m.end ≤ length text.now) }
+{
+    let begin = past_space(text, skip);
+    let mark = lone_mark(text, begin)?;
+    Some(MarkAt {
+        mark,
+        begin,
+        end: begin + 1,
+    })
 }
 
 /// The byte behind the space that stands directly after the first `skip` bytes, or `skip` where none does.
