@@ -10,4 +10,5 @@ pub mod Parts
 pub mod RowGroups
 pub mod ScanLaws
 pub mod Scratches
+pub mod Starts
 pub mod Steps

@@ -1,8 +1,9 @@
 -- Groups in no order, as rows are taken in.
-use Rattle.std.specs.Prelude.{◌≡◌, ◌+◌, ◌^◌, ◌<◌, ◌≤◌, ℕ, suc, max, length, slice_index_or, List, [], ◌∷◌, ◌++◌}
+use Rattle.std.specs.Prelude.{◌≡◌, ◌+◌, ◌^◌, ◌<◌, ◌≤◌, ℕ, suc, max, length, slice_index_or, ℤ, ◌≤ℤ◌, IsTrue, List, [], ◌∷◌, ◌++◌}
 use Rattle.std.specs.List.{AllByRecursion}
 use Rattle.std.specs.declared.cmp.Ordering.TheVariants.{Equal}
 use Rattle.ts_schema.specs.declared.rows.Row.{Row}
+use Rattle.ts_bucket.specs.Bucket.{WidthValue, is_bucket, max_time}
 use Rattle.ts_model.specs.declared.views.Fold.{Fold}
 use Rattle.partial_agg.specs.declared.groups.Group.{Group}
 use Rattle.partial_agg.specs.Groups.{group_cmp}
@@ -14,6 +15,10 @@ use Rattle.group_fold.specs.Merging.{with_group, with_groups}
 -- groups of no order put in order, where those of the same bucket and keys are merged
 abbrev pub ordered : List Group → List Group
 ordered groups = with_groups groups []
+
+-- the bucket of a time starts here, or one before all times
+abbrev pub IsStart : WidthValue → ℤ → Type 0
+IsStart w b = IsTrue (is_bucket w b) × (b ≤ℤ max_time)
 
 -- a group of the same bucket and keys stands at a place
 pub record IsAt (g : Group) (groups : List Group) (at : ℕ) : Type 0 where

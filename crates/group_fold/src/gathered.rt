@@ -1,17 +1,17 @@
 //! Groups as rows are taken in.
-ghost use Rattle.std.specs.Prelude.{◌≡◌, ◌≤◌, [], IfErr, IfOk, IsTrue, OnOk, length};
+ghost use Rattle.std.specs.Prelude.{◌≡◌, ◌≤◌, ◌≤ℤ◌, [], IfErr, IfOk, IsTrue, OnOk, length};
 ghost use Rattle.std.specs.List.{insert};
 ghost use Rattle.ts_schema.specs.declared.rows.Row.{Row};
-ghost use Rattle.ts_bucket.specs.Bucket.{IsWidth, is_time};
+ghost use Rattle.ts_bucket.specs.Bucket.{IsWidth, bucket_of, holds, is_time, max_time};
 ghost use Rattle.group_fold.specs.Grouping.{AreTimes, row_at};
-ghost use Rattle.group_fold.specs.Gathering.{HasRoom, IsAt, Takes, TakesAll};
+ghost use Rattle.group_fold.specs.Gathering.{HasRoom, IsAt, IsStart, Takes, TakesAll};
 
 use crate::members::{add_to, alone, is_of};
 use crate::near_places::place_of;
 use partial_agg::Group;
 use std::alloc::Global;
 use std::collections::HashMap;
-use ts_bucket::bucket;
+use ts_bucket::{Width, bucket, first};
 use ts_model::Fold;
 use ts_schema::{NoMemory, Row, field, passes};
 
@@ -64,21 +64,29 @@ impl Gathered {
         requires room { HasRoom (length rows.now) plan.now self.old.groups.items }
         ensures { OnOk result (TakesAll plan.now rows.now self.old.groups.items self.new.groups.items) }
     {
+        let mut start = first(plan.width);
         for row in rows {
+            start = start_near(plan.width, start, row.at);
             if passes(row, &plan.tests) {
-                self.take_row(alloc, plan, row)?;
+                self.take_row(alloc, plan, row, start)?;
             }
         }
         Ok(())
     }
 
-    /// Takes a row in: into the group of its bucket and keys, or as a group of its own.
-    fn take_row(&mut self, alloc: Global, plan: &Fold, row: &Row) -> Result<(), NoMemory>
-        requires time { IsTrue (is_time row.now.at) }
+    /// Takes a row in, whose bucket starts at `start`: into the group of its bucket and keys, or as a group
+    /// of its own.
+    fn take_row(
+        &mut self,
+        alloc: Global,
+        plan: &Fold,
+        row: &Row,
+        start: i64,
+    ) -> Result<(), NoMemory>
+        requires start { start ≡ bucket_of plan.now.width row.now.at }
         requires room { HasRoom 1 plan.now self.old.groups.items }
         ensures { OnOk result (Takes plan.now row.now self.old.groups.items self.new.groups.items) }
     {
-        let start = bucket(plan.width, row.at);
         self.note_if_astray()?;
         match self.find(plan, row, start) {
             Ok(at) => {
@@ -161,6 +169,30 @@ impl Gathered {
         }
         Ok(())
     }
+}
+
+/// The start of the bucket of a time, beside the start of some bucket. Where that is its own, as most often that
+/// of the row before, nothing is divided.
+fn start_near(width: Width, near: i64, at: i64) -> i64
+    requires width { IsWidth width }
+    requires near { IsStart width near }
+    requires time { IsTrue (is_time at) }
+    ensures start { result ≡ bucket_of width at }
+{
+    if is_held(width, near, at) {
+        near
+    } else {
+        bucket(width, at)
+    }
+}
+
+/// Whether the bucket that starts there holds a time.
+fn is_held(width: Width, start: i64, at: i64) -> bool
+    requires width { IsWidth width }
+    requires low { start ≤ℤ max_time }
+    ensures { result ≡ holds width start at }
+{
+    start <= at && at < start + width.step
 }
 
 /// How often rows have strayed, where a row's group is found at a place, after one that is the last.
