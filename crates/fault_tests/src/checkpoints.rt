@@ -5,7 +5,7 @@ use crate::script::SCRIPT;
 use std::sync::Wait;
 use std::test::Fail;
 use std::thread::Threads;
-use ts_disk::{Disk, FailDisk, Kind};
+use ts_disk::{Disk, DiskCall, FailDisk};
 use ts_top::Status;
 
 /// How many of the script's statements are run before, which make ten events.
@@ -66,7 +66,11 @@ fn goes_on<R: Threads + Wait + Sync + AllocGlobal>(rt: &R, bytes: &[u8]) -> Resu
 
 /// How many calls of a kind a checkpoint makes: it asks for the length once, and raises the version, writes
 /// its frame and opens the frame's gate by a write and a sync each.
-const SERIES: [(Kind, u64); 3] = [(Kind::Len, 1), (Kind::Write, 3), (Kind::Sync, 3)];
+const SERIES: [(DiskCall, u64); 3] = [
+    (DiskCall::Len, 1),
+    (DiskCall::Write, 3),
+    (DiskCall::Sync, 3),
+];
 
 #[test]
 fn each_call_of_the_disk_fails_in_turn(rt: HostRuntime) -> Result<(), Fail> {
@@ -100,7 +104,7 @@ fn each_call_of_the_disk_fails_in_turn(rt: HostRuntime) -> Result<(), Fail> {
 fn each_read_of_the_disk_fails_in_turn(rt: HostRuntime) -> Result<(), Fail> {
     let journal = journal(&rt)?;
     for nth in 1..100 {
-        let disk = FailDisk::new(rt.alloc(), journal.to_vec(rt.alloc())?, Kind::Read, nth);
+        let disk = FailDisk::new(rt.alloc(), journal.to_vec(rt.alloc())?, DiskCall::Read, nth);
         let ran = checkpoint(&rt, disk)?;
         if ran.disk.faults() == 0 {
             assert!(rt; ran.status == Status::Done && ran.text.as_slice() == SAVED);

@@ -5,7 +5,7 @@ use crate::script::SCRIPT;
 use std::sync::Wait;
 use std::test::Fail;
 use std::thread::Threads;
-use ts_disk::{FailDisk, Kind};
+use ts_disk::{DiskCall, FailDisk};
 use ts_top::Status;
 
 /// How many events were acknowledged before a call of the disk failed, and how many a read gives then.
@@ -29,29 +29,29 @@ fn runs_to<R: Threads + Wait + Sync + AllocGlobal>(
 
 /// A kind of call, how many statements were run before over the disk, with how many events, how many calls of
 /// the kind the header takes, and how many the run makes in all.
-type Series = (Kind, usize, usize, u64, u64);
+type Series = (DiskCall, usize, usize, u64, u64);
 
 /// A header and twelve events over an empty disk, and the last five of them over the journal of seven. Nothing
 /// is read of an empty disk.
 const SERIES: [Series; 8] = [
-    (Kind::Len, 0, 0, 0, 1),
-    (Kind::Read, 0, 0, 0, 0),
-    (Kind::Write, 0, 0, 1, 25),
-    (Kind::Sync, 0, 0, 1, 25),
-    (Kind::Len, 6, 7, 0, 1),
-    (Kind::Read, 6, 7, 0, 16),
-    (Kind::Write, 6, 7, 0, 10),
-    (Kind::Sync, 6, 7, 0, 10),
+    (DiskCall::Len, 0, 0, 0, 1),
+    (DiskCall::Read, 0, 0, 0, 0),
+    (DiskCall::Write, 0, 0, 1, 25),
+    (DiskCall::Sync, 0, 0, 1, 25),
+    (DiskCall::Len, 6, 7, 0, 1),
+    (DiskCall::Read, 6, 7, 0, 16),
+    (DiskCall::Write, 6, 7, 0, 10),
+    (DiskCall::Sync, 6, 7, 0, 10),
 ];
 
 /// What stands where this call fails, by its number behind the header. At the second sync of an event its gate
 /// was opened.
-fn counts_at(kind: Kind, before: usize, nth: u64) -> Counts {
+fn counts_at(kind: DiskCall, before: usize, nth: u64) -> Counts {
     let done = before.saturating_add(nth.saturating_sub(1) as usize / 2);
     match kind {
-        Kind::Len | Kind::Read => (before, before),
-        Kind::Write => (done, done),
-        Kind::Sync => (done, before.saturating_add(nth as usize / 2)),
+        DiskCall::Len | DiskCall::Read => (before, before),
+        DiskCall::Write => (done, done),
+        DiskCall::Sync => (done, before.saturating_add(nth as usize / 2)),
     }
 }
 

@@ -1,7 +1,7 @@
 //! A tick whose disk fails at the first event of what it runs.
 use crate::calls::{ALL, call};
 use std::test::Fail;
-use ts_disk::{FailDisk, Kind};
+use ts_disk::{DiskCall, FailDisk};
 use ts_top::Status;
 
 const INPUT: &[u8] = b"setup: CREATE TABLE m (time BIGINT NOT NULL, dev BIGINT, v BIGINT)
@@ -31,7 +31,7 @@ p: FAULT E24 stopped @4
 #[test]
 fn a_tick_meets_a_disk_that_fails(rt: HostRuntime) -> Result<(), Fail> {
     for (word, tick) in [("run", b"".as_slice()), ("par", TICK)] {
-        let disk = FailDisk::new(rt.alloc(), Vec::new(rt.alloc()), Kind::Sync, 10);
+        let disk = FailDisk::new(rt.alloc(), Vec::new(rt.alloc()), DiskCall::Sync, 10);
         let ran = call(&rt, word, INPUT, ALL, (0, 0), disk)?;
         let mut text = BEFORE.to_vec(rt.alloc())?;
         text.extend_from_slice(tick)?;

@@ -2,14 +2,14 @@
 use crate::runs::run_sessions;
 use par_run::ParStop;
 use std::test::Fail;
-use ts_disk::{FailDisk, Kind};
+use ts_disk::{DiskCall, FailDisk};
 use ts_model::{Backend, NoGate};
 use ts_store::{Started, Store};
 
 // The third sync is the last of those that put the first event on the disk.
 #[test]
 fn a_store_that_stopped_stands_still_for_all(rt: HostRuntime) -> Result<(), Fail> {
-    let disk = FailDisk::new(rt.alloc(), Vec::new(rt.alloc()), Kind::Sync, 3);
+    let disk = FailDisk::new(rt.alloc(), Vec::new(rt.alloc()), DiskCall::Sync, 3);
     let Started::Ready(store) = Store::start(&rt, rt.alloc(), disk) else {
         return Err("no store".into());
     };

@@ -10,7 +10,7 @@ use Rattle.ts_sessions.specs.declared.deeds.Next.{Next}
 use Rattle.ts_sessions.specs.declared.deeds.Next.TheVariants as nexts
 use Rattle.ts_sessions.specs.declared.deeds.Deed.TheVariants as deeds
 use Rattle.ts_sessions.specs.declared.deeds.Finishing.TheVariants as finishing
-use Rattle.ts_sessions.specs.declared.endings.Held.TheVariants as held
+use Rattle.ts_sessions.specs.declared.endings.HeldJob.TheVariants as held
 use Rattle.ts_sessions.specs.declared.sessions.Session.{Session}
 use Rattle.ts_sessions.specs.Deeds.{Leads, Takes, taken_next, without_entry}
 use Rattle.ts_sessions.specs.Held.{Carries, GoesOn, HoldsOf, is_lost, places_in, positions}

@@ -166,7 +166,9 @@ impl<D: Disk> Recorder<D> {
         ensures { result ≡ self.journal.disk }
     {
         let Recorder {
-            engine, journal, ..
+            engine,
+            journal,
+            ..
         } = self;
         forget(engine);
         journal.close()

@@ -40,7 +40,7 @@ pub(crate) enum Replayed<D: Disk> {
 
 /// What became of a payload.
 #[derive(Clone, Copy)]
-pub(crate) enum Taken {
+pub(crate) enum Applied {
     /// Its event took effect, or its image took the place of what was there.
     Done,
     /// It is the bytes of no event that may come next, or of no valid image.
@@ -72,24 +72,24 @@ pub(crate) fn replay<R: Threads + Sync, D: Disk>(
     'events: loop {
         match reader.next() {
             Next::Base(at) => match take_base(alloc, &mut engine, reader.take_out(alloc)) {
-                Taken::Done => {}
-                Taken::NoEvent => {
+                Applied::Done => {}
+                Applied::NoEvent => {
                     return Replayed::Damaged {
                         disk: reader.close(),
                         at,
                     };
                 }
-                Taken::NoMemory => return Replayed::NoMemory(reader.close()),
+                Applied::NoMemory => return Replayed::NoMemory(reader.close()),
             },
             Next::Payload(at) => match take_payload(rt, alloc, &mut engine, reader.payload()) {
-                Taken::Done => {}
-                Taken::NoEvent => {
+                Applied::Done => {}
+                Applied::NoEvent => {
                     return Replayed::Damaged {
                         disk: reader.close(),
                         at,
                     };
                 }
-                Taken::NoMemory => return Replayed::NoMemory(reader.close()),
+                Applied::NoMemory => return Replayed::NoMemory(reader.close()),
             },
             Next::End => {
                 return Replayed::Ready {
@@ -110,7 +110,7 @@ pub(crate) fn replay<R: Threads + Sync, D: Disk>(
 }
 
 /// Puts the engine of a base's image in the place of another. The base's bytes are given back before it is made.
-fn take_base(alloc: Global, engine: &mut Engine, payload: Seq<u8>) -> Taken
+fn take_base(alloc: Global, engine: &mut Engine, payload: Seq<u8>) -> Applied
     ensures resumed { Resumes result payload engine.new.past }
 {
     let found = read(alloc, payload.items());
@@ -119,12 +119,12 @@ fn take_base(alloc: Global, engine: &mut Engine, payload: Seq<u8>) -> Taken
         ReadImage::Image(image) => match Engine::from_image(alloc, image, &mut Steps::new(())) {
             Ok(made) => {
                 *engine = made;
-                Taken::Done
+                Applied::Done
             }
-            Err(NoMemory) => Taken::NoMemory,
+            Err(NoMemory) => Applied::NoMemory,
         },
-        ReadImage::BadImage => Taken::NoEvent,
-        ReadImage::NoMemory => Taken::NoMemory,
+        ReadImage::BadImage => Applied::NoEvent,
+        ReadImage::NoMemory => Applied::NoMemory,
     }
 }
 
@@ -134,30 +134,30 @@ fn take_payload<R: Threads + Sync>(
     alloc: Global,
     engine: &mut Engine,
     payload: &[u8],
-) -> Taken
+) -> Applied
     requires sync { IsSync R.row }
     ensures taken { Takes result payload.now engine.old.past engine.new.past }
 {
     match decode(alloc, payload) {
         Decoded::Event(event) => take_event(rt, engine, event),
-        Decoded::BadEvent(_) => Taken::NoEvent,
-        Decoded::NoMemory => Taken::NoMemory,
+        Decoded::BadEvent(_) => Applied::NoEvent,
+        Decoded::NoMemory => Applied::NoMemory,
     }
 }
 
 /// Lets an event take effect, where it is allowed next.
-fn take_event<R: Threads + Sync>(rt: &R, engine: &mut Engine, event: Event) -> Taken
+fn take_event<R: Threads + Sync>(rt: &R, engine: &mut Engine, event: Event) -> Applied
     requires sync { IsSync R.row }
     requires formed { IsFormed event }
     ensures taken { Takes result (spelling.event event) engine.old.past engine.new.past }
-    ensures memory { result ≡ Taken.NoMemory → IsTrue (allowed (history_of engine.old.past) event) }
+    ensures memory { result ≡ Applied.NoMemory → IsTrue (allowed (history_of engine.old.past) event) }
 {
     match engine.check(&event) {
         Ok(()) => match install(rt, engine, event) {
-            Ok(()) => Taken::Done,
-            Err(NoMemory) => Taken::NoMemory,
+            Ok(()) => Applied::Done,
+            Err(NoMemory) => Applied::NoMemory,
         },
-        Err(_) => Taken::NoEvent,
+        Err(_) => Applied::NoEvent,
     }
 }
 

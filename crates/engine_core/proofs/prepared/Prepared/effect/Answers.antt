@@ -9,6 +9,7 @@ told : PreparedValue → Committed
 told v = record { pos = v.moment.state.position; inserted = v.moment.inserted; removed = v.moment.removed }
 
 pub returns : goal.returns
+unfolding told
 returns c = record {
   effect = λ h prepared.
       let m = c.args.self.now.moment in
