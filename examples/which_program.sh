@@ -2,11 +2,11 @@
 # who they are, so that nothing is built here.
 set -uo pipefail
 said() { sed "s|$PWD|HERE|g"; }
-mkdir -p kit copy/bench copy/crates/tsctl/src
+mkdir -p kit copy/bench copy/crates/tsctl/src copy/crates/low/src copy/crates/apart/src
 cp -r "$TSCTL_TOP/bin" copy/
 echo "tsctl: low" >copy/crates.txt
-echo "low:" >>copy/crates.txt
-touch copy/crates/tsctl/src/main.rt copy/crates/tsctl/src/Lib.antt
+printf '%s:\n' low apart >>copy/crates.txt
+touch copy/crates/tsctl/src/main.rt copy/crates/tsctl/src/Lib.antt copy/crates/low/src/lib.rt copy/crates/apart/src/lib.rt
 cat >copy/bench/unproved <<'END'
 #!/bin/sh
 printf '#!/bin/sh\necho "without proofs: $*"\n' >"$1"
@@ -15,6 +15,10 @@ END
 cat >kit/rt <<'END'
 #!/bin/sh
 echo "$*" >>"$CALLS"
+# As the toolchain does, it asks for each crate that crates.txt names.
+for crate in $(cut -d: -f1 ../../crates.txt); do
+  [ -d "../$crate/src" ] || { echo "there is no folder ../$crate/src"; exit 1; }
+done
 case "$*" in
   "lib --jobs "*)
     echo "$SAYS"
