@@ -62,7 +62,8 @@ fn judge<R: Threads + Sync>(
     requires sync { IsSync R.row }
     requires allowed { IsTrue (all_allowed (history_of (record { base = base.now; events = events.now }))) }
     requires sound { IsTrue (is_sound transcript.now) }
-    ensures judged { IfOk result (Judges (history_of (record { base = base.now; events = events.now })) transcript.now) }
+    ensures judged { IfOk result
+        (Judges (history_of (record { base = base.now; events = events.now })) transcript.now) }
 {
     let end = end_of(base, events);
     if transcript.start < begun_at(base) || transcript.start > end {
@@ -93,7 +94,8 @@ fn judge_replies<R: Threads + Sync>(
     requires within { IsWithin (history_of (record { base = base.now; events = events.now })) transcript.now.start }
     requires no_policy { first_policy transcript.now.sessions ≡ None }
     requires end { end ≡ position (history_of (record { base = base.now; events = events.now })) }
-    ensures judged { IfOk result (Judges (history_of (record { base = base.now; events = events.now })) transcript.now) }
+    ensures judged { IfOk result
+        (Judges (history_of (record { base = base.now; events = events.now })) transcript.now) }
 {
     let start = transcript.start;
     let talks = transcript.sessions.items();

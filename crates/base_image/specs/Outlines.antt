@@ -58,7 +58,7 @@ with_rows events i =
 abbrev pub whole : (ℕ → List Row) → Outline → Image
 whole held outline = with_rows (commits held 0 (length outline.tallies)) outline.rest
 
--- what is there has no rows, and the rows of each table are so many
+-- the image that is there holds no rows, and of each of at most 64 tables it is told how many rows there are
 pub record IsOutline (held : ℕ → List Row) (outline : Outline) : Type 0 where
   pub no_rows : outline.rest.rows ≡ []
   pub tallied : outline.tallies ≡ tallies held 0 (length outline.tallies)

@@ -1,5 +1,5 @@
 //! Images: their bytes, and what bytes say.
-ghost use Rattle.std.specs.Prelude.{◌≡◌, ◌++◌, ◌∷◌, ◌==◌, ◌<◌, ◌^◌, true, length, IfOk, OnErr, OnOk};
+ghost use Rattle.std.specs.Prelude.{◌≡◌, ◌++◌, ◌∷◌, ◌==◌, ◌<◌, ◌^◌, true, length, IfOk, OnOk};
 ghost use Rattle.ts_model.specs.Valid.{valid};
 ghost use Rattle.event_codec.specs.Growing.{Grows};
 ghost use Rattle.event_codec.specs.Reading.{Gives, byte_where};
@@ -25,7 +25,8 @@ const IMAGE_KIND: u8 = 8;
 #[tactic(auto, using(event_codec::proofs::GrowthLaws::grows_on, std::proofs::lemmas::List::append_assoc))]
 fn put_refreshes(image: &Image, out: &mut Vec<u8>) -> Result<(), NoMemory>
     requires { IsWritable image.now }
-    ensures put { OnOk result (out.new.items ≡ out.old.items ++ (many waiting image.now.waiting ++ many finished image.now.done)) }
+    ensures put { OnOk result (out.new.items
+        ≡ out.old.items ++ (many waiting image.now.waiting ++ many finished image.now.done)) }
     ensures grows { Grows out.old.items out.new.items }
 {
     put_many(&image.waiting, out)?;
@@ -48,7 +49,8 @@ pub(crate) fn put_behind(image: &Image, out: &mut Vec<u8>) -> Result<(), NoMemor
 #[tactic(auto, using(event_codec::proofs::GrowthLaws::grows_by, event_codec::proofs::GrowthLaws::grows_on, std::proofs::lemmas::List::append_assoc))]
 pub(crate) fn put_front(image: &Image, out: &mut Vec<u8>) -> Result<(), NoMemory>
     requires { IsWritable image.now }
-    ensures put { OnOk result (out.new.items ≡ out.old.items ++ 8 ∷ (eight image.now.pos ++ many framed image.now.roster)) }
+    ensures put { OnOk result (out.new.items
+        ≡ out.old.items ++ 8 ∷ (eight image.now.pos ++ many framed image.now.roster)) }
     ensures grows { Grows out.old.items out.new.items }
 {
     out.push(IMAGE_KIND)?;
@@ -127,24 +129,6 @@ pub(crate) fn read_whole(reader: &mut Reader<'_>) -> Result<(Image, Roster), Rea
         return Err(ReadError::Bad);
     }
     Ok(found)
-}
-
-/// Appends the bytes of a valid image. Where memory runs out, the buffer is as before.
-#[tactic(auto, using(crate::proofs::WritableLaws::writable, event_codec::proofs::GrowthLaws::front_kept))]
-pub fn put_image_bytes(image: &Image, out: &mut Vec<u8>) -> Result<(), NoMemory>
-    requires valid { valid image.now ≡ true }
-    requires few { length (spelling.image image.now) < 2 ^ 32 }
-    ensures appended { OnOk result (out.new.items ≡ out.old.items ++ spelling.image image.now) }
-    ensures kept { OnErr result (out.new.items ≡ out.old.items) }
-{
-    let before = out.len();
-    match put_whole(image, out) {
-        Ok(()) => Ok(()),
-        Err(refused) => {
-            out.truncate(before);
-            Err(refused)
-        }
-    }
 }
 
 /// The bytes of a valid image.

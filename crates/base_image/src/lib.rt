@@ -29,7 +29,7 @@ mod views;
 mod waits;
 
 pub use answers::{ReadImage, read};
-pub use images::{put, put_image_bytes};
+pub use images::put;
 pub use outlines::{Outline, outline_of};
 pub use sizes::size;
 pub use states::Imaged;

@@ -1,10 +1,9 @@
 //! How many bytes an image has, or the last count of 64 bits where they are more.
 ghost use Rattle.std.specs.Prelude.{◌≡◌, ◌-◌, ◌^◌, ◌*◌, length, min, sum_by};
-ghost use Rattle.ts_model.specs.Bytes.{value_bytes};
 ghost use Rattle.base_image.specs.Counting.{framed_bytes, group_bytes, image_bytes, saved_bytes, sums_bytes};
 ghost use Rattle.base_image.specs.Spelling as spelling;
 
-use event_check::bytes_of;
+use event_check::{bytes_of, bytes_of_value, bytes_of_values};
 use ts_model::{Event, Image, SavedGroup, SavedView, Sums};
 
 /// A count of items with so many bytes each.
@@ -12,25 +11,6 @@ fn bytes_each(count: usize, each: u64) -> u64
     ensures { result ≡ min (each * count) (2 ^ 64 - 1) }
 {
     (count as u64).saturating_mul(each)
-}
-
-fn bytes_of_value(value: Option<i64>) -> u64
-    ensures { result ≡ value_bytes value }
-{
-    match value {
-        None => 1,
-        Some(_) => 9,
-    }
-}
-
-pub(crate) fn bytes_of_values(values: &[Option<i64>]) -> u64
-    ensures { result ≡ min (sum_by value_bytes values.now) (2 ^ 64 - 1) }
-{
-    let mut total = 0u64;
-    for value in values {
-        total = total.saturating_add(bytes_of_value(*value));
-    }
-    total
 }
 
 fn bytes_of_sums(sums: &Sums) -> u64

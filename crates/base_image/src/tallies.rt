@@ -2,15 +2,14 @@
 ghost use Rattle.std.specs.Prelude.{◌≡◌, ◌≤◌, ◌-◌, ◌^◌, ◌==◌, ◌++◌, [], length, List, min, not, sum_by, IfOk};
 ghost use Rattle.std.specs.List.{count_by};
 ghost use Rattle.ts_schema.specs.declared.rows.Row.{Row as RowValue};
-ghost use Rattle.ts_model.specs.Bytes.{row_bytes};
 ghost use Rattle.ts_model.specs.History.{History};
 ghost use Rattle.ts_model.specs.Roster.{roster};
 ghost use Rattle.ts_model.specs.Rows.{rows};
 ghost use Rattle.image_laws.specs.Images.{row_events};
 ghost use Rattle.base_image.specs.Outlines.{commit_bytes, commits, span_rows, tallies, tally_of};
 
-use crate::sizes::bytes_of_values;
 use crate::states::Imaged;
+use event_check::bytes_of_rows;
 use std::alloc::Global;
 use ts_bucket::Span;
 use ts_schema::{NoMemory, Row, Seq};
@@ -29,22 +28,6 @@ fn none() -> Tally
     ensures { result ≡ tally_of [] }
 {
     Tally { rows: 0, bytes: 0 }
-}
-
-fn bytes_of_row(row: &Row) -> u64
-    ensures { result ≡ min (row_bytes row.now) (2 ^ 64 - 1) }
-{
-    bytes_of_values(row.vals.items()).saturating_add(9)
-}
-
-fn bytes_of_rows(rows: &[Row]) -> u64
-    ensures { result ≡ min (sum_by row_bytes rows.now) (2 ^ 64 - 1) }
-{
-    let mut total = 0u64;
-    for row in rows {
-        total = total.saturating_add(bytes_of_row(row));
-    }
-    total
 }
 
 /// The same with more rows.

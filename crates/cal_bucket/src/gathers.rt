@@ -62,9 +62,11 @@ fn take_row<'a>(
     requires room { AreOfRows (2 ^ 64 - 2) (as_groups shape.now gathered.old.groups.items) }
     ensures names { NamesItsTimes plan.now.unit plan.now.number bucket.new }
     ensures groups { OnOk result (ordered (as_groups shape.now gathered.new.groups.items)
-        ≡ taken_in (cells_pass tests.now) (named_group plan.now shape.now) (row_cells row.entry) (ordered (as_groups shape.now gathered.old.groups.items))) }
+        ≡ taken_in (cells_pass tests.now) (named_group plan.now shape.now) (row_cells row.entry)
+        (ordered (as_groups shape.now gathered.old.groups.items))) }
     ensures gathered { OnOk result (AreGathered shape.now gathered.new) }
-    ensures few { (n : ℕ) → AreOfRows n (as_groups shape.now gathered.old.groups.items) → OnOk result (AreOfRows (n + 1) (as_groups shape.now gathered.new.groups.items)) }
+    ensures few { (n : ℕ) → AreOfRows n (as_groups shape.now gathered.old.groups.items)
+        → OnOk result (AreOfRows (n + 1) (as_groups shape.now gathered.new.groups.items)) }
 {
     let cells = RowCells::of(row, 0);
     if !passes(&cells, tests) {
@@ -88,7 +90,8 @@ fn take_words<'a>(
     ensures groups { OnOk result (ordered (as_groups shape.now gathered.new.groups.items)
         ≡ with_group (cells_at shape.now start cells.entry) (ordered (as_groups shape.now gathered.old.groups.items))) }
     ensures gathered { OnOk result (AreGathered shape.now gathered.new) }
-    ensures few { (n : ℕ) → AreOfRows n (as_groups shape.now gathered.old.groups.items) → OnOk result (AreOfRows (n + 1) (as_groups shape.now gathered.new.groups.items)) }
+    ensures few { (n : ℕ) → AreOfRows n (as_groups shape.now gathered.old.groups.items)
+        → OnOk result (AreOfRows (n + 1) (as_groups shape.now gathered.new.groups.items)) }
 {
     match gathered.take(alloc, shape, start, cells) {
         Ok(()) => Ok(()),

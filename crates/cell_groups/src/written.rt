@@ -111,7 +111,8 @@ impl<'a> WrittenGroups<'a> {
     fn begin(&mut self, shape: &Shape, next: CellGroup<'a>) -> Result<(), NoMemory>
         requires { AreRows self.old }
         ensures are_rows { OnOk result (AreRows self.new) }
-        ensures rows { OnOk result (rows_written self.new ≡ rows_written self.old ++ map (group_shown shape.now) (option_to_list self.old.last)) }
+        ensures rows { OnOk result (rows_written self.new
+            ≡ rows_written self.old ++ map (group_shown shape.now) (option_to_list self.old.last)) }
         ensures last { OnOk result (self.new.last ≡ Some next.entry) }
     {
         self.end(shape)?;
@@ -123,7 +124,8 @@ impl<'a> WrittenGroups<'a> {
     fn end(&mut self, shape: &Shape) -> Result<(), NoMemory>
         requires { AreRows self.old }
         ensures are_rows { OnOk result (AreRows self.new) }
-        ensures rows { OnOk result (rows_written self.new ≡ rows_written self.old ++ map (group_shown shape.now) (option_to_list self.old.last)) }
+        ensures rows { OnOk result (rows_written self.new
+            ≡ rows_written self.old ++ map (group_shown shape.now) (option_to_list self.old.last)) }
         ensures last { self.new.last ≡ self.old.last }
     {
         match &self.last {

@@ -1,4 +1,4 @@
-//! The bytes that an event takes in a journal, or the last count of 64 bits where it is more.
+//! The bytes that an event and its parts take in a journal, or the last count of 64 bits where they are more.
 ghost use Rattle.std.specs.Prelude.{◌≡◌, ◌-◌, ◌^◌, ◌*◌, ◌+◌, min, sum_by};
 ghost use Rattle.ts_model.specs.declared.events.Event.TheVariants.{Table, View};
 ghost use Rattle.ts_model.specs.Bytes.{event_bytes, fold_bytes, name_bytes, op_bytes, row_bytes, value_bytes};
@@ -39,7 +39,8 @@ fn bytes_of_columns(cols: &[Column]) -> u64
     total
 }
 
-fn bytes_of_value(value: Option<i64>) -> u64
+/// The bytes that a value takes, or NULL.
+pub fn bytes_of_value(value: Option<i64>) -> u64
     ensures { result ≡ value_bytes value }
 {
     match value {
@@ -48,7 +49,8 @@ fn bytes_of_value(value: Option<i64>) -> u64
     }
 }
 
-fn bytes_of_values(vals: &[Option<i64>]) -> u64
+/// The bytes that values take.
+pub fn bytes_of_values(vals: &[Option<i64>]) -> u64
     ensures { result ≡ min (sum_by value_bytes vals.now) (2 ^ 64 - 1) }
 {
     let mut total = 0u64;
@@ -64,7 +66,8 @@ fn bytes_of_row(row: &Row) -> u64
     bytes_of_values(row.vals.items()).saturating_add(9)
 }
 
-fn bytes_of_rows(rows: &[Row]) -> u64
+/// The bytes that rows take.
+pub fn bytes_of_rows(rows: &[Row]) -> u64
     ensures { result ≡ min (sum_by row_bytes rows.now) (2 ^ 64 - 1) }
 {
     let mut total = 0u64;

@@ -15,7 +15,7 @@ mod rosters;
 mod rows;
 mod windows;
 
-pub use bytes::bytes_of;
+pub use bytes::{bytes_of, bytes_of_rows, bytes_of_value, bytes_of_values};
 pub use cuts::span_is_fit;
 pub use events::{call_refusal, may_follow, refusal_of};
 pub use operations::op_is_fit;

@@ -1,11 +1,10 @@
 //! One row beside the groups: which is its own, and what it adds to it.
-ghost use Rattle.std.specs.Prelude.{◌≡◌, ◌-◌, ◌^◌, ◌<◌, [], ◌∷◌, true, IfOk, length};
+ghost use Rattle.std.specs.Prelude.{◌≡◌, ◌-◌, ◌^◌, ◌<◌, true, IfOk, length};
 ghost use Rattle.std.specs.List.{AllByRecursion};
 ghost use Rattle.std.specs.declared.cmp.Ordering.TheVariants.{Less, Equal};
 ghost use Rattle.ts_schema.specs.Rows.{values_cmp};
 ghost use Rattle.ts_model.specs.Scratch.{keys_of};
 ghost use Rattle.partial_agg.specs.Groups.{group_cmp};
-ghost use Rattle.partial_agg.specs.Summaries.{summary};
 ghost use Rattle.group_fold.specs.Grouping.{row_at, row_parts};
 ghost use Rattle.group_fold.specs.Merging.{joined_parts};
 ghost use Rattle.group_fold.specs.Gathering.{IsAt, IsBelow};
@@ -92,31 +91,9 @@ fn parts_alone(alloc: Global, aggs: &[Agg], row: &Row) -> Result<Vec<Partial>, N
 {
     let mut parts = Vec::with_capacity(alloc, aggs.len())?;
     for agg in aggs {
-        parts.push(part_alone(field(row, agg.col)))?;
+        parts.push(Partial::one(field(row, agg.col)))?;
     }
     Ok(parts)
-}
-
-/// The partial aggregate of one row.
-fn part_alone(value: Option<i64>) -> Partial
-    ensures { result ≡ summary (value ∷ []) }
-{
-    match value {
-        None => Partial {
-            count: 1,
-            values: 0,
-            sum: 0,
-            least: None,
-            most: None,
-        },
-        Some(value) => Partial {
-            count: 1,
-            values: 1,
-            sum: i128::from(value),
-            least: Some(value),
-            most: Some(value),
-        },
-    }
 }
 
 /// Takes a row into its group.

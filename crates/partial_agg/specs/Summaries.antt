@@ -63,7 +63,7 @@ shown Min s = shown_or_null s.least
 shown Max s = shown_or_null s.most
 shown Avg s = mean_shown s.values s.sum
 
--- the whole number that a cell shows, None for NULL
+-- the whole number that a cell shows, None for NULL and for a mean
 abbrev pub value_of : Datum → Option ℤ
 value_of Null = None
 value_of (Int v) = Some v

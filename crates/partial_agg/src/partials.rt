@@ -48,8 +48,8 @@ impl Partial {
         }
     }
 
-    /// The partial aggregate of one row.
-    fn one(v: Option<i64>) -> Partial
+    /// The partial aggregate of one row, with this value.
+    pub fn one(v: Option<i64>) -> Partial
         ensures { result ≡ summary (v ∷ []) }
     {
         match v {

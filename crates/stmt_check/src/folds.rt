@@ -92,7 +92,8 @@ pub(crate) fn check_calendar(
     fold: &NamedFold,
 ) -> Result<(u32, Fold), NotResolved>
     requires { length info.now.def.cols < 2 ^ 32 }
-    ensures { Checks (calendar_refusal pos info.now number unit.now fold.now) (unwrap_or (unit_count number) 0, calendar_of info.now fold.now) result }
+    ensures { Checks (calendar_refusal pos info.now number unit.now fold.now)
+        (unwrap_or (unit_count number) 0, calendar_of info.now fold.now) result }
 {
     let number = check_units(pos, info, number, unit, fold)?;
     let Rest { keys, aggs, tests } = check_rest(
