@@ -13,9 +13,10 @@ use Rattle.stmt_check.specs.declared.actions.Action.{Action}
 use Rattle.hier_agg.specs.declared.reads.UpperRead.TheVariants.{NotUpper}
 use Rattle.hier_agg.specs.Reads.{upper_read}
 use Rattle.ts_model.specs.Numbers.{line_long}
+use Rattle.stmt_syntax.specs.Limits.{longest_line}
 use Rattle.ts_sessions.specs.Places.{Places, Turn, none}
 use Rattle.ts_sessions.specs.Procedures.{Procedure, looks}
-use Rattle.ts_sessions.specs.Script.{LineResult, ScriptState, executes, executes_as, executes_kind, line_limit, places_of, refused_line, session_semantics, takes_turn}
+use Rattle.ts_sessions.specs.Script.{LineResult, ScriptState, executes, executes_as, executes_kind, places_of, refused_line, session_semantics, takes_turn}
 use Rattle.ts_sessions.specs.Step.{acts, block_refusal, kind_of, named, named_as, named_first, named_here, read_at, refusal_outside, step, as_read, passes_block, performs, unless}
 use Rattle.ts_sessions.proofs.NamedLaws.{performs_holds}
 use Rattle.demo_laws.specs.ActLaws.{HasPlaces, IsItsStatement, LinesAct, LinesAreStatements, demo_session}
@@ -92,7 +93,7 @@ line_acts demo n line s p is finds here outside =
       asks = ap (λ r. action_of r (stmt_of demo line)) finds ∙ is.asks;
     }
     in
-    ap (λ t. cond t (refused_line s n line_long) (executes_kind session_semantics s n text (line_kind text))) (le-ltb line_limit (length text) is.within)
+    ap (λ t. cond t (refused_line s n line_long) (executes_kind session_semantics s n text (line_kind text))) (le-ltb longest_line (length text) is.within)
     ∙ ap (executes_kind session_semantics s n text) is.kind
     ∙ ap (λ t. executes_as session_semantics s (session_name text 1 2) t 2 (places_of (session_name text 1 2) s.sessions)) (take-length text)
     ∙ ap (λ name. executes_as session_semantics s name text 2 (places_of name s.sessions)) is.session

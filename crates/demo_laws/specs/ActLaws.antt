@@ -1,13 +1,14 @@
 -- The laws: each line of a demonstration is its statement, which is not refused, and does its action.
 use Rattle.std.specs.Prelude.{◌≡◌, ℕ, ◌≤◌, ◌⊎◌, List, [], ◌∷◌, length, codes, None, Ok}
 use Rattle.ts_model.specs.Roster.{roster}
+use Rattle.stmt_syntax.specs.Limits.{longest_line}
 use Rattle.stmt_tokens.specs.Lines.{line_kind, session_name}
 use Rattle.stmt_reader.specs.Reading.{statement}
 use Rattle.stmt_tokens.specs.Streams.{Stream, stream}
 use Rattle.stmt_tokens.specs.declared.lines.LineKind.TheVariants.{Stmt}
 use Rattle.stmt_check.specs.Check.{action_of, refusal_of}
 use Rattle.ts_sessions.specs.Places.{Places, none, no_places}
-use Rattle.ts_sessions.specs.Script.{ScriptState, executes, line_limit, session_semantics, takes_turn}
+use Rattle.ts_sessions.specs.Script.{ScriptState, executes, session_semantics, takes_turn}
 use Rattle.ts_sessions.specs.Step.{acts, kind_of, refusal_outside}
 use Rattle.demo_script.specs.Lines.{IsInRound, text_of}
 use Rattle.demo_script.specs.declared.lines.Line.{Line}
@@ -24,7 +25,7 @@ demo_session = codes "d"
 pub record IsItsStatement (demo : ℕ) (line : Line) : Type 0 where
   pub kind : line_kind (text_of demo line) ≡ Stmt 1 2 (length (text_of demo line))
   pub session : session_name (text_of demo line) 1 2 ≡ demo_session
-  pub within : length (text_of demo line) ≤ line_limit
+  pub within : length (text_of demo line) ≤ longest_line
   pub rest : Stream
   pub read : statement (stream (text_of demo line) 2) ≡ Ok (stmt_of demo line, rest)
   pub outside : refusal_outside (kind_of (stmt_of demo line)) ≡ None

@@ -9,7 +9,7 @@ use Rattle.ts_model.specs.Allowed.{all_allowed}
 use Rattle.ts_model.specs.History.{History, resumed, ◌▸▸◌, same}
 use Rattle.ts_model.proofs.HistoryLaws.{begins_followed, followed_append}
 use Rattle.image_laws.specs.Images.{IsImage}
-use Rattle.stmt_syntax.specs.Limits.{longest_input}
+use Rattle.stmt_syntax.specs.Limits.{longest_input, longest_line}
 use Rattle.stmt_tokens.specs.Lines.{line_kind, session_name}
 use Rattle.stmt_tokens.specs.declared.lines.LineKind.{LineKind}
 use Rattle.stmt_tokens.specs.declared.lines.LineKind.TheVariants.{Blank, NotAscii, NoSession, Stmt}
@@ -19,7 +19,7 @@ use Rattle.result_text.specs.declared.replies.Said.TheVariants as said
 use Rattle.result_text.specs.Replies.{reply_text}
 use Rattle.ts_sessions.specs.Places.{Places, Turn, no_places}
 use Rattle.ts_sessions.specs.Procedures.{Procedure}
-use Rattle.ts_sessions.specs.Script.{LineResult, ScriptState, executes, executes_as, executes_kind, final_script_state, has_fault, is_refused, line_limit, output, places_of, refused, refused_line, session_semantics, takes_turn, text_of, with_places}
+use Rattle.ts_sessions.specs.Script.{LineResult, ScriptState, executes, executes_as, executes_kind, final_script_state, has_fault, is_refused, output, places_of, refused, refused_line, session_semantics, takes_turn, text_of, with_places}
 use Rattle.ts_model.specs.Limits.{most_sessions}
 use Rattle.ts_sessions.specs.Step.{bare, step}
 use Rattle.ts_sessions.specs.Walks.{ending, history_after}
@@ -111,9 +111,9 @@ module _ (h : History) (i : Image) (ok : all_allowed h ≡ true) (is : IsImage h
 
     line_same : (n : ℕ) (line : List ℕ) → used + length line ≤ more → SameLine h i more s z (executes session_semantics s n line) (executes session_semantics z n line)
     line_same n line le =
-        elim (nat_lt line_limit (length line)) as (λ c. nat_lt line_limit (length line) ≡ c → SameLine h i more s z (cond c (refused_line s n line_long) (executes_kind session_semantics s n line (line_kind line))) (cond c (refused_line z n line_long) (executes_kind session_semantics z n line (line_kind line)))) [
+        elim (nat_lt longest_line (length line)) as (λ c. nat_lt longest_line (length line) ≡ c → SameLine h i more s z (cond c (refused_line s n line_long) (executes_kind session_semantics s n line (line_kind line))) (cond c (refused_line z n line_long) (executes_kind session_semantics z n line (line_kind line)))) [
           | true ↦ λ _. nothing h i used more s z _ _ _ (omega (arith, le)) (omega (arith, le, few)) a
-          | false ↦ λ e. kind_same n line (line_kind line) le (ltb-false line_limit (length line) e) refl
+          | false ↦ λ e. kind_same n line (line_kind line) le (ltb-false longest_line (length line) e) refl
         ] refl
 
 -- ---- scripts

@@ -15,8 +15,9 @@ use Rattle.stmt_tokens.specs.Lines.{line_kind, session_name}
 use Rattle.ts_model.specs.Numbers.{line_long, too_many_sessions}
 use Rattle.result_text.specs.declared.replies.Said.TheVariants as said
 use Rattle.result_text.specs.Replies.{line_fault_text, reply_text}
-use Rattle.ts_sessions.specs.Script.{SessionLine, SessionScript, line_limit}
+use Rattle.ts_sessions.specs.Script.{SessionLine, SessionScript}
 use Rattle.ts_model.specs.Limits.{most_sessions}
+use Rattle.stmt_syntax.specs.Limits.{longest_line}
 use Rattle.ts_sessions.specs.Step.{bare}
 use Rattle.par_lines.specs.declared.sessions.SessionLines.{SessionLines}
 use Rattle.par_lines.specs.Sorted.{Sorted, appears_in, refuses, sorted, sorts, sorts_all, sorts_as, sorts_kind, with_line}
@@ -90,7 +91,7 @@ named_kind n line s NoSession e all = all
 named_kind n line s (Stmt len skip end) e all = named_as (session_name line len skip) (record { text = take end line; skip = skip }) s (statement_line line len skip end e).named all
 
 named_line : (n : ℕ) (line : List ℕ) (s : Sorted) → Named s → Named (sorts n line s)
-named_line n line s all = by (nat_lt line_limit (length line))
+named_line n line s all = by (nat_lt longest_line (length line))
   where
     by : (b : Bool) → Named (cond b (refuses (line_fault_text n (bare line_long)) s) (sorts_kind n line s (line_kind line)))
     by true = all

@@ -7,8 +7,9 @@ use Rattle.stmt_tokens.specs.declared.lines.LineKind.{LineKind}
 use Rattle.stmt_tokens.specs.declared.lines.LineKind.TheVariants.{Stmt}
 use Rattle.stmt_tokens.specs.Lines.{line_kind, session_name, IsStatementLine}
 use Rattle.ts_model.specs.Numbers.{line_long}
+use Rattle.stmt_syntax.specs.Limits.{longest_line}
 use Rattle.result_text.specs.Replies.{line_fault_text}
-use Rattle.ts_sessions.specs.Script.{SessionLine, line_limit}
+use Rattle.ts_sessions.specs.Script.{SessionLine}
 use Rattle.ts_sessions.specs.Step.{bare}
 use Rattle.par_lines.specs.declared.sessions.LinePlace.{LinePlace}
 use Rattle.par_lines.specs.declared.sessions.SessionLines.{SessionLines}
@@ -19,7 +20,7 @@ use Rattle.stmt_tokens.proofs.StatementLines.{statement_line}
 
 -- ---- a line of so many bytes from a place on
 
-module _ (input : List ℕ) (from len n : ℕ) (short : len ≤ line_limit) (refusals : List ℕ) (sessions : List SessionLines) where
+module _ (input : List ℕ) (from len n : ℕ) (short : len ≤ longest_line) (refusals : List ℕ) (sessions : List SessionLines) where
   abbrev line : List ℕ
   line = take len (drop from input)
 
@@ -35,8 +36,8 @@ module _ (input : List ℕ) (from len n : ℕ) (short : len ≤ line_limit) (ref
 
   pub sorted_kind : (kind : LineKind) (after : Sorted) → kind ≡ line_kind cut → after ≡ sorts_kind n line before kind → after ≡ sorts n line before
   sorted_kind kind after e h =
-      let few : length line ≤ line_limit = omega (arith, length-take len (drop from input)) in
-      let fits : nat_lt line_limit (length line) ≡ false = le-ltb line_limit (length line) few in
+      let few : length line ≤ longest_line = omega (arith, length-take len (drop from input)) in
+      let fits : nat_lt longest_line (length line) ≡ false = le-ltb longest_line (length line) few in
       h ∙ ap (sorts_kind n line before) (e ∙ ap line_kind cut_is)
       ∙ sym (ap (λ b. cond b (refuses (line_fault_text n (bare line_long)) before) (sorts_kind n line before (line_kind line))) fits)
 

@@ -2,7 +2,8 @@
 use Rattle.std.specs.Prelude.{◌≡◌, ℕ, ◌+◌, ◌≤◌, List, length, map, take, drop, sum_by}
 use Rattle.std.specs.List.{All, range_with_len}
 use Rattle.std.specs.Option.{IfSome}
-use Rattle.ts_sessions.specs.Script.{SessionLine, SessionScript, line_limit}
+use Rattle.stmt_syntax.specs.Limits.{longest_line}
+use Rattle.ts_sessions.specs.Script.{SessionLine, SessionScript}
 use Rattle.par_lines.specs.declared.sessions.LinePlace.{LinePlace}
 use Rattle.par_lines.specs.declared.sessions.SessionLines.{SessionLines}
 use Rattle.par_lines.specs.declared.phases.Phases.{Phases}
@@ -37,7 +38,7 @@ AreNumbered sessions = map (λ session. session.number) sessions ≡ range_with_
 pub record IsLineWithin (n : ℕ) (place : LinePlace) : Type 0 where
   pub inside : place.from + place.len ≤ n
   pub statement : place.skip ≤ place.len
-  pub short : place.len ≤ line_limit
+  pub short : place.len ≤ longest_line
 
 -- the lines of a session stand within the first n bytes, and have no more bytes together
 pub record IsWithin (n : ℕ) (session : SessionLines) : Type 0 where

@@ -9,8 +9,9 @@ use Rattle.stmt_tokens.specs.Lines.{line_kind, session_name}
 use Rattle.ts_model.specs.Numbers.{line_long, not_ascii, no_session, too_many_sessions}
 use Rattle.result_text.specs.declared.replies.Said.TheVariants as said
 use Rattle.result_text.specs.Replies.{line_fault_text, reply_text}
-use Rattle.ts_sessions.specs.Script.{SessionLine, SessionScript, line_limit}
+use Rattle.ts_sessions.specs.Script.{SessionLine, SessionScript}
 use Rattle.ts_model.specs.Limits.{most_sessions}
+use Rattle.stmt_syntax.specs.Limits.{longest_line}
 use Rattle.ts_sessions.specs.Step.{bare}
 
 -- an input, sorted: the refusals of lines that no session answers, in order, and the sessions in order of appearance.
@@ -54,7 +55,7 @@ sorts_kind n line s (Stmt len skip end) =
 -- a line, which has this number
 abbrev pub sorts : ℕ → List ℕ → Sorted → Sorted
 sorts n line s =
-    cond (nat_lt line_limit (length line)) (refuses (line_fault_text n (bare line_long)) s)
+    cond (nat_lt longest_line (length line)) (refuses (line_fault_text n (bare line_long)) s)
     (sorts_kind n line s (line_kind line))
 
 -- ---- all lines

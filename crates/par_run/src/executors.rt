@@ -1,6 +1,7 @@
 //! A session whose lines are executed one after the other.
 ghost use Rattle.std.specs.Prelude.{◌≡◌, ◌+◌, ◌≤◌, All, length, map, sum_by, OnOk};
 ghost use Rattle.std.specs.Thread.{IsSync};
+ghost use Rattle.stmt_syntax.specs.Limits.{longest_line};
 ghost use Rattle.ts_sessions.specs.Held.{most_queued};
 ghost use Rattle.par_laws.specs.Parallel.{SessionExecuted};
 ghost use Rattle.par_lines.specs.Places.{line_at, IsLineWithin};
@@ -72,7 +73,7 @@ impl<'a, A: Actor, G: Gate> Executor<'a, A, G> {
         skip: u32,
     ) -> Result<(), NoMemory>
         requires sync { IsSync R.row }
-        requires short { length text.now ≤ 65536 }
+        requires short { length text.now ≤ longest_line }
         requires within { skip ≤ length text.now }
         requires room { A.waiting self.old.actor + length text.now ≤ most_queued }
         requires holds { A.holds self.old.actor (B.state backend.old) }

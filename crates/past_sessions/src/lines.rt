@@ -3,6 +3,7 @@ ghost use Rattle.std.specs.Prelude.{◌≡◌, ◌+◌, ◌<◌, ◌≤◌, ◌^
 ghost use Rattle.std.specs.Thread.{IsSync};
 ghost use Rattle.ts_model.specs.Allowed.{all_allowed};
 ghost use Rattle.ts_model.specs.History.{position as position_of};
+ghost use Rattle.stmt_syntax.specs.Limits.{longest_line};
 ghost use Rattle.ts_sessions.specs.Held.{Carries, HoldsOf, most_queued, places_in, waiting_bytes};
 ghost use Rattle.ts_sessions.specs.Replies.{reply_to};
 ghost use Rattle.ts_sessions.specs.Sessions.{ChangeFits, HoldsAfter};
@@ -44,7 +45,7 @@ pub fn tell<T: Shown + Drop, R: Threads + Sync, P: Past<Shot = T>, L>(
 where
     T::Job: Drop,
     requires sync { IsSync R.row }
-    requires short { length text.now ≤ 65536 }
+    requires short { length text.now ≤ longest_line }
     requires within { skip ≤ length text.now }
     requires room { waiting_bytes session.old + length text.now ≤ most_queued }
     requires allowed { IsTrue (all_allowed (P.all past.now)) }
@@ -105,7 +106,7 @@ where
     T::Job: Drop,
     requires sync { IsSync R.row }
     requires counts { steps.old < 2 ^ 64 }
-    requires short { length text.now ≤ 65536 }
+    requires short { length text.now ≤ longest_line }
     requires within { skip ≤ length text.now }
     requires allowed { IsTrue (all_allowed (P.all past.now)) }
     requires known { P.from past.now ≤ at }

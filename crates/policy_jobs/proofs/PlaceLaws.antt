@@ -13,8 +13,9 @@ use Rattle.result_text.specs.declared.replies.Said.TheVariants as said
 use Rattle.result_text.specs.Replies.{reply_text}
 use Rattle.ts_sessions.specs.Procedures.{Procedure}
 use Rattle.ts_sessions.specs.Places.{Turn}
-use Rattle.ts_sessions.specs.Script.{LineResult, ScriptState, Semantics, executes, executes_as, executes_kind, final_script_state, is_refused, line_limit, output, places_of, reads_in, refused, refused_line, takes_turn, with_places}
+use Rattle.ts_sessions.specs.Script.{LineResult, ScriptState, Semantics, executes, executes_as, executes_kind, final_script_state, is_refused, output, places_of, reads_in, refused, refused_line, takes_turn, with_places}
 use Rattle.ts_model.specs.Limits.{most_sessions}
+use Rattle.stmt_syntax.specs.Limits.{longest_line}
 use Rattle.ts_sessions.specs.Step.{bare}
 use Rattle.ts_sessions.specs.Walks.{ending}
 use Rattle.policy_jobs.specs.Laws.{LinesSeeTheirOwnPlaces, OthersSeeNoPlaces, is_line_of, is_of_kind, with_session}
@@ -152,7 +153,7 @@ module _ {P : Type 0} (semantics : Semantics P) (other : List ℕ) (p q : P) whe
       → Moves (executes semantics (with_session s other q) n line) (executes semantics s n line)
   one_line s n line apart there =
       let t = with_session s other q in
-      elim (nat_lt line_limit (length line)) as (λ b. Moves (cond b (refused_line t n line_long) (executes_kind semantics t n line (line_kind line))) (cond b (refused_line s n line_long) (executes_kind semantics s n line (line_kind line)))) [
+      elim (nat_lt longest_line (length line)) as (λ b. Moves (cond b (refused_line t n line_long) (executes_kind semantics t n line (line_kind line))) (cond b (refused_line s n line_long) (executes_kind semantics s n line (line_kind line)))) [
         | true ↦ record { moves = refl; keeps = there }
         | false ↦ by_kind s n line (line_kind line) apart there
       ]

@@ -12,13 +12,14 @@ use Rattle.stmt_tokens.specs.Lines.{line_kind, session_name}
 use Rattle.stmt_reader.specs.Reading.{statement as any_statement}
 use Rattle.stmt_tokens.specs.Streams.{Stream, stream}
 use Rattle.ts_model.specs.Numbers.{line_long}
+use Rattle.stmt_syntax.specs.Limits.{longest_line}
 use Rattle.result_text.specs.declared.replies.Said.TheVariants as said
 use Rattle.result_text.specs.Replies.{reply_text}
 use Rattle.ts_sessions.specs.declared.kinds.StatementKind.TheVariants.{Defines}
 use Rattle.ts_sessions.specs.Actors.{ReadsEvent, StaysOutside}
 use Rattle.ts_sessions.specs.Places.{Places, Turn, none, turns}
 use Rattle.ts_sessions.specs.Procedures.{Procedure, sees, adds, ends, followed_by, ending_as}
-use Rattle.ts_sessions.specs.Script.{LineResult, ScriptState, executes, executes_as, executes_kind, final_script_state, has_fault, is_refused, line_limit, output, places_of, reads_in, refused_line, takes_turn, text_of, with_places}
+use Rattle.ts_sessions.specs.Script.{LineResult, ScriptState, executes, executes_as, executes_kind, final_script_state, has_fault, is_refused, output, places_of, reads_in, refused_line, takes_turn, text_of, with_places}
 use Rattle.ts_sessions.specs.Step.{block_refusal, step}
 use Rattle.ts_sessions.specs.Walks.{Walks, history_after, ending}
 use Rattle.policy_jobs.specs.Laws.{ArePolicies, IsPolicy, IsTickLine, TicksAreTheirLines, due_lines, due_statement, line_of, policy_sessions, with_session}
@@ -200,8 +201,8 @@ module _ (stays : StaysOutside (λ (p : Places). p.block) step) (name : List ℕ
         let line = line_of name text in
         let skip = length name + 1 in
         let s = script_at c in
-        let short : length line ≤ line_limit = omega (arith, is.said_so.bytes) in
-        ap (λ t. cond t (refused_line s n line_long) (executes_kind policy_sessions s n line (line_kind line))) (le-ltb line_limit (length line) short)
+        let short : length line ≤ longest_line = omega (arith, is.said_so.bytes) in
+        ap (λ t. cond t (refused_line s n line_long) (executes_kind policy_sessions s n line (line_kind line))) (le-ltb longest_line (length line) short)
         ∙ ap (executes_kind policy_sessions s n line) is.said_so.kind
         ∙ ap (λ t. executes_as policy_sessions s (session_name line (length name) skip) t skip (places_of (session_name line (length name) skip) s.sessions)) (take-length line)
         ∙ ap (λ who. executes_as policy_sessions s who line skip (places_of who s.sessions)) is.said_so.session
@@ -262,7 +263,7 @@ module _ (s : ScriptState (PolicyPlaces Places)) (n : ℕ) (name line : List ℕ
 
   tick_taken : executes policy_sessions s n line ≡ takes_turn s name procedure
   tick_taken =
-      ap (λ t. cond t (refused_line s n line_long) (executes_kind policy_sessions s n line (line_kind line))) (le-ltb line_limit (length line) is.short)
+      ap (λ t. cond t (refused_line s n line_long) (executes_kind policy_sessions s n line (line_kind line))) (le-ltb longest_line (length line) is.short)
       ∙ ap (executes_kind policy_sessions s n line) is.kind
       ∙ ap (λ who. executes_as policy_sessions s who (take is.end line) is.skip (places_of who s.sessions)) is.session
       ∙ ap (executes_as policy_sessions s name (take is.end line) is.skip) there

@@ -14,11 +14,12 @@ use Rattle.stmt_tokens.specs.declared.lines.LineKind.{LineKind}
 use Rattle.stmt_tokens.specs.declared.lines.LineKind.TheVariants.{Stmt as LineOf}
 use Rattle.stmt_syntax.specs.declared.statements.Stmt.{Stmt}
 use Rattle.stmt_syntax.specs.declared.statements.Stmt.TheVariants as statements
+use Rattle.stmt_syntax.specs.Limits.{longest_line}
 use Rattle.result_text.specs.Replies.{reply_text}
 use Rattle.result_text.specs.declared.replies.Said.TheVariants as said
 use Rattle.ts_sessions.specs.Places.{Block, Places, Turn, none, turns}
 use Rattle.ts_sessions.specs.Procedures.{Procedure, ends}
-use Rattle.ts_sessions.specs.Script.{LineResult, ScriptState, Semantics, executes, final_script_state, is_refused, line_limit, output, places_of, reads_in, session_semantics, with_places}
+use Rattle.ts_sessions.specs.Script.{LineResult, ScriptState, Semantics, executes, final_script_state, is_refused, output, places_of, reads_in, session_semantics, with_places}
 use Rattle.ts_sessions.specs.Walks.{Walks}
 use Rattle.policy_jobs.specs.Adding.{has_offsets, is_interval}
 use Rattle.policy_jobs.specs.Policies.{due, due_text, due_texts, end_of, ticked}
@@ -135,7 +136,7 @@ pub record IsTickLine (name : List ℕ) (now : ℤ) (line : List ℕ) : Type 0 w
   pub end : ℕ
   pub kind : line_kind line ≡ LineOf len skip end
   pub session : session_name line len skip ≡ name
-  pub short : length line ≤ line_limit
+  pub short : length line ≤ longest_line
   pub begun : begins (stream (take end line) skip) ≡ true
   pub left : Stream
   pub read : statement (stream (take end line) skip) ≡ Ok (stmts.Tick now, left)

@@ -2,6 +2,7 @@
 use Rattle.std.specs.Prelude.{◌≡◌, ℕ, ◌≤◌, Bool, true, ◌||◌, List, ◌++◌, length, Result, Ok, Err, ⊤}
 use Rattle.ts_schema.specs.declared.memory.NoMemory.{NoMemory}
 use Rattle.ts_model.specs.States.{State}
+use Rattle.stmt_syntax.specs.Limits.{longest_line}
 use Rattle.stmt_reader.specs.Reading.{statement}
 use Rattle.stmt_tokens.specs.Streams.{stream}
 use Rattle.ts_sessions.specs.Actors.{ReadsEvent}
@@ -16,7 +17,7 @@ use Rattle.policy_jobs.specs.declared.runs.Run.{Run}
 
 -- a text that is short enough, and a statement that makes an event
 pub record IsRunnable (text : List ℕ) : Type 0 where
-  pub short : length text ≤ 65536
+  pub short : length text ≤ longest_line
   pub event : ReadsEvent (statement (stream text 0))
 
 -- a run has reported a procedure so far, whose disk failed or not, or broke off for want of memory

@@ -14,8 +14,9 @@ use Rattle.stmt_tokens.specs.Lines.{line_kind, session_name}
 use Rattle.ts_model.specs.Numbers.{line_long, too_many_sessions}
 use Rattle.result_text.specs.declared.replies.Said.TheVariants as said
 use Rattle.result_text.specs.Replies.{line_fault_text, reply_text}
-use Rattle.ts_sessions.specs.Script.{SessionLine, SessionScript, line_limit}
+use Rattle.ts_sessions.specs.Script.{SessionLine, SessionScript}
 use Rattle.ts_model.specs.Limits.{most_sessions}
+use Rattle.stmt_syntax.specs.Limits.{longest_line}
 use Rattle.ts_sessions.specs.Step.{bare}
 use Rattle.par_lines.specs.Sorted.{Sorted, appears_in, at_once, final, only, refuses, setup, sorted, sorts, sorts_all, sorts_as, sorts_kind, with_line}
 use Rattle.transcript.specs.Shape.{are_apart, is_among}
@@ -98,7 +99,7 @@ apart_kind n line s NoSession all = all
 apart_kind n line s (Stmt len skip end) all = apart_as (session_name line len skip) (record { text = take end line; skip = skip }) s all
 
 apart_line : (n : ℕ) (line : List ℕ) (s : Sorted) → AreApart s → AreApart (sorts n line s)
-apart_line n line s all = by (nat_lt line_limit (length line))
+apart_line n line s all = by (nat_lt longest_line (length line))
   where
     by : (b : Bool) → AreApart (cond b (refuses (line_fault_text n (bare line_long)) s) (sorts_kind n line s (line_kind line)))
     by true = all

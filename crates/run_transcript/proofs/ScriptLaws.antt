@@ -15,7 +15,7 @@ use Rattle.stmt_tokens.specs.Lines.{line_kind, session_name}
 use Rattle.ts_model.specs.Numbers.{line_long, too_many_sessions}
 use Rattle.result_text.specs.declared.replies.Said.TheVariants as said
 use Rattle.result_text.specs.Replies.{line_fault_text, reply_text}
-use Rattle.ts_sessions.specs.Script.{SessionLine, SessionScript, line_limit}
+use Rattle.ts_sessions.specs.Script.{SessionLine, SessionScript}
 use Rattle.ts_model.specs.Limits.{most_sessions}
 use Rattle.ts_sessions.specs.Step.{bare}
 use Rattle.par_lines.specs.Sorted.{Sorted, appears_in, refuses, sorted, sorts, sorts_all, sorts_as, sorts_kind, with_line}
@@ -77,11 +77,11 @@ sound_kind n line s (Stmt len skip end) short one e all =
     (record { spoken = sound.spoken; len = len; end = end; kind = sound.kind; whole = take-take end end line (omega arith) }) all
 
 sound_line : (n : ℕ) (line : List ℕ) (s : Sorted) → is_one_line line ≡ true → AreSound s → AreSound (sorts n line s)
-sound_line n line s one all = by (nat_lt line_limit (length line)) refl
+sound_line n line s one all = by (nat_lt longest_line (length line)) refl
   where
-    by : (b : Bool) → nat_lt line_limit (length line) ≡ b → AreSound (cond b (refuses (line_fault_text n (bare line_long)) s) (sorts_kind n line s (line_kind line)))
+    by : (b : Bool) → nat_lt longest_line (length line) ≡ b → AreSound (cond b (refuses (line_fault_text n (bare line_long)) s) (sorts_kind n line s (line_kind line)))
     by true e = all
-    by false e = sound_kind n line s (line_kind line) (ltb-false line_limit (length line) e) one refl all
+    by false e = sound_kind n line s (line_kind line) (ltb-false longest_line (length line) e) one refl all
 
 -- ---- the lines of a text
 

@@ -21,8 +21,9 @@ use Rattle.ts_sessions.specs.Procedures.{Procedure}
 use Rattle.ts_sessions.specs.Held.{GoesOn}
 use Rattle.ts_sessions.specs.Places.{Turn}
 use Rattle.ts_sessions.specs.Step.{bare}
-use Rattle.ts_sessions.specs.Script.{Semantics, LineResult, ScriptState, text_of, has_fault, takes_turn, with_places, places_of, executes, executes_kind, executes_as, refused, refused_line, line_limit}
+use Rattle.ts_sessions.specs.Script.{Semantics, LineResult, ScriptState, text_of, has_fault, takes_turn, with_places, places_of, executes, executes_kind, executes_as, refused, refused_line}
 use Rattle.ts_model.specs.Limits.{most_sessions}
+use Rattle.stmt_syntax.specs.Limits.{longest_line}
 use Rattle.ts_sessions.specs.Sessions.{IfAnswered, Stepped}
 use Rattle.ts_sessions.proofs.WalkLaws.{goes_walks, goes_breaks}
 use Rattle.script_run.specs.Executing.{AreReady, HaveTaken}
@@ -136,16 +137,16 @@ module _ {P : Type 0} (end : StepEnd) (old new : State) (script_state : ScriptSt
       (subst (λ n. Comes (takes_turn s n (semantics.does (semantics.opening (length s.sessions)) text skip))) named l)
 
   -- a line of a kind that has at most 65,536 bytes
-  pub as_kind : (semantics : Semantics P) (s : ScriptState P) (n : ℕ) (line : List ℕ) (kind : LineKind) → length line ≤ line_limit → kind ≡ line_kind line → Comes (executes_kind semantics s n line kind) → Comes (executes semantics s n line)
+  pub as_kind : (semantics : Semantics P) (s : ScriptState P) (n : ℕ) (line : List ℕ) (kind : LineKind) → length line ≤ longest_line → kind ≡ line_kind line → Comes (executes_kind semantics s n line kind) → Comes (executes semantics s n line)
   as_kind semantics s n line kind few e l =
-      let short : nat_lt line_limit (length line) ≡ false = le-ltb line_limit (length line) few in
+      let short : nat_lt longest_line (length line) ≡ false = le-ltb longest_line (length line) few in
       let whole = subst (λ k. Comes (executes_kind semantics s n line k)) e l in
       subst (λ b. Comes (cond b (refused_line s n line_long) (executes_kind semantics s n line (line_kind line)))) (sym short) whole
 
 -- a line that is longer
-pub long_line : {P : Type 0} (semantics : Semantics P) (s : ScriptState P) (n : ℕ) (line : List ℕ) → line_limit < length line → executes semantics s n line ≡ refused_line s n line_long
+pub long_line : {P : Type 0} (semantics : Semantics P) (s : ScriptState P) (n : ℕ) (line : List ℕ) → longest_line < length line → executes semantics s n line ≡ refused_line s n line_long
 long_line semantics s n line many =
-    let long : nat_lt line_limit (length line) ≡ true = lt-ltb line_limit (length line) many in
+    let long : nat_lt longest_line (length line) ≡ true = lt-ltb longest_line (length line) many in
     ap (λ b. cond b (refused_line s n line_long) (executes_kind semantics s n line (line_kind line))) long
 
 -- ---- each line goes on from its script state
@@ -171,7 +172,7 @@ kind_begins semantics s n line (Stmt len skip end) = session_begins semantics s 
 
 pub line_begins : {P : Type 0} (semantics : Semantics P) (s : ScriptState P) (n : ℕ) (line : List ℕ) → Begins s.history (executes semantics s n line).script_state.history
 line_begins semantics s n line =
-    either_begins (nat_lt line_limit (length line)) s.history (refused_line s n line_long) (executes_kind semantics s n line (line_kind line)) same (kind_begins semantics s n line (line_kind line))
+    either_begins (nat_lt longest_line (length line)) s.history (refused_line s n line_long) (executes_kind semantics s n line (line_kind line)) same (kind_begins semantics s n line (line_kind line))
 
 -- ---- what a line leaves
 

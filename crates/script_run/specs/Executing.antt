@@ -3,6 +3,7 @@ use Rattle.std.specs.Prelude.{◌≡◌, ℕ, ◌+◌, ◌<◌, ◌≤◌, ◌^�
 use Rattle.std.specs.Global.{Vec}
 use Rattle.ts_model.specs.declared.backends.Backend.{Ghosts as Backend}
 use Rattle.ts_model.specs.States.{State, stands_still}
+use Rattle.stmt_syntax.specs.Limits.{longest_line}
 use Rattle.ts_sessions.specs.declared.actors.Actor.{Ghosts as Actor}
 use Rattle.ts_sessions.specs.declared.replies.StepEnd.{StepEnd}
 use Rattle.ts_sessions.specs.Held.{most_queued}
@@ -18,7 +19,7 @@ pub record AreReady {A T J : Type 0} (actors : Actor A T J) (alone : Bool) (s : 
   pub by_itself : IsTrue alone
   pub going : stands_still s ≡ false
   pub counts : read < 2 ^ 64
-  pub short : bytes ≤ 65536
+  pub short : bytes ≤ longest_line
   pub sessions : AreSessions actors s entries
   pub room : waiting_in actors.waiting entries + bytes ≤ most_queued
 

@@ -3,6 +3,7 @@ ghost use Rattle.std.specs.Prelude.{◌≡◌, ◌+◌, ◌<◌, ◌≤◌, None
 ghost use Rattle.std.specs.Thread.{IsSync};
 ghost use Rattle.indexmap.specs.IndexMap.{index_map_len, spare};
 ghost use Rattle.ts_schema.specs.Names.{is_name};
+ghost use Rattle.stmt_syntax.specs.Limits.{longest_line};
 ghost use Rattle.ts_sessions.specs.Held.{most_queued};
 ghost use Rattle.ts_sessions.specs.Script.{executes_as, places_of, takes_turn};
 ghost use Rattle.ts_sessions.specs.Sessions.{IfAnswered, Stepped};
@@ -142,7 +143,7 @@ where
     R: Threads + Sync,
     B: Backend,
     requires sync { IsSync R.row }
-    requires short { length text.now ≤ 65536 }
+    requires short { length text.now ≤ longest_line }
     requires within { skip ≤ length text.now }
     requires room { A.waiting actor.old + length text.now ≤ most_queued }
     requires holds { A.holds actor.old (B.state backend.old) }

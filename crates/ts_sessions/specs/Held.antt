@@ -18,6 +18,7 @@ use Rattle.ts_sessions.specs.declared.sessions.Session.{Session}
 use Rattle.ts_sessions.specs.declared.sessions.Snapshot.{Snapshot}
 use Rattle.ts_sessions.specs.Places.{Block, none, writing, reading, Places}
 use Rattle.ts_model.specs.declared.snapshots.Shown.{Ghosts as Shown}
+use Rattle.stmt_syntax.specs.Limits.{longest_input}
 
 -- ---- the places of a session
 
@@ -63,9 +64,9 @@ pushed op more Nothing = Nothing
 pushed op more (Write queue) = Write (record { ops = queue.ops ++ op ∷ []; bytes = queue.bytes + more })
 pushed op more (Read at shot) = Read at shot
 
--- the most bytes that they may have
+-- the most bytes that they may have: those of all input
 abbrev pub most_queued : ℕ
-most_queued = 67108864
+most_queued = longest_input
 
 -- ---- what goes with a state
 

@@ -8,6 +8,7 @@ use Rattle.stmt_tokens.specs.declared.lines.LineKind.TheVariants.{Blank, NotAsci
 use Rattle.stmt_tokens.specs.Lines.{line_kind, session_name}
 use Rattle.ts_model.specs.Limits.{most_sessions}
 use Rattle.ts_model.specs.Numbers.{line_long, not_ascii, no_session, too_many_sessions}
+use Rattle.stmt_syntax.specs.Limits.{longest_line}
 use Rattle.result_text.specs.declared.replies.Said.{Said}
 use Rattle.result_text.specs.declared.replies.Said.TheVariants as said
 use Rattle.result_text.specs.Replies.{line_fault_text, reply_text}
@@ -15,10 +16,6 @@ use Rattle.ts_sessions.specs.Procedures.{Procedure}
 use Rattle.ts_sessions.specs.Places.{Places, Turn, no_places}
 use Rattle.ts_sessions.specs.Step.{bare, step}
 use Rattle.ts_sessions.specs.Walks.{history_after, ending}
-
--- the most bytes of a line
-abbrev pub line_limit : ℕ
-line_limit = 65536
 
 -- a line that a session executes: its bytes before the comment, and how many of them stand before its statement
 pub record SessionLine : Type 0 where
@@ -125,7 +122,7 @@ executes_kind semantics s n line (Stmt len skip end) =
 -- a line, which has this number
 abbrev pub executes : {P : Type 0} → Semantics P → ScriptState P → ℕ → List ℕ → LineResult P
 executes semantics s n line =
-    cond (nat_lt line_limit (length line)) (refused_line s n line_long)
+    cond (nat_lt longest_line (length line)) (refused_line s n line_long)
     (executes_kind semantics s n line (line_kind line))
 
 -- ---- a script: the lines from line n on, from a script state on

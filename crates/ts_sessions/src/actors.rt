@@ -13,6 +13,7 @@ pub trait Actor {
     ghost use Rattle.std.specs.Prelude.{◌≡◌, ℕ, ◌+◌, ◌≤◌, List, length};
     ghost use Rattle.std.specs.Thread.{IsSync};
     ghost use Rattle.ts_model.specs.States.{State};
+    ghost use Rattle.stmt_syntax.specs.Limits.{longest_line};
     ghost use Rattle.ts_sessions.specs.Actors.{HadBegun, StaysOutside, TellsReplies};
     ghost use Rattle.ts_sessions.specs.Held.{GoesOn, WaitsInside, most_queued};
     ghost use Rattle.ts_sessions.specs.Places.{Block as BlockPlace, Turn, block_kind, none};
@@ -88,7 +89,7 @@ pub trait Actor {
         steps: &mut Steps<L>,
     ) -> StepEnd
         requires sync { IsSync R.row }
-        requires short { length text.now ≤ 65536 }
+        requires short { length text.now ≤ longest_line }
         requires within { skip ≤ length text.now }
         requires room { Self.waiting self.old + length text.now ≤ most_queued }
         requires holds { Self.holds self.old (B.state backend.old) }

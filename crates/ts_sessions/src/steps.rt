@@ -1,6 +1,7 @@
 //! The step of a session: one line.
 ghost use Rattle.std.specs.Prelude.{◌≡◌, ◌+◌, ◌<◌, ◌≤◌, ◌^◌, length, None, IfOk, OnOk, OnErr};
 ghost use Rattle.std.specs.Thread.{IsSync};
+ghost use Rattle.stmt_syntax.specs.Limits.{longest_line};
 ghost use Rattle.ts_sessions.specs.Deeds.{OpensTo, Takes};
 ghost use Rattle.ts_sessions.specs.Held.{Carries, HoldsOf, most_queued, places_in, waiting_bytes};
 ghost use Rattle.ts_sessions.specs.Places.{none};
@@ -40,7 +41,7 @@ where
         steps: &mut Steps<L>,
     ) -> StepEnd
         requires sync { IsSync R.row }
-        requires short { length text.now ≤ 65536 }
+        requires short { length text.now ≤ longest_line }
         requires within { skip ≤ length text.now }
         requires room { waiting_bytes self.old + length text.now ≤ most_queued }
         requires holds { HoldsOf T.Shown self.old (B.state backend.old) }
@@ -108,7 +109,7 @@ where
     ) -> Result<Completion<T>, NoMemory>
         requires sync { IsSync R.row }
         requires counts { steps.old < 2 ^ 64 }
-        requires short { length text.now ≤ 65536 }
+        requires short { length text.now ≤ longest_line }
         requires within { skip ≤ length text.now }
         requires holds { HoldsOf T.Shown self.old (B.state backend.old) }
         ensures ends { DoesReading B.Backend backend.old (step_of (places_in self.old) text.now skip)
