@@ -1,4 +1,7 @@
-"""Scripts worked out by hand: a refresh in phases, with rows that come between them; dropped chunks; many rows."""
+"""Scripts worked out by hand: a refresh in phases, with rows that come between them; dropped chunks; many rows; and two
+sessions at once."""
+import re
+
 import journal_format as form
 
 # The statements, with the reply to each and how many events there are behind it.
@@ -100,6 +103,71 @@ def many_rows():
 MANY_ROWS = list(many_rows())
 MANY_ROWS_LINES = [EVENTS[0][1], "@2 HYPER m time 100000"] + [f"@{position} COMMIT ops 1" for position in range(3, 15)]
 MANY_ROWS_LINES += ["@15 VIEW c m 10 0", "@16 CUT c min..12000", "@17 BUILT 16 snap 16"]
+
+
+# A script of two sessions at once, in three phases: of each session its lines, the replies, and the lines of the log.
+# Which session's events come first is left open, so `#` stands for numbers of events. No two sessions have events of
+# one form.
+SETUP_LINES = [
+    (SCRIPT[0][0].removeprefix("a: "), "TABLE #", ["TABLE m time! dev v"]),
+    (SCRIPT[1][0].removeprefix("a: "), "HYPERTABLE #", ["HYPER m time 100"]),
+    (SCRIPT[2][0].removeprefix("a: "), "VIEW #", ["VIEW c m 10 0"]),
+]
+REFRESHED = ["CUT c 100..200", "BUILT # snap #"]
+SESSION_A_LINES = [
+    ("INSERT INTO m VALUES (50, 1, 5), (120, 1, 7)", "COMMIT # +2 -0", ["COMMIT ops 1"]),
+    ("CALL refresh_continuous_aggregate('c', 100, 200)", "REFRESH # # snap # 100..200", REFRESHED),
+    ("SELECT * FROM c WHERE b >= 100 AND b < 200", "ANSWER # rows 1 stale 0\n120|1|7", []),
+    ("INSERT INTO m VALUES (121, 1, 1)", "COMMIT # +1 -0", ["COMMIT ops 1"]),
+    ("SELECT * FROM c WHERE b >= 100 AND b < 200", "ANSWER # rows 1 stale 1\n120|1|7\nstale 120..130", []),
+]
+SESSION_B_LINES = [
+    ("BEGIN", "BEGIN", []),
+    ("INSERT INTO m VALUES (950, 2, 3)", "QUEUED", []),
+    ("DELETE FROM m WHERE time >= 1000", "QUEUED", []),
+    ("SELECT * FROM m WHERE dev = 2", "ANSWER # queue 2 rows 1 stale 0\n950|2|3", []),
+    ("COMMIT", "COMMIT # +1 -0", ["COMMIT ops 2"]),
+    ("SELECT * FROM m WHERE dev = 2", "ANSWER # rows 1 stale 0\n950|2|3", []),
+]
+FINAL_LINES = [
+    ("ALTER MATERIALIZED VIEW c SET (timescaledb.materialized_only = true)", "MODE #", ["MODE c 1"]),
+    ("SELECT * FROM m", "ANSWER # rows 4 stale 0\n50|1|5\n120|1|7\n121|1|1\n950|2|3", []),
+]
+SETUP = [("setup", SETUP_LINES)]
+AT_ONCE = [("a", SESSION_A_LINES), ("b", SESSION_B_LINES)]
+FINAL = [("final", FINAL_LINES)]
+NUMBERS = re.compile(rb"@\d+|(?<=REFRESH )\d+|(?<=BUILT )\d+|(?<=snap )\d+")
+
+
+def without_numbers(text):
+    """A text of replies or of a log in which `#` stands for numbers of events."""
+    return NUMBERS.sub(b"#", text)
+
+
+def text_of_sessions(sessions):
+    """The script of sessions."""
+    return "".join(f"{name}: {text}\n" for name, lines in sessions for text, _, _ in lines).encode()
+
+
+def replies_of_sessions(sessions):
+    """What `par` prints for sessions, without numbers."""
+    return "".join(f"{name}: {reply}\n" for name, lines in sessions for _, reply, _ in lines).encode()
+
+
+def are_first_events(log):
+    """Whether a log has the first events of each session, and those of a phase only behind all of the one before; and
+    whether it has all of them."""
+    left = [line.split(" ", 1)[1] for line in without_numbers(log).decode().splitlines()]
+    for sessions in (SETUP, AT_ONCE, FINAL):
+        events = [[event for _, _, made in lines for event in made] for _, lines in sessions]
+        size = sum(map(len, events))
+        here, left = left[:size], left[size:]
+        own = [[event for event in here if event in its] for its in events]
+        if sum(map(len, own)) != len(here) or any(its[: len(first)] != first for its, first in zip(events, own)):
+            return False, False
+        if len(here) < size:
+            return not left, False
+    return not left, True
 
 
 def logs_of(lines):

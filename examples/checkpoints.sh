@@ -63,6 +63,9 @@ echo "a: CREATE TABLE n (time BIGINT)" | tsctl run; echo "status $?"
 cd .. && mkdir before_last && cd before_last
 printf '%s\n' "$table" "$hyper" "$view" "a: INSERT INTO m VALUES (120, 1, 7)" | tsctl run | tail -n 1
 tsctl checkpoint
+echo "-- its journal has 338 bytes: with one less it is damaged, and whole with a zero for it"
+truncate -s 337 tsctl.journal && tsctl check 2>&1; echo "status $?"
+truncate -s 338 tsctl.journal && tsctl check
 put 157 '\xff\xff\xff\xff\xff\xff\xff\x3f'
 tsctl log
 echo "$refresh" | tsctl run; echo "status $?"
