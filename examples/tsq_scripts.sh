@@ -1,6 +1,5 @@
 # Each script of examples/ by tools/tsq: it ends with the status of tsctl, and CSV and JSON can be read, with as many
-# rows as the replies have. Names the script where that isn't so. Those are left out in which a tick runs something:
-# tsq takes no reply of several lines of a tick.
+# rows as the replies have. Names the script where that isn't so.
 set -euo pipefail
 python3 - "$(dirname "$0")" <<'END_OF_PYTHON'
 import csv
@@ -54,12 +53,7 @@ def try_script(script):
     return None
 
 
-def runs_by_tick(script):
-    """Whether a tick of a script runs a statement."""
-    return re.search(r"^\w+: TICK \S+ due [1-9]", script.with_suffix(".out").read_text(), re.M)
-
-
-scripts = [it for it in [*examples.glob("*.sql"), *examples.glob("worked/*.sql")] if not runs_by_tick(it)]
+scripts = [*examples.glob("*.sql"), *examples.glob("worked/*.sql")]
 with get_context("fork").Pool() as pool:
     wrong = list(filter(None, pool.map(try_script, sorted(scripts))))
 print(*wrong, f"wrong: {len(wrong)}" if scripts else "no script", sep="\n")

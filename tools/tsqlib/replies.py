@@ -7,6 +7,7 @@ from .statements import Line
 
 ANSWER = re.compile(r"ANSWER @\d+(?: queue \d+)? rows (\d+) stale (\d+)")
 FAULT = re.compile(r"FAULT (E\d\d) (\w+)(?: at (\d+))?")
+TICK = re.compile(r"TICK -?\d+ due (\d+)")
 STALE = re.compile(r"stale (min|-?\d+)\.\.(-?\d+)")
 
 
@@ -17,7 +18,8 @@ class Mismatch(Exception):
 class Reply(NamedTuple):
     """The reply to a line: its lines that begin with the session, the cells of its rows, and its stale ranges.
 
-    A stale range is a pair of its bounds, where the first one is None for `min`.
+    A stale range is a pair of its bounds, where the first one is None for `min`. Of a tick the lines of the statements
+    that it ran are among its own.
     """
 
     line: Line
@@ -34,8 +36,8 @@ class Reply(NamedTuple):
         return self.texts()[0].startswith("ANSWER ")
 
     def fault(self):
-        """The number, the word and the place of the refusal, where it is one."""
-        found = FAULT.match(self.texts()[-1])
+        """The number, the word and the place of the first refusal, where there is one."""
+        found = next(filter(None, map(FAULT.match, self.texts())), None)
         return found and found.groups()
 
 
@@ -48,12 +50,16 @@ def goes_on(tokens, text):
 
 def heads_of(line, output):
     """The lines of a reply that begin with the session, and none where the output has ended."""
-    heads = []
+    heads, left = [], 1
     for head in output:
         if not head.startswith((f"{line.session}: ", f"line {line.number}: ")):
             raise Mismatch(f"line {line.number} of the script has another reply: {head}")
         heads.append(head)
-        if not goes_on(line.tokens(), head.split(": ", 1)[1]):
+        text = head.split(": ", 1)[1]
+        if ticked := TICK.match(text):
+            left += int(ticked[1])
+        left -= not goes_on(line.tokens(), text)
+        if not left:
             break
     return heads
 
