@@ -28,6 +28,7 @@ impl<'a> Model for RowCells<'a> {
 
 impl<'a> RowCells<'a> {
     /// The cells of a row but its first `skip`.
+    #[inline(always)]
     pub fn of(row: ResultRow<'a>, skip: u32) -> RowCells<'a>
         ensures cells { result ≡ drop skip (row_cells row.entry) }
     {
@@ -36,6 +37,7 @@ impl<'a> RowCells<'a> {
 
     /// The value of the cell at a place: the whole number that it shows, and none for NULL, for a mean and
     /// where there is no cell.
+    #[inline]
     #[tactic(auto, using(crate::proofs::CellLaws::cell_behind))]
     pub fn value_at(&self, place: u32) -> Option<i128>
         ensures value { result ≡ cell_at self.now place }
@@ -45,6 +47,7 @@ impl<'a> RowCells<'a> {
 }
 
 /// Whether the cells of a row pass every test. The columns of the tests are places among the cells.
+#[inline]
 pub fn passes(cells: &RowCells<'_>, tests: &[Test]) -> bool
     ensures passes { result ≡ cells_pass tests.now cells.now }
 {

@@ -29,8 +29,8 @@ pub(crate) enum Place {
 }
 
 /// Groups as rows are taken in, in order while each new one comes behind all others. Nothing rests on
-/// `last` and `places` but speed: what a place names is looked at before it is used, and a group may
-/// come up twice.
+/// `last`, `expected` and `places` but speed: what a place names is looked at before it is used, and a
+/// group may come up twice.
 #[derive(Drop)]
 pub struct CellGroups<'a> {
     /// The groups so far.
@@ -39,6 +39,8 @@ pub struct CellGroups<'a> {
     pub in_order: bool,
     /// Where the group of the last row stands.
     last: usize,
+    /// Where that of the next row may stand: as far from it as it is from the one before.
+    expected: usize,
     /// Where a group may stand, by the print of its bucket and keys.
     places: HashMap<u64, usize>,
 }
@@ -52,6 +54,7 @@ impl<'a> CellGroups<'a> {
             groups: Vec::new(alloc),
             in_order: true,
             last: 0,
+            expected: 0,
             places: HashMap::new(alloc),
         }
     }
@@ -73,6 +76,7 @@ impl<'a> CellGroups<'a> {
     {
         match self.find(shape, start, &cells) {
             Place::At(at) => {
+                self.expected = at.wrapping_add(at.wrapping_sub(self.last));
                 self.last = at;
                 take_row(alloc, shape.aggs.items(), &mut self.groups[at], &cells)
             }
@@ -81,9 +85,20 @@ impl<'a> CellGroups<'a> {
         }
     }
 
-    /// Where the group of a row stands. That of the row before and the one behind it are looked at first:
-    /// in each bucket the same keys come up, mostly in the same order.
+    /// Where the group of a row stands. It is looked for first where it is expected: in each bucket the same
+    /// keys come up, mostly in the same order.
     fn find(&self, shape: &Shape, start: i128, cells: &RowCells<'_>) -> Place
+        ensures { IsPlace shape.now start cells.now self.now.groups.items result }
+    {
+        match place_at(self.groups.as_slice(), self.expected, shape, start, cells) {
+            Place::At(at) => Place::At(at),
+            Place::End | Place::Unknown => self.find_near(shape, start, cells),
+        }
+    }
+
+    /// The same where it isn't the one that was expected. That of the row before and the one behind it are looked
+    /// at next.
+    fn find_near(&self, shape: &Shape, start: i128, cells: &RowCells<'_>) -> Place
         ensures { IsPlace shape.now start cells.now self.now.groups.items result }
     {
         match order_at(self.groups.as_slice(), self.last, shape, start, cells) {
@@ -138,6 +153,7 @@ impl<'a> CellGroups<'a> {
     {
         self.last = self.groups.len();
         self.groups.push(group)?;
+        self.expected = self.groups.len();
         Ok(())
     }
 
@@ -171,6 +187,7 @@ impl<'a> CellGroups<'a> {
 }
 
 /// How the group at a place compares with that of a row, if one stands there.
+#[inline]
 fn order_at(
     groups: &[CellGroup<'_>],
     at: usize,
@@ -186,6 +203,7 @@ fn order_at(
 }
 
 /// This place, where the group of a row stands there.
+#[inline]
 fn place_at(
     groups: &[CellGroup<'_>],
     at: usize,

@@ -19,6 +19,7 @@ use std::collections::VecDeque;
 
 /// How a group compares with that of a row in the bucket that starts at `start`: by bucket, and then by keys,
 /// where NULL is greater than every number.
+#[inline]
 pub(crate) fn order_beside(
     shape: &Shape,
     group: &CellGroup<'_>,
@@ -35,6 +36,7 @@ pub(crate) fn order_beside(
 }
 
 /// The keys of two rows, from left to right.
+#[inline]
 fn keys_order(keys: &[u32], a: &RowCells<'_>, b: &RowCells<'_>) -> Ordering
     ensures { result ≡ values_cmp (keys_at keys.now a.now) (keys_at keys.now b.now) }
 {
@@ -49,6 +51,7 @@ fn keys_order(keys: &[u32], a: &RowCells<'_>, b: &RowCells<'_>) -> Ordering
 }
 
 /// Keys by size; NULL is greater than every number.
+#[inline]
 fn key_order(a: Option<i128>, b: Option<i128>) -> Ordering
     ensures { result ≡ value_cmp a b }
 {

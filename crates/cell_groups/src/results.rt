@@ -62,6 +62,7 @@ pub(crate) fn width_of(shape: &Shape) -> usize {
 }
 
 /// Appends the result row of a group where it stays: its cells, and the place where they end.
+#[inline]
 pub(crate) fn put_group(
     shape: &Shape,
     group: &CellGroup<'_>,
@@ -98,6 +99,7 @@ fn put_keys(keys: &[u32], row: &RowCells<'_>, cells: &mut Vec<Datum>) -> Result<
 }
 
 /// A number, or NULL where it is missing.
+#[inline]
 fn shown(value: Option<i128>) -> Datum
     ensures { result ≡ shown_or_null value }
 {

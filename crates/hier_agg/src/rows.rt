@@ -13,6 +13,7 @@ use ts_model::ResultRow;
 use ts_schema::NoMemory;
 
 /// Whether the keys of a row pass. `bucket` is that of a row before it, and then its own, where they do.
+#[inline]
 pub(crate) fn passes_to(
     plan: &UpperPlan,
     row: ResultRow<'_>,
@@ -31,6 +32,7 @@ pub(crate) fn passes_to(
 }
 
 /// The cells of a row behind its bucket.
+#[inline]
 pub(crate) fn columns_of(row: ResultRow<'_>) -> RowCells<'_>
     ensures { result ≡ columns_of (row_cells row.entry) }
 {
@@ -38,6 +40,7 @@ pub(crate) fn columns_of(row: ResultRow<'_>) -> RowCells<'_>
 }
 
 /// The start of a row's bucket.
+#[inline]
 #[tactic(auto, using(crate::proofs::Stands::start_shown))]
 fn start_of(row: ResultRow<'_>) -> i128
     ensures { result ≡ (row_of (row_cells row.entry)).at }

@@ -23,6 +23,7 @@ pub(crate) fn no_bucket() -> WideBucket
 
 /// The bucket that holds a number: the one at hand, or another. For one that takes more than 128 bits there
 /// is no room.
+#[inline]
 pub(crate) fn bucket_with(
     width: &Width,
     at_hand: WideBucket,
@@ -39,6 +40,7 @@ pub(crate) fn bucket_with(
 }
 
 /// The bucket that holds a number.
+#[inline(never)]
 fn bucket_at(width: &Width, t: i128) -> Result<WideBucket, NoMemory>
     ensures start { IfOk result (λ bucket. bucket.start ≡ bucket_of width.now t) }
     ensures numbers { IfOk result (λ bucket. HoldsItsNumbers width.now bucket) }
