@@ -58,6 +58,7 @@ fn put_parts(aggs: &[Agg], parts: &[Partial], cells: &mut Vec<Datum>) -> Result<
 }
 
 /// The value of the cell at a place of a row whose cells are made.
+#[inline]
 pub(crate) fn cell_value(cells: &[Datum], place: usize) -> Option<i128>
     ensures { result ≡ cell_at cells.now place }
 {
@@ -68,6 +69,7 @@ pub(crate) fn cell_value(cells: &[Datum], place: usize) -> Option<i128>
 }
 
 /// The value of the cell at a place of a group's result row. The row isn't made.
+#[inline]
 #[tactic(auto, using(crate::proofs::ResultLaws::value_of_key, crate::proofs::ResultLaws::value_behind))]
 pub(crate) fn group_value(aggs: &[Agg], group: &Group, place: usize) -> Option<i128>
     ensures { result ≡ cell_at (cells_by aggs.now group.now) place }
@@ -83,6 +85,7 @@ pub(crate) fn group_value(aggs: &[Agg], group: &Group, place: usize) -> Option<i
 }
 
 /// A number, where it isn't missing.
+#[inline]
 fn number(value: Option<i64>) -> Option<i128>
     ensures { result ≡ value_of (shown_or_null value) }
 {
@@ -93,6 +96,7 @@ fn number(value: Option<i64>) -> Option<i128>
 }
 
 /// The whole number that the aggregate at a place shows of its part.
+#[inline]
 #[tactic(auto, using(crate::proofs::ResultLaws::value_of_part, crate::proofs::ResultLaws::no_agg, crate::proofs::ResultLaws::no_part))]
 fn part_value(aggs: &[Agg], parts: &[Partial], at: usize) -> Option<i128>
     ensures { result ≡ cell_at (shown_each aggs.now parts.now) at }

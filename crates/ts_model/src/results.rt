@@ -137,6 +137,7 @@ impl<'a> ResultRow<'a> {
 
     /// The value of the cell at a place: the whole number that it shows, and none for NULL, for a mean and
     /// where there is no cell.
+    #[inline]
     pub fn value_at(&self, place: usize) -> Option<i128>
         ensures value { result ≡ cell_at (row_cells self.now) place }
     {
@@ -173,6 +174,7 @@ impl<'a> Iterator for ResultIter<'a> {
 
     ghost remaining = { item_count (λ i. i) };
 
+    #[inline]
     fn next(&mut self) -> Option<ResultRow<'a>> {
         if let Some(cells) = self.cells.next() {
             return Some(ResultRow::Cells(cells));
