@@ -1,15 +1,15 @@
 //! Rows as they are read, whose values come to stand in blocks.
-ghost use Rattle.std.specs.Prelude.{◌≡◌, ◌∷◌, ◌++◌, [], IfOk, OnOk};
-ghost use Rattle.event_codec.specs.Reading.{Gives, few_of, items, many_of, row_at, value_at};
+ghost use Rattle.std.specs.Prelude.{◌≡◌, ◌∷◌, ◌++◌, [], IfOk, IfSome, OnOk, Ok, drop, length};
+ghost use Rattle.cell_rows.specs.Parts.{AreParts, parts};
 ghost use Rattle.event_codec.specs.Blocks.{seen_as, timed_rows};
+ghost use Rattle.event_codec.specs.Reading.{Gives, few_of, items, many_of, mapped, row_at, value_at};
 
 use crate::errors::ReadError;
 use crate::fields::Field;
+use crate::numbers::signed_in_front;
 use crate::reader::Reader;
-use cell_rows::CellRows;
 use std::alloc::Global;
-use std::marker::Model;
-use std::mem;
+use std::sync::Arc;
 use ts_bucket::{MAX_TIME, MIN_TIME};
 use ts_schema::{NoMemory, Row, Seq, SharedSlice};
 
@@ -17,119 +17,62 @@ use ts_schema::{NoMemory, Row, Seq, SharedSlice};
 const COUNT_AT: usize = 8;
 
 /// No block has the values of more rows.
-const MANY: usize = 1024;
+const MANY: u32 = 1024;
 
-/// Rows that were read, with the values of the last ones one after another. Contracts see the rows.
-#[derive(Drop)]
-struct Block {
-    /// The first ones, whose values stand in blocks.
-    rows: Vec<Row>,
-    /// The times and the values of the others.
-    times: Vec<i64>,
-    values: CellRows<Option<i64>>,
-    /// How many values these are.
-    cells: usize,
+/// How many of so many rows these bytes can hold.
+fn most_rows(count: u32, bytes: &[u8]) -> usize {
+    (count as usize).min(bytes.len() / (COUNT_AT + 1))
 }
 
-impl Model for Block {
-    ghost use Rattle.std.specs.Prelude.{◌≡◌, ◌++◌, List, length};
-    ghost use Rattle.ts_schema.specs.declared.rows.Row.{Row};
-    ghost use Rattle.event_codec.specs.Blocks.{timed_rows};
-
-    ghost Value = { List Row };
-
-    ghost view = { λ b. b.rows.items ++ timed_rows b.times.items b.values };
-
-    ghost invariant = { λ b. length b.times.items ≡ length b.values };
+/// How many values so many rows have, where each has as many as the first one in front of these bytes; or
+/// fewer, where no more can be there.
+fn most_values(rows: usize, bytes: &[u8]) -> usize {
+    let each = bytes.get(COUNT_AT).copied().unwrap_or(0);
+    rows.saturating_mul(usize::from(each)).min(bytes.len())
 }
 
-/// Appends the rows of these times and values, which share one block of values from here on.
+/// An empty list with room for so many items.
+fn with_room<T>(alloc: Global, room: usize) -> Result<Vec<T>, NoMemory>
+    ensures { IfOk result (λ list. list.items ≡ []) }
+{
+    Ok(Vec::with_capacity(alloc, room)?)
+}
+
+/// Appends the time of a row, and the place where its values end.
+fn push_row(
+    at: i64,
+    end: usize,
+    times: &mut Vec<i64>,
+    ends: &mut Vec<usize>,
+) -> Result<(), NoMemory>
+    ensures time { OnOk result (times.new.items ≡ times.old.items ++ at ∷ []) }
+    ensures end { OnOk result (ends.new.items ≡ ends.old.items ++ end ∷ []) }
+{
+    times.push(at)?;
+    ends.push(end)?;
+    Ok(())
+}
+
+/// Appends the rows of these times, whose values end at these places of a list. They share the list from
+/// here on.
 fn push_rows(
     into: &mut Vec<Row>,
     alloc: Global,
     times: &[i64],
-    values: CellRows<Option<i64>>,
+    values: Vec<Option<i64>>,
+    ends: &[usize],
 ) -> Result<(), NoMemory>
-    ensures { OnOk result (into.new.items ≡ into.old.items ++ timed_rows times.now values) }
+    requires parts { AreParts 0 ends.now values.items }
+    ensures { OnOk result (into.new.items ≡ into.old.items ++ timed_rows times.now (parts 0 ends.now values.items)) }
 {
-    let values = values.into_shared(alloc)?;
-    for (at, vals) in times.iter().zip(values.into_items()) {
+    let block = Arc::new(alloc, Seq::of(values))?;
+    let mut from = 0;
+    for (at, end) in times.iter().zip(ends.iter()) {
+        let vals = SharedSlice::part(&block, from, *end)?;
         into.push(Row { at: *at, vals })?;
+        from = *end;
     }
     Ok(())
-}
-
-impl Block {
-    /// No row, with room for so many with as many values each as the first one in front of these bytes
-    /// has, or for fewer where no more can be there.
-    fn new(alloc: Global, count: u32, bytes: &[u8]) -> Result<Block, NoMemory>
-        ensures { IfOk result (λ block. block ≡ []) }
-    {
-        let rows = (count as usize).min(bytes.len() / (COUNT_AT + 1));
-        let first = rows.min(MANY);
-        let each = bytes.get(COUNT_AT).copied().unwrap_or(0);
-        let cells = first.saturating_mul(usize::from(each)).min(bytes.len());
-        let mut values = CellRows::new(alloc);
-        values.reserve(first, cells)?;
-        Ok(Block {
-            rows: Vec::with_capacity(alloc, rows)?,
-            times: Vec::with_capacity(alloc, first)?,
-            values,
-            cells: 0,
-        })
-    }
-
-    /// Puts the values of the last rows into a block.
-    fn seal(&mut self, alloc: Global) -> Result<(), NoMemory>
-        ensures { OnOk result (self.new ≡ self.old) }
-    {
-        let times = mem::replace(&mut self.times, Vec::new(alloc));
-        let values = mem::replace(&mut self.values, CellRows::new(alloc));
-        push_rows(&mut self.rows, alloc, times.as_slice(), values)
-    }
-
-    /// The same, where they are many, with room for as many again.
-    fn seal_many(&mut self, alloc: Global) -> Result<(), NoMemory>
-        ensures { OnOk result (self.new ≡ self.old) }
-    {
-        if self.times.len() < MANY {
-            return Ok(());
-        }
-        let cells = mem::replace(&mut self.cells, 0);
-        self.seal(alloc)?;
-        self.times.reserve(MANY)?;
-        self.values.reserve(MANY, cells)?;
-        Ok(())
-    }
-
-    /// Puts a row of this time and these values at the end, into the block that is made.
-    fn put(&mut self, at: i64, vals: &[Option<i64>]) -> Result<(), NoMemory>
-        ensures { IfOk result (λ _. self.new ≡ self.old ++ record { at = at; vals = vals.now } ∷ []) }
-    {
-        self.times.reserve(1)?;
-        self.values.push(vals)?;
-        self.times.push_reserved(at);
-        self.cells = self.cells.saturating_add(vals.len());
-        Ok(())
-    }
-
-    /// The same, into a block of its own where that one has many.
-    fn push(&mut self, alloc: Global, at: i64, vals: &[Option<i64>]) -> Result<(), NoMemory>
-        ensures { IfOk result (λ _. self.new ≡ self.old ++ record { at = at; vals = vals.now } ∷ []) }
-    {
-        self.seal_many(alloc)?;
-        self.put(at, vals)
-    }
-
-    /// The rows. Each shares a block of values with those beside it from here on.
-    fn into_rows(self, alloc: Global) -> Result<Seq<Row>, NoMemory>
-        ensures { IfOk result (λ rows. rows ≡ self) }
-    {
-        let mut rows = self.rows;
-        let times = self.times;
-        push_rows(&mut rows, alloc, times.as_slice(), self.values)?;
-        Ok(Seq::of(rows))
-    }
 }
 
 /// Puts a value at the end.
@@ -140,48 +83,104 @@ fn push_value(into: &mut Vec<Option<i64>>, value: Option<i64>) -> Result<(), NoM
     Ok(())
 }
 
+/// The value in front, and the bytes after it. It may miss one that stands there.
+fn value_in_front(bytes: &[u8]) -> Option<(Option<i64>, &[u8])>
+    ensures { IfSome result (λ x. value_at bytes.now ≡ Ok (x.0, x.1.now)) }
+{
+    let [told, body @ ..] = bytes else {
+        return None;
+    };
+    if *told == 0 {
+        return Some((None, body));
+    }
+    if *told != 1 {
+        return None;
+    }
+    let (number, rest) = signed_in_front(body)?;
+    Some((Some(number), rest))
+}
+
 impl Reader<'_> {
-    /// So many values, into a buffer that is empty.
+    /// NULL, or a number.
+    fn value(&mut self) -> Result<Option<i64>, ReadError>
+        ensures { Gives result (value_at self.old) self.new }
+    {
+        if let Some((value, rest)) = value_in_front(self.left()) {
+            self.pass_to(rest);
+            return Ok(value);
+        }
+        <Option<i64> as Field>::read(self)
+    }
+
+    /// So many values, put behind others.
     fn values_into(&mut self, count: u32, into: &mut Vec<Option<i64>>) -> Result<(), ReadError>
-        requires empty { into.old.items ≡ [] }
-        ensures { Gives (seen_as (λ _. into.new.items) result) (items count value_at self.old) self.new }
+        ensures read { let vals = drop (length into.old.items) into.new.items in
+            Gives (seen_as (λ _. vals) result) (items count value_at self.old) self.new }
+        ensures behind { OnOk result (into.new.items ≡ into.old.items ++ drop (length into.old.items) into.new.items) }
     {
         for _ in 0..count {
-            push_value(into, <Option<i64> as Field>::read(self)?)?;
+            push_value(into, self.value()?)?;
         }
         Ok(())
     }
 
-    /// The values of a row behind their count, in place of what is in a buffer.
+    /// The values of a row behind their count, put behind others.
     fn few_into(&mut self, into: &mut Vec<Option<i64>>) -> Result<(), ReadError>
-        ensures { Gives (seen_as (λ _. into.new.items) result) (few_of value_at self.old) self.new }
+        ensures read { let vals = drop (length into.old.items) into.new.items in
+            Gives (seen_as (λ _. vals) result) (few_of value_at self.old) self.new }
+        ensures behind { OnOk result (into.new.items ≡ into.old.items ++ drop (length into.old.items) into.new.items) }
     {
         let count = self.byte()?;
-        into.clear();
         self.values_into(u32::from(count), into)
     }
 
-    /// The time of a row, with its values in place of what is in a buffer.
+    /// The time of a row, with its values put behind others.
     #[tactic(auto, unfolding(crate::specs::Reading::row_at))]
     pub(crate) fn row_into(&mut self, into: &mut Vec<Option<i64>>) -> Result<i64, ReadError>
-        ensures { Gives (seen_as (λ at. record { at = at; vals = into.new.items }) result) (row_at self.old) self.new }
+        ensures read { let vals = drop (length into.old.items) into.new.items in
+            Gives (seen_as (λ at. record { at = at; vals = vals }) result) (row_at self.old) self.new }
+        ensures behind { OnOk result (into.new.items ≡ into.old.items ++ drop (length into.old.items) into.new.items) }
     {
         let at = self.between(MIN_TIME, MAX_TIME)?;
         self.few_into(into)?;
         Ok(at)
     }
 
-    /// So many rows.
-    fn block(&mut self, count: u32) -> Result<Block, ReadError>
-        ensures { Gives result (items count row_at self.old) self.new }
+    /// So many rows, put behind others. They share a block of values.
+    fn piece_into(&mut self, count: u32, into: &mut Vec<Row>) -> Result<(), ReadError>
+        ensures { let all = mapped (λ rows. into.old.items ++ rows) (items count row_at) self.old in
+            Gives (seen_as (λ _. into.new.items) result) all self.new }
     {
-        let mut block = Block::new(self.alloc(), count, self.left())?;
-        let mut vals = Vec::new(self.alloc());
+        let room = most_rows(count, self.left());
+        let mut times = with_room(self.alloc(), room)?;
+        let mut ends = with_room(self.alloc(), room)?;
+        let mut values = with_room(self.alloc(), most_values(room, self.left()))?;
         for _ in 0..count {
-            let at = self.row_into(&mut vals)?;
-            block.push(self.alloc(), at, vals.as_slice())?;
+            let at = self.row_into(&mut values)?;
+            push_row(at, values.as_slice().len(), &mut times, &mut ends)?;
         }
-        Ok(block)
+        push_rows(
+            into,
+            self.alloc(),
+            times.as_slice(),
+            values,
+            ends.as_slice(),
+        )?;
+        Ok(())
+    }
+
+    /// So many rows.
+    fn row_list(&mut self, count: u32) -> Result<Vec<Row>, ReadError>
+        ensures { Gives (seen_as (λ rows. rows.items) result) (items count row_at self.old) self.new }
+    {
+        let mut rows = with_room(self.alloc(), most_rows(count, self.left()))?;
+        let mut left = count;
+        'pieces: while left > 0 {
+            let piece = left.min(MANY);
+            self.piece_into(piece, &mut rows)?;
+            left -= piece;
+        }
+        Ok(rows)
     }
 
     /// A count of four bytes and so many rows, which share blocks of values.
@@ -189,7 +188,7 @@ impl Reader<'_> {
         ensures { Gives result (many_of row_at self.old) self.new }
     {
         let count = self.four()?;
-        let block = self.block(count)?;
-        Ok(block.into_rows(self.alloc())?)
+        let rows = self.row_list(count)?;
+        Ok(Seq::of(rows))
     }
 }

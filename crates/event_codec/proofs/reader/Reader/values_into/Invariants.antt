@@ -1,7 +1,10 @@
-use Rattle.std.proofs.Common.{◌≡◌, ◌-◌}
+use Rattle.std.proofs.Common.{◌≡◌, ◌-◌, ◌++◌, drop, length}
 use Rattle.event_codec.specs.Reading.{items, value_at}
 use Rattle.event_codec.proofs.Loops.{with_front}
 use Rattle.event_codec.proofs.reader.Reader.values_into.Given as goal
 
+-- the values so far stand behind the others, and are read with those that are left
 abbrev pub invariant-loop : goal.invariant-loop
-invariant-loop l = with_front value_at l.into.items (items (l.count - l.counter) value_at l.self) ≡ items l.count value_at l.fn.self
+invariant-loop l =
+    (l.into.items ≡ l.fn.into.items ++ drop (length l.fn.into.items) l.into.items)
+    × (with_front value_at (drop (length l.fn.into.items) l.into.items) (items (l.count - l.counter) value_at l.self) ≡ items l.count value_at l.fn.self)
