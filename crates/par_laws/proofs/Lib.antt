@@ -5,3 +5,4 @@ pub mod OneHistory
 pub mod SessionSteps
 pub mod NamedLaws
 pub mod PartLaws
+pub mod BrokenLaws

@@ -21,7 +21,7 @@ use Rattle.par_laws.specs.Phases.{Executed, Explained, AllExplained, all_numbers
 use Rattle.par_laws.proofs.WalkedLaws.{walked_is_answered}
 
 -- a store in which another ended stopped where that had stopped
-stops_there : (left new : State) → ((e : Event) → left.failed ≡ Some e → (new.failed ≡ Some e) × (new.history ≡ left.history)) → StopsLater (stop_of left) (stop_of new)
+pub stops_there : (left new : State) → ((e : Event) → left.failed ≡ Some e → (new.failed ≡ Some e) × (new.history ≡ left.history)) → StopsLater (stop_of left) (stop_of new)
 stops_there left new stops = by_failed left.failed stops
   where
     by_failed : (failed : Option Event) → ((e : Event) → failed ≡ Some e → (new.failed ≡ Some e) × (new.history ≡ left.history)) → StopsLater (cond (is_some failed) (Some (position left.history)) None) (stop_of new)

@@ -6,3 +6,4 @@ pub mod Calls
 pub mod Stopped
 pub mod Named
 pub mod Laws
+pub mod Broken

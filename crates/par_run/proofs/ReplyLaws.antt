@@ -1,7 +1,7 @@
 -- How a session goes on line by line.
-use Rattle.std.proofs.Common.{◌≡◌, ℕ, ◌+◌, ◌<◌, ◌≤◌, Bool, false, List, [], ◌∷◌, ◌++◌, get_or, length, map, take, drop, Some, arith, ap, subst, sym, ◌∙◌}
-use Rattle.std.specs.Prelude.{Result, OnOk}
-use Rattle.std.proofs.lemmas.List.{length-drop, length-take-le, map_more, take_all}
+use Rattle.std.proofs.Common.{◌≡◌, ℕ, ◌+◌, ◌<◌, ◌≤◌, ◌^◌, Bool, true, false, List, [], ◌∷◌, ◌++◌, get_or, length, map, take, drop, Some, arith, ap, subst, sym, ◌∙◌}
+use Rattle.std.specs.Prelude.{Result, Ok, Err, OnErr, OnOk}
+use Rattle.std.proofs.lemmas.List.{drop_more, length-drop, length-take-le, map-append, map_more, take-append-drop, take_all}
 use Rattle.ts_schema.specs.declared.memory.NoMemory.{NoMemory}
 use Rattle.ts_model.specs.States.{State}
 use Rattle.ts_sessions.specs.declared.replies.Reply.{Reply}
@@ -12,6 +12,10 @@ use Rattle.ts_sessions.specs.Places.{Block, Turn}
 use Rattle.ts_sessions.specs.Procedures.{Procedure}
 use Rattle.ts_sessions.specs.Script.{SessionLine}
 use Rattle.ts_sessions.specs.Sessions.{IfAnswered, Stepped}
+use Rattle.ts_sessions.specs.Walks.{Breaks}
+use Rattle.ts_sessions.proofs.WalkLaws.{walks_break}
+use Rattle.ts_schema.specs.Counts.{raised_by}
+use Rattle.par_laws.specs.Broken.{BrokeOff}
 use Rattle.par_laws.specs.Parallel.{SessionReplies, SessionExecuted, SessionExecutedTo}
 use Rattle.par_laws.proofs.SessionSteps.{begun, executed_all, executed_more, with_exchange}
 use Rattle.par_lines.specs.declared.sessions.LinePlace.{LinePlace}
@@ -44,6 +48,31 @@ said_more line name own reply old new before after same kept = λ i. record {
 -- nothing was said where nothing was kept
 pub said_nothing : (name : List ℕ) (replies : Replies) (reads : ℕ) → replies.exchanges.items ≡ [] → replies.fault ≡ false → reads ≡ 0 → said name replies reads ≡ nothing_said name
 said_nothing name replies reads none no_fault zero = λ i. record { name = name; exchanges = none i; fault = no_fault i; reads = zero i }
+
+-- ---- where memory ran out
+
+-- what holds anyway holds of an error
+pub on_error : {T E : Type 0} (P : Type 0) (result : Result T E) → P → OnErr result P
+on_error P (Ok t) holds = tt
+on_error P (Err e) holds = holds
+
+-- a line broke off, or came to an end and its reply wasn't kept
+pub stepped_breaks : {P : Type 0} (alone : Bool) (old : State) (procedure : Procedure (Turn P)) (name : List ℕ) (end : StepEnd) (new : State) (q : P) (before after : ℕ) → Stepped alone old procedure name end new q before after → Breaks alone old procedure new
+stepped_breaks alone old procedure name (steps.Reply r) new q before after s = walks_break alone false old procedure new _ s.walks
+stepped_breaks alone old procedure name (steps.DiskFault r) new q before after s = walks_break alone true old procedure new _ s.walks
+stepped_breaks alone old procedure name steps.NoMemory new q before after s = s.0
+
+raised_up : (read before after : ℕ) → after ≡ raised_by read before → before < 2 ^ 64 → before ≤ after
+raised_up read before after raised low = omega (arith, raised, low)
+
+-- no count of rows falls
+pub stepped_counts : {P : Type 0} (alone : Bool) (old : State) (procedure : Procedure (Turn P)) (name : List ℕ) (end : StepEnd) (new : State) (q : P) (before after : ℕ) → Stepped alone old procedure name end new q before after → before < 2 ^ 64 → before ≤ after
+stepped_counts alone old procedure name (steps.Reply r) new q before after s low = raised_up s.read before after s.counted low
+stepped_counts alone old procedure name (steps.DiskFault r) new q before after s low = raised_up s.read before after s.counted low
+stepped_counts alone old procedure name steps.NoMemory new q before after s low = s.1
+
+raised_low : (m n : ℕ) → n ≡ raised_by m 0 → n < 2 ^ 64
+raised_low m n raised = omega (arith, raised)
 
 -- where nothing waits there is room for all that is to come
 pub idle_room : (waits more most : ℕ) → waits ≡ 0 → more ≤ most → waits + more ≤ most
@@ -95,3 +124,25 @@ module _ {P : Type 0} (within : P → Block) (does : P → List ℕ → ℕ → 
   executed_last alone name input lines i s replies new q le so_far =
       executed_all within does first alone name (map (line_at input) lines) s replies new q
       (subst (λ ls. SessionExecutedTo within does first alone (record { name = name; lines = map (line_at input) ls }) s replies new q) (take_all i lines le) so_far)
+
+  -- or the line at a place breaks off
+  pub broke_next : (alone : Bool) (name input text : List ℕ) (lines : List LinePlace) (i : ℕ) (d : LinePlace) (s old : State) (p : P) (before : SessionReplies) (new : State) (after : ℕ)
+      → i < length lines → text ≡ (line_at input (get_or lines i d)).text
+      → SessionExecutedTo within does first alone (record { name = name; lines = map (line_at input) (take i lines) }) s before old p
+      → Breaks alone old (does p text (get_or lines i d).skip) new → (before.reads < 2 ^ 64 → before.reads ≤ after)
+      → BrokeOff within does first alone (record { name = name; lines = map (line_at input) lines }) s after new
+  broke_next alone name input text lines i d s old p before new after lt at so_far broke counted =
+      let place = get_or lines i d in
+      record {
+        done = map (line_at input) (take i lines);
+        line = line_at input place;
+        rest = map (line_at input) (drop (i + 1) lines);
+        lines = ap (map (line_at input)) (sym (take-append-drop i lines) ∙ ap (λ rest. take i lines ++ rest) (drop_more lines i d lt))
+            ∙ map-append (line_at input) (take i lines) (place ∷ drop (i + 1) lines);
+        replies = before;
+        mid = old;
+        places = p;
+        executed = so_far;
+        broke = subst (λ t. Breaks alone old (does p t place.skip) new) at broke;
+        reads = counted (raised_low _ before.reads so_far.replied.reads);
+      }

@@ -1,6 +1,8 @@
 -- How a run comes to its end.
-use Rattle.std.proofs.Common.{◌≡◌, ℕ, suc, Bool, true, false, not, List, [], ◌∷◌, ◌++◌, length, map, Result, Ok, Err, ap, refl, sym, ◌∙◌, subst}
+use Rattle.std.proofs.Common.{◌≡◌, ℕ, suc, Bool, true, false, not, List, [], ◌∷◌, ◌++◌, All, length, map, sum_by, Result, Ok, Err, ap, refl, sym, ◌∙◌, subst, arith}
 use Rattle.std.proofs.lemmas.List.{length-map, map-append}
+use Rattle.std.proofs.lemmas.List.Elements.{All-head, All-tail}
+use Rattle.std.proofs.lemmas.List.Sums.{sum_by-cons}
 use Rattle.std.specs.Prelude.{IfOk, IsTrue, MatchResult, OnOk}
 use Rattle.std.specs.List.{list_any}
 use Rattle.ts_schema.specs.declared.memory.NoMemory.{NoMemory}
@@ -12,7 +14,8 @@ use Rattle.par_workers.specs.Outcomes.{AllOutcomes, Ran}
 use Rattle.par_workers.specs.Slots.{Slot, workers_of}
 use Rattle.shared_store.specs.Stores.{Shared, Ticket}
 use Rattle.par_run.specs.declared.workers.SessionWorker.{SessionWorker}
-use Rattle.par_run.specs.Workers.{ran_out}
+use Rattle.par_run.specs.Workers.{IsReady, ran_out, replies_of}
+use Rattle.ts_sessions.specs.declared.actors.Actor.{Ghosts as Actor}
 use Rattle.ts_sessions.specs.Places.{Turn}
 use Rattle.ts_sessions.specs.Procedures.{Procedure}
 use Rattle.ts_sessions.specs.Script.{SessionScript}
@@ -84,3 +87,18 @@ ran_of_same reply p opening refusals refusals_too setup setup_too others others_
     (subst (λ x. RanTo reply p opening refusals_too setup_too x final new out reads) o
     (subst (λ x. RanTo reply p opening refusals_too x others final new out reads) s
     (subst (λ x. RanTo reply p opening x setup others final new out reads) r ran)))
+
+-- ---- where memory ran out
+
+-- a worker that is ready has read nothing
+pub unread : {A G T J : Type 0} (actors : Actor A T J) (workers : List (SessionWorker A G)) → All (IsReady actors) workers → sum_by (λ w. (replies_of actors.named w).reads) workers ≡ 0
+unread actors [] ready = refl
+unread actors (w ∷ workers) ready =
+    let more = sum_by-cons (λ x. (replies_of actors.named x).reads) w workers in
+    let first : (replies_of actors.named w).reads ≡ 0 = ap (λ replies. replies.reads) (All-head (IsReady actors) w workers ready).unanswered in
+    let rest = unread actors workers (All-tail (IsReady actors) w workers ready) in
+    omega (arith, more, first, rest)
+
+-- a crew that did nothing has the workers that it had
+pub idle_workers : {B W : Type 0} (enough : Bool) (start end : Ticket B) (olds news : List (Slot W B)) → (enough ≡ false → (end ≡ start) × (news ≡ olds)) → enough ≡ false → (end ≡ start) × (workers_of news ≡ workers_of olds)
+idle_workers enough start end olds news idle none = ((idle none).0, ap workers_of (idle none).1)

@@ -1,12 +1,13 @@
 -- The workers of a run.
-use Rattle.std.specs.Prelude.{◌≡◌, ◌<◌, ◌≤◌, ℕ, List, ◌++◌, All, length, map}
+use Rattle.std.specs.Prelude.{◌≡◌, ◌<◌, ◌≤◌, ℕ, List, [], ◌∷◌, ◌++◌, All, length, map}
 use Rattle.ts_model.specs.History.{History}
 use Rattle.ts_model.specs.States.{State}
 use Rattle.par_workers.specs.Slots.{Slot, workers_of}
-use Rattle.ts_sessions.specs.Places.{Turn}
+use Rattle.ts_sessions.specs.Places.{Block, Turn}
 use Rattle.ts_sessions.specs.Procedures.{Procedure}
 use Rattle.ts_sessions.specs.Script.{SessionScript}
 use Rattle.ts_model.specs.Limits.{most_sessions}
+use Rattle.par_laws.specs.Broken.{RanAsFar}
 use Rattle.par_laws.specs.Parallel.{RanInParallel, SessionReplies}
 use Rattle.par_lines.specs.Sorted.{Sorted, at_once, final, only, setup}
 use Rattle.par_run.specs.declared.crews.Crews.{Crews}
@@ -78,3 +79,19 @@ CrewsRan actors opening crews new out reads =
     RanTo actors.replies (actors.semantics.opening 0) opening crews.refusals.items
     (scripts_in actors.named crews.setup.items) (scripts_in actors.named crews.at_once.items)
     (scripts_in actors.named crews.last.items) new out reads
+
+-- what lines do by the places of their session, the block that places are in, and the places of each session at its
+-- first line
+module _ {P : Type 0} (within : P → Block) (does : P → List ℕ → ℕ → Procedure (Turn P)) (p : P) where
+  -- the sessions of the sorted lines of an input ran as far as memory sufficed
+  abbrev pub LinesRanAsFar : History → Sorted → State → ℕ → Type 0
+  LinesRanAsFar opening lines new reads =
+      RanAsFar within does p opening
+      (only setup lines.sessions ∷ at_once lines.sessions ∷ only final lines.sessions ∷ []) new reads
+
+-- workers did so
+abbrev pub CrewsRanAsFar : {A S K B G T J : Type 0} → Actor A S K → History → Crews A B G T J → State → ℕ → Type 0
+CrewsRanAsFar actors opening crews new reads =
+    RanAsFar actors.within actors.semantics.does (actors.semantics.opening 0) opening
+    (scripts_in actors.named crews.setup.items ∷ scripts_in actors.named crews.at_once.items
+    ∷ scripts_in actors.named crews.last.items ∷ []) new reads

@@ -1,8 +1,10 @@
 //! A session whose lines are executed one after the other.
-ghost use Rattle.std.specs.Prelude.{◌≡◌, ◌+◌, ◌≤◌, All, length, map, sum_by, OnOk};
+ghost use Rattle.std.specs.Prelude.{◌≡◌, ◌+◌, ◌<◌, ◌≤◌, ◌^◌, All, length, map, sum_by, OnErr, OnOk};
 ghost use Rattle.std.specs.Thread.{IsSync};
 ghost use Rattle.stmt_syntax.specs.Limits.{longest_line};
 ghost use Rattle.ts_sessions.specs.Held.{most_queued};
+ghost use Rattle.ts_sessions.specs.Walks.{Breaks};
+ghost use Rattle.par_laws.specs.Broken.{BrokeOff};
 ghost use Rattle.par_laws.specs.Parallel.{SessionExecuted};
 ghost use Rattle.par_lines.specs.Places.{line_at, IsLineWithin};
 ghost use Rattle.par_run.specs.Replies.{ExecutesNext};
@@ -54,6 +56,9 @@ impl<'a, A: Actor, G: Gate> Executor<'a, A, G> {
         ensures executed { OnOk result (SessionExecuted A.within A.semantics.does (A.semantics.opening 0) B.alone
             (record { name = A.named self.old.actor; lines = map (line_at input.now) lines.now })
             (B.state backend.old) (said_by A.named self.new) (B.state backend.new)) }
+        ensures broke { OnErr result (BrokeOff A.within A.semantics.does (A.semantics.opening 0) B.alone
+            (record { name = A.named self.old.actor; lines = map (line_at input.now) lines.now })
+            (B.state backend.old) (said_by A.named self.new).reads (B.state backend.new)) }
         ensures name { A.named self.new.actor ≡ A.named self.old.actor }
         ensures kin { B.kin backend.new ≡ B.kin backend.old }
     {
@@ -81,6 +86,10 @@ impl<'a, A: Actor, G: Gate> Executor<'a, A, G> {
             (A.named self.old.actor) (record { text = text.now; skip = skip })
             (B.state backend.old) (A.places self.old.actor) (said_by A.named self.old)
             (B.state backend.new) (A.places self.new.actor) (said_by A.named self.new)) }
+        ensures broke { OnErr result (Breaks B.alone (B.state backend.old)
+            (A.semantics.does (A.places self.old.actor) text.now skip) (B.state backend.new)) }
+        ensures counted { (said_by A.named self.old).reads < 2 ^ 64
+            → (said_by A.named self.old).reads ≤ (said_by A.named self.new).reads }
         ensures name { A.named self.new.actor ≡ A.named self.old.actor }
         ensures holds { OnOk result (A.holds self.new.actor (B.state backend.new)) }
         ensures waiting { A.waiting self.new.actor ≤ A.waiting self.old.actor + length text.now }

@@ -12,7 +12,7 @@ ghost use Rattle.shared_store.specs.Wrapped.{GoesOn};
 ghost use Rattle.par_workers.specs.Slots.{workers_of};
 ghost use Rattle.par_workers.specs.Outcomes.{Ran};
 ghost use Rattle.par_lines.specs.Sorted.{sorted};
-ghost use Rattle.par_run.specs.Crews.{AreFew, AreReady, CrewsRan, HaveShares, LinesRan};
+ghost use Rattle.par_run.specs.Crews.{AreFew, AreReady, CrewsRan, CrewsRanAsFar, HaveShares, LinesRan, LinesRanAsFar};
 ghost use Rattle.par_run.specs.Ends.{is_disk_fault, stop_by};
 ghost use Rattle.par_run.specs.Outputs.{output_in, output_of};
 
@@ -51,6 +51,8 @@ where
     requires within { length input.now ≤ INPUT_LIMIT }
     ensures ran { result.stop ≢ ParStop.NoMemory → LinesRan A.replies (A.semantics.opening 0)
         (B.state backend).history (sorted input.now) (B.state result.backend) (output_of result) result.reads }
+    ensures as_far { LinesRanAsFar A.within A.semantics.does (A.semantics.opening 0)
+        (B.state backend).history (sorted input.now) (B.state result.backend) result.reads }
     ensures start { result.start ≡ position (B.state backend).history }
     ensures stop { result.stop ≢ ParStop.NoMemory
         → stands_still (B.state result.backend) ≡ is_disk_fault result.stop }
@@ -86,6 +88,8 @@ where
     requires ready { AreReady A.Actor crews }
     ensures ran { result.stop ≢ ParStop.NoMemory → CrewsRan A.Actor
         (B.state backend).history crews.entry (B.state result.backend) (output_of result) result.reads }
+    ensures as_far { CrewsRanAsFar A.Actor
+        (B.state backend).history crews.entry (B.state result.backend) result.reads }
     ensures start { result.start ≡ start }
     ensures stop { result.stop ≢ ParStop.NoMemory
         → stands_still (B.state result.backend) ≡ is_disk_fault result.stop }
@@ -124,6 +128,8 @@ where
     requires ready { AreReady A.Actor crews }
     ensures ran { result.stop ≢ ParStop.NoMemory → CrewsRan A.Actor
         (B.state store.opened.value).history crews.entry (B.state result.backend) (output_of result) result.reads }
+    ensures as_far { CrewsRanAsFar A.Actor
+        (B.state store.opened.value).history crews.entry (B.state result.backend) result.reads }
     ensures start { result.start ≡ start }
     ensures stop { result.stop ≢ ParStop.NoMemory
         → stands_still (B.state result.backend) ≡ is_disk_fault result.stop }

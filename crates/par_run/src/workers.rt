@@ -63,14 +63,14 @@ impl<'a, A: Actor, G: Gate> SessionWorker<'a, A, G> {
 }
 
 impl<'a, A: Actor, G: Gate> Worker for SessionWorker<'a, A, G> {
-    ghost use Rattle.par_laws.specs.Calls.{Worked};
+    ghost use Rattle.par_laws.specs.Broken.{WorkedOrBroke};
     ghost use Rattle.par_run.specs.Workers.{ran_out, replies_of, worker_script, IsReady};
 
     type Shot = A::Shot;
 
     ghost ready = { IsReady A.Actor };
 
-    ghost did = { Worked A.within A.semantics.does (A.semantics.opening 0)
+    ghost did = { WorkedOrBroke A.within A.semantics.does (A.semantics.opening 0)
         (worker_script A.named) (replies_of A.named) ran_out };
 
     fn work<R: Threads + Sync, B: Backend<Shot = A::Shot>>(&mut self, rt: &R, backend: &mut B) {

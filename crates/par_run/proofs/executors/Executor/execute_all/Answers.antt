@@ -3,7 +3,7 @@ use Rattle.std.proofs.lemmas.List.Sums.{sum_by-drop_more}
 use Rattle.ts_sessions.specs.Held.{most_queued}
 use Rattle.par_lines.specs.declared.sessions.LinePlace.{LinePlace}
 use Rattle.par_run.specs.Workers.{said_by}
-use Rattle.par_run.proofs.ReplyLaws.{begun_fresh, executed_last, executed_next, idle_room, length_at}
+use Rattle.par_run.proofs.ReplyLaws.{begun_fresh, broke_next, executed_last, executed_next, idle_room, length_at, on_error}
 use Rattle.par_run.proofs.executors.Executor.execute_all.Goals as goal
 
 pub loop-line-init : goal.loop-line-init
@@ -50,3 +50,13 @@ returns-clause-executed g c =
     let actors = g.A.Actor in
     executed_last actors.within actors.semantics.does (actors.semantics.opening 0) g.B.Backend.alone (actors.named c.args.self.now.actor) c.args.input.now c.args.lines.now c.loop-line.line-index (g.B.Backend.state c.args.backend.now)
     (said_by actors.named c.loop-line.self) (g.B.Backend.state c.loop-line.backend) (actors.places c.loop-line.self.actor) c.loop-line-test.false c.loop-line.invariant.executed
+
+pub returns-in_err-execute-clause-broke : goal.returns-in_err-execute-clause-broke
+returns-in_err-execute-clause-broke g c =
+    let actors = g.A.Actor in
+    let d : LinePlace = record { from = 0; len = 0; skip = 0 } in
+    on_error _ c.from_residual.result
+    (broke_next actors.within actors.semantics.does (actors.semantics.opening 0) g.B.Backend.alone (actors.named c.args.self.now.actor) c.args.input.now c.text.result.now c.args.lines.now c.loop-line.line-index d
+    (g.B.Backend.state c.args.backend.now) (g.B.Backend.state c.loop-line.backend) (actors.places c.loop-line.self.actor) (said_by actors.named c.loop-line.self)
+    (g.B.Backend.state c.execute.new.backend) (said_by actors.named c.execute.new.self).reads
+    c.loop-line-test.true c.text.ensures.text c.loop-line.invariant.executed c.in_err-execute.ensures.broke c.execute.ensures.counted)

@@ -1,0 +1,139 @@
+-- Runs as far as memory sufficed: who ran, up to the phase in which it ran out.
+use Rattle.std.specs.Prelude.{◌≡◌, ◌≤◌, ◌⊎◌, ℕ, Bool, true, false, List, [], ◌∷◌, ◌++◌, flat_map, sum_by, Option, IsPermutation}
+use Rattle.std.specs.List.{list_any}
+use Rattle.ts_schema.specs.Counts.{raised_by}
+use Rattle.ts_model.specs.History.{History, position, Begins}
+use Rattle.ts_model.specs.States.{State, stop_of}
+use Rattle.turn_lock.specs.Positions.{positions_between}
+use Rattle.ts_sessions.specs.Gives.{StopsLater}
+use Rattle.ts_sessions.specs.Places.{Block, Turn}
+use Rattle.ts_sessions.specs.Procedures.{Procedure}
+use Rattle.ts_sessions.specs.Script.{SessionLine, SessionScript}
+use Rattle.ts_sessions.specs.Walks.{Breaks}
+use Rattle.par_laws.specs.Calls.{Worked}
+use Rattle.par_laws.specs.Parallel.{SessionReplies, SessionExecuted, SessionExecutedTo}
+
+-- what a session did that took part: whether it broke off for want of memory, the numbers of the events that it made,
+-- and how many stored rows it looked at
+pub record Part : Type 0 where
+  pub broke : Bool
+  pub made : List ℕ
+  pub reads : ℕ
+
+-- whether one of several broke off
+abbrev pub one_broke : List Part → Bool
+one_broke parts = list_any (λ part. part.broke) parts
+
+-- the events that the sessions of several phases made, and the rows that they looked at
+abbrev pub all_made : List (List Part) → List ℕ
+all_made phases = flat_map (λ parts. flat_map (λ part. part.made) parts) phases
+
+abbrev pub all_reads : List (List Part) → ℕ
+all_reads phases = sum_by (λ parts. sum_by (λ part. part.reads) parts) phases
+
+-- a first thing came to a position, and the rest went on from there
+pub record Upto (First Rest : ℕ → Type 0) : Type 0 where
+  pub mid : ℕ
+  pub first : First mid
+  pub rest : Rest mid
+
+-- what lines do by the places of their session, the block that places are in, and the places of each session at its
+-- first line
+module _ {P : Type 0} (within : P → Block) (does : P → List ℕ → ℕ → Procedure (Turn P)) (p : P) where
+  -- ---- one session
+
+  -- a session executed all its lines from a state on, and looked at so many rows
+  pub record Finished (alone : Bool) (session : SessionScript) (s : State) (count : ℕ) (t : State) : Type 0 where
+    pub replies : SessionReplies
+    pub executed : SessionExecuted within does p alone session s replies t
+    pub reads : count ≡ replies.reads
+
+  -- a session executed its first lines from a state on, and broke off in the next one for want of memory: the events
+  -- that this line had made stand
+  pub record BrokeOff (alone : Bool) (session : SessionScript) (s : State) (count : ℕ) (t : State) : Type 0 where
+    pub done : List SessionLine
+    pub line : SessionLine
+    pub rest : List SessionLine
+    pub lines : session.lines ≡ done ++ line ∷ rest
+    -- what the first lines were replied, and the state and the places that they left
+    pub replies : SessionReplies
+    pub mid : State
+    pub places : P
+    pub executed :
+        SessionExecutedTo within does p alone (record { name = session.name; lines = done }) s replies mid places
+    pub broke : Breaks alone mid (does places line.text line.skip) t
+    pub reads : replies.reads ≤ count
+
+  -- by whether it broke off
+  abbrev pub Went : Bool → Bool → SessionScript → State → ℕ → State → Type 0
+  Went false alone session s count t = Finished alone session s count t
+  Went true alone session s count t = BrokeOff alone session s count t
+
+  -- ---- a phase
+
+  -- over a whole history, which stopped at a position if it did, a session took part in a phase between two positions
+  pub record TookPart (all : History) (stop : Option ℕ) (from to : ℕ) (session : SessionScript)
+      (part : Part) : Type 0 where
+    -- the states that it found and left
+    pub old : State
+    pub new : State
+    pub found : position old.history ≡ from
+    pub fresh : old.made ≡ []
+    pub went : Went part.broke false session old part.reads new
+    pub begins : Begins new.history all
+    pub ended : position new.history ≤ to
+    pub stops : StopsLater (stop_of new) stop
+    pub made : new.made ≡ part.made
+
+  -- so did each of several
+  abbrev pub AllTookPart : History → Option ℕ → ℕ → ℕ → List SessionScript → List Part → Type 0
+  AllTookPart all stop from to [] [] = Unit {0}
+  AllTookPart all stop from to [] (part ∷ parts) = ⊥
+  AllTookPart all stop from to (session ∷ sessions) [] = ⊥
+  AllTookPart all stop from to (session ∷ sessions) (part ∷ parts) =
+      TookPart all stop from to session part × AllTookPart all stop from to sessions parts
+
+  -- a phase of sessions between two positions, in which memory ran out or not
+  pub record PhaseRan (all : History) (stop : Option ℕ) (broke : Bool) (from to : ℕ) (sessions : List SessionScript)
+      (parts : List Part) : Type 0 where
+    pub order : from ≤ to
+    pub took : AllTookPart all stop from to sessions parts
+    pub some : one_broke parts ≡ broke
+
+  -- ---- phases
+
+  -- phases ran one after the other, up to the one in which memory ran out, if it did
+  abbrev pub PhasesRan : History → Option ℕ → ℕ → ℕ → List (List SessionScript) → List (List Part) → Type 0
+  PhasesRan all stop from to [] [] = from ≡ to
+  PhasesRan all stop from to [] (parts ∷ more) = ⊥
+  PhasesRan all stop from to (sessions ∷ later) [] = ⊥
+  PhasesRan all stop from to (sessions ∷ later) (parts ∷ more) =
+      (PhaseRan all stop true from to sessions parts × (more ≡ []))
+      ⊎ Upto (λ mid. PhaseRan all stop false from mid sessions parts)
+      (λ mid. PhasesRan all stop mid to later more)
+
+  -- or none began
+  abbrev pub PhasesBegan : History → Option ℕ → ℕ → ℕ → List (List SessionScript) → List (List Part) → Type 0
+  PhasesBegan all stop from to phases [] = from ≡ to
+  PhasesBegan all stop from to phases (parts ∷ more) = PhasesRan all stop from to phases (parts ∷ more)
+
+  -- over an opening history phases ran as far as memory sufficed: the sessions that took part made all events since
+  -- then, and looked at all rows. Those of later phases did nothing
+  pub record RanAsFar (opening : History) (phases : List (List SessionScript)) (new : State) (count : ℕ) : Type 0 where
+    pub parts : List (List Part)
+    pub begins : Begins opening new.history
+    pub ran : PhasesBegan new.history (stop_of new) (position opening) (position new.history) phases parts
+    pub made : IsPermutation (all_made parts) (positions_between (position opening) (position new.history))
+    pub reads : count ≡ raised_by (all_reads parts) 0
+
+  -- ---- workers, by the session whose lines they execute, what it replied, and whether memory ran out
+
+  module _ {W : Type 0} (session_of : W → SessionScript) (replies_of : W → SessionReplies) (ran_out : W → Bool) where
+    -- where memory ran out, a worker's session broke off
+    abbrev pub Broke : Bool → W → State → W → State → Type 0
+    Broke alone old s new t = ran_out new ≡ true → BrokeOff alone (session_of old) s (replies_of new).reads t
+
+    -- and else executed all its lines
+    abbrev pub WorkedOrBroke : Bool → W → State → W → State → Type 0
+    WorkedOrBroke alone old s new t =
+        Worked within does p session_of replies_of ran_out alone old s new t × Broke alone old s new t
