@@ -24,6 +24,23 @@ any_over p (x ∷ a) b l =
 pub lacks_append : (p : ℕ → Bool) (a b : List ℕ) → Lacks p a → Lacks p b → Lacks p (a ++ b)
 lacks_append p a b l m = any_over p a b l ∙ m
 
+pub lacks_drop : (p : ℕ → Bool) (n : ℕ) (text : List ℕ) → Lacks p text → Lacks p (drop n text)
+lacks_drop p zero text l = l
+lacks_drop p (suc n) [] l = refl
+lacks_drop p (suc n) (x ∷ text) l = lacks_drop p n text (or_parts (p x) (list_any p text) l).1
+
+-- nor does one that a weaker test lets pass
+pub lacks_too : (p q : ℕ → Bool) → ((b : ℕ) → p b ≡ false → q b ≡ false) → (text : List ℕ) → Lacks p text → Lacks q text
+lacks_too p q fails [] l = refl
+lacks_too p q fails (x ∷ text) l =
+    let parts = or_parts (p x) (list_any p text) l in
+    or_from (q x) (list_any q text) (fails x parts.0) (lacks_too p q fails text parts.1)
+
+-- what holds of each of two lists in a row holds of each of both
+pub all_parts : (P : ℕ → Type 0) (xs ys : List ℕ) → AllByRecursion P (xs ++ ys) → AllByRecursion P xs × AllByRecursion P ys
+all_parts P [] ys a = (tt, a)
+all_parts P (x ∷ xs) ys a = let parts = all_parts P xs ys a.1 in ((a.0, parts.0), parts.1)
+
 -- ---- digits
 
 abbrev pub IsDigit : ℕ → Type 0
@@ -49,7 +66,7 @@ pub decimal_digits : (n : ℕ) → AllByRecursion IsDigit (decimal n)
 unfolding digits
 decimal_digits n = digits_onto_digits 64 n [] tt
 
-digits_lack : (p : ℕ → Bool) (ds : List ℕ) → ((b : ℕ) → IsDigit b → p b ≡ false) → AllByRecursion IsDigit ds → Lacks p ds
+pub digits_lack : (p : ℕ → Bool) (ds : List ℕ) → ((b : ℕ) → IsDigit b → p b ≡ false) → AllByRecursion IsDigit ds → Lacks p ds
 digits_lack p [] lacks a = refl
 digits_lack p (d ∷ ds) lacks a = or_from (p d) (list_any p ds) (lacks d a.0) (digits_lack p ds lacks a.1)
 
@@ -66,9 +83,12 @@ high_mark byte le = λ b d. ne_eqb b byte (λ e. absurd (omega (arith, d.1, le, 
 pub decimal_lacks : (byte n : ℕ) → IsMark byte → Lacks (λ b. b == byte) (decimal n)
 decimal_lacks byte n mark = digits_lack (λ b. b == byte) (decimal n) mark (decimal_digits n)
 
+pub signed_fails : (p : ℕ → Bool) (z : ℤ) → ((b : ℕ) → IsDigit b → p b ≡ false) → p 45 ≡ false → Lacks p (signed_decimal z)
+signed_fails p (pos n) lacks minus = digits_lack p (decimal n) lacks (decimal_digits n)
+signed_fails p (negsuc n) lacks minus = or_from (p 45) (list_any p (decimal (suc n))) minus (digits_lack p (decimal (suc n)) lacks (decimal_digits (suc n)))
+
 pub signed_lacks : (byte : ℕ) (z : ℤ) → IsMark byte → (45 == byte) ≡ false → Lacks (λ b. b == byte) (signed_decimal z)
-signed_lacks byte (pos n) mark minus = decimal_lacks byte n mark
-signed_lacks byte (negsuc n) mark minus = or_from (45 == byte) (list_any (λ b. b == byte) (decimal (suc n))) minus (decimal_lacks byte (suc n) mark)
+signed_lacks byte z mark minus = signed_fails (λ b. b == byte) z mark minus
 
 -- ---- behind
 

@@ -2,4 +2,5 @@ pub mod ByteLaws
 pub mod NumberLaws
 mod WordLaws
 mod HeadLaws
+mod QuietLaws
 pub mod TextLaws

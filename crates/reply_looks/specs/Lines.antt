@@ -1,4 +1,4 @@
--- The looks that one line of a reply prints, read from its text.
+-- The looks that one line of a reply prints, and the events that it names, read from its text.
 use Rattle.std.specs.Prelude.{ℕ, ◌+◌, ◌-◌, ◌*◌, ◌^◌, min, Bool, not, ◌==◌, nat_eq, ◌||◌, if◌then◌else◌, List, [], ◌∷◌, codes}
 use Rattle.std.specs.Char.{is_ascii_digit}
 use Rattle.std.specs.List.{list_any, starts_with}
@@ -79,3 +79,13 @@ told_in heads.Look line = position_in line ∷ []
 told_in heads.Fault line = position_in line ∷ position_in line ∷ []
 told_in heads.Answer line = position_in line ∷ []
 told_in heads.Quiet line = []
+
+-- ---- events
+
+-- the numbers of the events that a line with this head names as made: an event stands at its position. A cut is named
+-- by its number, and a whole refresh by that of its cut and by its position
+abbrev pub named_in : Head → List ℕ → List ℕ
+named_in heads.Event line = position_in line ∷ []
+named_in heads.Cut line = cut_in line ∷ []
+named_in heads.Refresh line = cut_in line ∷ position_in line ∷ []
+named_in other line = []

@@ -1,4 +1,4 @@
-//! The positions of looks, read from the text of the reply that prints them.
+//! The positions of looks, and the numbers of events, read from the text of the reply that prints them.
 //!
 //! - `numbers`: the numbers that a text begins with.
 //! - `lines`: the looks of one line, by its head.
@@ -11,5 +11,5 @@ mod lines;
 mod numbers;
 mod replies;
 
-pub use laws::texts_tell_looks;
+pub use laws::{texts_tell_looks, texts_tell_numbers};
 pub use replies::looks_told_by;
