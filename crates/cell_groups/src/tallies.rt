@@ -169,13 +169,24 @@ pub(crate) fn add_row(
 {
     for k in 0..aggs.len() {
         let agg = &aggs[k];
-        let own = tally_of(agg.fun, cells.value_at(agg.col));
-        let Some(tally) = both(agg.fun, tallies.get(k), &own) else {
+        let Some(tally) = with_cell(agg.fun, tallies.get(k), cells.value_at(agg.col)) else {
             return Err(Stop::TooGreat);
         };
         tallies.set(k, tally);
     }
     Ok(())
+}
+
+/// A tally with one more cell, where it can be kept.
+#[inline]
+fn with_cell(fun: Fun, tally: &Tally, value: Option<i128>) -> Option<Tally>
+    ensures sum { IfSome result (λ t. as_part fun t ≡ joined (as_part fun tally.now) (as_part fun (cell_tally fun value))) }
+    ensures room { CanBeKept (joined (as_part fun tally.now) (as_part fun (cell_tally fun value))) → IsSome result }
+{
+    match value {
+        None => both(fun, tally, &tally_of(fun, None)),
+        Some(v) => both(fun, tally, &tally_of(fun, Some(v))),
+    }
 }
 
 /// Adds other tallies of the same columns to tallies.

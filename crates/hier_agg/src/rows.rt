@@ -7,13 +7,13 @@ ghost use Rattle.hier_agg.specs.Upper.{row_of};
 ghost use Rattle.hier_agg.specs.Wides.{HoldsItsNumbers};
 
 use crate::plans::UpperPlan;
-use crate::wides::{WideBucket, bucket_with};
+use crate::wides::{WideBucket, go_to};
 use cell_groups::{RowCells, passes};
 use ts_model::ResultRow;
 use ts_schema::NoMemory;
 
 /// Whether the keys of a row pass. `bucket` is that of a row before it, and then its own, where they do.
-#[inline]
+#[inline(always)]
 pub(crate) fn passes_to(
     plan: &UpperPlan,
     row: ResultRow<'_>,
@@ -27,7 +27,7 @@ pub(crate) fn passes_to(
     if !passes(&columns_of(row), plan.tests.items()) {
         return Ok(false);
     }
-    *bucket = bucket_with(&plan.width, *bucket, start_of(row))?;
+    go_to(&plan.width, bucket, start_of(row))?;
     Ok(true)
 }
 

@@ -1,5 +1,5 @@
 //! The wider bucket of a row.
-ghost use Rattle.std.specs.Prelude.{◌≡◌, ◌-ℤ◌, pos, IfOk};
+ghost use Rattle.std.specs.Prelude.{◌≡◌, ◌-ℤ◌, pos, IfOk, OnOk};
 ghost use Rattle.ts_bucket.specs.Bucket.{bucket_of};
 ghost use Rattle.hier_agg.specs.Wides.{HoldsItsNumbers};
 
@@ -21,22 +21,19 @@ pub(crate) fn no_bucket() -> WideBucket
     WideBucket { start: 0, end: 0 }
 }
 
-/// The bucket that holds a number: the one at hand, or another. For one that takes more than 128 bits there
-/// is no room.
-#[inline]
-pub(crate) fn bucket_with(
-    width: &Width,
-    at_hand: WideBucket,
-    t: i128,
-) -> Result<WideBucket, NoMemory>
-    requires { HoldsItsNumbers width.now at_hand }
-    ensures start { IfOk result (λ bucket. bucket.start ≡ bucket_of width.now t) }
-    ensures numbers { IfOk result (λ bucket. HoldsItsNumbers width.now bucket) }
+/// Goes on to the bucket that holds a number, unless it is the one at hand. For one that takes more than 128
+/// bits there is no room.
+#[inline(always)]
+pub(crate) fn go_to(width: &Width, bucket: &mut WideBucket, t: i128) -> Result<(), NoMemory>
+    requires { HoldsItsNumbers width.now bucket.old }
+    ensures start { OnOk result (bucket.new.start ≡ bucket_of width.now t) }
+    ensures numbers { HoldsItsNumbers width.now bucket.new }
 {
-    if at_hand.start <= t && t < at_hand.end {
-        return Ok(at_hand);
+    if bucket.start <= t && t < bucket.end {
+        return Ok(());
     }
-    bucket_at(width, t)
+    *bucket = bucket_at(width, t)?;
+    Ok(())
 }
 
 /// The bucket that holds a number.

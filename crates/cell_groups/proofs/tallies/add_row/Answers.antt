@@ -17,8 +17,8 @@ loop-k-preserved c =
     let other : Agg = record { fun = CountAll; col = 0 } in
     let none : Tally = record { values = 0; number = pos 0 } in
     let fun = (get_or aggs k other).fun in
-    let own : c.tally_of-own.result ≡ get_or (row_tallies aggs c.args.cells.now) k none =
-    c.tally_of-own.ensures ∙ ap (cell_tally fun) c.value_at.ensures.value ∙ sym (row_tallies-at aggs c.args.cells.now k other none (omega (arith, c.loop-k-test.true))) in
+    let own : cell_tally fun c.value_at.result ≡ get_or (row_tallies aggs c.args.cells.now) k none =
+    ap (cell_tally fun) c.value_at.ensures.value ∙ sym (row_tallies-at aggs c.args.cells.now k other none (omega (arith, c.loop-k-test.true))) in
     record {
       many = ap length c.set.ensures.set ∙ length-set c.loop-k.tallies k c.in-Some.tally ∙ c.loop-k.invariant.many;
       merged =
@@ -39,8 +39,8 @@ returns-in_default-clause-room c all =
     let other : Agg = record { fun = CountAll; col = 0 } in
     let none : Tally = record { values = 0; number = pos 0 } in
     let fun = (get_or aggs k other).fun in
-    let own : c.tally_of-own.result ≡ get_or (row_tallies aggs c.args.cells.now) k none =
-    c.tally_of-own.ensures ∙ ap (cell_tally fun) c.value_at.ensures.value ∙ sym (row_tallies-at aggs c.args.cells.now k other none (omega (arith, c.loop-k-test.true))) in
+    let own : cell_tally fun c.value_at.result ≡ get_or (row_tallies aggs c.args.cells.now) k none =
+    ap (cell_tally fun) c.value_at.ensures.value ∙ sym (row_tallies-at aggs c.args.cells.now k other none (omega (arith, c.loop-k-test.true))) in
     c.in_default.ensures.room
     (subst (λ t. CanBeKept (joined (as_part fun c.get.result.now) (as_part fun t))) (sym own)
     (tally_kept aggs c.args.tallies.now (row_tallies aggs c.args.cells.now) c.loop-k.tallies k other none c.get.result.now
