@@ -6,7 +6,6 @@ ghost use Rattle.turn_lock.specs.Pass.{IsPassOf, IsIdle, shares_of};
 use std::alloc::Global;
 use std::process::Abort;
 use std::sync::Wait;
-use std::test::Fail;
 use std::thread;
 use std::thread::Threads;
 use turn_lock::{Grown, MadeLock, Pass, TurnLock, every_moment};
@@ -207,21 +206,6 @@ fn three_threads_lose_no_entry(rt: HostRuntime) {
     for from in [0, 1000, 2000] {
         assert!(rt; has_run(log.entries.as_slice(), from), "those from {from}");
     }
-}
-
-#[test]
-fn many_passes_become_one(rt: HostRuntime) -> Result<(), Fail> {
-    let (lock, mut pass) = made(&rt, rt.alloc(), empty_log(rt.alloc(), 0), 10);
-    let mut others = Vec::new(rt.alloc());
-    append(&rt, &lock, &mut pass, 1);
-    others.push(lock.split(&mut pass, 2))?;
-    append(&rt, &lock, &mut pass, 2);
-    others.push(lock.split(&mut pass, 3))?;
-    let all = lock.gather(pass, others);
-    assert_eq!(rt; (all.shares(), all.position()), (10, 2));
-    let log = lock.close(all);
-    assert_eq!(rt; log.entries.as_slice(), [1, 2].as_slice());
-    Ok(())
 }
 
 #[test]

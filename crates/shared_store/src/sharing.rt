@@ -1,6 +1,6 @@
 //! Passes that are split and joined, and how a shared store ends.
-ghost use Rattle.std.specs.Prelude.{◌≡◌, ◌+◌, ◌-◌, ◌<◌, ◌++◌, [], All, IsPermutation, flat_map, sum_by};
-ghost use Rattle.turn_lock.specs.Pass.{shares_of, seen_of, closed_of, made_of, with_shares, longer, longest_seen, any_closed, either, StaysIn, BeginsIn};
+ghost use Rattle.std.specs.Prelude.{◌≡◌, ◌+◌, ◌-◌, ◌<◌, ◌++◌, [], IsPermutation};
+ghost use Rattle.turn_lock.specs.Pass.{shares_of, seen_of, closed_of, made_of, with_shares, longer, either, StaysIn, BeginsIn};
 ghost use Rattle.shared_store.specs.Stores.{IsPassOf, history_of};
 ghost use Rattle.shared_store.specs.Wrapped.{GoesOn, positions_made};
 
@@ -36,21 +36,6 @@ impl<B: Backend> SharedStore<B> {
         ensures made { made_of result ≡ made_of a ++ made_of b }
     {
         self.lock.join(a, b)
-    }
-
-    /// One pass of many. It has seen the longest history, which all began, and has made what all made.
-    pub fn gather(&self, first: Pass<B>, others: Vec<Pass<B>>) -> Pass<B>
-        requires first { IsPassOf self.now first }
-        requires others { All (IsPassOf self.now) others.items }
-        ensures pass { IsPassOf self.now result }
-        ensures shares { shares_of result ≡ shares_of first + sum_by shares_of others.items }
-        ensures seen { seen_of result ≡ longest_seen first others.items }
-        ensures begins { BeginsIn result first × All (BeginsIn result) others.items }
-        ensures closed { closed_of result ≡ any_closed first others.items }
-        ensures stays { StaysIn result first × All (StaysIn result) others.items }
-        ensures made { made_of result ≡ made_of first ++ flat_map made_of others.items }
-    {
-        self.lock.gather(first, others)
     }
 
     /// The backend, for the pass that has all the shares. It holds what the pass has seen, and the

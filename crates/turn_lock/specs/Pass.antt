@@ -1,5 +1,5 @@
 -- What clauses say of a lock, of its passes, and of a turn.
-use Rattle.std.specs.Prelude.{◌≡◌, ℕ, ◌+◌, ◌<◌, ◌^◌, cond, nat_lt, Option, Some, None, List, [], ◌∷◌, length, fold}
+use Rattle.std.specs.Prelude.{◌≡◌, ℕ, ◌+◌, ◌<◌, ◌^◌, cond, nat_lt, Option, Some, None, List, [], ◌∷◌, length}
 use mathlib.Core.List.{IsPrefix}
 use Rattle.atomic_table.specs.Seated.{TableId}
 use Rattle.turn_lock.specs.declared.view.Stage.{Stage}
@@ -112,11 +112,3 @@ module _ {V B E : Type 0} where
   -- the pass, but for the number of its shares
   abbrev pub with_shares : ℕ → Carried V B E → Carried V B E
   with_shares n pass = record pass { knows = record pass.knows { shares = n } }
-
-  -- the longest list that one of the passes has seen
-  abbrev pub longest_seen : Carried V B E → List (Carried V B E) → List E
-  longest_seen pass others = fold (λ xs other. longer xs (seen_of other)) (seen_of pass) others
-
-  -- what closed the value, if one of the passes has seen it closed
-  abbrev pub any_closed : Carried V B E → List (Carried V B E) → Option E
-  any_closed pass others = fold (λ c other. either c (closed_of other)) (closed_of pass) others

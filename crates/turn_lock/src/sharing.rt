@@ -1,6 +1,6 @@
 //! Passes that are split and joined.
-ghost use Rattle.std.specs.Prelude.{◌≡◌, ◌+◌, ◌-◌, ◌<◌, ◌++◌, [], All, sum_by, flat_map};
-ghost use Rattle.turn_lock.specs.Pass.{IsPassOf, IsIdle, shares_of, base_of, seen_of, closed_of, made_of, with_shares, longer, longest_seen, any_closed, either, StaysIn, BeginsIn};
+ghost use Rattle.std.specs.Prelude.{◌≡◌, ◌+◌, ◌-◌, ◌<◌, ◌++◌, []};
+ghost use Rattle.turn_lock.specs.Pass.{IsPassOf, IsIdle, shares_of, base_of, seen_of, closed_of, made_of, with_shares, longer, either, StaysIn, BeginsIn};
 ghost use Rattle.turn_lock.specs.Steps.{left_with, given};
 
 use crate::grown::Grown;
@@ -68,26 +68,5 @@ impl<V: Grown> TurnLock<V> {
             shares: shares + more,
             position: position.max(end),
         }
-    }
-
-    /// One pass of many.
-    pub fn gather(&self, first: Pass<V>, others: Vec<Pass<V>>) -> Pass<V>
-        requires lock { IsPassOf self.now first × All (IsPassOf self.now) others.items }
-        requires idle { IsIdle first × All IsIdle others.items }
-        ensures lock { IsPassOf self.now result }
-        ensures idle { IsIdle result }
-        ensures shares { shares_of result ≡ shares_of first + sum_by shares_of others.items }
-        ensures base { base_of result ≡ base_of first }
-        ensures seen { seen_of result ≡ longest_seen first others.items }
-        ensures begins { BeginsIn result first × All (BeginsIn result) others.items }
-        ensures closed { closed_of result ≡ any_closed first others.items }
-        ensures stays { StaysIn result first × All (StaysIn result) others.items }
-        ensures made { made_of result ≡ made_of first ++ flat_map made_of others.items }
-    {
-        let mut all = first;
-        for pass in others {
-            all = self.join(all, pass);
-        }
-        all
     }
 }
