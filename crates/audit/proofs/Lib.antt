@@ -7,5 +7,6 @@ pub mod PolicyLaws
 pub mod TellerLaws
 pub mod TalkLaws
 pub mod OneAnswer
+pub mod ReadNumbers
 pub mod TheLaws
 pub mod RetellLaws

@@ -1,14 +1,15 @@
 -- Laws of audits, each in one sentence.
-use Rattle.std.specs.Prelude.{◌≡◌, ◌⊎◌, List, ℕ, true, None}
+use Rattle.std.specs.Prelude.{◌≡◌, ◌⊎◌, ◌+◌, List, ℕ, length, true, None, ⊤}
 use Rattle.ts_model.specs.Allowed.{all_allowed}
-use Rattle.ts_model.specs.History.{History}
+use Rattle.ts_model.specs.History.{History, position}
 use Rattle.transcript.specs.Reading.{IsReading}
 use Rattle.transcript.specs.declared.transcripts.Transcript.{Transcript}
-use Rattle.audit.specs.Answers.{Answers, reply_count}
+use Rattle.audit.specs.Answers.{Answers, MayBeJudged, reply_count}
 use Rattle.audit.specs.Explained.{Explained}
 use Rattle.audit.specs.Lines.{first_policy}
+use Rattle.audit.specs.Texts.{NamesEachOnce, numbers_read}
 use Rattle.audit.specs.declared.answers.Audit.{Audit}
-use Rattle.audit.specs.declared.answers.Audit.TheVariants.{Yes, NoMemory}
+use Rattle.audit.specs.declared.answers.Audit.TheVariants.{Yes, No, Lost, NoMemory}
 
 -- over one history a text has one answer, unless memory runs out
 abbrev pub TextsHaveOneAnswer : Type 0
@@ -23,3 +24,30 @@ ExplainedIsYes =
     (all : History) (text : List ℕ) (t : Transcript) (audit : Audit) → all_allowed all ≡ true → IsReading text t
     → first_policy t.sessions ≡ None → Explained all t → Answers all text audit
     → (audit ≡ Yes (reply_count t)) ⊎ (audit ≡ NoMemory)
+
+-- the replies of a transcript that is answered YES name, by their texts, each event above its start once, and no other
+abbrev pub YesNamesEachOnce : Type 0
+YesNamesEachOnce =
+    (all : History) (text : List ℕ) (t : Transcript) (n : ℕ) → all_allowed all ≡ true → IsReading text t
+    → Answers all text (Yes n) → NamesEachOnce all t
+
+-- the answer is No or Lost, unless memory ran out
+abbrev pub IsRejected : Audit → Type 0
+IsRejected (No i j) = ⊤
+IsRejected (Lost p) = ⊤
+IsRejected NoMemory = ⊤
+IsRejected other = ⊥
+
+-- a transcript that may be judged, whose replies leave an event out, name one twice or name another, is answered No or
+-- Lost, unless memory runs out
+abbrev pub OthersAreRejected : Type 0
+OthersAreRejected =
+    (all : History) (text : List ℕ) (t : Transcript) (audit : Audit) → all_allowed all ≡ true → IsReading text t
+    → MayBeJudged all t (NamesEachOnce all t → ⊥) → Answers all text audit → IsRejected audit
+
+-- so is one whose replies name more events than the history has above its start, or fewer
+abbrev pub MoreOrFewerAreRejected : Type 0
+MoreOrFewerAreRejected =
+    (all : History) (text : List ℕ) (t : Transcript) (audit : Audit) → all_allowed all ≡ true → IsReading text t
+    → MayBeJudged all t (t.start + length (numbers_read t) ≡ position all → ⊥) → Answers all text audit
+    → IsRejected audit

@@ -1,6 +1,7 @@
 pub mod Lines
 pub mod Short
 pub mod Explained
+pub mod Texts
 pub mod Answers
 pub mod Retold
 pub mod Judged

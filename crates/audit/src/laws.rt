@@ -1,5 +1,6 @@
 //! Laws of audits. Each is the clause of a function that does nothing.
-ghost use Rattle.audit.specs.Laws.{ExplainedIsYes, TextsHaveOneAnswer};
+ghost use Rattle.audit.specs.Laws.{ExplainedIsYes, MoreOrFewerAreRejected, OthersAreRejected, TextsHaveOneAnswer};
+ghost use Rattle.audit.specs.Laws.{YesNamesEachOnce};
 
 use transcript::text_law;
 
@@ -14,6 +15,30 @@ pub fn texts_have_one_answer()
 /// the number of its replies, unless memory runs out.
 pub fn explained_is_yes()
     ensures { ExplainedIsYes }
+{
+    text_law();
+}
+
+/// The replies of a transcript that is answered YES name, by their texts, each event above its start once, and
+/// no other.
+pub fn yes_names_each_once()
+    ensures { YesNamesEachOnce }
+{
+    text_law();
+}
+
+/// A transcript that may be judged, whose replies leave an event out, name one twice or name another, is
+/// answered No or Lost, unless memory runs out.
+pub fn others_are_rejected()
+    ensures { OthersAreRejected }
+{
+    text_law();
+}
+
+/// So is one whose replies name more events than the history has above its start, or fewer: one reply, one event
+/// or one position less or more is told.
+pub fn more_or_fewer_are_rejected()
+    ensures { MoreOrFewerAreRejected }
 {
     text_law();
 }
