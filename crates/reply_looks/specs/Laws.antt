@@ -14,8 +14,8 @@ TextsTellLooks =
     (name : List ℕ) (lines : List Said) → list_any is_line_end name ≡ false
     → AllByRecursion (λ p. suc p < 2 ^ 64) (looks_told lines) → looks_in name (text_of name lines) ≡ looks_told lines
 
--- what is read of the text of a reply are the numbers of the events that the reply names as made, where they are numbers
--- of 64 bits and its name is one of a line
+-- what is read of the text of a reply are the numbers of the events that the reply names as made, where these have 64
+-- bits and its name is one of a line
 abbrev pub TextsTellNumbers : Type 0
 TextsTellNumbers =
     (name : List ℕ) (lines : List Said) → list_any is_line_end name ≡ false
