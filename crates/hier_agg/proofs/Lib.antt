@@ -1,4 +1,5 @@
 pub mod Alike
+pub mod Alone
 pub mod Fitting
 pub mod Fresh
 pub mod Held

@@ -7,4 +7,5 @@ pub mod Regroup
 pub mod Stale
 pub mod Taken
 pub mod Upper
+pub mod Wholes
 pub mod Wides

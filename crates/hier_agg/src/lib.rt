@@ -7,6 +7,7 @@
 //! - `plans`: which columns of the lower answer a roll-up takes, and how.
 //! - `answers`: the upper answer and its rows.
 //! - `stale`: which wider buckets hold a stale one.
+//! - `wholes`: whether an upper answer has the very rows of the lower one.
 //! - `shapes`: a roll-up, as a grouping of cells.
 //! - `rows`: a row of an answer: its keys, and its wider bucket.
 //! - `writes`: the result rows of an answer's rows, written in one pass where their groups come in order.
@@ -25,6 +26,7 @@ mod rows;
 mod shapes;
 mod stale;
 mod stops;
+mod wholes;
 mod wides;
 mod widths;
 mod writes;

@@ -121,7 +121,7 @@ pub fn in_form(
         Form::Own => Ok(answer),
         Form::RolledUp(plan) => match roster.views.items().get(plan.view as usize) {
             None => Ok(answer),
-            Some(def) => answer_upper(alloc, plan, def, &answer),
+            Some(def) => answer_upper(alloc, plan, def, answer),
         },
         Form::Calendar(plan) => cal_answer(alloc, plan, &answer),
     }
