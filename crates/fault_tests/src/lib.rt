@@ -10,6 +10,7 @@
 //! - `reads`: how many stored rows a run looks at, which no reply tells.
 //! - `checkpoints`: a checkpoint whose sink or disk fails.
 //! - `ticks`: a tick whose disk fails.
+//! - `stops`: a disk that fails under one session of a parallel run.
 #![tactic(auto)]
 
 #[cfg(test)]
@@ -26,5 +27,7 @@ mod journals;
 mod reads;
 #[cfg(test)]
 mod script;
+#[cfg(test)]
+mod stops;
 #[cfg(test)]
 mod ticks;
