@@ -1,5 +1,5 @@
 //! A part of a block of items that its copies share, which contracts see as a plain list.
-ghost use Rattle.std.specs.Prelude.{◌≡◌, ◌-◌, ◌≤◌, length, take, drop, IfOk};
+ghost use Rattle.std.specs.Prelude.{◌≡◌, ◌-◌, ◌≤◌, ◌<◌, ◌^◌, length, take, drop, IfOk};
 ghost use Rattle.std.specs.Arc.{arc_value};
 
 use crate::memory::NoMemory;
@@ -13,26 +13,26 @@ use std::sync::Arc;
 #[derive(Drop, Debug)]
 pub struct SharedSlice<T> {
     block: Arc<Seq<T>>,
-    from: usize,
-    to: usize,
+    from: u32,
+    to: u32,
 }
 
 impl<T> Model for SharedSlice<T> {
-    ghost use Rattle.std.specs.Prelude.{◌-◌, ◌≤◌, List, length, take, drop};
+    ghost use Rattle.std.specs.Prelude.{◌-◌, ◌≤◌, ◌<◌, ◌^◌, List, length, take, drop};
 
     ghost Value = { List T };
 
     ghost view = { λ s. take (s.to - s.from) (drop s.from s.block.value) };
 
-    ghost invariant = { λ s. (s.from ≤ s.to) × (s.to ≤ length s.block.value) };
+    ghost invariant = { λ s. (s.from ≤ s.to) × (s.to ≤ length s.block.value) × (s.to < 2 ^ 32) };
 }
 
 impl<T: Drop> SharedSlice<T> {
-    /// All items of a list, as a block of their own.
+    /// All items of a list, as a block of their own. One of more than 2^32 - 1 items is answered as want of memory.
     pub fn of(alloc: Global, items: Seq<T>) -> Result<SharedSlice<T>, NoMemory>
         ensures items { IfOk result (λ s. s ≡ items) }
     {
-        let to = items.len();
+        let to = place(items.len())?;
         Ok(SharedSlice {
             block: Arc::new(alloc, items)?,
             from: 0,
@@ -40,12 +40,15 @@ impl<T: Drop> SharedSlice<T> {
         })
     }
 
-    /// The items of a block from place `from` on and below place `to`.
+    /// The items of a block from place `from` on and below place `to`. A place above 2^32 - 1 is answered as want
+    /// of memory.
     pub fn part(block: &Arc<Seq<T>>, from: usize, to: usize) -> Result<SharedSlice<T>, NoMemory>
         requires order { from ≤ to }
         requires within { to ≤ length (arc_value block.now) }
         ensures items { IfOk result (λ s. s ≡ take (to - from) (drop from (arc_value block.now))) }
     {
+        let from = place(from)?;
+        let to = place(to)?;
         Ok(SharedSlice {
             block: Arc::try_clone(block)?,
             from,
@@ -53,11 +56,28 @@ impl<T: Drop> SharedSlice<T> {
         })
     }
 
+    /// The items from place `from` on and below place `to`, counted from 0.
+    pub fn part_of(&self, from: usize, to: usize) -> Result<SharedSlice<T>, NoMemory>
+        requires order { from ≤ to }
+        requires within { to ≤ length self.now }
+        ensures items { IfOk result (λ s. s ≡ take (to - from) (drop from self.now)) }
+    {
+        let first = self.from as usize;
+        SharedSlice::part(&self.block, first + from, first + to)
+    }
+
+    /// How many items there are.
+    pub fn len(&self) -> usize
+        ensures len { result ≡ length self.now }
+    {
+        (self.to - self.from) as usize
+    }
+
     /// The items, in order.
     pub fn items(&self) -> &[T]
         ensures items { result.now ≡ self.now }
     {
-        &self.block.items()[self.from..self.to]
+        &self.block.items()[self.from as usize..self.to as usize]
     }
 
     /// The same items again.
@@ -69,6 +89,17 @@ impl<T: Drop> SharedSlice<T> {
             from: self.from,
             to: self.to,
         })
+    }
+}
+
+/// A place in a block, where 32 bits hold it.
+fn place(i: usize) -> Result<u32, NoMemory>
+    ensures place { IfOk result (λ place. place ≡ i) }
+    ensures small { IfOk result (λ place. place < 2 ^ 32) }
+{
+    match u32::try_from(i) {
+        Ok(place) => Ok(place),
+        Err(_) => Err(NoMemory),
     }
 }
 
