@@ -4,13 +4,13 @@ ghost use Rattle.std.specs.Prelude.{◌≡◌, IfOk};
 use crate::tables::{Hyper, TableDef};
 use crate::views::ViewDef;
 use ts_bucket::Span;
-use ts_schema::{NoMemory, Row, Seq, Test};
+use ts_schema::{NoMemory, Row, Seq, SharedSlice, Test};
 
 /// One operation of a commit.
 #[derive(Drop, Debug, Clone, PartialEq, Eq)]
 pub enum Op {
     /// Appends these rows to a hypertable.
-    Insert { table: u32, rows: Seq<Row> },
+    Insert { table: u32, rows: SharedSlice<Row> },
     /// Takes the rows that pass every test from a hypertable.
     Delete { table: u32, tests: Seq<Test> },
 }
