@@ -1,15 +1,13 @@
 -- Laws of the position at which the last of several versions died.
-use Rattle.std.proofs.Common.{◌≡◌, ℕ, ◌≤◌, max, Bool, true, false, not, ◌&&◌, cond, Option, Some, None, List, [], ◌∷◌, ◌++◌, length, map, replicate, refl, sym, ◌∙◌, ap, arith}
+use Rattle.std.proofs.Common.{◌≡◌, ℕ, true, false, Option, Some, None, List, [], ◌∷◌, ◌++◌, length, refl, sym, ◌∙◌, ap, arith}
 use Rattle.std.specs.List.{filter}
 use Rattle.std.specs.Prelude.{nat_le}
 use Rattle.std.proofs.Math.Bool.{and-false}
 use Rattle.ts_schema.specs.declared.rows.Row.{Row}
 use Rattle.ts_schema.specs.declared.conditions.Test.{Test}
-use Rattle.ts_schema.specs.Conditions.{passes_all}
-use Rattle.ts_bucket.specs.Spans.{SpanValue, in_span}
 use Rattle.seg_rows.specs.declared.lives.Life.{Life}
-use Rattle.seg_rows.specs.Lives.{all_died, with_life, with_lives}
-use Rattle.seg_rows.specs.Versions.{Version, died_out, is_dead_at, later_death, visible_at, is_taken, taken_at, latest_at, rows_of}
+use Rattle.seg_rows.specs.Lives.{all_died, with_lives}
+use Rattle.seg_rows.specs.Versions.{Version, died_out, is_dead_at, later_death, visible_at, taken_at, latest_at}
 
 later_death-assoc : (a b c : Option ℕ) → later_death a (later_death b c) ≡ later_death (later_death a b) c
 later_death-assoc None b c = refl

@@ -5,7 +5,7 @@ use Rattle.ts_schema.specs.declared.rows.Row.{Row}
 use Rattle.seg_rows.specs.declared.lives.Life.{Life}
 use Rattle.ts_bucket.specs.Spans.{HullValue}
 use Rattle.seg_rows.specs.Hulls.{hull_of, joined_hull}
-use Rattle.seg_rows.specs.Versions.{Version, newborn, rows_of, died_out, later_death}
+use Rattle.seg_rows.specs.Versions.{Version, newborn, rows_of, later_death}
 use Rattle.seg_rows.proofs.DeathLaws.{died_out-append, died_out-lives}
 use Rattle.seg_rows.proofs.HullLaws.{hull_of-append}
 use Rattle.seg_rows.specs.declared.lives.Lives.{Lives}

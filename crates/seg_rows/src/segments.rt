@@ -14,15 +14,16 @@ use std::alloc::Global;
 use std::marker::Model;
 use std::sync::Arc;
 use ts_bucket::{Hull, Span};
-use ts_schema::{NoMemory, Row, Seq, Steps, Test};
+use ts_schema::{NoMemory, Row, Seq, SharedSlice, Steps, Test};
 
 /// Rows that never change, with their positions. Contracts see it as the list of its versions.
 ///
-/// Segments share rows and positions: a copy takes no memory but the count of its sharers.
+/// Segments share rows and positions: a copy takes no memory but the count of its sharers. The rows are a part
+/// of a list that others may share too.
 #[derive(Drop)]
 pub struct Segment {
     alloc: Global,
-    rows: Arc<Seq<Row>>,
+    rows: SharedSlice<Row>,
     lives: Arc<Lives>,
     /// The hull of the times of all rows, visible or not.
     hull: Option<Hull>,
@@ -38,9 +39,9 @@ impl Model for Segment {
 
     ghost use Rattle.seg_rows.specs.Lives.{IsSealed, versions_of};
 
-    ghost view = { λ s. versions_of s.rows.value s.lives.value };
+    ghost view = { λ s. versions_of s.rows s.lives.value };
 
-    ghost invariant = { λ s. IsSealed s.rows.value s.lives.value s.hull s.dead };
+    ghost invariant = { λ s. IsSealed s.rows s.lives.value s.hull s.dead };
 }
 
 /// What a delete made of a segment.
@@ -55,15 +56,15 @@ pub struct Killed {
 }
 
 impl Segment {
-    /// The segment of rows that are born at a position.
-    pub fn seal(alloc: Global, rows: Seq<Row>, born: u64) -> Result<Segment, NoMemory>
+    /// The segment of rows that are born at a position. It shares them with the list whose part they are.
+    pub fn seal(alloc: Global, rows: SharedSlice<Row>, born: u64) -> Result<Segment, NoMemory>
         ensures born { IfOk result (λ s. s ≡ map (newborn born) rows) }
     {
         let hull = row_hull(rows.items());
         let dead = newborn_death(rows.len());
         Ok(Segment {
             alloc,
-            rows: Arc::new(alloc, rows)?,
+            rows,
             lives: Arc::new(alloc, Lives::Together(born))?,
             hull,
             dead,
@@ -83,7 +84,7 @@ impl Segment {
     {
         Ok(Segment {
             alloc: self.alloc,
-            rows: Arc::try_clone(&self.rows)?,
+            rows: self.rows.copy()?,
             lives: Arc::try_clone(&self.lives)?,
             hull: self.hull,
             dead: self.dead,
@@ -104,7 +105,7 @@ impl Segment {
         )?;
         Ok(Segment {
             alloc: self.alloc,
-            rows: Arc::new(self.alloc, rows)?,
+            rows: SharedSlice::of(self.alloc, rows)?,
             lives: Arc::new(self.alloc, lives)?,
             hull: join_hulls(self.hull, other.hull),
             dead: both_died(self.dead, other.dead),
@@ -146,7 +147,7 @@ impl Segment {
         let dead = last_death(lives.items());
         Ok(Segment {
             alloc: self.alloc,
-            rows: Arc::try_clone(&self.rows)?,
+            rows: self.rows.copy()?,
             lives: Arc::new(self.alloc, Lives::Each(lives))?,
             hull: self.hull,
             dead,

@@ -3,4 +3,4 @@ use Rattle.seg_rows.proofs.LifeLaws.{length-versions_of}
 use Rattle.seg_rows.proofs.segments.Segment.count.Goals as goal
 
 pub returns : goal.returns
-returns c = record { count = c.len.ensures.len ∙ (ap length c.deref.ensures ∙ (sym (length-versions_of c.self.inside.rows.value c.self.inside.lives.value c.self.invariant.covers) ∙ ap length c.self.view_is)) }
+returns c = record { count = c.len.ensures.len ∙ (sym (length-versions_of c.self.inside.rows c.self.inside.lives.value c.self.invariant.covers) ∙ ap length c.self.view_is) }

@@ -6,5 +6,5 @@ use Rattle.seg_rows.proofs.segments.Segment.hull.Goals as goal
 
 pub returns : goal.returns
 returns c = record {
-  hull = c.self.invariant.hull_is ∙ ap hull_of (sym (rows_of-versions c.self.inside.rows.value c.self.inside.lives.value c.self.invariant.covers) ∙ ap rows_of c.self.view_is);
+  hull = c.self.invariant.hull_is ∙ ap hull_of (sym (rows_of-versions c.self.inside.rows c.self.inside.lives.value c.self.invariant.covers) ∙ ap rows_of c.self.view_is);
 }

@@ -8,6 +8,6 @@ use Rattle.seg_rows.proofs.segments.Segment.latest.Goals as goal
 pub returns : goal.returns
 returns c = record {
   latest = c.greatest_time.ensures.most
-      ∙ (ap most_of (c.self.invariant.hull_is ∙ ap hull_of (sym (rows_of-versions c.self.inside.rows.value c.self.inside.lives.value c.self.invariant.covers) ∙ ap rows_of c.self.view_is))
+      ∙ (ap most_of (c.self.invariant.hull_is ∙ ap hull_of (sym (rows_of-versions c.self.inside.rows c.self.inside.lives.value c.self.invariant.covers) ∙ ap rows_of c.self.view_is))
       ∙ sym (latest_of-hull (rows_of c.args.self.now)));
 }
