@@ -14,7 +14,7 @@ pub fn op_is_fit(roster: &Roster, op: &Op) -> bool
     ensures { result ≡ op_fits roster.now op.now }
 {
     match op {
-        Op::Insert { table, rows } => rows_are_fit_in(rows, table_in(roster, *table)),
+        Op::Insert { table, rows } => rows_are_fit_in(rows.items(), table_in(roster, *table)),
         Op::Delete { table, tests } => tests_are_fit_in(tests, table_in(roster, *table)),
     }
 }

@@ -7,7 +7,7 @@ ghost use Rattle.ts_model.specs.Sound.{row_fits, rows_fit, value_fits, values_fi
 use crate::laws::word_law;
 use ts_bucket::{MAX_TIME, MIN_TIME};
 use ts_model::{Hyper, TableDef, TableInfo};
-use ts_schema::{Column, Row, Seq};
+use ts_schema::{Column, Row};
 
 fn value_is_fit(col: &Column, value: Option<i64>) -> bool
     ensures { result ≡ value_fits col.now value }
@@ -61,13 +61,13 @@ fn row_is_fit(def: &TableDef, hyper: Hyper, row: &Row) -> bool
     timed && values
 }
 
-fn each_row_is_fit(def: &TableDef, hyper: Hyper, rows: &Seq<Row>) -> bool
+fn each_row_is_fit(def: &TableDef, hyper: Hyper, rows: &[Row]) -> bool
     ensures { result ≡ list_all (row_fits def.now hyper) rows.now }
 {
-    rows.items().iter().all(|row| row_is_fit(def, hyper, row))
+    rows.iter().all(|row| row_is_fit(def, hyper, row))
 }
 
-fn rows_are_fit(def: &TableDef, hyper: Hyper, rows: &Seq<Row>) -> bool
+fn rows_are_fit(def: &TableDef, hyper: Hyper, rows: &[Row]) -> bool
     ensures { result ≡ rows_fit def.now hyper rows.now }
 {
     let some = 0 < rows.len();
@@ -76,7 +76,7 @@ fn rows_are_fit(def: &TableDef, hyper: Hyper, rows: &Seq<Row>) -> bool
 }
 
 /// Whether there is a row, and all may be inserted into a table.
-pub(crate) fn rows_are_fit_in(rows: &Seq<Row>, info: Option<&TableInfo>) -> bool
+pub(crate) fn rows_are_fit_in(rows: &[Row], info: Option<&TableInfo>) -> bool
     ensures { result ≡ of_table (λ def hyper. rows_fit def hyper rows.now) (option_copied info.entry) }
 {
     match info {
