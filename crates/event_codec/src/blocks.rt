@@ -184,11 +184,11 @@ impl Reader<'_> {
     }
 
     /// A count of four bytes and so many rows, which share blocks of values.
-    pub(crate) fn rows(&mut self) -> Result<Seq<Row>, ReadError>
+    pub(crate) fn rows(&mut self) -> Result<SharedSlice<Row>, ReadError>
         ensures { Gives result (many_of row_at self.old) self.new }
     {
         let count = self.four()?;
         let rows = self.row_list(count)?;
-        Ok(Seq::of(rows))
+        Ok(SharedSlice::of(self.alloc(), Seq::of(rows))?)
     }
 }

@@ -66,15 +66,24 @@ pub fn put_few_items<T: Field>(items: &[T], out: &mut Vec<u8>) -> Result<(), NoM
     put_items(items, out)
 }
 
-/// Appends a count of four bytes and the items.
-#[tactic(auto, using(crate::proofs::GrowthLaws::grows_by, crate::proofs::GrowthLaws::grows_not, crate::proofs::GrowthLaws::grows_on))]
+/// Appends a count of four bytes and the items of a list.
 pub fn put_many<T: Field>(items: &Seq<T>, out: &mut Vec<u8>) -> Result<(), NoMemory>
     requires fit { Many T.fits items.now }
     ensures put { OnOk result (out.new.items ≡ out.old.items ++ many T.spelling items.now) }
     ensures grows { Grows out.old.items out.new.items }
 {
+    put_many_items(items.items(), out)
+}
+
+/// Appends a count of four bytes and the items.
+#[tactic(auto, using(crate::proofs::GrowthLaws::grows_by, crate::proofs::GrowthLaws::grows_not, crate::proofs::GrowthLaws::grows_on))]
+pub fn put_many_items<T: Field>(items: &[T], out: &mut Vec<u8>) -> Result<(), NoMemory>
+    requires fit { Many T.fits items.now }
+    ensures put { OnOk result (out.new.items ≡ out.old.items ++ many T.spelling items.now) }
+    ensures grows { Grows out.old.items out.new.items }
+{
     put_four(out, items.len() as u32)?;
-    put_items(items.items(), out)
+    put_items(items, out)
 }
 
 impl Reader<'_> {

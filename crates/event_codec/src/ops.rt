@@ -5,7 +5,7 @@ ghost use Rattle.event_codec.specs.Spelling.{op};
 ghost use Rattle.event_codec.specs.Reading.{op_at};
 
 use crate::errors::ReadError;
-use crate::fields::{Field, put_many};
+use crate::fields::{Field, put_many, put_many_items};
 use crate::kinds::OpKind;
 use crate::numbers::put_four;
 use crate::reader::Reader;
@@ -25,7 +25,7 @@ impl Field for Op {
             Op::Insert { table, rows } => {
                 out.push(1)?;
                 put_four(out, *table)?;
-                put_many(rows, out)
+                put_many_items(rows.items(), out)
             }
             Op::Delete { table, tests } => {
                 out.push(2)?;
