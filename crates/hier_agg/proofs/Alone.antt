@@ -1,37 +1,44 @@
--- Rows that rise and of which each is alone in its group are the rows of their roll-up.
-use Rattle.std.proofs.Common.{◌≡◌, ℕ, zero, suc, List, [], ◌∷◌, ◌++◌, map, filter, length, drop, get_or, ◌+◌, Bool, true, false, ◌&&◌, Option, Some, None, ℤ, Bor, sym, refl, ap, ◌∙◌, subst, arith}
+-- The roll-up by a plan that takes all of an aggregate: each row is alone in its group, and shows itself again.
+use Rattle.std.proofs.Common.{◌≡◌, ℕ, zero, suc, ◌==◌, List, [], ◌∷◌, ◌++◌, map, filter, length, drop, get_or, true, Option, Some, None, ℤ, sym, refl, ap, ◌∙◌, subst, arith}
+use Rattle.std.proofs.lemmas.Bool.{and_parts, eqb-true}
+use Rattle.std.proofs.lemmas.Bool.Decides.{Decides-int_eq}
 use Rattle.std.proofs.lemmas.Int.{ints}
 use Rattle.std.proofs.lemmas.List.{append-nil, map-append}
-use Rattle.std.specs.Prelude.{⊤, IfSome}
-use Rattle.std.specs.Option.{option_to_list}
-use Rattle.std.specs.Ordering.{int_cmp, ordering_then}
+use Rattle.std.specs.Ordering.{int_cmp, int_eq, ordering_then}
 use Rattle.std.specs.declared.cmp.Ordering.TheVariants.{Less}
 use Rattle.std.specs.List.{AllByRecursion, list_all}
+use Rattle.std.specs.List.Sorted.{IsStrictlySortedBy}
 use Rattle.ts_num.specs.Aggregates.{shown_or_null}
 use Rattle.ts_num.specs.declared.values.Datum.{Datum}
 use Rattle.ts_num.specs.declared.values.Datum.TheVariants.{Int}
 use Rattle.ts_num.specs.declared.values.Fun.{Fun}
 use Rattle.ts_num.specs.declared.values.Fun.TheVariants.{CountAll, Count, Sum, Min, Max, Avg}
+use Rattle.ts_model.specs.declared.queries.Answer.{Answer}
 use Rattle.ts_model.specs.declared.views.Agg.{Agg}
 use Rattle.ts_model.specs.declared.views.Fold.{Fold}
-use Rattle.ts_model.specs.Groups.{cells_by, shown_each}
+use Rattle.ts_model.specs.Groups.{cells_of, shown_each}
 use Rattle.ts_model.specs.Results.{cell_at}
 use Rattle.partial_agg.specs.declared.groups.Group.{Group}
 use Rattle.partial_agg.specs.Groups.{AreInOrder, group_cmp}
 use Rattle.partial_agg.specs.Summaries.{Summary, shown, sum_shown, summary, value_of}
 use Rattle.group_fold.specs.Gathering.{ordered}
-use Rattle.group_fold.proofs.Gathers.{before_none, in_front, none_in_order, ordered_already}
+use Rattle.group_fold.proofs.Gathers.{ordered_already}
 use Rattle.ts_schema.specs.Rows.{values_cmp}
-use Rattle.ts_bucket.specs.Bucket.{IsWidth}
+use Rattle.ts_bucket.specs.Bucket.{IsWidth, WidthValue, bucket_of}
+use Rattle.ts_bucket.specs.declared.spans.Span.{Span}
+use Rattle.ts_bucket.proofs.BucketLaws.{bucket_of-bucket}
 use Rattle.cell_groups.specs.Cells.{cells_pass}
 use Rattle.cell_groups.specs.Groups.{keys_at, row_shown, rows_shown}
 use Rattle.cell_groups.specs.Kept.{needed, row_needs}
 use Rattle.hier_agg.specs.declared.plans.UpperPlan.{UpperPlan}
 use Rattle.hier_agg.specs.Plans.{added_by, agg_at, is_additive}
+use Rattle.hier_agg.specs.Stale.{AreWholeRanges, upper_stale}
 use Rattle.hier_agg.specs.Taken.{added_at, columns_of, row_group_of, row_passes, shape_of}
-use Rattle.hier_agg.specs.Upper.{upper_rows}
+use Rattle.hier_agg.specs.Upper.{upper_answer, upper_rows}
+use Rattle.hier_agg.specs.Wholes.{AreRowsOf, IsGroupOf, are_all, run_from, same_width, takes_all}
+use Rattle.hier_agg.proofs.Held.{same_stale}
 use Rattle.hier_agg.proofs.Stands.{gathered_is_upper}
-use Rattle.hier_agg.specs.Wholes.{HasItsColumns, RunFrom, TakesInOrder}
+use Rattle.hier_agg.proofs.Widening.{apart_whole, widened}
 
 -- ---- columns read one after the other
 
@@ -48,14 +55,15 @@ read_first (y ∷ all) zero x d rest e = cc e
 read_first (y ∷ all) (suc n) x d rest e = read_first all n x d rest e
 
 -- what stands from a place on is read at the numbers from it on
-read_run : {X : Type 0} (d : X) (all : List X) (n : ℕ) (ks : List ℕ) (back others : List X) → drop n all ≡ back ++ others → RunFrom n ks → length ks ≡ length back → map (λ k. get_or all k d) ks ≡ back
+read_run : {X : Type 0} (d : X) (all : List X) (n : ℕ) (ks : List ℕ) (back others : List X) → drop n all ≡ back ++ others → run_from n ks ≡ true → length ks ≡ length back → map (λ k. get_or all k d) ks ≡ back
 read_run d all n [] [] others is run same = refl
 read_run d all n [] (x ∷ back) others is run same = absurd (omega (arith, same))
 read_run d all n (k ∷ ks) [] others is run same = absurd (omega (arith, same))
 read_run d all n (k ∷ ks) (x ∷ back) others is run same =
-    let first : get_or all k d ≡ x = ap (λ m. get_or all m d) run.0 ∙ read_first all n x d (back ++ others) is in
+    let parts = and_parts (k == n) (run_from (suc n) ks) run in
+    let first : get_or all k d ≡ x = ap (λ m. get_or all m d) (eqb-true k n parts.0) ∙ read_first all n x d (back ++ others) is in
     ap (λ v. v ∷ map (λ m. get_or all m d) ks) first
-    ∙ ap (λ vs. x ∷ vs) (read_run d all (suc n) ks back others (drop_next all n x (back ++ others) is) run.1 (omega (arith, same)))
+    ∙ ap (λ vs. x ∷ vs) (read_run d all (suc n) ks back others (drop_next all n x (back ++ others) is) parts.1 (omega (arith, same)))
 
 drop_front : {X : Type 0} (front back : List X) → drop (length front) (front ++ back) ≡ back
 drop_front [] back = refl
@@ -84,15 +92,11 @@ part_read Min p e = bound_read p.least
 part_read Max p e = bound_read p.most
 part_read Avg p e = absurd (cc e)
 
-both_hold : (a b : Bool) → (a && b) ≡ true → (a ≡ true) × (b ≡ true)
-both_hold true b e = (refl, e)
-both_hold false b e = absurd (cc e)
-
 parts_read : (aggs : List Agg) (parts : List Summary) → list_all (λ a. is_additive a.fun) aggs ≡ true → map shown_or_null (map value_of (shown_each aggs parts)) ≡ shown_each aggs parts
 parts_read [] parts e = refl
 parts_read (a ∷ aggs) [] e = refl
 parts_read (a ∷ aggs) (p ∷ parts) e =
-    let both = both_hold (is_additive a.fun) (list_all (λ x. is_additive x.fun) aggs) e in
+    let both = and_parts (is_additive a.fun) (list_all (λ x. is_additive x.fun) aggs) e in
     ap (λ d. d ∷ map shown_or_null (map value_of (shown_each aggs parts))) (part_read a.fun p both.0)
     ∙ ap (λ ds. shown a.fun p ∷ ds) (parts_read aggs parts both.1)
 
@@ -117,134 +121,140 @@ all_alone lower (c ∷ cols) cells =
     ap (λ d. d ∷ shown_each (map (added_at lower) cols) (row_needs (map (added_at lower) cols) cells)) (alone_shown (agg_at lower c).fun (cell_at cells c))
     ∙ ap (λ ds. shown_or_null (cell_at cells c) ∷ ds) (all_alone lower cols cells)
 
+-- as many are shown as there are aggregates and parts
 shown_length : (aggs : List Agg) (parts : List Summary) (n : ℕ) → n ≡ length aggs → n ≡ length parts → n ≡ length (map value_of (shown_each aggs parts))
 shown_length [] parts n a p = a
 shown_length (x ∷ aggs) [] n a p = absurd (omega (arith, a, p))
 shown_length (x ∷ aggs) (y ∷ parts) zero a p = absurd (omega (arith, a))
 shown_length (x ∷ aggs) (y ∷ parts) (suc n) a p = ap suc (shown_length aggs parts n (omega (arith, a)) (omega (arith, p)))
 
--- ---- one row
+-- ---- a plan that takes all
 
-module _ (lower : Fold) (plan : UpperPlan) (aggs : List Agg) (group : Group) (takes : TakesInOrder plan) (has : HasItsColumns plan aggs group) where
-  abbrev columns : List Datum
-  columns = map shown_or_null group.keys ++ shown_each aggs group.parts
+-- the parts of the test
+record TakesAll (lower : Fold) (plan : UpperPlan) : Type 0 where
+  pub width : plan.width ≡ lower.width
+  pub keys : run_from 0 plan.keys ≡ true
+  pub all_keys : length plan.keys ≡ length lower.keys
+  pub cols : run_from (length lower.keys) plan.cols ≡ true
+  pub all_cols : length plan.cols ≡ length lower.aggs
+  pub tests : plan.tests ≡ []
+  pub additive : list_all (λ a. is_additive a.fun) lower.aggs ≡ true
 
-  abbrev numbers : List (Option ℤ)
-  numbers = map value_of (shown_each aggs group.parts)
+none_of : {X : Type 0} (xs : List X) → length xs ≡ 0 → xs ≡ []
+none_of [] e = refl
+none_of (x ∷ xs) e = absurd (omega (arith, e))
 
-  values_are : map value_of columns ≡ group.keys ++ numbers
-  values_are = map-append value_of (map shown_or_null group.keys) (shown_each aggs group.parts) ∙ ap (λ ks. ks ++ numbers) (keys_read group.keys)
+width_is : (v w : WidthValue) → same_width v w ≡ true → v ≡ w
+width_is v w e =
+    let parts = and_parts (int_eq v.step w.step) (int_eq v.shift w.shift) e in
+    let made : ℤ → ℤ → WidthValue = λ step shift. record { step = step; shift = shift } in
+    ap (λ step. made step v.shift) ((Decides-int_eq v.step w.step).0 parts.0) ∙ ap (λ shift. made w.step shift) ((Decides-int_eq v.shift w.shift).0 parts.1)
 
-  pub own_keys : (row_group_of plan (shape_of lower plan) (cells_by aggs group)).keys ≡ group.keys
-  own_keys = read_run None (map value_of columns) 0 plan.keys group.keys numbers values_are takes.keys has.keys
-
-  cols_read : map (cell_at columns) plan.cols ≡ numbers
-  cols_read =
-      let behind : drop (length plan.keys) (map value_of columns) ≡ numbers ++ [] =
-      ap (drop (length plan.keys)) values_are ∙ ap (λ n. drop n (group.keys ++ numbers)) has.keys ∙ drop_front group.keys numbers ∙ sym (append-nil numbers) in
-      read_run None (map value_of columns) (length plan.keys) plan.cols numbers [] behind takes.cols (shown_length aggs group.parts (length plan.cols) has.shown has.parts)
-
-  -- its own group shows the row again
-  pub shows_itself : row_shown (shape_of lower plan) (row_group_of plan (shape_of lower plan) (cells_by aggs group)) ≡ cells_by aggs group
-  shows_itself =
-      let parts_are : shown_each (map (added_at lower) plan.cols) (row_needs (map (added_at lower) plan.cols) columns) ≡ shown_each aggs group.parts =
-      all_alone lower plan.cols columns ∙ ap (map shown_or_null) cols_read ∙ parts_read aggs group.parts has.additive in
-      ap (λ b. Int b ∷ (map shown_or_null (keys_at plan.keys columns) ++ shown_each (map (added_at lower) plan.cols) (row_needs (map (added_at lower) plan.cols) columns))) has.start
-      ∙ ap (λ ks. Int group.start ∷ (map shown_or_null ks ++ shown_each (map (added_at lower) plan.cols) (row_needs (map (added_at lower) plan.cols) columns))) own_keys
-      ∙ ap (λ ds. Int group.start ∷ (map shown_or_null group.keys ++ ds)) parts_are
-
--- ---- all rows
-
-module _ (plan : UpperPlan) (lower : Fold) where
-  abbrev own : List Datum → Group
-  own cells = row_group_of plan (shape_of lower plan) cells
-
-  -- rows show themselves again and rise, behind a group where there is one
-  pub record RiseBehind (last : Option Group) (rows : List (List Datum)) : Type 0 where
-    pub shown : AllByRecursion (λ cells. row_shown (shape_of lower plan) (own cells) ≡ cells) rows
-    pub order : AreInOrder (option_to_list last ++ map own rows)
-
-  all_pass : plan.tests ≡ [] → (rows : List (List Datum)) → filter (row_passes plan) rows ≡ rows
-  all_pass none [] = refl
-  all_pass none (cells ∷ rows) =
-      let passed : row_passes plan cells ≡ true = ap (λ ts. cells_pass ts (columns_of cells)) none in
-      rw passed (ap (λ rs. cells ∷ rs) (all_pass none rows))
-
-  all_shown : (rows : List (List Datum)) → AllByRecursion (λ cells. row_shown (shape_of lower plan) (own cells) ≡ cells) rows → rows_shown (shape_of lower plan) (map own rows) ≡ rows
-  all_shown [] h = refl
-  all_shown (cells ∷ rows) h =
-      ap (λ r. r ∷ rows_shown (shape_of lower plan) (map own rows)) h.0 ∙ ap (λ rs. cells ∷ rs) (all_shown rows h.1)
-
-  -- such rows are those of their roll-up
-  pub risen_whole : IsWidth plan.width → plan.tests ≡ [] → (rows : List (List Datum)) → RiseBehind None rows → upper_rows lower plan rows ≡ rows
-  risen_whole wide none rows rise =
-      sym (gathered_is_upper lower plan wide rows)
-      ∙ ap (λ rs. rows_shown (shape_of lower plan) (ordered (map own rs))) (all_pass none rows)
-      ∙ ap (rows_shown (shape_of lower plan)) (ordered_already (map own rows) rise.order)
-      ∙ all_shown rows rise.shown
-
-  risen_end : (last : Option Group) → RiseBehind last []
-  risen_end None = record { shown = tt; order = none_in_order [] (omega arith) }
-  risen_end (Some g) = record { shown = tt; order = before_none g [] (omega arith) }
-
-  risen_more : (last : Option Group) (cells : List Datum) (rows : List (List Datum)) → row_shown (shape_of lower plan) (own cells) ≡ cells → IfSome last (λ g. group_cmp g (own cells) ≡ Less)
-      → RiseBehind (Some (own cells)) rows → RiseBehind last (cells ∷ rows)
-  risen_more None cells rows shows less rise = record { shown = (shows, rise.shown); order = rise.order }
-  risen_more (Some g) cells rows shows less rise = record { shown = (shows, rise.shown); order = in_front g (own cells) (map own rows) less rise.order }
-
--- ---- the rows that are left
-
--- the last group and that of its row are of one place
-abbrev pub SamePlace : Option Group → Option (Bor Group) → Type 0
-SamePlace None None = ⊤
-SamePlace None (Some h) = ⊥
-SamePlace (Some g) None = ⊥
-SamePlace (Some g) (Some h) = (g.start ≡ h.now.start) × (g.keys ≡ h.now.keys)
-
--- if the rows that are left rise behind the last one, all rows do
-pub record StillRise (plan : UpperPlan) (lower : Fold) (last : Option (Bor Group)) (left all : List (List Datum)) : Type 0 where
-  pub own : Option Group
-  pub same : SamePlace own last
-  pub whole : RiseBehind plan lower own left → RiseBehind plan lower None all
-
-same_cmp : (g h x y : Group) → g.start ≡ h.start → g.keys ≡ h.keys → x.start ≡ y.start → x.keys ≡ y.keys → group_cmp h y ≡ Less → group_cmp g x ≡ Less
-same_cmp g h x y s k t l less =
-    ap (λ b. ordering_then (int_cmp b x.start) (values_cmp g.keys x.keys)) s
-    ∙ ap (λ b. ordering_then (int_cmp h.start b) (values_cmp g.keys x.keys)) t
-    ∙ ap (λ ks. ordering_then (int_cmp h.start y.start) (values_cmp ks x.keys)) k
-    ∙ ap (λ ks. ordering_then (int_cmp h.start y.start) (values_cmp h.keys ks)) l
-    ∙ less
-
-place_less : (own : Option Group) (last : Option (Bor Group)) (x y : Group) → SamePlace own last → x.start ≡ y.start → x.keys ≡ y.keys → IfSome last (λ g. group_cmp g.now y ≡ Less) → IfSome own (λ g. group_cmp g x ≡ Less)
-place_less None last x y same t l less = tt
-place_less (Some g) None x y same t l less = absurd same
-place_less (Some g) (Some h) x y same t l less = same_cmp g h.now x y same.0 same.1 t l less
-
-pub still_first : (plan : UpperPlan) (lower : Fold) (left all : List (List Datum)) → left ≡ all → StillRise plan lower None left all
-still_first plan lower left all is = record { own = None; same = tt; whole = λ rise. subst (RiseBehind plan lower None) is rise }
-
-pub still_next : (plan : UpperPlan) (lower : Fold) (last : Option (Bor Group)) (aggs : List Agg) (group : Bor Group) (left after all : List (List Datum)) → left ≡ cells_by aggs group.now ∷ after
-    → TakesInOrder plan → HasItsColumns plan aggs group.now → IfSome last (λ g. group_cmp g.now group.now ≡ Less)
-    → StillRise plan lower last left all → StillRise plan lower (Some group) after all
-still_next plan lower last aggs group left after all is takes has less still =
-    let mine : Group = own plan lower (cells_by aggs group.now) in
-    let keys : mine.keys ≡ group.now.keys = own_keys lower plan aggs group.now takes has in
+all_taken : (lower : Fold) (plan : UpperPlan) → takes_all lower plan ≡ true → TakesAll lower plan
+all_taken lower plan e =
+    let additive = and_parts _ (list_all (λ a. is_additive a.fun) lower.aggs) e in
+    let tests = and_parts _ (length plan.tests == 0) additive.0 in
+    let cols = and_parts _ (are_all (length lower.keys) (length lower.aggs) plan.cols) tests.0 in
+    let keys = and_parts (same_width plan.width lower.width) (are_all 0 (length lower.keys) plan.keys) cols.0 in
+    let own_keys = and_parts (length plan.keys == length lower.keys) (run_from 0 plan.keys) keys.1 in
+    let own_cols = and_parts (length plan.cols == length lower.aggs) (run_from (length lower.keys) plan.cols) cols.1 in
     record {
-      own = Some mine;
-      same = (has.start, keys);
-      whole = λ rise.
-          still.whole (subst (RiseBehind plan lower still.own) (sym is)
-          (risen_more plan lower still.own (cells_by aggs group.now) after (shows_itself lower plan aggs group.now takes has)
-          (place_less still.own last mine group.now still.same has.start keys less) rise));
+      width = width_is plan.width lower.width keys.0;
+      keys = own_keys.1;
+      all_keys = eqb-true (length plan.keys) (length lower.keys) own_keys.0;
+      cols = own_cols.1;
+      all_cols = eqb-true (length plan.cols) (length lower.aggs) own_cols.0;
+      tests = none_of plan.tests (eqb-true (length plan.tests) 0 tests.1);
+      additive = additive.1;
     }
 
-pub still_last : (plan : UpperPlan) (lower : Fold) (last : Option (Bor Group)) (left all : List (List Datum)) → left ≡ [] → IsWidth plan.width → TakesInOrder plan → StillRise plan lower last left all → upper_rows lower plan all ≡ all
-still_last plan lower last left all is wide takes still =
-    risen_whole plan lower wide takes.tests all (still.whole (subst (RiseBehind plan lower still.own) (sym is) (risen_end plan lower still.own)))
+module _ (lower : Fold) (plan : UpperPlan) (wide : IsWidth lower.width) (takes : TakesAll lower plan) where
+  -- the group of the row that a group shows
+  abbrev again : Group → Group
+  again g = row_group_of plan (shape_of lower plan) (cells_of lower g)
 
--- ---- numbers from one on
+  -- ---- one row
 
--- if the places that are left run on, all do
-pub run_more : (first n : ℕ) (k : ℕ) (left after all : List ℕ) → left ≡ k ∷ after → k ≡ n → (RunFrom n left → RunFrom first all) → RunFrom (k + 1) after → RunFrom first all
-run_more first n k left after all is same whole run =
-    whole (subst (RunFrom n) (sym is) (same, subst (λ m. RunFrom m after) (let e : k + 1 ≡ suc n = omega (arith, same) in e) run))
+  module _ (group : Group) (is : IsGroupOf lower group) where
+    abbrev columns : List Datum
+    columns = map shown_or_null group.keys ++ shown_each lower.aggs group.parts
+
+    abbrev numbers : List (Option ℤ)
+    numbers = map value_of (shown_each lower.aggs group.parts)
+
+    values_are : map value_of columns ≡ group.keys ++ numbers
+    values_are = map-append value_of (map shown_or_null group.keys) (shown_each lower.aggs group.parts) ∙ ap (λ ks. ks ++ numbers) (keys_read group.keys)
+
+    same_keys : (again group).keys ≡ group.keys
+    same_keys = read_run None (map value_of columns) 0 plan.keys group.keys numbers values_are takes.keys (takes.all_keys ∙ sym is.keys)
+
+    cols_read : map (cell_at columns) plan.cols ≡ numbers
+    cols_read =
+        let behind : drop (length lower.keys) (map value_of columns) ≡ numbers ++ [] =
+        ap (drop (length lower.keys)) values_are ∙ ap (λ n. drop n (group.keys ++ numbers)) (sym is.keys) ∙ drop_front group.keys numbers ∙ sym (append-nil numbers) in
+        read_run None (map value_of columns) (length lower.keys) plan.cols numbers [] behind takes.cols (shown_length lower.aggs group.parts (length plan.cols) takes.all_cols (takes.all_cols ∙ sym is.parts))
+
+    same_start : (again group).start ≡ group.start
+    same_start = ap (λ w. bucket_of w group.start) takes.width ∙ bucket_of-bucket lower.width group.start wide is.start
+
+    shows_itself : row_shown (shape_of lower plan) (again group) ≡ cells_of lower group
+    shows_itself =
+        let parts_are : shown_each (map (added_at lower) plan.cols) (row_needs (map (added_at lower) plan.cols) columns) ≡ shown_each lower.aggs group.parts =
+        all_alone lower plan.cols columns ∙ ap (map shown_or_null) cols_read ∙ parts_read lower.aggs group.parts takes.additive in
+        ap (λ b. Int b ∷ (map shown_or_null (keys_at plan.keys columns) ++ shown_each (map (added_at lower) plan.cols) (row_needs (map (added_at lower) plan.cols) columns))) same_start
+        ∙ ap (λ ks. Int group.start ∷ (map shown_or_null ks ++ shown_each (map (added_at lower) plan.cols) (row_needs (map (added_at lower) plan.cols) columns))) same_keys
+        ∙ ap (λ ds. Int group.start ∷ (map shown_or_null group.keys ++ ds)) parts_are
+
+  -- ---- all rows
+
+  same_cmp : (g h : Group) → IsGroupOf lower g → IsGroupOf lower h → group_cmp g h ≡ Less → group_cmp (again g) (again h) ≡ Less
+  same_cmp g h p q less =
+      ap (λ b. ordering_then (int_cmp b (again h).start) (values_cmp (again g).keys (again h).keys)) (same_start g p)
+      ∙ ap (λ b. ordering_then (int_cmp g.start b) (values_cmp (again g).keys (again h).keys)) (same_start h q)
+      ∙ ap (λ ks. ordering_then (int_cmp g.start h.start) (values_cmp ks (again h).keys)) (same_keys g p)
+      ∙ ap (λ ks. ordering_then (int_cmp g.start h.start) (values_cmp g.keys ks)) (same_keys h q)
+      ∙ less
+
+  all_above : (g : Group) (hs : List Group) → IsGroupOf lower g → AllByRecursion (IsGroupOf lower) hs → AllByRecursion (λ h. group_cmp g h ≡ Less) hs → AllByRecursion (λ h. group_cmp (again g) h ≡ Less) (map again hs)
+  all_above g [] p qs less = tt
+  all_above g (h ∷ hs) p qs less = (same_cmp g h p qs.0 less.0, all_above g hs p qs.1 less.1)
+
+  still_in_order : (gs : List Group) → AllByRecursion (IsGroupOf lower) gs → AreInOrder gs → AreInOrder (map again gs)
+  unfolding IsStrictlySortedBy
+  still_in_order [] each order = tt
+  still_in_order (g ∷ gs) each order = (all_above g gs each.0 each.1 order.0, still_in_order gs each.1 order.1)
+
+  all_pass : (gs : List Group) → map (row_group_of plan (shape_of lower plan)) (filter (row_passes plan) (map (cells_of lower) gs)) ≡ map again gs
+  all_pass [] = refl
+  all_pass (g ∷ gs) =
+      let passed : row_passes plan (cells_of lower g) ≡ true = ap (λ ts. cells_pass ts (columns_of (cells_of lower g))) takes.tests in
+      rw passed (ap (λ hs. again g ∷ hs) (all_pass gs))
+
+  all_shown : (gs : List Group) → AllByRecursion (IsGroupOf lower) gs → rows_shown (shape_of lower plan) (map again gs) ≡ map (cells_of lower) gs
+  all_shown [] each = refl
+  all_shown (g ∷ gs) each =
+      ap (λ r. r ∷ rows_shown (shape_of lower plan) (map again gs)) (shows_itself g each.0) ∙ ap (λ rs. cells_of lower g ∷ rs) (all_shown gs each.1)
+
+  -- rows of the fold are those of their roll-up
+  same_rows : (rows : List (List Datum)) → AreRowsOf lower rows → upper_rows lower plan rows ≡ rows
+  same_rows rows are =
+      let shown : List (List Datum) = map (cells_of lower) are.groups in
+      let plan_wide : IsWidth plan.width = subst IsWidth (sym takes.width) wide in
+      subst (λ rs. upper_rows lower plan rs ≡ rs) (sym are.shown)
+      (sym (gathered_is_upper lower plan plan_wide shown)
+      ∙ ap (λ gs. rows_shown (shape_of lower plan) (ordered gs)) (all_pass are.groups)
+      ∙ ap (rows_shown (shape_of lower plan)) (ordered_already (map again are.groups) (still_in_order are.groups are.each are.order))
+      ∙ all_shown are.groups are.each)
+
+  -- ranges of the fold's width are those of the roll-up
+  same_ranges : (spans : List Span) → AreWholeRanges lower.width spans → upper_stale plan.width spans ≡ spans
+  same_ranges spans whole =
+      ap (λ w. upper_stale w spans) takes.width
+      ∙ same_stale lower.width spans (upper_stale lower.width spans) wide whole (widened lower.width wide spans (apart_whole lower.width spans whole))
+
+pub whole_roll_ups_are_the_lower_answer : (lower : Fold) (plan : UpperPlan) (shown : Answer) → IsWidth lower.width → takes_all lower plan ≡ true → AreRowsOf lower shown.rows → AreWholeRanges lower.width shown.stale → upper_answer lower plan shown ≡ shown
+whole_roll_ups_are_the_lower_answer lower plan shown wide takes rows whole =
+    let all = all_taken lower plan takes in
+    let made : List (List Datum) → List Span → Answer = λ found stale. record { rows = found; stale = stale } in
+    ap (λ found. made found (upper_stale plan.width shown.stale)) (same_rows lower plan wide all shown.rows rows)
+    ∙ ap (made shown.rows) (same_ranges lower plan wide all shown.stale whole)

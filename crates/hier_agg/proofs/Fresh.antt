@@ -103,11 +103,11 @@ all_scratch fold found wide e =
 -- ---- rows of one bucket
 
 -- the groups of one bucket start there
-group_starts : (fold : Fold) (b : ℤ) (found : List Row) (keys : List (List (Option ℤ))) → AllByRecursion (λ g. g.start ≡ b) (map (group_at fold b found) keys)
+pub group_starts : (fold : Fold) (b : ℤ) (found : List Row) (keys : List (List (Option ℤ))) → AllByRecursion (λ g. g.start ≡ b) (map (group_at fold b found) keys)
 group_starts fold b found keys = all-map (λ g. g.start ≡ b) (group_at fold b found) (λ q. refl) keys
 
 -- so do those that an image has saved of it
-saved_start : (gs : List SavedGroup) (b : ℤ) → AllByRecursion (λ g. g.start ≡ b) (groups_among gs b)
+pub saved_start : (gs : List SavedGroup) (b : ℤ) → AllByRecursion (λ g. g.start ≡ b) (groups_among gs b)
 saved_start [] b = tt
 saved_start (g ∷ gs) b =
     by_test (int_eq g.start b)

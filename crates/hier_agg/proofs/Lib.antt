@@ -1,5 +1,6 @@
 pub mod Alike
 pub mod Alone
+pub mod AnswerGroups
 pub mod Fitting
 pub mod Fresh
 pub mod Held

@@ -42,7 +42,7 @@ record IsOfFold (fold : Fold) (g : Group) : Type 0 where
   pub parts : length g.parts ≡ length fold.aggs
   pub none : AllByRecursion NoneIsZero g.parts
 
-all_over : {X Y : Type 0} (P : X → Type 0) (Q : Y → Type 0) (f : X → Y) → ((x : X) → P x → Q (f x)) → (xs : List X) → AllByRecursion P xs → AllByRecursion Q (map f xs)
+pub all_over : {X Y : Type 0} (P : X → Type 0) (Q : Y → Type 0) (f : X → Y) → ((x : X) → P x → Q (f x)) → (xs : List X) → AllByRecursion P xs → AllByRecursion Q (map f xs)
 all_over P Q f h [] k = tt
 all_over P Q f h (x ∷ xs) k = (h x k.0, all_over P Q f h xs k.1)
 
@@ -53,7 +53,7 @@ group_is_of_fold fold b found keys e = record {
   none = all-map NoneIsZero (λ agg. summary (column (with_keys fold keys found) agg)) (λ agg. none_is_zero (column (with_keys fold keys found) agg)) fold.aggs;
 }
 
-keys_fit : (fold : Fold) (found : List Row) → AllByRecursion (λ keys. length keys ≡ length fold.keys) (key_lists fold found)
+pub keys_fit : (fold : Fold) (found : List Row) → AllByRecursion (λ keys. length keys ≡ length fold.keys) (key_lists fold found)
 keys_fit fold found =
     all-once values_cmp values_cmp_total (λ keys. length keys ≡ length fold.keys) (map (keys_of fold.keys) found)
     (all-map (λ keys. length keys ≡ length fold.keys) (keys_of fold.keys) (λ row. length-map fold.keys (field_of row)) found)

@@ -11,9 +11,11 @@ use Rattle.ts_schema.specs.declared.rows.Row.{Row}
 use Rattle.ts_model.specs.declared.queries.Answer.{Answer}
 use Rattle.ts_model.specs.declared.views.Fold.{Fold}
 use Rattle.ts_model.specs.declared.views.ViewDef.{ViewDef}
+use Rattle.ts_model.specs.Allowed.{all_consistent}
 use Rattle.ts_model.specs.Answers.{answer_of_view}
 use Rattle.ts_model.specs.History.{History}
 use Rattle.ts_model.specs.Refreshes.{watermark}
+use Rattle.ts_model.specs.Roster.{roster, view_of}
 use Rattle.ts_model.specs.Rows.{rows}
 use Rattle.ts_model.specs.Groups.{groups_of}
 use Rattle.ts_model.specs.Scratch.{fold_rows, scratch_of}
@@ -22,6 +24,7 @@ use Rattle.hier_agg.specs.Plans.{PlanFits, all_starts, composed, nests}
 use Rattle.hier_agg.specs.Regroup.{regroup}
 use Rattle.hier_agg.specs.Stale.{AreUpperRanges, AreWholeRanges, holds_stale}
 use Rattle.hier_agg.specs.Upper.{rows_within, upper_answer, upper_rows}
+use Rattle.hier_agg.specs.Wholes.{AreRowsOf, takes_all}
 
 -- ---- buckets
 
@@ -103,6 +106,20 @@ abbrev pub UpperAnswersAreRolledUp : Type 0
 UpperAnswersAreRolledUp =
     (lower : Fold) (plan : UpperPlan) (shown : Answer) → IsWidth plan.width → AreWholeRanges lower.width shown.stale
     → IsRolledUp lower plan shown (upper_answer lower plan shown)
+
+-- ---- whole answers
+
+-- the rows of an aggregate's answer show groups of its fold, in order
+abbrev pub AnswersShowGroups : Type 0
+AnswersShowGroups =
+    (n : ℕ) (h : History) (starts : Span) (def : ViewDef) → all_consistent h ≡ true → view_of (roster h) n ≡ Some def
+    → AreRowsOf def.fold (answer_of_view n h starts (Some def)).rows
+
+-- so the roll-up by a plan that takes all of an aggregate is the aggregate's answer
+abbrev pub WholeRollUpsAreTheLowerAnswer : Type 0
+WholeRollUpsAreTheLowerAnswer =
+    (lower : Fold) (plan : UpperPlan) (shown : Answer) → IsWidth lower.width → takes_all lower plan ≡ true
+    → AreRowsOf lower shown.rows → AreWholeRanges lower.width shown.stale → upper_answer lower plan shown ≡ shown
 
 -- ---- at every history
 

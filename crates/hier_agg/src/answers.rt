@@ -11,7 +11,6 @@ use crate::gathers::gather;
 use crate::plans::UpperPlan;
 use crate::shapes::shape_of;
 use crate::stale::widen;
-use crate::wholes::shows_whole;
 use crate::writes::write_in_order;
 use cell_groups::{Shape, Stop, rows_of};
 use cell_rows::CellRows;
@@ -33,28 +32,12 @@ pub fn answer_upper(
     ensures stale { IfOk result (λ upper. AreUpperRanges plan.now.width lower.stale upper.stale) }
 {
     let stale = widen(alloc, &plan.width, &lower.stale)?;
-    let rows = answer_rows(alloc, plan, &def.fold, lower.rows)?;
+    let upper = made_rows(alloc, plan, &def.fold, &lower.rows)?;
+    let rows = ResultRows::of_cells(alloc, upper);
     Ok(Answer { rows, stale })
 }
 
-/// The rows of the upper answer: those of the lower one, where it shows that whole.
-fn answer_rows(
-    alloc: Global,
-    plan: &UpperPlan,
-    lower: &Fold,
-    rows: ResultRows,
-) -> Result<ResultRows, NoMemory>
-    ensures { IfOk result (λ upper. upper ≡ upper_rows lower.now plan.now rows) }
-{
-    if shows_whole(plan, &rows) {
-        return Ok(rows);
-    }
-    let upper = made_rows(alloc, plan, lower, &rows)?;
-    Ok(ResultRows::of_cells(alloc, upper))
-}
-
-/// The rows of the upper answer, made from those of the lower one. For a sum that takes more than 128 bits
-/// there is no room.
+/// The rows of the upper answer. For a sum that takes more than 128 bits there is no room.
 fn made_rows(
     alloc: Global,
     plan: &UpperPlan,

@@ -1,5 +1,5 @@
 //! Laws of roll-ups. Each is the clause of a function that does nothing.
-ghost use Rattle.hier_agg.specs.Laws.{AnswersHaveWholeRanges, BucketsNest, FreshBucketsShowTheComposedFold, GroupingInTwoSteps, RollUpsShowTheComposedFold, StaleBucketsAreHeld, UpperAnswersAreRolledUp, WholeRollUpsShowTheLowerAnswer, WiderBucketsShowTheComposedFold};
+ghost use Rattle.hier_agg.specs.Laws.{AnswersHaveWholeRanges, AnswersShowGroups, BucketsNest, FreshBucketsShowTheComposedFold, GroupingInTwoSteps, RollUpsShowTheComposedFold, StaleBucketsAreHeld, UpperAnswersAreRolledUp, WholeRollUpsAreTheLowerAnswer, WholeRollUpsShowTheLowerAnswer, WiderBucketsShowTheComposedFold};
 ghost use Rattle.hier_agg.specs.ReadLaws.{FunctionsAddUp, PlansFit};
 
 /// Where widths nest, the bucket of a time's bucket is the bucket of the time, and the first bucket lies in the
@@ -41,6 +41,16 @@ pub fn stale_buckets_are_held()
 /// The upper answer of an aggregate's answer is rolled up from it.
 pub fn upper_answers_are_rolled_up()
     ensures { UpperAnswersAreRolledUp }
+{}
+
+/// The rows of an aggregate's answer show groups of its fold, in order.
+pub fn answers_show_groups()
+    ensures { AnswersShowGroups }
+{}
+
+/// A roll-up that takes all of an aggregate is its answer.
+pub fn whole_roll_ups_are_the_lower_answer()
+    ensures { WholeRollUpsAreTheLowerAnswer }
 {}
 
 /// A wider bucket that isn't named stale and is shown whole shows the composed fold.

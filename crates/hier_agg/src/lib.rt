@@ -7,7 +7,7 @@
 //! - `plans`: which columns of the lower answer a roll-up takes, and how.
 //! - `answers`: the upper answer and its rows.
 //! - `stale`: which wider buckets hold a stale one.
-//! - `wholes`: whether an upper answer has the very rows of the lower one.
+//! - `wholes`: whether a roll-up takes all of an aggregate, and so is its answer.
 //! - `shapes`: a roll-up, as a grouping of cells.
 //! - `rows`: a row of an answer: its keys, and its wider bucket.
 //! - `writes`: the result rows of an answer's rows, written in one pass where their groups come in order.
@@ -34,3 +34,4 @@ mod writes;
 pub use answers::answer_upper;
 pub use plans::{UpperPlan, lower_query};
 pub use reads::{UpperRead, read_upper};
+pub use wholes::takes_all;
