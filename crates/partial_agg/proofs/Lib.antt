@@ -1,3 +1,4 @@
 pub mod Bounds
+pub mod EndLaws
 pub mod GroupLaws
 pub mod Joined

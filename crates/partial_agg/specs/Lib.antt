@@ -1,2 +1,4 @@
+pub mod Ends
 pub mod Groups
+pub mod KeyLists
 pub mod Summaries

@@ -2,6 +2,7 @@
 ghost use Rattle.std.specs.Prelude.{◌≡◌, IfOk};
 ghost use Rattle.partial_agg.specs.Groups.{group_cmp};
 
+use crate::keys::Keys;
 use crate::partials::Partial;
 use std::cmp::Ordering;
 use ts_schema::{NoMemory, Seq, values_order};
@@ -12,7 +13,7 @@ pub struct Group {
     /// The start of the bucket.
     pub start: i64,
     /// The values of the columns that the rows are grouped by; NULL is `None`.
-    pub keys: Seq<Option<i64>>,
+    pub keys: Keys,
     /// One partial aggregate for each aggregate that is asked for.
     pub parts: Seq<Partial>,
 }

@@ -1,10 +1,11 @@
 //! The partial aggregate of a column, and what a function shows of it.
-ghost use Rattle.std.specs.Prelude.{◌≡◌, ◌+◌, ◌-◌, ◌^◌, ◌<◌, List, [], ◌∷◌, Option, ℤ};
-ghost use Rattle.ts_num.specs.Aggregates.{aggregate, shown_or_null};
+ghost use Rattle.std.specs.Prelude.{◌≡◌, ◌+◌, ◌-◌, ◌^◌, ◌<◌, List, [], ◌∷◌, Option, None, Some, ℤ, is_some, nat_lt};
+ghost use Rattle.ts_num.specs.Aggregates.{aggregate, greater, lesser, shown_or_null};
+ghost use Rattle.partial_agg.specs.Ends.{end_of, EndsIn, IsEnd};
 ghost use Rattle.partial_agg.specs.Summaries.{IsBounded, joined, mean_shown, shown, sum_shown, summary, TakesIn, TakesInAll, value_of};
 
 use std::marker::Model;
-use ts_num::{Datum, Fun, greater, lesser, lowest};
+use ts_num::{Datum, Fun, lowest};
 
 /// What a column of values, one for each row of a group, sums up to. Contracts see it as a
 /// `Summary`; it is the partial aggregate of a column where that is the column's `summary`.
@@ -16,22 +17,44 @@ pub struct Partial {
     pub values: u64,
     /// The sum of the values.
     pub sum: i128,
-    /// The least value, `None` where there are none.
-    pub least: Option<i64>,
-    /// The greatest value, `None` where there are none.
-    pub most: Option<i64>,
+    /// The least value. It counts only where there are values, and is 0 where there are none.
+    least: i64,
+    /// The greatest value, in the same way.
+    most: i64,
 }
 
 impl Model for Partial {
-    ghost use Rattle.partial_agg.specs.Summaries.{IsBounded, Summary};
+    ghost use Rattle.partial_agg.specs.Summaries.{Summary};
 
     ghost Value = { Summary };
 
-    ghost view = { λ p. record { count = p.count; values = p.values; sum = p.sum; least = p.least; most = p.most } };
+    ghost use Rattle.partial_agg.specs.Ends.{end_of, kept_end, IsKept};
 
-    ghost invariant = { λ p. IsBounded p.count p.values p.sum };
+    ghost view = { λ p. record {
+      count = p.count;
+      values = p.values;
+      sum = p.sum;
+      least = end_of p.values p.least;
+      most = end_of p.values p.most;
+    } };
 
-    ghost inverse = { λ s. record { count = s.count; values = s.values; sum = s.sum; least = s.least; most = s.most } };
+    ghost invariant = { λ p. IsKept p.count p.values p.sum p.least p.most };
+
+    ghost inverse = { λ s. record {
+      count = s.count;
+      values = s.values;
+      sum = s.sum;
+      least = kept_end s.least;
+      most = kept_end s.most;
+    } };
+
+    ghost inverse_ok = { λ p h i. record {
+      count = p.count;
+      values = p.values;
+      sum = p.sum;
+      least = h.least_is i;
+      most = h.most_is i;
+    } };
 }
 
 impl Partial {
@@ -43,8 +66,8 @@ impl Partial {
             count: 0,
             values: 0,
             sum: 0,
-            least: None,
-            most: None,
+            least: 0,
+            most: 0,
         }
     }
 
@@ -57,17 +80,48 @@ impl Partial {
                 count: 1,
                 values: 0,
                 sum: 0,
-                least: None,
-                most: None,
+                least: 0,
+                most: 0,
             },
             Some(v) => Partial {
                 count: 1,
                 values: 1,
                 sum: i128::from(v),
-                least: Some(v),
-                most: Some(v),
+                least: v,
+                most: v,
             },
         }
+    }
+
+    /// The partial aggregate with these numbers of rows and of values, this sum, and this least and greatest
+    /// value. These have to be there exactly where there are values.
+    pub fn of(count: u64, values: u64, sum: i128, least: Option<i64>, most: Option<i64>) -> Partial
+        requires bounded { IsBounded count values sum }
+        requires least { is_some least ≡ nat_lt 0 values }
+        requires most { is_some most ≡ nat_lt 0 values }
+        ensures { result ≡ record { count = count; values = values; sum = sum; least = least; most = most } }
+    {
+        Partial {
+            count,
+            values,
+            sum,
+            least: least.unwrap_or(0),
+            most: most.unwrap_or(0),
+        }
+    }
+
+    /// The least value, `None` where there are none.
+    pub fn least(&self) -> Option<i64>
+        ensures { result ≡ self.now.least }
+    {
+        end(self.values, self.least)
+    }
+
+    /// The greatest value, `None` where there are none.
+    pub fn most(&self) -> Option<i64>
+        ensures { result ≡ self.now.most }
+    {
+        end(self.values, self.most)
     }
 
     /// Takes in one more row, with this value. There have to be fewer than `2^62 - 1` rows before.
@@ -76,7 +130,31 @@ impl Partial {
         ensures added { self.new ≡ joined self.old (summary (v ∷ [])) }
         ensures of_column { TakesIn v self.old self.new }
     {
-        self.merge(&Partial::one(v));
+        match v {
+            None => self.add_null(),
+            Some(v) => self.add_value(v),
+        }
+    }
+
+    /// Takes in one more row, with NULL.
+    fn add_null(&mut self)
+        requires { self.old.count < 2 ^ 62 - 1 }
+        ensures { self.new ≡ joined self.old (summary (None ∷ [])) }
+    {
+        self.count += 1;
+    }
+
+    /// Takes in one more row, with this value.
+    fn add_value(&mut self, v: i64)
+        requires { self.old.count < 2 ^ 62 - 1 }
+        ensures { self.new ≡ joined self.old (summary (Some v ∷ [])) }
+    {
+        let (least, most) = ends_with(self.values, self.least, self.most, v);
+        self.count += 1;
+        self.values += 1;
+        self.sum += i128::from(v);
+        self.least = least;
+        self.most = most;
     }
 
     /// Takes in the rows of another partial aggregate. Together there have to be fewer than `2^62`.
@@ -85,11 +163,13 @@ impl Partial {
         ensures merged { self.new ≡ joined self.old other.now }
         ensures of_columns { TakesInAll other.now self.old self.new }
     {
+        let least = least_joined(self.values, self.least, other.values, other.least);
+        let most = most_joined(self.values, self.most, other.values, other.most);
         self.count += other.count;
         self.values += other.values;
         self.sum += other.sum;
-        self.least = lesser(self.least, other.least);
-        self.most = greater(self.most, other.most);
+        self.least = least;
+        self.most = most;
     }
 
     /// What an aggregate function shows of the rows.
@@ -101,8 +181,8 @@ impl Partial {
             Fun::CountAll => Datum::Int(i128::from(self.count)),
             Fun::Count => Datum::Int(i128::from(self.values)),
             Fun::Sum => sum(self.values, self.sum),
-            Fun::Min => value(self.least),
-            Fun::Max => value(self.most),
+            Fun::Min => value(self.least()),
+            Fun::Max => value(self.most()),
             Fun::Avg => mean(self.values, self.sum),
         }
     }
@@ -115,8 +195,8 @@ impl Partial {
             Fun::CountAll => Some(i128::from(self.count)),
             Fun::Count => Some(i128::from(self.values)),
             Fun::Sum => sum_number(self.values, self.sum),
-            Fun::Min => number(self.least),
-            Fun::Max => number(self.most),
+            Fun::Min => number(self.least()),
+            Fun::Max => number(self.most()),
             Fun::Avg => mean_number(self.values, self.sum),
         }
     }
@@ -126,6 +206,53 @@ impl Partial {
         ensures { IsBounded self.now.count self.now.values self.now.sum }
     {
         let _count = self.count;
+    }
+}
+
+/// The end that is kept beside so many values.
+fn end(values: u64, v: i64) -> Option<i64>
+    ensures { result ≡ end_of values v }
+{
+    match values {
+        0 => None,
+        _ => Some(v),
+    }
+}
+
+/// The least and the greatest of so many values and of one more.
+fn ends_with(values: u64, least: i64, most: i64, v: i64) -> (i64, i64)
+    ensures least { Some result.0 ≡ lesser (end_of values least) (Some v) }
+    ensures most { Some result.1 ≡ greater (end_of values most) (Some v) }
+{
+    match values {
+        0 => (v, v),
+        _ => (least.min(v), most.max(v)),
+    }
+}
+
+/// The least value of two columns, each with so many values, as it is kept.
+fn least_joined(values: u64, least: i64, more: u64, other: i64) -> i64
+    requires own { IsEnd values least }
+    requires other { IsEnd more other }
+    ensures { EndsIn (values + more) (lesser (end_of values least) (end_of more other)) result }
+{
+    match (values, more) {
+        (0, _) => other,
+        (_, 0) => least,
+        (_, _) => least.min(other),
+    }
+}
+
+/// The greatest value of two columns, each with so many values, as it is kept.
+fn most_joined(values: u64, most: i64, more: u64, other: i64) -> i64
+    requires own { IsEnd values most }
+    requires other { IsEnd more other }
+    ensures { EndsIn (values + more) (greater (end_of values most) (end_of more other)) result }
+{
+    match (values, more) {
+        (0, _) => other,
+        (_, 0) => most,
+        (_, _) => most.max(other),
     }
 }
 

@@ -1,0 +1,9 @@
+-- The keys of a group as a list.
+use Rattle.std.specs.Prelude.{List, [], ◌∷◌, Option, ℤ}
+use Rattle.partial_agg.specs.declared.keys.Held.{Held}
+use Rattle.partial_agg.specs.declared.keys.Held.TheVariants.{One, Many}
+
+-- the keys that are held, in order
+abbrev pub keys_held : Held → List (Option ℤ)
+keys_held (One key) = key ∷ []
+keys_held (Many keys) = keys
