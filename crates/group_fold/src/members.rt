@@ -9,7 +9,7 @@ ghost use Rattle.group_fold.specs.Grouping.{row_at, row_parts};
 ghost use Rattle.group_fold.specs.Merging.{joined_parts};
 ghost use Rattle.group_fold.specs.Gathering.{IsAt, IsBelow};
 
-use partial_agg::{Group, Partial};
+use partial_agg::{Group, Keys, Partial};
 use std::alloc::Global;
 use std::cmp::Ordering;
 use ts_model::{Agg, Fold};
@@ -71,12 +71,22 @@ pub(crate) fn alone(alloc: Global, plan: &Fold, row: &Row, start: i64) -> Result
 {
     Ok(Group {
         start,
-        keys: Seq::of(keys_alone(alloc, plan.keys.items(), row)?),
+        keys: keys_alone(alloc, plan.keys.items(), row)?,
         parts: Seq::of(parts_alone(alloc, plan.aggs.items(), row)?),
     })
 }
 
-fn keys_alone(alloc: Global, cols: &[u32], row: &Row) -> Result<Vec<Option<i64>>, NoMemory>
+/// The keys of a row. Of one column they take no memory.
+fn keys_alone(alloc: Global, cols: &[u32], row: &Row) -> Result<Keys, NoMemory>
+    ensures { IfOk result (λ keys. keys ≡ keys_of cols.now row.now) }
+{
+    match cols {
+        [col] => Ok(Keys::one(field(row, *col))),
+        _ => Ok(Keys::of(Seq::of(keys_listed(alloc, cols, row)?))),
+    }
+}
+
+fn keys_listed(alloc: Global, cols: &[u32], row: &Row) -> Result<Vec<Option<i64>>, NoMemory>
     ensures { IfOk result (λ keys. keys.items ≡ keys_of cols.now row.now) }
 {
     let mut keys = Vec::with_capacity(alloc, cols.len())?;
