@@ -65,8 +65,8 @@ fn saved_sums(alloc: Global, parts: &[Partial]) -> Result<Seq<Sums>, NoMemory>
             count: part.count,
             values: part.values,
             sum: part.sum,
-            least: part.least,
-            most: part.most,
+            least: part.least(),
+            most: part.most(),
         })?;
     }
     Ok(sums)
@@ -78,7 +78,7 @@ fn saved_group(alloc: Global, group: &Group) -> Result<SavedGroup, NoMemory>
 {
     Ok(SavedGroup {
         start: group.start,
-        keys: group.keys.copy()?,
+        keys: Seq::of(Vec::from_slice(alloc, group.keys.items())?),
         parts: saved_sums(alloc, group.parts.items())?,
     })
 }

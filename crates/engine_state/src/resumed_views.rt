@@ -19,7 +19,7 @@ use crate::tables::TableState;
 use crate::views::ViewState;
 use mat_log::MatLog;
 use mat_rows::MatRows;
-use partial_agg::{Group, Partial};
+use partial_agg::{Group, Keys, Partial};
 use span_map::Piece;
 use std::alloc::Global;
 use ts_bucket::Span;
@@ -33,13 +33,7 @@ fn partials(alloc: Global, sums: &[Sums]) -> Result<Seq<Partial>, NoMemory>
 {
     let mut parts = Seq::new(alloc);
     for sum in sums {
-        parts.push(Partial {
-            count: sum.count,
-            values: sum.values,
-            sum: sum.sum,
-            least: sum.least,
-            most: sum.most,
-        })?;
+        parts.push(Partial::of(sum.count, sum.values, sum.sum, sum.least, sum.most))?;
     }
     Ok(parts)
 }
@@ -51,7 +45,7 @@ fn kept_group(alloc: Global, saved: &SavedGroup) -> Result<Group, NoMemory>
 {
     Ok(Group {
         start: saved.start,
-        keys: saved.keys.copy()?,
+        keys: Keys::of(saved.keys.copy()?),
         parts: partials(alloc, saved.parts.items())?,
     })
 }
