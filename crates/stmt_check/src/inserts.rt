@@ -49,7 +49,7 @@ pub(crate) fn check_rows(
     columns: &[Column],
     names: &Option<Seq<Name>>,
     rows: &CellRows<Option<i64>>,
-) -> Result<Seq<Row>, NotResolved>
+) -> Result<SharedSlice<Row>, NotResolved>
     requires { length columns.now < 2 ^ 32 }
     ensures { ChecksRows pos at columns.now names.now rows.now result }
 {
@@ -253,7 +253,7 @@ fn check_each(
     pos: u64,
     shape: &Shape,
     rows: &CellRows<Option<i64>>,
-) -> Result<Seq<Row>, NotResolved>
+) -> Result<SharedSlice<Row>, NotResolved>
     ensures { Checks (rows_refusal pos shape.now 0 rows.now) (rows_of shape.now rows.now) result }
 {
     for (place, values) in rows.iter().enumerate() {
@@ -306,7 +306,7 @@ fn make_rows(
     alloc: Global,
     shape: &Shape,
     rows: &CellRows<Option<i64>>,
-) -> Result<Seq<Row>, NoMemory>
+) -> Result<SharedSlice<Row>, NoMemory>
     ensures { IfOk result (λ made. made ≡ rows_of shape.now rows.now) }
 {
     let block = Arc::new(alloc, Seq::of(other_values(alloc, shape, rows)?))?;
@@ -321,7 +321,7 @@ fn make_rows(
         })?;
         from = to;
     }
-    Ok(Seq::of(made))
+    SharedSlice::of(alloc, Seq::of(made))
 }
 
 /// The values of all columns but the time, in declared order, one row after another.
