@@ -5,7 +5,7 @@ ghost use Rattle.image_laws.specs.Images.{held_events, hyper_events, roster_even
 
 use std::alloc::Global;
 use ts_model::{Event, Hyper, Op, Roster, TableInfo, ViewDef};
-use ts_schema::{NoMemory, Row, Seq};
+use ts_schema::{NoMemory, Row, Seq, SharedSlice};
 
 /// Appends what makes a table a hypertable, where it is one.
 fn push_hyper(events: &mut Seq<Event>, table: u32, hyper: Option<Hyper>) -> Result<(), NoMemory>
@@ -74,6 +74,7 @@ pub fn push_held(
     if rows.is_empty() {
         return Ok(());
     }
+    let rows = SharedSlice::of(alloc, rows)?;
     let mut ops = Seq::new(alloc);
     ops.push(Op::Insert { table, rows })?;
     events.push(Event::Commit(ops))
