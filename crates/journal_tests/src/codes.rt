@@ -112,6 +112,7 @@ fn an_insert(rt: HostRuntime) -> Result<(), Fail> {
         at: MIN_TIME,
         vals: SharedSlice::of(rt.alloc(), vals)?,
     })?;
+    let rows = SharedSlice::of(rt.alloc(), rows)?;
     let mut ops = Seq::new(rt.alloc());
     ops.push(Op::Insert { table: 7, rows })?;
     let bytes = [
