@@ -1,17 +1,18 @@
 -- Laws of new rows in the chunks that hold their times.
-use Rattle.std.proofs.Common.{◌≡◌, ℕ, zero, suc, ◌+◌, ◌-◌, ◌<◌, ◌&&◌, not, Bool, true, false, cond, List, [], ◌∷◌, ◌++◌, length, get_or, take, drop, map, append_assoc, ℤ, refl, sym, ◌∙◌, ap, arith}
+use Rattle.std.proofs.Common.{◌≡◌, ℕ, zero, suc, ◌+◌, ◌-◌, ◌<◌, ◌≤◌, ◌&&◌, not, Bool, true, false, cond, List, [], ◌∷◌, ◌++◌, length, get_or, take, drop, map, append_assoc, ℤ, refl, sym, ◌∙◌, ap, arith}
 use Rattle.std.specs.List.{list_all, count_by}
 use Rattle.std.specs.Ordering.{int_eq}
 use Rattle.std.proofs.lemmas.Bool.Decides.{Decides-int_eq}
 use Rattle.std.proofs.lemmas.Bool.{and_from}
-use Rattle.std.proofs.lemmas.List.{append-nil, length-map, map-append, drop_more, drop_all}
+use Rattle.std.proofs.lemmas.List.{append-nil, map-append, drop_more, drop_all, take-append-drop, take_all, take_rest}
+use Rattle.std.proofs.Math.Seq.{take-add}
 use Rattle.std.proofs.lemmas.List.Sums.{sum_by-cons}
 use Rattle.ts_schema.specs.declared.rows.Row.{Row}
 use Rattle.ts_bucket.specs.Bucket.{is_time}
-use Rattle.seg_rows.specs.Versions.{AsOften, HasMore, Version, newborn}
+use Rattle.seg_rows.specs.Versions.{AsOften, Version, newborn}
 use Rattle.chunk_catalog.specs.Chunks.{HaveTimes}
 use Rattle.ts_bucket.specs.Chunks.{chunk_start}
-use Rattle.chunk_catalog.specs.Places.{Placed, in_chunk, place, versions_of, is_placed, ArePlaced}
+use Rattle.chunk_catalog.specs.Places.{Placed, in_chunk, versions_of, is_placed, ArePlaced}
 use Rattle.chunk_catalog.specs.Parts.{AreIn, placed_row, placed_rows}
 use Rattle.ts_schema.proofs.Cases.{and_first, and_second, count-append}
 
@@ -109,39 +110,22 @@ versions_more interval p before after rows more = λ test.
     ∙ (more (λ x. test x.version)
     ∙ omega (arith, sym (count_map (λ (x : Placed). x.version) test before), sym (count_map (λ (x : Placed). x.version) test (placed_rows interval p rows)), ap (count_by test) (placed_rows-versions interval p rows), count-append test (versions_of before) (map (newborn p) rows)))
 
--- versions that were put into a chunk are so many more
-pub length_put : (s : ℤ) (p : ℕ) (old new : List Placed) (rows : List Row) → HasMore (in_chunk s (map (newborn p) rows)) old new → length new ≡ length old + length rows
-length_put s p old new rows more =
-    length_more new old (in_chunk s (map (newborn p) rows)) more
-    ∙ ap (λ n. length old + n) (length-map (map (newborn p) rows) (place s) ∙ length-map rows (newborn p))
-
--- two lists of rows that were put into a chunk, one after the other
-pub halves_put : (s : ℤ) (p : ℕ) (old mid new : List Placed) (rows first second : List Row) → rows ≡ first ++ second → HasMore (in_chunk s (map (newborn p) first)) old mid
-    → HasMore (in_chunk s (map (newborn p) second)) mid new → HasMore (in_chunk s (map (newborn p) rows)) old new
-halves_put s p old mid new rows first second is one two test =
-    let parts : in_chunk s (map (newborn p) rows) ≡ in_chunk s (map (newborn p) first) ++ in_chunk s (map (newborn p) second) =
-    ap (λ rs. in_chunk s (map (newborn p) rs)) is ∙ (ap (in_chunk s) (map-append (newborn p) first second) ∙ map-append (place s) (map (newborn p) first) (map (newborn p) second)) in
-    omega (arith, one test, two test, ap (count_by test) parts, count-append test (in_chunk s (map (newborn p) first)) (in_chunk s (map (newborn p) second)))
-
 -- one piece of rows more
-pub piece_more : (p : ℕ) (start now new : List Version) (rows front left piece rest : List Row) (k : ℕ) → front ++ left ≡ rows → piece ≡ take k left → rest ≡ drop k left → AsOften now (start ++ map (newborn p) front)
-    → AsOften new (now ++ map (newborn p) piece) → (more : List Row) × (more ++ rest ≡ rows) × AsOften new (start ++ map (newborn p) more)
-piece_more p start now new rows front left piece rest k whole first others was put = (
-  front ++ piece,
-  append_assoc front piece rest ∙ ap (λ rs. front ++ rs) (ap (λ rs. rs ++ rest) first ∙ ap (λ rs. take k left ++ rs) others ∙ cut k left) ∙ whole,
-  λ test.
-      put test ∙ count-append test now (map (newborn p) piece) ∙ ap (λ n. n + count_by test (map (newborn p) piece)) (was test)
-      ∙ sym (count-append test (start ++ map (newborn p) front) (map (newborn p) piece))
-      ∙ ap (count_by test) (append_assoc start (map (newborn p) front) (map (newborn p) piece) ∙ ap (λ vs. start ++ vs) (sym (map-append (newborn p) front piece))),
-)
-  where
-    cut : (k : ℕ) (xs : List Row) → take k xs ++ drop k xs ≡ xs
-    cut zero xs = refl
-    cut (suc k) [] = refl
-    cut (suc k) (x ∷ xs) = ap (λ ys. x ∷ ys) (cut k xs)
+pub piece_more : (p : ℕ) (start now new : List Version) (rows : List Row) (from to : ℕ) → from ≤ to → AsOften now (start ++ map (newborn p) (take from rows))
+    → AsOften new (now ++ map (newborn p) (take (to - from) (drop from rows))) → AsOften new (start ++ map (newborn p) (take to rows))
+piece_more p start now new rows from to order was put =
+    let front = take from rows in
+    let piece = take (to - from) (drop from rows) in
+    let whole : to ≡ from + (to - from) = omega (arith, order) in
+    let both : take to rows ≡ front ++ piece = ap (λ n. take n rows) whole ∙ take-add from (to - from) rows in
+    λ test.
+    put test ∙ count-append test now (map (newborn p) piece) ∙ ap (λ n. n + count_by test (map (newborn p) piece)) (was test)
+    ∙ sym (count-append test (start ++ map (newborn p) front) (map (newborn p) piece))
+    ∙ ap (count_by test) (append_assoc start (map (newborn p) front) (map (newborn p) piece) ∙ ap (λ vs. start ++ vs) (sym (map-append (newborn p) front piece)))
+    ∙ ap (λ rs. count_by test (start ++ map (newborn p) rs)) (sym both)
 
-pub nothing_put : (p : ℕ) (start now : List Version) (rows : List Row) → now ≡ start → (front : List Row) × (front ++ rows ≡ rows) × AsOften now (start ++ map (newborn p) front)
-nothing_put p start now rows same = ([], refl, λ test. ap (count_by test) (same ∙ sym (append-nil start)))
+pub nothing_put : (p : ℕ) (start now : List Version) (rows : List Row) → now ≡ start → AsOften now (start ++ map (newborn p) (take 0 rows))
+nothing_put p start now rows same = λ test. ap (count_by test) (same ∙ sym (append-nil start))
 
 -- parts of rows of times are of times
 pub times_in_front : (rows : List Row) (k : ℕ) → HaveTimes rows → HaveTimes (take k rows)
@@ -154,8 +138,16 @@ times_behind rows zero e = e
 times_behind [] (suc k) e = refl
 times_behind (row ∷ rows) (suc k) e = times_behind rows k (and_second (is_time row.at) (list_all (λ r. is_time r.at) rows) e)
 
--- where nothing is left, all rows are there
-pub all_put : (p : ℕ) (start now : List Version) (rows front left : List Row) → front ++ left ≡ rows → left ≡ [] → AsOften now (start ++ map (newborn p) front) → AsOften now (start ++ map (newborn p) rows)
-all_put p start now rows front left whole none was =
-    let same : front ≡ rows = sym (append-nil front) ∙ ap (λ rs. front ++ rs) (sym none) ∙ whole in
-    λ test. was test ∙ ap (λ rs. count_by test (start ++ map (newborn p) rs)) same
+pub times_of_part : (rows : List Row) (from to : ℕ) → HaveTimes rows → HaveTimes (take (to - from) (drop from rows))
+times_of_part rows from to h = times_in_front (drop from rows) (to - from) (times_behind rows from h)
+
+-- where all rows are in front, all are there
+pub all_put : (p : ℕ) (start now : List Version) (rows : List Row) (from : ℕ) → length rows ≤ from → AsOften now (start ++ map (newborn p) (take from rows)) → AsOften now (start ++ map (newborn p) rows)
+all_put p start now rows from whole was =
+    λ test. was test ∙ ap (λ rs. count_by test (start ++ map (newborn p) rs)) (take_all from rows whole)
+
+-- a list is its items in front of a place and those from it on
+pub two_parts : (rows : List Row) (n : ℕ) → rows ≡ take (n - 0) (drop 0 rows) ++ take (length rows - n) (drop n rows)
+two_parts rows n =
+    let first : n - 0 ≡ n = omega arith in
+    sym (take-append-drop n rows) ∙ ap (λ rs. rs ++ drop n rows) (ap (λ k. take k rows) (sym first)) ∙ ap (λ rs. take (n - 0) rows ++ rs) (sym (take_rest rows n))

@@ -1,11 +1,11 @@
 -- A chunk holds the times from its start on, up to the start of the next one.
-use Rattle.std.proofs.Common.{◌≡◌, Bool, true, ◌&&◌, ◌-◌, ◌^◌, ℤ, pos, negsuc, ◌+ℤ◌, ◌-ℤ◌, ◌≤ℤ◌, ◌<ℤ◌, int_le, int_lt, ◌∙◌, ap, arith}
+use Rattle.std.proofs.Common.{◌≡◌, ◌&&◌, ◌-◌, ◌^◌, ℤ, pos, negsuc, ◌+ℤ◌, ◌-ℤ◌, ◌≤ℤ◌, ◌<ℤ◌, int_le, int_lt, ◌∙◌, ap, arith}
 use Rattle.std.specs.Int.{int_rem_euclid, w64}
 use Rattle.std.specs.Ordering.{int_eq}
 use Rattle.std.specs.Prelude.{FitsSigned}
 use Rattle.std.proofs.lemmas.Bool.Decides.{same_from_decides}
 use Rattle.std.proofs.lemmas.Int.{ints, by_lt_z}
-use Rattle.ts_bucket.specs.Bucket.{is_time, max_time, min_time}
+use Rattle.ts_bucket.specs.Bucket.{max_time, min_time}
 use Rattle.ts_bucket.specs.Chunks.{IsInterval, chunk_start}
 use Rattle.ts_bucket.proofs.Remainders.{remainder_bounds, remainder-without, whole_apart}
 use Rattle.chunk_catalog.specs.Parts.{IsStart}

@@ -8,17 +8,19 @@ ghost use Rattle.ts_bucket.specs.Bucket.{is_time};
 ghost use Rattle.ts_bucket.specs.Chunks.{IsInterval};
 ghost use Rattle.ts_bucket.specs.Spans.{in_span};
 
-use crate::parts::{MANY, put_rows};
+use crate::parts::put_rows;
 use crate::reach::{drop_reach, span_reach, start_reach, test_times};
 use crate::trees::Tree;
-use seg_rows::copied_rows;
 use std::alloc::Global;
 use std::marker::Model;
 use ts_bucket::{Hull, MAX_TIME, MIN_TIME, Span};
-use ts_schema::{NoMemory, Row, Seq, Steps, Test};
+use ts_schema::{NoMemory, Row, Seq, SharedSlice, Steps, Test};
 
 /// No value holds more versions, which is far beyond any memory.
 const MOST_VERSIONS: u64 = 4_611_686_018_427_387_904;
+
+/// No segment of new rows has more of them, so that a later delete copies the positions of few.
+const MANY: usize = 1024;
 
 /// A span that meets chunks with no more versions is not parted.
 const FEW_VERSIONS: u64 = 4096;
@@ -128,7 +130,7 @@ impl Chunks {
 
     /// The chunks with rows that are born at a position, which is at least those of the earlier
     /// changes.
-    fn put(&self, rows: Seq<Row>, pos: u64) -> Result<Chunks, NoMemory>
+    fn put(&self, rows: SharedSlice<Row>, pos: u64) -> Result<Chunks, NoMemory>
         requires times { HaveTimes rows }
         ensures interval { IfOk result (λ chunks. chunks.interval ≡ self.now.interval) }
         ensures versions { IfOk result (λ chunks.
@@ -146,19 +148,20 @@ impl Chunks {
         })
     }
 
-    /// The same of rows that stay where they are, of which no more than a piece is copied at a time.
-    pub fn put_copies(&self, rows: &[Row], pos: u64) -> Result<Chunks, NoMemory>
+    /// The same of rows that stay where they are, and which the chunks share wherever they stand in the order of
+    /// their times. Where they don't, no more than a piece of them is copied at a time.
+    pub fn put_shared(&self, rows: &SharedSlice<Row>, pos: u64) -> Result<Chunks, NoMemory>
         requires times { HaveTimes rows.now }
         ensures interval { IfOk result (λ chunks. chunks.interval ≡ self.now.interval) }
         ensures versions { IfOk result (λ chunks.
             AsOften chunks.versions (self.now.versions ++ map (newborn pos) rows.now)) }
     {
         let mut chunks = self.copy()?;
-        let mut left = rows;
-        'pieces: while !left.is_empty() {
-            let (piece, rest) = left.split_at(left.len().min(MANY));
-            chunks = chunks.put(copied_rows(self.alloc, piece)?, pos)?;
-            left = rest;
+        let mut from = 0;
+        'pieces: while from < rows.len() {
+            let to = from + (rows.len() - from).min(MANY);
+            chunks = chunks.put(rows.part_of(from, to)?, pos)?;
+            from = to;
         }
         Ok(chunks)
     }

@@ -12,25 +12,22 @@ ghost use Rattle.chunk_catalog.specs.Parts.{AreIn, IsStart, placed_rows};
 use crate::trees::Tree;
 use seg_rows::{Segment, copied_rows};
 use std::alloc::Global;
-use std::mem;
-use ts_schema::{NoMemory, Row, Seq};
-
-/// No segment of new rows has more of them.
-pub const MANY: usize = 1024;
+use ts_schema::{NoMemory, Row, Seq, SharedSlice};
 
 /// Rows of one chunk, with its start.
 #[derive(Drop)]
 struct Part {
     start: i64,
-    rows: Vec<Row>,
+    rows: SharedSlice<Row>,
 }
 
-/// A tree with rows that are born at a position, each in the chunk that holds its time.
+/// A tree with rows that are born at a position, each in the chunk that holds its time. Where they stand in
+/// the order of their times, the segments share them with their list.
 pub fn put_rows(
     alloc: Global,
     tree: &Tree,
     interval: i64,
-    rows: Seq<Row>,
+    rows: SharedSlice<Row>,
     pos: u64,
 ) -> Result<Tree, NoMemory>
     requires interval { IsInterval interval }
@@ -38,13 +35,24 @@ pub fn put_rows(
     requires countable { length tree.now.0 + length rows < 2 ^ 64 }
     ensures versions { IfOk result (λ new. HasMore (placed_rows interval pos rows) tree.now.0 new.0) }
 {
-    let mut left = sorted_rows(rows)?;
+    let mut left = rows_by_time(alloc, rows)?;
     let mut tree = tree.copy()?;
-    while !left.is_empty() {
+    while left.len() > 0 {
         let part = last_part(interval, &mut left)?;
         tree = put_part(alloc, &tree, part, pos)?;
     }
     Ok(tree)
+}
+
+/// The same rows by their times: themselves, where they stand so, and else copies.
+fn rows_by_time(alloc: Global, rows: SharedSlice<Row>) -> Result<SharedSlice<Row>, NoMemory>
+    ensures rows { IfOk result (λ sorted. AsOften sorted rows) }
+{
+    if rows.items().is_sorted_by_key(|row| row.at) {
+        return Ok(rows);
+    }
+    let sorted = sorted_rows(copied_rows(alloc, rows.items())?)?;
+    SharedSlice::of(alloc, Seq::of(sorted))
 }
 
 /// The same rows by their times.
@@ -56,72 +64,34 @@ fn sorted_rows(rows: Seq<Row>) -> Result<Vec<Row>, NoMemory>
     Ok(items)
 }
 
-/// A tree with the rows of one chunk, born at a position. Many rows come in several segments, in their
-/// order, so that a later delete copies the positions of few.
+/// A tree with the rows of one chunk, born at a position.
 fn put_part(alloc: Global, tree: &Tree, part: Part, pos: u64) -> Result<Tree, NoMemory>
-    requires some { 0 < length part.rows.items }
-    requires countable { length tree.now.0 + length part.rows.items < 2 ^ 64 }
-    ensures versions { IfOk result (λ new.
-        HasMore (in_chunk part.start (map (newborn pos) part.rows.items)) tree.now.0 new.0) }
+    requires some { 0 < length part.rows }
+    requires countable { length tree.now.0 + length part.rows < 2 ^ 64 }
+    ensures versions { IfOk result (λ new. HasMore (in_chunk part.start (map (newborn pos) part.rows)) tree.now.0 new.0) }
 {
-    if part.rows.len() > MANY {
-        return put_pieces(alloc, tree, part.start, part.rows.as_slice(), pos);
-    }
-    let segment = Segment::seal(alloc, Seq::of(part.rows), pos)?;
+    let segment = Segment::seal(alloc, part.rows, pos)?;
     tree.with(alloc, part.start, segment)
 }
 
-/// The same with copies of the rows, which are halved until no piece is large.
-fn put_pieces(
-    alloc: Global,
-    tree: &Tree,
-    start: i64,
-    rows: &[Row],
-    pos: u64,
-) -> Result<Tree, NoMemory>
-    requires some { 0 < length rows.now }
-    requires countable { length tree.now.0 + length rows.now < 2 ^ 64 }
-    ensures versions { IfOk result (λ new. HasMore (in_chunk start (map (newborn pos) rows.now)) tree.now.0 new.0) }
-{
-    if rows.len() <= MANY {
-        let segment = Segment::seal(alloc, copied_rows(alloc, rows)?, pos)?;
-        return tree.with(alloc, start, segment);
-    }
-    let (first, second) = rows.split_at(rows.len() / 2);
-    let tree = put_pieces(alloc, tree, start, first, pos)?;
-    put_pieces(alloc, &tree, start, second, pos)
-}
-
 /// Takes the last rows off, as many as are in one chunk.
-fn last_part(interval: i64, rows: &mut Vec<Row>) -> Result<Part, NoMemory>
+fn last_part(interval: i64, rows: &mut SharedSlice<Row>) -> Result<Part, NoMemory>
     requires interval { IsInterval interval }
-    requires times { HaveTimes rows.old.items }
-    requires some { 0 < vec_len rows.old }
-    ensures split { IfOk result (λ part. rows.old.items ≡ rows.new.items ++ part.rows.items) }
-    ensures here { IfOk result (λ part. AreIn interval part.start part.rows.items) }
-    ensures fewer { OnOk result (vec_len rows.new < vec_len rows.old) }
+    requires times { HaveTimes rows.old }
+    requires some { 0 < length rows.old }
+    ensures split { IfOk result (λ part. rows.old ≡ rows.new ++ part.rows) }
+    ensures here { IfOk result (λ part. AreIn interval part.start part.rows) }
+    ensures some { IfOk result (λ part. 0 < length part.rows) }
 {
-    let items = rows.as_slice();
+    let items = rows.items();
     let start = chunk_of(interval, &items[items.len() - 1]);
     let from = part_begin(interval, start, items);
-    Ok(Part {
+    let part = Part {
         start,
-        rows: taken_from(rows, from)?,
-    })
-}
-
-/// Takes the rows from a place on off. Where these are all of them, none moves.
-fn taken_from(rows: &mut Vec<Row>, from: usize) -> Result<Vec<Row>, NoMemory>
-    requires within { from ≤ vec_len rows.old }
-    ensures split { IfOk result (λ taken. rows.old.items ≡ rows.new.items ++ taken.items) }
-    ensures rest { OnOk result (vec_len rows.new ≡ from) }
-    ensures taken { IfOk result (λ taken. taken.items ≡ drop from rows.old.items) }
-{
-    if from == 0 {
-        let none = Vec::new(*rows.allocator());
-        return Ok(mem::replace(rows, none));
-    }
-    Ok(rows.split_off(from)?)
+        rows: rows.part_of(from, rows.len())?,
+    };
+    *rows = rows.part_of(0, from)?;
+    Ok(part)
 }
 
 /// The first of the last rows that are all in one chunk, of which this is the start.

@@ -24,9 +24,9 @@ use ts_schema::{NoMemory, Row, Seq, Steps, Test};
 /// Segments that together have at most so many versions are joined in any case.
 const FEW: u64 = 16;
 
-/// No joined segment has more versions. With so many a segment costs a scan little beside its rows, and to join
-/// larger ones would copy each row again, and keep where each was born.
-const MANY: u64 = 128;
+/// No joined segment has more versions. With so many a segment costs a scan little beside its rows. To join larger
+/// ones would copy each row, which they share with the list that came in, and keep where each was born.
+const MANY: u64 = 64;
 
 /// Segments in order. Contracts see their versions, and how many levels there are.
 #[cycle(pile)]

@@ -17,25 +17,25 @@ use Rattle.ts_schema.proofs.Cases.{and_first}
 
 pub loop-alloc-init : goal.loop-alloc-init
 loop-alloc-init c = record {
-  times = times_kept c.in_ok-left.left.items c.args.rows c.in_ok-left.ensures.rows c.requires.times;
-  countable = omega (arith, length_kept c.in_ok-left.left.items c.args.rows c.in_ok-left.ensures.rows, ap (λ t. length t.0) c.in_ok-tree.ensures.same, c.requires.countable);
+  times = times_kept c.in_ok-left.left c.args.rows c.in_ok-left.ensures.rows c.requires.times;
+  countable = omega (arith, length_kept c.in_ok-left.left c.args.rows c.in_ok-left.ensures.rows, ap (λ t. length t.0) c.in_ok-tree.ensures.same, c.requires.countable);
   versions = λ test. refl;
 }
 
 pub loop-alloc-preserved : goal.loop-alloc-preserved
 loop-alloc-preserved c =
-    let all : HaveTimes (c.last_part.new.rows.items ++ c.in_ok-part.part.rows.items) = subst HaveTimes c.in_ok-part.ensures.split c.loop-alloc.invariant.times in
-    let more = length_more c.in_ok-tree-2.tree.0 c.loop-alloc.tree.0 (in_chunk c.in_ok-part.part.start (map (newborn c.args.pos) c.in_ok-part.part.rows.items)) c.in_ok-tree-2.ensures.versions in
-    let placed : length (in_chunk c.in_ok-part.part.start (map (newborn c.args.pos) c.in_ok-part.part.rows.items)) ≡ length c.in_ok-part.part.rows.items =
-    length-map (map (newborn c.args.pos) c.in_ok-part.part.rows.items) (place c.in_ok-part.part.start) ∙ length-map c.in_ok-part.part.rows.items (newborn c.args.pos) in
-    let split : length c.loop-alloc.left.items ≡ length c.last_part.new.rows.items + length c.in_ok-part.part.rows.items =
-    ap length c.in_ok-part.ensures.split ∙ length-append c.last_part.new.rows.items c.in_ok-part.part.rows.items in
+    let all : HaveTimes (c.last_part.new.rows ++ c.in_ok-part.part.rows) = subst HaveTimes c.in_ok-part.ensures.split c.loop-alloc.invariant.times in
+    let more = length_more c.in_ok-tree-2.tree.0 c.loop-alloc.tree.0 (in_chunk c.in_ok-part.part.start (map (newborn c.args.pos) c.in_ok-part.part.rows)) c.in_ok-tree-2.ensures.versions in
+    let placed : length (in_chunk c.in_ok-part.part.start (map (newborn c.args.pos) c.in_ok-part.part.rows)) ≡ length c.in_ok-part.part.rows =
+    length-map (map (newborn c.args.pos) c.in_ok-part.part.rows) (place c.in_ok-part.part.start) ∙ length-map c.in_ok-part.part.rows (newborn c.args.pos) in
+    let split : length c.loop-alloc.left ≡ length c.last_part.new.rows + length c.in_ok-part.part.rows =
+    ap length c.in_ok-part.ensures.split ∙ length-append c.last_part.new.rows c.in_ok-part.part.rows in
     record {
-      times = and_first (list_all (λ row. is_time row.at) c.last_part.new.rows.items) (list_all (λ row. is_time row.at) c.in_ok-part.part.rows.items)
-          (sym (list_all-append (λ row. is_time row.at) c.last_part.new.rows.items c.in_ok-part.part.rows.items) ∙ all);
+      times = and_first (list_all (λ row. is_time row.at) c.last_part.new.rows) (list_all (λ row. is_time row.at) c.in_ok-part.part.rows)
+          (sym (list_all-append (λ row. is_time row.at) c.last_part.new.rows c.in_ok-part.part.rows) ∙ all);
       countable = omega (arith, more, placed, split, c.loop-alloc.invariant.countable);
       versions = λ test.
-          part_step (to_z w64 (of_z w64 c.args.interval)) c.in_ok-part.part.start c.args.pos c.loop-alloc.tree.0 c.in_ok-tree-2.tree.0 c.loop-alloc.left.items c.last_part.new.rows.items c.in_ok-part.part.rows.items
+          part_step (to_z w64 (of_z w64 c.args.interval)) c.in_ok-part.part.start c.args.pos c.loop-alloc.tree.0 c.in_ok-tree-2.tree.0 c.loop-alloc.left c.last_part.new.rows c.in_ok-part.part.rows
           c.in_ok-part.ensures.split c.in_ok-part.ensures.here c.in_ok-tree-2.ensures.versions test
           ∙ c.loop-alloc.invariant.versions test;
     }
@@ -44,13 +44,13 @@ pub returns : goal.returns
 returns c =
     let fits : FitsSigned w64 c.args.interval = c.ranges.interval in
     let interval_is : to_z w64 (of_z w64 c.args.interval) ≡ c.args.interval = to_z-of_z w64 c.args.interval fits in
-    let empty : length c.loop-alloc.left.items ≡ 0 = grind (arith, c.is_empty.ensures, c.loop-alloc-test.false) in
-    let none : c.loop-alloc.left.items ≡ [] = nil_from_length c.loop-alloc.left.items empty in
+    let empty : length c.loop-alloc.left ≡ 0 = omega (arith, c.len.ensures.len, c.loop-alloc-test.false) in
+    let none : c.loop-alloc.left ≡ [] = nil_from_length c.loop-alloc.left empty in
     record {
       versions = λ test.
-          let kept : count_by test c.loop-alloc.tree.0 + count_by test (placed_rows c.args.interval c.args.pos c.loop-alloc.left.items) ≡ count_by test c.in_ok-tree.tree.0 + count_by test (placed_rows c.args.interval c.args.pos c.in_ok-left.left.items) =
-          subst (λ (i : ℤ). count_by test c.loop-alloc.tree.0 + count_by test (placed_rows i c.args.pos c.loop-alloc.left.items) ≡ count_by test c.in_ok-tree.tree.0 + count_by test (placed_rows i c.args.pos c.in_ok-left.left.items)) interval_is (c.loop-alloc.invariant.versions test) in
-          let zero : count_by test (placed_rows c.args.interval c.args.pos c.loop-alloc.left.items) ≡ 0 = ap (λ rows. count_by test (placed_rows c.args.interval c.args.pos rows)) none in
+          let kept : count_by test c.loop-alloc.tree.0 + count_by test (placed_rows c.args.interval c.args.pos c.loop-alloc.left) ≡ count_by test c.in_ok-tree.tree.0 + count_by test (placed_rows c.args.interval c.args.pos c.in_ok-left.left) =
+          subst (λ (i : ℤ). count_by test c.loop-alloc.tree.0 + count_by test (placed_rows i c.args.pos c.loop-alloc.left) ≡ count_by test c.in_ok-tree.tree.0 + count_by test (placed_rows i c.args.pos c.in_ok-left.left)) interval_is (c.loop-alloc.invariant.versions test) in
+          let zero : count_by test (placed_rows c.args.interval c.args.pos c.loop-alloc.left) ≡ 0 = ap (λ rows. count_by test (placed_rows c.args.interval c.args.pos rows)) none in
           let same : count_by test c.in_ok-tree.tree.0 ≡ count_by test c.args.tree.now.0 = ap (λ t. count_by test t.0) c.in_ok-tree.ensures.same in
-          omega (arith, kept, zero, same, placed_kept c.args.interval c.args.pos c.in_ok-left.left.items c.args.rows c.in_ok-left.ensures.rows test);
+          omega (arith, kept, zero, same, placed_kept c.args.interval c.args.pos c.in_ok-left.left c.args.rows c.in_ok-left.ensures.rows test);
     }
