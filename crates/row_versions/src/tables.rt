@@ -16,7 +16,7 @@ use std::alloc::Global;
 use std::marker::Model;
 use ts_bucket::Span;
 use ts_model::Op;
-use ts_schema::{NoMemory, Row, Seq, Steps, Test};
+use ts_schema::{NoMemory, Row, Seq, SharedSlice, Steps, Test};
 
 /// The rows of a hypertable at every position. Contracts see its interval and the list of all
 /// versions that it ever had.
@@ -154,8 +154,8 @@ impl Applied {
         }
     }
 
-    /// The same after an insert.
-    fn and_insert(self, rows: &Seq<Row>, pos: u64) -> Result<Applied, NoMemory>
+    /// The same after an insert, whose rows the table shares.
+    fn and_insert(self, rows: &SharedSlice<Row>, pos: u64) -> Result<Applied, NoMemory>
         requires up_to { IsUpTo pos self.table.versions }
         requires times { HaveTimes rows.now }
         ensures table { IfOk result (λ a. (t : ℕ) → Follows t (Insert t rows.now ∷ []) pos self.table a.table) }
@@ -163,7 +163,7 @@ impl Applied {
             Counts t (Insert t rows.now ∷ []) (rows_seen pos self.table) self.effect a.effect) }
     {
         let effect = self.effect.and_inserted(rows.items())?;
-        let chunks = self.table.chunks.put_copies(rows.items(), pos)?;
+        let chunks = self.table.chunks.put_shared(rows, pos)?;
         Ok(Applied {
             table: Table { chunks },
             effect,
