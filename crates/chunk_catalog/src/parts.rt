@@ -1,6 +1,6 @@
 //! New rows by the chunks that hold their times.
 ghost use Rattle.std.specs.Ordering.{int_eq};
-ghost use Rattle.std.specs.Prelude.{◌≡◌, ◌<◌, ◌≤◌, ◌+◌, ◌-◌, ◌^◌, ◌++◌, length, drop, map, slice_index_or, vec_len, true, IfOk, OnOk};
+ghost use Rattle.std.specs.Prelude.{◌≡◌, ◌<◌, ◌+◌, ◌-◌, ◌^◌, ◌++◌, length, drop, map, slice_index_or, true, IfOk};
 ghost use Rattle.ts_bucket.specs.Bucket.{is_time};
 ghost use Rattle.ts_schema.specs.declared.rows.Row.{Row};
 ghost use Rattle.seg_rows.specs.Versions.{newborn, AsOften, HasMore};
