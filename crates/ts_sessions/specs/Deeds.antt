@@ -16,6 +16,7 @@ use Rattle.ts_model.specs.declared.outcomes.Refusal.{Refusal}
 use Rattle.ts_model.specs.declared.queries.Answer.{Answer}
 use Rattle.ts_model.specs.declared.rosters.Roster.{Roster}
 use Rattle.ts_model.specs.declared.snapshots.Shown.{Ghosts as Shown}
+use Rattle.ts_model.specs.declared.views.Fold.{Fold}
 use Rattle.ts_model.specs.History.{History, position}
 use Rattle.ts_model.specs.States.{State}
 use Rattle.ts_model.specs.Calls.{Act, committing, making_hyper, making_table, making_view, refusal, setting_mode}
@@ -44,6 +45,7 @@ use Rattle.ts_sessions.specs.declared.queries.Form.TheVariants as forms
 use Rattle.ts_sessions.specs.declared.queries.Plan.{Plan}
 use Rattle.hier_agg.specs.Plans.{lower_query}
 use Rattle.hier_agg.specs.Stale.{AreWholeRanges}
+use Rattle.hier_agg.specs.Wholes.{AreRowsOf}
 use Rattle.cal_bucket.specs.declared.plans.CalPlan.{CalPlan}
 use Rattle.cal_bucket.specs.Buckets.{IsNumber}
 use Rattle.cal_bucket.specs.Rows.{ShowARow}
@@ -385,9 +387,13 @@ pub record FitsCalendar (cal : CalPlan) (shown : Answer) : Type 0 where
   pub columns : IsTrue (columns_are_there most_columns cal.fold)
   pub rows : AllByRecursion (ShowARow cal.at) shown.rows
 
+-- an answer is one of an aggregate: its rows show groups of the fold, and its stale ranges are of whole buckets
+pub record FitsRollUp (fold : Fold) (shown : Answer) : Type 0 where
+  pub rows : AreRowsOf fold shown.rows
+  pub stale : AreWholeRanges fold.width shown.stale
+
 -- an answer is such as its form takes
 abbrev pub FormFits : Roster → Form → Answer → Type 0
 FormFits r forms.Own shown = ⊤
-FormFits r (forms.RolledUp upper) shown =
-    ForSome (view_of r upper.view) (λ def. AreWholeRanges def.fold.width shown.stale)
+FormFits r (forms.RolledUp upper) shown = ForSome (view_of r upper.view) (λ def. FitsRollUp def.fold shown)
 FormFits r (forms.Calendar cal) shown = FitsCalendar cal shown

@@ -7,10 +7,11 @@ ghost use Rattle.ts_schema.specs.Counts.{Ticks};
 ghost use Rattle.ts_model.specs.Allowed.{QueueFits, all_allowed};
 ghost use Rattle.ts_model.specs.Answers.{answer as answer_of, can_ask};
 ghost use Rattle.ts_model.specs.Reads.{reads as reads_of};
+ghost use Rattle.hier_agg.specs.Upper.{upper_answer};
 ghost use Rattle.result_text.specs.declared.replies.Said.TheVariants.{Answered};
 ghost use Rattle.ts_model.specs.States.{State};
 ghost use Rattle.ts_sessions.specs.declared.changes.Change.TheVariants as changes;
-ghost use Rattle.ts_sessions.specs.Deeds.{FormFits, IsFormed, OpensTo, said_once, taken_next};
+ghost use Rattle.ts_sessions.specs.Deeds.{FitsRollUp, FormFits, IsFormed, OpensTo, said_once, taken_next};
 ghost use Rattle.ts_sessions.specs.Held.{block_of};
 ghost use Rattle.ts_sessions.specs.Procedures.{ends};
 ghost use Rattle.ts_sessions.specs.Places.{Places, queue_in};
@@ -23,12 +24,12 @@ use crate::changes::Change;
 use crate::deeds::Next;
 use crate::follows::say;
 use cal_bucket::{CalPlan, CalUnit, cal_answer};
-use hier_agg::{UpperPlan, answer_upper, lower_query};
+use hier_agg::{UpperPlan, answer_upper, lower_query, takes_all};
 use result_text::Said;
 use std::alloc::Global;
 use std::thread::Threads;
 use ts_bucket::first;
-use ts_model::{Answer, Query, Roster, Shown};
+use ts_model::{Answer, Query, Roster, Shown, ViewDef};
 use ts_schema::{Name, NoMemory, Steps};
 
 /// What is made of an answer.
@@ -121,10 +122,27 @@ pub fn in_form(
         Form::Own => Ok(answer),
         Form::RolledUp(plan) => match roster.views.items().get(plan.view as usize) {
             None => Ok(answer),
-            Some(def) => answer_upper(alloc, plan, def, answer),
+            Some(def) => roll_up(alloc, plan, def, answer),
         },
         Form::Calendar(plan) => cal_answer(alloc, plan, &answer),
     }
+}
+
+/// The roll-up of an aggregate's answer, which is that answer where the plan takes all of the aggregate.
+fn roll_up(
+    alloc: Global,
+    plan: &UpperPlan,
+    def: &ViewDef,
+    answer: Answer,
+) -> Result<Answer, NoMemory>
+    requires { FitsRollUp def.now.fold answer }
+    ensures { IfOk result (λ upper. upper ≡ upper_answer def.now.fold plan.now answer) }
+{
+    let _step = def.fold.width.step;
+    if takes_all(plan, &def.fold) {
+        return Ok(answer);
+    }
+    answer_upper(alloc, plan, def, answer)
 }
 
 /// What is said of an answer at a position, with so many operations queued, if in a write block.

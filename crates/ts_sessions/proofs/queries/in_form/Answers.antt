@@ -21,8 +21,8 @@ none_there views items n same past =
     at_least : (m n : ℕ) → false ≡ nat_lt m n → n ≤ m
     at_least m n h = grind (arith, nat_tests)
 
-pub answer_upper-requires : goal.answer_upper-requires
-answer_upper-requires c =
+pub roll_up-requires : goal.roll_up-requires
+roll_up-requires c =
     let r = c.args.roster.now in
     let n = c.in-RolledUp.plan.view in
     let found = there r.views c.items.result.now n c.in-Some.def.now c.items.ensures.items c.in-Some.ensures.lookup.0 c.in-Some.ensures.lookup.1 in
@@ -40,6 +40,6 @@ returns-in-Some c =
     let r = c.args.roster.now in
     let plan = c.in-RolledUp.plan in
     let found = there r.views c.items.result.now plan.view c.in-Some.def.now c.items.ensures.items c.in-Some.ensures.lookup.0 c.in-Some.ensures.lookup.1 in
-    subst (λ a. IfOk c.answer_upper.result (λ shown. shown ≡ a))
+    subst (λ a. IfOk c.roll_up.result (λ shown. shown ≡ a))
     (sym (ap (λ f. in_form r f c.args.answer) c.in-RolledUp.is ∙ ap (λ o. rolled_up o plan c.args.answer) found))
-    c.answer_upper.ensures.answer
+    c.roll_up.ensures
