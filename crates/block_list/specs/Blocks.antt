@@ -6,7 +6,7 @@ use Rattle.std.specs.Coded.{Coded, code_by, coded×, coded_ℕ, coded_list}
 
 -- the greatest number of items of a block
 abbrev pub block_len : ℕ
-block_len = 256
+block_len = 64
 
 -- the greatest number of items that stand in parts
 abbrev pub most_items : ℕ

@@ -16,7 +16,7 @@ use std::marker::Model;
 use std::sync::Arc;
 use ts_schema::NoMemory;
 
-/// A list of items in blocks of at most 256, which stand on shelves of at most 64. Contracts see it as
+/// A list of items in blocks of at most 64, which stand on shelves of at most 64. Contracts see it as
 /// the list of its items, and for how many more there is room.
 ///
 /// Its shelves are shared with its copies. What was pushed since it was last `shared` is its own

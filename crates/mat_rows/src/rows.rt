@@ -16,7 +16,7 @@ use ts_schema::{NoMemory, Seq};
 
 /// Groups in order: by bucket, and then by keys. Contracts see them as a list.
 ///
-/// They are kept in blocks of at most 256, which copies share.
+/// They are kept in blocks of at most 64, which copies share.
 #[derive(Drop, Debug)]
 pub struct MatRows {
     groups: BlockList<Group>,
