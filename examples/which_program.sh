@@ -22,6 +22,11 @@ done
 case "$*" in
   "lib --jobs "*)
     echo "$SAYS"
+    if [ "$SAYS" = slow ]; then
+      sleep 600 &
+      echo "$!" >"$CALLS.slow"
+      wait
+    fi
     [ "$SAYS" = proved ] ;;
   "run -- check")
     printf '#!/bin/sh\necho "proved: $*"\n' >out/tsctl
@@ -57,6 +62,15 @@ tsctl run
 touch copy/crates/tsctl/src/main.rt
 tsctl run
 tsctl --proved run
+
+echo "# a proof that is stopped, with all that it has started"
+SAYS=slow copy/bin/prove --jobs 1 >said 2>&1 &
+until [ -s calls.slow ]; do sleep 0.05; done
+kill -TERM "$!"
+wait "$!" || echo "status $?"
+said <said
+for _ in $(seq 100); do kill -0 "$(cat calls.slow)" 2>/dev/null || break; sleep 0.05; done
+kill -0 "$(cat calls.slow)" 2>/dev/null && echo "something is left"
 
 echo "# the call becomes the program: a signal reaches it, and its status is the call's"
 printf '#!/bin/sh\necho $$\nexec sleep 60\n' >copy/crates/tsctl/out/unproved
