@@ -3,7 +3,7 @@ use Rattle.std.proofs.Common.{◌≡◌, ℕ, ◌+◌, ◌≤◌, ◌<◌, ◌^�
 use Rattle.std.specs.List.{filter, list_all}
 use Rattle.std.specs.Prelude.{Result, Ok, Err, MatchResult}
 use Rattle.std.proofs.lemmas.Bool.{and_parts, and_from}
-use Rattle.std.proofs.lemmas.List.{append_assoc, append-nil}
+use Rattle.std.proofs.lemmas.List.{append_assoc, append-nil, drop-drop, drop_all}
 use Rattle.std.proofs.lemmas.List.Folds.{list_all-append}
 use Rattle.ts_bucket.specs.Bucket.{IsWidth, is_time}
 use Rattle.ts_bucket.specs.Ranges.{lies_in}
@@ -14,7 +14,7 @@ use Rattle.ts_schema.specs.Counts.{raised_by, RaisedUpTo}
 use Rattle.ts_model.specs.declared.views.Fold.{Fold}
 use Rattle.ts_model.specs.Rows.{with_row, with_rows, in_order}
 use Rattle.ts_model.specs.Groups.{groups_of}
-use Rattle.ts_model.proofs.RowLaws.{in_order-append, in_order-append_swap, with_rows-with_row, all-in_order, same_before}
+use Rattle.ts_model.proofs.RowLaws.{in_order-append, with_rows-with_row, all-in_order, same_before}
 use Rattle.group_fold.specs.Grouping.{AreTimes, PiecesAreTimes, all_rows}
 use Rattle.group_fold.proofs.BucketGroups.{order_plays_no_part}
 use Rattle.group_fold.proofs.CutRows.{all_rows-append, take_drop}
@@ -31,17 +31,26 @@ same_behind xs ys zs e = in_order-append xs ys ∙ (ap (with_rows xs) e ∙ sym 
 
 -- ---- pieces
 
--- a piece more, of the last of the rows that are left
-pub piece_step : (before after : List (List Row)) (piece rest left : List Row) → left ≡ rest ++ piece → after ≡ before ++ piece ∷ []
-    → in_order (all_rows after ++ rest) ≡ in_order (all_rows before ++ left)
-piece_step before after piece rest left split pushed =
-    let all : all_rows after ≡ all_rows before ++ piece = ap all_rows pushed ∙ (all_rows-append before (piece ∷ []) ∙ ap (λ rs. all_rows before ++ rs) (append-nil piece)) in
-    ap (λ rs. in_order (rs ++ rest)) all
-    ∙ (ap in_order (append_assoc (all_rows before) piece rest)
-    ∙ (same_behind (all_rows before) (piece ++ rest) (rest ++ piece) (in_order-append_swap piece rest) ∙ ap (λ rs. in_order (all_rows before ++ rs)) (sym split)))
+-- what a list has from a place on is a part of it, and what comes behind
+part_and_rest : (whole : List Row) (from to : ℕ) → from ≤ to → take (to - from) (drop from whole) ++ drop to whole ≡ drop from whole
+part_and_rest whole from to low =
+    let sum : from + (to - from) ≡ to = omega (arith, low) in
+    ap (λ rest. take (to - from) (drop from whole) ++ rest) (sym (drop-drop (to - from) from whole ∙ ap (λ n. drop n whole) sum)) ∙ take_drop (to - from) (drop from whole)
 
-pub last_piece : (before after : List (List Row)) (left : List Row) → after ≡ before ++ left ∷ [] → all_rows after ≡ all_rows before ++ left
-last_piece before after left pushed = ap all_rows pushed ∙ (all_rows-append before (left ∷ []) ∙ ap (λ rs. all_rows before ++ rs) (append-nil left))
+-- a piece more, of the first of the rows that are left
+pub piece_step : (before after : List (List Row)) (piece whole all : List Row) (from to : ℕ) → from ≤ to → piece ≡ take (to - from) (drop from whole) → after ≡ before ++ piece ∷ []
+    → all_rows before ++ drop from whole ≡ all → all_rows after ++ drop to whole ≡ all
+piece_step before after piece whole all from to low part pushed so_far =
+    let rows : all_rows after ≡ all_rows before ++ piece = ap all_rows pushed ∙ (all_rows-append before (piece ∷ []) ∙ ap (λ rs. all_rows before ++ rs) (append-nil piece)) in
+    ap (λ rs. rs ++ drop to whole) rows
+    ∙ (append_assoc (all_rows before) piece (drop to whole)
+    ∙ (ap (λ rs. all_rows before ++ rs) (ap (λ rs. rs ++ drop to whole) part ∙ part_and_rest whole from to low) ∙ so_far))
+
+-- the last piece has all rows that are left
+pub last_piece : (before after : List (List Row)) (piece whole all : List Row) (from to : ℕ) → from ≤ to → length whole ≤ to → piece ≡ take (to - from) (drop from whole) → after ≡ before ++ piece ∷ []
+    → all_rows before ++ drop from whole ≡ all → all_rows after ≡ all
+last_piece before after piece whole all from to low high part pushed so_far =
+    sym (append-nil (all_rows after)) ∙ (ap (λ rest. all_rows after ++ rest) (sym (drop_all to whole high)) ∙ piece_step before after piece whole all from to low part pushed so_far)
 
 are_times : (rows : List Row) → list_all (λ row. is_time row.at) rows ≡ true → AreTimes rows
 are_times [] e = tt
@@ -99,16 +108,13 @@ both_spans s ss (x ∷ xs) apart =
 
 -- one span more was scanned
 pub span_step : (s : Span) (left : List Span) (rows found : List Row) (before after : List (List Row)) → ((t : ℤ) → in_span s t ≡ true → lies_in left t ≡ false)
-    → in_order found ≡ in_order (filter (λ row. in_span s row.at) rows) → in_order (all_rows after) ≡ in_order (all_rows before ++ found)
+    → in_order found ≡ in_order (filter (λ row. in_span s row.at) rows) → all_rows after ≡ all_rows before ++ found
     → in_order (all_rows after ++ rows_in left rows) ≡ in_order (all_rows before ++ rows_in (s ∷ left) rows)
 span_step s left rows found before after apart same cut =
-    same_before (all_rows after) (all_rows before ++ found) (rows_in left rows) cut
+    ap (λ rs. in_order (rs ++ rows_in left rows)) cut
     ∙ (ap in_order (append_assoc (all_rows before) found (rows_in left rows))
     ∙ same_behind (all_rows before) (found ++ rows_in left rows) (rows_in (s ∷ left) rows)
     (same_before found (filter (λ row. in_span s row.at) rows) (rows_in left rows) same ∙ both_spans s left rows apart))
-
-pub cut_whole : (left rest piece : List Row) (k : ℕ) → rest ≡ take k left → piece ≡ drop k left → left ≡ rest ++ piece
-cut_whole left rest piece k r p = sym (ap (λ xs. xs ++ piece) r ∙ (ap (λ ys. take k left ++ ys) p ∙ take_drop k left))
 
 -- ---- counts
 

@@ -14,7 +14,7 @@ use rayon::{current_num_threads, join};
 use std::alloc::Global;
 use std::thread::Threads;
 use ts_model::Fold;
-use ts_schema::{NoMemory, Row, Seq};
+use ts_schema::{NoMemory, Row, Seq, SharedSlice};
 
 /// More rows than any memory holds. A count of rows stays below it.
 pub(crate) const MOST_ROWS: u64 = 4_611_686_018_427_387_904;
@@ -29,7 +29,7 @@ pub fn fold_pieces<R: Threads + Sync>(
     rt: &R,
     alloc: Global,
     plan: &Fold,
-    pieces: &Seq<Seq<Row>>,
+    pieces: &Seq<SharedSlice<Row>>,
 ) -> Result<Seq<Group>, NoMemory>
     requires { PiecesAreTimes pieces.now }
     ensures groups { IfOk result (λ groups. groups ≡ groups_of plan.now (all_rows pieces.now)) }
@@ -55,7 +55,7 @@ fn halvings_of<R: Threads + Sync>(rt: &R, rows: u64) -> u32 {
 }
 
 /// How many rows the pieces have; a count past 64 bits stands at their end.
-fn count_rows(pieces: &[Seq<Row>]) -> u64
+fn count_rows(pieces: &[SharedSlice<Row>]) -> u64
     ensures { result ≡ min (length (all_rows pieces.now)) (2 ^ 64 - 1) }
 {
     let mut count = 0u64;
@@ -71,7 +71,7 @@ fn fold_in_threads<R: Threads + Sync>(
     rt: &R,
     alloc: Global,
     plan: &Fold,
-    pieces: &[Seq<Row>],
+    pieces: &[SharedSlice<Row>],
     halvings: u32,
 ) -> Result<Vec<Group>, NoMemory>
     requires times { PiecesAreTimes pieces.now }
@@ -98,7 +98,11 @@ fn fold_in_threads<R: Threads + Sync>(
 }
 
 /// The groups of some pieces, in one thread.
-fn fold_each(alloc: Global, plan: &Fold, pieces: &[Seq<Row>]) -> Result<Vec<Group>, NoMemory>
+fn fold_each(
+    alloc: Global,
+    plan: &Fold,
+    pieces: &[SharedSlice<Row>],
+) -> Result<Vec<Group>, NoMemory>
     requires times { PiecesAreTimes pieces.now }
     requires width { IsWidth plan.now.width }
     requires few { length (all_rows pieces.now) < 2 ^ 62 }

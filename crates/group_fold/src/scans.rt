@@ -8,7 +8,7 @@ ghost use Rattle.group_fold.specs.Spans.{AreApart, near_each, rows_in};
 use std::alloc::Global;
 use ts_bucket::Span;
 use ts_model::RowsAt;
-use ts_schema::{NoMemory, Row, Seq, Steps};
+use ts_schema::{NoMemory, Row, Seq, SharedSlice, Steps};
 
 /// Pieces have so many rows at most.
 const PIECE: usize = 4096;
@@ -20,7 +20,7 @@ pub(crate) fn scan_spans<W: RowsAt, L>(
     table: u32,
     spans: &[Span],
     steps: &mut Steps<L>,
-) -> Result<Seq<Seq<Row>>, NoMemory>
+) -> Result<Seq<SharedSlice<Row>>, NoMemory>
     requires apart { AreApart spans.now }
     ensures rows { IfOk result (λ pieces. in_order (all_rows pieces)
         ≡ in_order (rows_in spans.now (W.visible rows.now table))) }
@@ -33,21 +33,23 @@ pub(crate) fn scan_spans<W: RowsAt, L>(
     let mut left = spans;
     while let [span, rest @ ..] = left {
         let found = rows.scan(table, *span, steps)?;
-        cut(found, &mut pieces)?;
+        cut(alloc, found, &mut pieces)?;
         left = rest;
     }
     Ok(pieces)
 }
 
-/// Cuts rows into pieces.
-fn cut(found: Seq<Row>, pieces: &mut Seq<Seq<Row>>) -> Result<(), NoMemory>
-    ensures rows { OnOk result (in_order (all_rows pieces.new) ≡ in_order (all_rows pieces.old ++ found)) }
+/// Cuts rows into pieces, from the first row on. Each piece is a part of the list that was found.
+fn cut(alloc: Global, found: Seq<Row>, pieces: &mut Seq<SharedSlice<Row>>) -> Result<(), NoMemory>
+    ensures rows { OnOk result (all_rows pieces.new ≡ all_rows pieces.old ++ found) }
 {
-    let mut left = found.into_items();
-    while left.len() > PIECE {
-        let from = left.len() - PIECE;
-        pieces.push(Seq::of(left.split_off(from)?))?;
+    let whole = SharedSlice::of(alloc, found)?;
+    let count = whole.len();
+    let mut from = 0;
+    while count - from > PIECE {
+        pieces.push(whole.part_of(from, from + PIECE)?)?;
+        from += PIECE;
     }
-    pieces.push(Seq::of(left))?;
+    pieces.push(whole.part_of(from, count)?)?;
     Ok(())
 }
