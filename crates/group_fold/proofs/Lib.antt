@@ -10,5 +10,6 @@ pub mod Parts
 pub mod RowGroups
 pub mod ScanLaws
 pub mod Scratches
+pub mod Seams
 pub mod Starts
 pub mod Steps

@@ -67,15 +67,14 @@ both_first g gs h hs c e =
 -- ---- the same, for the answers of calls
 
 pub record Taken (r : Option Group) (gs hs gs' hs' : List Group) : Type 0 where
-  pub next : MatchOption r (with_groups gs hs ≡ []) (λ g. with_groups gs hs ≡ g ∷ with_groups gs' hs')
+  pub next : MatchOption r (with_groups gs hs ≡ hs') (λ g. with_groups gs hs ≡ g ∷ with_groups gs' hs')
   pub kept : CanJoin gs' hs'
 
 longer : (g : Group) (gs : List Group) → g ∷ gs ≡ gs → ⊥
 longer g gs e = let h = ap length e in omega (arith, h)
 
 pub mine_taken : (r : Option Group) (gs gs' hs : List Group) → gs ≡ option_to_list r ++ gs' → gs' ≡ drop 1 gs → next_of_lists gs hs ≡ Mine → CanJoin gs hs → Taken r gs hs gs' hs
-mine_taken r [] gs' [] is rest e c = cc
-mine_taken r [] gs' (h ∷ hs) is rest e c = cc
+mine_taken r [] gs' hs is rest e c = cc
 mine_taken None (g ∷ gs) gs' hs is rest e c = absurd (longer g gs (is ∙ rest))
 mine_taken (Some x) (g ∷ gs) gs' [] is rest e c =
     let same : g ≡ x = cc in
@@ -94,16 +93,9 @@ mine_taken (Some x) (g ∷ gs) gs' (h ∷ hs) is rest e c =
     }
 
 pub theirs_taken : (r : Option Group) (gs hs hs' : List Group) → hs ≡ option_to_list r ++ hs' → hs' ≡ drop 1 hs → next_of_lists gs hs ≡ Theirs → CanJoin gs hs → Taken r gs hs gs hs'
-theirs_taken r [] [] hs' is rest e c = cc
+theirs_taken r [] hs hs' is rest e c = cc
 theirs_taken r (g ∷ gs) [] hs' is rest e c = cc
-theirs_taken None gs (h ∷ hs) hs' is rest e c = absurd (longer h hs (is ∙ rest))
-theirs_taken (Some x) [] (h ∷ hs) hs' is rest e c =
-    let same : h ≡ x = cc in
-    let left : hs' ≡ hs = rest in
-    record {
-      next = is;
-      kept = subst (λ ys. CanJoin [] ys) (sym left) (without_theirs [] h hs c);
-    }
+theirs_taken None (g ∷ gs) (h ∷ hs) hs' is rest e c = absurd (longer h hs (is ∙ rest))
 theirs_taken (Some x) (g ∷ gs) (h ∷ hs) hs' is rest e c =
     let same : h ≡ x = cc in
     let left : hs' ≡ hs = rest in

@@ -2,7 +2,7 @@
 use Rattle.std.specs.Prelude.{◌≡◌, ◌+◌, ◌^◌, ◌<◌, cond, List, [], ◌∷◌, ◌++◌, Option, MatchOption}
 use Rattle.std.specs.List.{AllByRecursion, AllZip}
 use Rattle.std.specs.Ordering.{match_ordering}
-use Rattle.std.specs.declared.cmp.Ordering.TheVariants.{Equal}
+use Rattle.std.specs.declared.cmp.Ordering.TheVariants.{Less, Equal}
 use Rattle.ts_schema.specs.declared.rows.Row.{Row}
 use Rattle.ts_schema.specs.Conditions.{passes_all}
 use Rattle.ts_bucket.specs.Bucket.{IsWidth}
@@ -10,7 +10,7 @@ use Rattle.ts_model.specs.declared.views.Fold.{Fold}
 use Rattle.group_fold.specs.Grouping.{row_group}
 use Rattle.ts_model.specs.Groups.{groups_of}
 use Rattle.group_fold.specs.declared.joins.Next.{Next}
-use Rattle.group_fold.specs.declared.joins.Next.TheVariants.{Neither, Mine, Theirs, Both}
+use Rattle.group_fold.specs.declared.joins.Next.TheVariants.{Rest, Mine, Theirs, Both}
 use Rattle.partial_agg.specs.declared.groups.Group.{Group}
 use Rattle.partial_agg.specs.Summaries.{Summary, joined}
 use Rattle.partial_agg.specs.Groups.{group_cmp, AreInOrder}
@@ -49,16 +49,19 @@ pub record CanJoin (gs hs : List Group) : Type 0 where
   pub theirs : AreInOrder hs
   pub fit : FitTogether gs hs
 
+-- each group of one list stands before all of another one
+abbrev pub AreBefore : List Group → List Group → Type 0
+AreBefore gs hs = AllByRecursion (λ g. AllByRecursion (λ h. group_cmp g h ≡ Less) hs) gs
+
 -- where two lists of groups are those of two lists of rows, these are the groups of both
 abbrev pub AreGroupsOfBoth : List Group → List Group → List Group → Type 0
 AreGroupsOfBoth gs hs both =
     (fold : Fold) (xs ys : List Row) → IsWidth fold.width → gs ≡ groups_of fold xs → hs ≡ groups_of fold ys
     → both ≡ groups_of fold (xs ++ ys)
 
--- where the next group of two lists in order comes from
+-- where the next group of two lists in order comes from, or that the rest of the second list comes next
 abbrev pub next_of_lists : List Group → List Group → Next
-next_of_lists [] [] = Neither
-next_of_lists [] (h ∷ hs) = Theirs
+next_of_lists [] hs = Rest
 next_of_lists (g ∷ gs) [] = Mine
 next_of_lists (g ∷ gs) (h ∷ hs) = match_ordering (group_cmp g h) Mine Both Theirs
 
@@ -66,6 +69,6 @@ next_of_lists (g ∷ gs) (h ∷ hs) = match_ordering (group_cmp g h) Mine Both T
 abbrev pub taken : Fold → Row → List Group → List Group
 taken fold row groups = cond (passes_all row fold.tests) (with_group (row_group fold row) groups) groups
 
--- the first item of a list was taken, or there is none
-abbrev pub TakesFirst : {X : Type 0} → Option X → List X → List X → Type 0
-TakesFirst taken old new = MatchOption taken (old ≡ []) (λ first. old ≡ first ∷ new)
+-- the first item of a list was taken, or none, where the list is a rest
+abbrev pub TakesFirst : {X : Type 0} → Option X → List X → List X → List X → Type 0
+TakesFirst taken old new rest = MatchOption taken (old ≡ rest) (λ first. old ≡ first ∷ new)

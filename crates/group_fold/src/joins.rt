@@ -1,7 +1,8 @@
 //! Two lists of groups put together.
-ghost use Rattle.std.specs.Prelude.{◌≡◌, ◌+◌, ◌<◌, IfOk, OnSome};
+ghost use Rattle.std.specs.Prelude.{◌≡◌, ◌+◌, ◌<◌, ◌≤◌, IfOk, OnSome, length, take};
 ghost use Rattle.std.specs.VecDeque.{deque_len};
-ghost use Rattle.group_fold.specs.Merging.{AreGroupsOfBoth, CanJoin, PartsFit, TakesFirst};
+ghost use Rattle.partial_agg.specs.Groups.{AreInOrder};
+ghost use Rattle.group_fold.specs.Merging.{AreBefore, AreGroupsOfBoth, CanJoin, PartsFit, TakesFirst};
 ghost use Rattle.group_fold.specs.Merging.{joined_parts, next_of_lists, with_groups};
 
 use partial_agg::{Group, Partial, group_order};
@@ -22,7 +23,8 @@ pub fn join_parts(alloc: Global, a: &Seq<Group>, b: &Seq<Group>) -> Result<Seq<G
     Ok(Seq::of(join_lists(alloc, mine, theirs)?))
 }
 
-/// The same of lists that are given up. Groups move from one list to the other, and are not copied.
+/// The same of lists that are given up. Groups move from one list to the other, and are not copied. Those
+/// that stand before all of the second list, and those behind all of the first, move all at once.
 pub(crate) fn join_lists(
     alloc: Global,
     a: Vec<Group>,
@@ -32,35 +34,55 @@ pub(crate) fn join_lists(
     ensures { IfOk result (λ groups. groups.items ≡ with_groups a.items b.items) }
 {
     let mut groups = Vec::with_capacity(alloc, a.len() + b.len())?;
-    let mut mine = VecDeque::from(a);
+    let before = count_before(a.as_slice(), b.as_slice());
+    let mut front = a;
+    let behind = front.split_off(before)?;
+    groups.append(&mut front)?;
+    let mut mine = VecDeque::from(behind);
     let mut theirs = VecDeque::from(b);
     while let Some(group) = take_next(&mut mine, &mut theirs) {
         groups.push(group)?;
     }
+    let mut rest = Vec::from(theirs);
+    groups.append(&mut rest)?;
     Ok(groups)
 }
 
-/// Where the next group comes from.
+/// How many groups of a list stand before all of another one.
+fn count_before(groups: &[Group], others: &[Group]) -> usize
+    requires mine { AreInOrder groups.now }
+    requires theirs { AreInOrder others.now }
+    ensures within { result ≤ length groups.now }
+    ensures before { AreBefore (take result groups.now) others.now }
+{
+    match others {
+        [] => groups.len(),
+        [next, ..] => groups.partition_point(|group: &Group| group_order(group, next).is_lt()),
+    }
+}
+
+/// Where the next group comes from. `Rest` is what is left of the second list, once the first one is empty.
 #[derive(Clone, Copy)]
 enum Next {
-    Neither,
+    Rest,
     Mine,
     Theirs,
     Both,
 }
 
-/// Takes the next group from the list that has it, or from both.
+/// Takes the next group from the list that has it, or from both, until the first list is empty.
 fn take_next(mine: &mut VecDeque<Group>, theirs: &mut VecDeque<Group>) -> Option<Group>
     requires { CanJoin mine.old.items theirs.old.items }
     ensures next { TakesFirst result
         (with_groups mine.old.items theirs.old.items)
-        (with_groups mine.new.items theirs.new.items) }
+        (with_groups mine.new.items theirs.new.items)
+        theirs.new.items }
     ensures kept { CanJoin mine.new.items theirs.new.items }
     ensures fewer { OnSome result
         (deque_len mine.new + deque_len theirs.new < deque_len mine.old + deque_len theirs.old) }
 {
     match next_of(mine, theirs) {
-        Next::Neither => None,
+        Next::Rest => None,
         Next::Mine => mine.pop_front(),
         Next::Theirs => theirs.pop_front(),
         Next::Both => merge_firsts(mine, theirs),
@@ -71,8 +93,7 @@ fn next_of(mine: &VecDeque<Group>, theirs: &VecDeque<Group>) -> Next
     ensures { result ≡ next_of_lists mine.now.items theirs.now.items }
 {
     match (mine.front(), theirs.front()) {
-        (None, None) => Next::Neither,
-        (None, Some(_)) => Next::Theirs,
+        (None, _) => Next::Rest,
         (Some(_), None) => Next::Mine,
         (Some(g), Some(h)) => match group_order(g, h) {
             Ordering::Less => Next::Mine,
@@ -88,7 +109,8 @@ fn merge_firsts(mine: &mut VecDeque<Group>, theirs: &mut VecDeque<Group>) -> Opt
     requires fit { CanJoin mine.old.items theirs.old.items }
     ensures next { TakesFirst result
         (with_groups mine.old.items theirs.old.items)
-        (with_groups mine.new.items theirs.new.items) }
+        (with_groups mine.new.items theirs.new.items)
+        theirs.new.items }
     ensures kept { CanJoin mine.new.items theirs.new.items }
     ensures fewer { OnSome result
         (deque_len mine.new + deque_len theirs.new < deque_len mine.old + deque_len theirs.old) }
