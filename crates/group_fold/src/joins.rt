@@ -38,6 +38,8 @@ pub(crate) fn join_lists(
     let mut front = a;
     let behind = front.split_off(before)?;
     groups.append(&mut front)?;
+    // Its room is given back before those behind are merged.
+    drop(front);
     let mut mine = VecDeque::from(behind);
     let mut theirs = VecDeque::from(b);
     while let Some(group) = take_next(&mut mine, &mut theirs) {
