@@ -1,3 +1,4 @@
 pub mod Cases
 pub mod OrderLaws
 mod PartLaws
+mod ValueLaws

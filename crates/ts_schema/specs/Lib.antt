@@ -3,3 +3,4 @@ pub mod Counts
 pub mod Faults
 pub mod Names
 pub mod Rows
+pub mod Values

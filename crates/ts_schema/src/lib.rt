@@ -10,12 +10,14 @@ mod rows;
 mod sequences;
 mod shared;
 mod steps;
+mod values;
 
 pub use columns::Column;
 pub use conditions::{Cmp, Test, passes};
 pub use memory::NoMemory;
 pub use names::Name;
-pub use rows::{Row, field, row_order, value_order, values_order};
+pub use rows::{Row, field, order_of_values, row_order, value_order, values_order};
 pub use sequences::Seq;
 pub use shared::SharedSlice;
 pub use steps::Steps;
+pub use values::{ValueBlock, Values};

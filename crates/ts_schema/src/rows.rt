@@ -1,9 +1,9 @@
 //! Rows and their order.
-ghost use Rattle.std.specs.Prelude.{◌≡◌};
+ghost use Rattle.std.specs.Prelude.{◌≡◌, None, slice_index_or};
 ghost use Rattle.std.specs.Cmp.Lexicographic.{slice_cmp};
 ghost use Rattle.ts_schema.specs.Rows.{field_of, row_cmp, value_cmp};
 
-use crate::shared::SharedSlice;
+use crate::values::Values;
 use std::cmp::Ordering;
 
 /// A row of a hypertable.
@@ -12,7 +12,7 @@ pub struct Row {
     /// Its time.
     pub at: i64,
     /// The values of its other columns in declared order; NULL is `None`. Copies of the row share them.
-    pub vals: SharedSlice<Option<i64>>,
+    pub vals: Values,
 }
 
 /// The value of column `col`: column 0 is the time, the others count from 1. A row that has no such
@@ -22,16 +22,39 @@ pub fn field(row: &Row, col: u32) -> Option<i64>
 {
     match col {
         0 => Some(row.at),
-        _ => row.vals.items().get(col as usize - 1).copied().flatten(),
+        _ => value_or_null(&row.vals, col as usize - 1),
     }
+}
+
+/// The value at a place, counted from 0; NULL where there is none.
+fn value_or_null(vals: &Values, i: usize) -> Option<i64>
+    ensures { result ≡ slice_index_or vals.now i None }
+{
+    if i < vals.len() { vals.get(i) } else { None }
 }
 
 /// Rows by time, and then by their other columns, where NULL is greater than every number.
 pub fn row_order(a: &Row, b: &Row) -> Ordering
     ensures order { result ≡ row_cmp a.now b.now }
 {
-    a.at.cmp(&b.at)
-        .then(values_order(a.vals.items(), b.vals.items()))
+    match a.at.cmp(&b.at) {
+        Ordering::Less => Ordering::Less,
+        Ordering::Equal => order_of_values(&a.vals, &b.vals),
+        Ordering::Greater => Ordering::Greater,
+    }
+}
+
+/// The values of two rows from left to right.
+pub fn order_of_values(a: &Values, b: &Values) -> Ordering
+    ensures order { result ≡ slice_cmp value_cmp a.now b.now }
+{
+    for i in 0..a.len().min(b.len()) {
+        let order = value_order(a.get(i), b.get(i));
+        if order.is_ne() {
+            return order;
+        }
+    }
+    a.len().cmp(&b.len())
 }
 
 /// Lists of values from left to right.

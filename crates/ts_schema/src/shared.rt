@@ -93,7 +93,7 @@ impl<T: Drop> SharedSlice<T> {
 }
 
 /// A place in a block, where 32 bits hold it.
-fn place(i: usize) -> Result<u32, NoMemory>
+pub(crate) fn place(i: usize) -> Result<u32, NoMemory>
     ensures place { IfOk result (λ place. place ≡ i) }
     ensures small { IfOk result (λ place. place < 2 ^ 32) }
 {

@@ -1,0 +1,13 @@
+-- Values whose marks of NULL stand apart from the numbers.
+use Rattle.std.specs.Prelude.{ℤ, Bool, true, false, List, [], ◌∷◌, Option, Some, None}
+
+-- a number, or NULL where it is marked
+abbrev pub unless_marked : Bool → ℤ → Option ℤ
+unless_marked false n = Some n
+unless_marked true n = None
+
+-- numbers by their marks, place by place; those behind the last mark aren't marked
+abbrev pub marked : List Bool → List ℤ → List (Option ℤ)
+marked marks [] = []
+marked [] (n ∷ numbers) = Some n ∷ marked [] numbers
+marked (m ∷ marks) (n ∷ numbers) = unless_marked m n ∷ marked marks numbers
