@@ -4,7 +4,7 @@ ghost use Rattle.ts_model.specs.declared.events.Event.TheVariants.{Table, View};
 ghost use Rattle.ts_model.specs.Bytes.{event_bytes, fold_bytes, name_bytes, op_bytes, row_bytes, value_bytes};
 
 use ts_model::{Event, Fold, Op, TableDef, ViewDef};
-use ts_schema::{Column, Name, Row};
+use ts_schema::{Column, Name, Row, Values};
 
 /// A count of items with so many bytes each.
 fn bytes_each(count: usize, each: u64) -> u64
@@ -60,10 +60,21 @@ pub fn bytes_of_values(vals: &[Option<i64>]) -> u64
     total
 }
 
+/// The bytes that the values of a row take.
+fn bytes_of_others(vals: &Values) -> u64
+    ensures { result ≡ min (sum_by value_bytes vals.now) (2 ^ 64 - 1) }
+{
+    let mut total = 0u64;
+    for i in 0..vals.len() {
+        total = total.saturating_add(bytes_of_value(vals.get(i)));
+    }
+    total
+}
+
 fn bytes_of_row(row: &Row) -> u64
     ensures { result ≡ min (row_bytes row.now) (2 ^ 64 - 1) }
 {
-    bytes_of_values(row.vals.items()).saturating_add(9)
+    bytes_of_others(&row.vals).saturating_add(9)
 }
 
 /// The bytes that rows take.

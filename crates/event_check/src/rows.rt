@@ -1,5 +1,5 @@
 //! Rows for a hypertable.
-ghost use Rattle.std.specs.Prelude.{◌≡◌, option_copied, remove};
+ghost use Rattle.std.specs.Prelude.{◌≡◌, ◌+◌, ◌<◌, ◌^◌, [], ◌∷◌, drop, option_copied, remove, IfSome, MatchOption};
 ghost use Rattle.std.specs.List.{list_all};
 ghost use Rattle.ts_model.specs.Roster.{of_table};
 ghost use Rattle.ts_model.specs.Sound.{row_fits, rows_fit, value_fits, values_fit};
@@ -7,7 +7,7 @@ ghost use Rattle.ts_model.specs.Sound.{row_fits, rows_fit, value_fits, values_fi
 use crate::laws::word_law;
 use ts_bucket::{MAX_TIME, MIN_TIME};
 use ts_model::{Hyper, TableDef, TableInfo};
-use ts_schema::{Column, Row};
+use ts_schema::{Column, Row, Values};
 
 fn value_is_fit(col: &Column, value: Option<i64>) -> bool
     ensures { result ≡ value_fits col.now value }
@@ -21,33 +21,56 @@ fn value_is_fit(col: &Column, value: Option<i64>) -> bool
     }
 }
 
-fn values_are_fit(cols: &[Column], vals: &[Option<i64>]) -> bool
-    ensures { result ≡ values_fit cols.now vals.now }
+/// The value at a place, counted from 0, if there is one.
+fn value_at(vals: &Values, place: usize) -> Option<Option<i64>>
+    ensures value { MatchOption result (drop place vals.now ≡ [])
+        (λ value. drop place vals.now ≡ value ∷ drop (place + 1) vals.now) }
+    ensures within { IfSome result (λ _. place + 1 < 2 ^ 64) }
+{
+    if place < vals.len() {
+        Some(vals.get(place))
+    } else {
+        None
+    }
+}
+
+/// Whether no value stands at a place or behind it.
+fn none_from(vals: &Values, place: usize) -> bool
+    ensures { result ≡ values_fit [] (drop place vals.now) }
+{
+    match value_at(vals, place) {
+        None => true,
+        Some(_) => false,
+    }
+}
+
+/// Whether the values from a place on fit columns.
+fn values_are_fit(cols: &[Column], vals: &Values, place: usize) -> bool
+    ensures { result ≡ values_fit cols.now (drop place vals.now) }
 {
     match cols {
-        [] => vals.is_empty(),
-        [col, more_cols @ ..] => match vals {
-            [] => false,
-            [value, more_vals @ ..] => value_is_fit(col, *value)
-                && values_are_fit(more_cols, more_vals),
+        [] => none_from(vals, place),
+        [col, more_cols @ ..] => match value_at(vals, place) {
+            None => false,
+            Some(value) => value_is_fit(col, value) && values_are_fit(more_cols, vals, place + 1),
         },
     }
 }
 
-/// Whether values fit the columns but the one at a place.
-fn others_are_fit(at: usize, cols: &[Column], vals: &[Option<i64>]) -> bool
-    ensures { result ≡ values_fit (remove cols.now at) vals.now }
+/// Whether the values from a place on fit the columns but the one at another place.
+fn others_are_fit(at: usize, cols: &[Column], vals: &Values, place: usize) -> bool
+    ensures { result ≡ values_fit (remove cols.now at) (drop place vals.now) }
 {
     match cols {
-        [] => vals.is_empty(),
+        [] => none_from(vals, place),
         [col, more_cols @ ..] => {
             if at == 0 {
-                return values_are_fit(more_cols, vals);
+                return values_are_fit(more_cols, vals, place);
             }
-            match vals {
-                [] => false,
-                [value, more_vals @ ..] => value_is_fit(col, *value)
-                    && others_are_fit(at - 1, more_cols, more_vals),
+            match value_at(vals, place) {
+                None => false,
+                Some(value) => value_is_fit(col, value)
+                    && others_are_fit(at - 1, more_cols, vals, place + 1),
             }
         }
     }
@@ -57,7 +80,7 @@ fn row_is_fit(def: &TableDef, hyper: Hyper, row: &Row) -> bool
     ensures { result ≡ row_fits def.now hyper row.now }
 {
     let timed = MIN_TIME <= row.at && row.at <= MAX_TIME;
-    let values = others_are_fit(hyper.at as usize, def.cols.items(), row.vals.items());
+    let values = others_are_fit(hyper.at as usize, def.cols.items(), &row.vals, 0);
     timed && values
 }
 
