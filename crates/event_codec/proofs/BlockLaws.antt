@@ -1,6 +1,6 @@
 -- Rows of times and values, one row more, and values and rows that are read piece by piece.
-use Rattle.std.proofs.Common.{◌≡◌, ℕ, zero, suc, ◌+◌, ◌≤◌, List, [], ◌∷◌, ◌++◌, length, length-append, get_or, drop, ℤ, ◌≤ℤ◌, Option, Some, None, Result, Ok, Err, refl, sym, ap, ◌∙◌, append_assoc, arith}
-use Rattle.std.proofs.lemmas.List.{drop-append-le, drop_all, append-nil}
+use Rattle.std.proofs.Common.{◌≡◌, ℕ, zero, suc, ◌+◌, ◌-◌, ◌≤◌, List, [], ◌∷◌, ◌++◌, length, length-append, length-drop, get_or, take, drop, ℤ, ◌≤ℤ◌, Option, Some, None, Result, Ok, Err, refl, sym, ap, ap₂, ◌∙◌, subst, append_assoc, arith}
+use Rattle.std.proofs.lemmas.List.{drop-append-le, drop-drop, drop_all, append-nil}
 use Rattle.cell_rows.specs.Parts.{parts, AreParts}
 use Rattle.cell_rows.proofs.PartLaws.{length_parts, row_ended}
 use Rattle.ts_bucket.specs.WholeSpans.{least, greatest}
@@ -153,3 +153,20 @@ module _ {A : Type 0} (p : Reads A) where
 pub mapped_fails : {A B : Type 0} (e : ReadError) (f : A → B) (r : Result (A × List ℕ) (List ℕ)) (left : List ℕ) → Gives (Err e) r left → Gives (Err e) (go_on r (λ a end. done (f a) end)) left
 mapped_fails errors.Memory f r left h = tt
 mapped_fails errors.Bad f r left h = ap (λ s. go_on s (λ a end. done (f a) end)) h
+
+-- ---- rows that are made of their times and of the places where their values end
+
+-- one row is made, and what is left stands behind it
+pub row_made : (times later : List ℤ) (ends more_ends : List ℕ) (all vals : List (Option ℤ)) (made more total : List Row) (t : ℤ) (from end : ℕ) → times ≡ t ∷ later → ends ≡ end ∷ more_ends → from ≤ length all → AreParts from ends (drop from all) → made ++ timed_rows times (parts from ends (drop from all)) ≡ total → vals ≡ take (end - from) (drop from all) → more ≡ made ++ record { at = t; vals = vals } ∷ [] → (end ≤ length all) × AreParts end more_ends (drop end all) × (more ++ timed_rows later (parts end more_ends (drop end all)) ≡ total)
+row_made times later ends more_ends all vals made more total t from end time place within fit so_far part put =
+    let parted : AreParts from (end ∷ more_ends) (drop from all) = subst (λ es. AreParts from es (drop from all)) place fit in
+    let left : length (drop from all) ≡ length all - from = length-drop from all in
+    let moved : drop (end - from) (drop from all) ≡ drop end all = drop-drop (end - from) from all ∙ ap (λ k. drop k all) (omega (arith, parted.0)) in
+    let row : Row = record { at = t; vals = vals } in
+    let whole : made ++ (row ∷ timed_rows later (parts end more_ends (drop end all))) ≡ total =
+    ap₂ (λ v rest. made ++ (record { at = t; vals = v } ∷ timed_rows later (parts end more_ends rest))) part (sym moved)
+    ∙ ap₂ (λ ts es. made ++ timed_rows ts (parts from es (drop from all))) (sym time) (sym place) ∙ so_far in (
+      omega (arith, within, parted.0, parted.1, left),
+      subst (AreParts end more_ends) moved parted.2,
+      ap (λ l. l ++ timed_rows later (parts end more_ends (drop end all))) put ∙ append_assoc made (row ∷ []) (timed_rows later (parts end more_ends (drop end all))) ∙ whole,
+    )

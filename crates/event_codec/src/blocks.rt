@@ -11,7 +11,7 @@ use crate::reader::Reader;
 use std::alloc::Global;
 use std::sync::Arc;
 use ts_bucket::{MAX_TIME, MIN_TIME};
-use ts_schema::{NoMemory, Row, Seq, SharedSlice};
+use ts_schema::{NoMemory, Row, Seq, SharedSlice, ValueBlock, Values};
 
 /// Where a row has the count of its values, behind its time.
 const COUNT_AT: usize = 8;
@@ -59,27 +59,19 @@ fn push_rows(
     into: &mut Vec<Row>,
     alloc: Global,
     times: &[i64],
-    values: Vec<Option<i64>>,
+    values: ValueBlock,
     ends: &[usize],
 ) -> Result<(), NoMemory>
-    requires parts { AreParts 0 ends.now values.items }
-    ensures { OnOk result (into.new.items ≡ into.old.items ++ timed_rows times.now (parts 0 ends.now values.items)) }
+    requires parts { AreParts 0 ends.now values }
+    ensures { OnOk result (into.new.items ≡ into.old.items ++ timed_rows times.now (parts 0 ends.now values)) }
 {
-    let block = Arc::new(alloc, Seq::of(values))?;
+    let block = Arc::new(alloc, values)?;
     let mut from = 0;
     for (at, end) in times.iter().zip(ends.iter()) {
-        let vals = SharedSlice::part(&block, from, *end)?;
+        let vals = Values::part(&block, from, *end)?;
         into.push(Row { at: *at, vals })?;
         from = *end;
     }
-    Ok(())
-}
-
-/// Puts a value at the end.
-fn push_value(into: &mut Vec<Option<i64>>, value: Option<i64>) -> Result<(), NoMemory>
-    ensures { IfOk result (λ _. into.new.items ≡ into.old.items ++ value ∷ []) }
-{
-    into.push(value)?;
     Ok(())
 }
 
@@ -113,22 +105,22 @@ impl Reader<'_> {
     }
 
     /// So many values, put behind others.
-    fn values_into(&mut self, count: u32, into: &mut Vec<Option<i64>>) -> Result<(), ReadError>
-        ensures read { let vals = drop (length into.old.items) into.new.items in
+    fn values_into(&mut self, count: u32, into: &mut ValueBlock) -> Result<(), ReadError>
+        ensures read { let vals = drop (length into.old) into.new in
             Gives (seen_as (λ _. vals) result) (items count value_at self.old) self.new }
-        ensures behind { OnOk result (into.new.items ≡ into.old.items ++ drop (length into.old.items) into.new.items) }
+        ensures behind { OnOk result (into.new ≡ into.old ++ drop (length into.old) into.new) }
     {
         for _ in 0..count {
-            push_value(into, self.value()?)?;
+            into.push(self.value()?)?;
         }
         Ok(())
     }
 
     /// The values of a row behind their count, put behind others.
-    fn few_into(&mut self, into: &mut Vec<Option<i64>>) -> Result<(), ReadError>
-        ensures read { let vals = drop (length into.old.items) into.new.items in
+    fn few_into(&mut self, into: &mut ValueBlock) -> Result<(), ReadError>
+        ensures read { let vals = drop (length into.old) into.new in
             Gives (seen_as (λ _. vals) result) (few_of value_at self.old) self.new }
-        ensures behind { OnOk result (into.new.items ≡ into.old.items ++ drop (length into.old.items) into.new.items) }
+        ensures behind { OnOk result (into.new ≡ into.old ++ drop (length into.old) into.new) }
     {
         let count = self.byte()?;
         self.values_into(u32::from(count), into)
@@ -136,10 +128,10 @@ impl Reader<'_> {
 
     /// The time of a row, with its values put behind others.
     #[tactic(auto, unfolding(crate::specs::Reading::row_at))]
-    pub(crate) fn row_into(&mut self, into: &mut Vec<Option<i64>>) -> Result<i64, ReadError>
-        ensures read { let vals = drop (length into.old.items) into.new.items in
+    pub(crate) fn row_into(&mut self, into: &mut ValueBlock) -> Result<i64, ReadError>
+        ensures read { let vals = drop (length into.old) into.new in
             Gives (seen_as (λ at. record { at = at; vals = vals }) result) (row_at self.old) self.new }
-        ensures behind { OnOk result (into.new.items ≡ into.old.items ++ drop (length into.old.items) into.new.items) }
+        ensures behind { OnOk result (into.new ≡ into.old ++ drop (length into.old) into.new) }
     {
         let at = self.between(MIN_TIME, MAX_TIME)?;
         self.few_into(into)?;
@@ -154,10 +146,10 @@ impl Reader<'_> {
         let room = most_rows(count, self.left());
         let mut times = with_room(self.alloc(), room)?;
         let mut ends = with_room(self.alloc(), room)?;
-        let mut values = with_room(self.alloc(), most_values(room, self.left()))?;
+        let mut values = ValueBlock::with_capacity(self.alloc(), most_values(room, self.left()))?;
         for _ in 0..count {
             let at = self.row_into(&mut values)?;
-            push_row(at, values.as_slice().len(), &mut times, &mut ends)?;
+            push_row(at, values.len(), &mut times, &mut ends)?;
         }
         push_rows(
             into,

@@ -10,4 +10,4 @@ invariant-loop-at l =
     (l.from ≤ length (arc_value l.block))
     × AreParts l.from l.at-iterator.b.rest.now (drop l.from (arc_value l.block))
     × (l.into.items ++ timed_rows l.at-iterator.a.rest.now (parts l.from l.at-iterator.b.rest.now (drop l.from (arc_value l.block)))
-    ≡ l.fn.into.items ++ timed_rows l.times (parts 0 l.ends l.fn.values.items))
+    ≡ l.fn.into.items ++ timed_rows l.times (parts 0 l.ends l.fn.values))

@@ -9,5 +9,5 @@ use Rattle.event_codec.proofs.reader.Reader.piece_into.Given as goal
 abbrev pub invariant-loop : goal.invariant-loop
 invariant-loop l =
     (length l.times.items ≡ length l.ends.items)
-    × AreParts 0 l.ends.items l.values.items
-    × (with_front row_at (timed_rows l.times.items (parts 0 l.ends.items l.values.items)) (items (l.count - l.counter) row_at l.self) ≡ items l.count row_at l.fn.self)
+    × AreParts 0 l.ends.items l.values
+    × (with_front row_at (timed_rows l.times.items (parts 0 l.ends.items l.values)) (items (l.count - l.counter) row_at l.self) ≡ items l.count row_at l.fn.self)

@@ -6,5 +6,5 @@ use Rattle.event_codec.proofs.reader.Reader.values_into.Given as goal
 -- the values so far stand behind the others, and are read with those that are left
 abbrev pub invariant-loop : goal.invariant-loop
 invariant-loop l =
-    (l.into.items ≡ l.fn.into.items ++ drop (length l.fn.into.items) l.into.items)
-    × (with_front value_at (drop (length l.fn.into.items) l.into.items) (items (l.count - l.counter) value_at l.self) ≡ items l.count value_at l.fn.self)
+    (l.into ≡ l.fn.into ++ drop (length l.fn.into) l.into)
+    × (with_front value_at (drop (length l.fn.into) l.into) (items (l.count - l.counter) value_at l.self) ≡ items l.count value_at l.fn.self)
