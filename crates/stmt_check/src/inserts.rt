@@ -15,7 +15,7 @@ use std::sync::Arc;
 use ts_bucket::{MAX_TIME, MIN_TIME};
 use ts_catalog::column_place;
 use ts_model::codes::{NAME_TAKEN, NO_COLUMN, NULL_VALUE, TOO_MANY, VALUE_COUNT};
-use ts_schema::{Column, Name, NoMemory, Row, Seq, SharedSlice};
+use ts_schema::{Column, Name, NoMemory, Row, Seq, SharedSlice, ValueBlock, Values};
 
 /// What a value has to meet.
 #[derive(Clone, Copy, Debug, PartialEq, Eq)]
@@ -309,7 +309,7 @@ fn make_rows(
 ) -> Result<SharedSlice<Row>, NoMemory>
     ensures { IfOk result (λ made. made ≡ rows_of shape.now rows.now) }
 {
-    let block = Arc::new(alloc, Seq::of(other_values(alloc, shape, rows)?))?;
+    let block = Arc::new(alloc, other_values(alloc, shape, rows)?)?;
     let _total = block.len();
     let mut made = Vec::with_capacity(alloc, rows.len())?;
     let mut from = 0;
@@ -317,7 +317,7 @@ fn make_rows(
         let to = from + shape.others.len();
         made.push(Row {
             at: value_at(values, shape.time).unwrap_or(0),
-            vals: SharedSlice::part(&block, from, to)?,
+            vals: Values::part(&block, from, to)?,
         })?;
         from = to;
     }
@@ -329,11 +329,11 @@ fn other_values(
     alloc: Global,
     shape: &Shape,
     rows: &CellRows<Option<i64>>,
-) -> Result<Vec<Option<i64>>, NoMemory>
-    ensures { IfOk result (λ others. others.items ≡ flat_map (others_of shape.now) rows.now) }
+) -> Result<ValueBlock, NoMemory>
+    ensures { IfOk result (λ others. others ≡ flat_map (others_of shape.now) rows.now) }
 {
     let count = rows.len().saturating_mul(shape.others.len());
-    let mut others = Vec::with_capacity(alloc, count)?;
+    let mut others = ValueBlock::with_capacity(alloc, count)?;
     for values in rows.iter() {
         append_others(shape.others.items(), values, &mut others)?;
     }
@@ -344,9 +344,9 @@ fn other_values(
 fn append_others(
     places: &[Option<usize>],
     values: &[Option<i64>],
-    others: &mut Vec<Option<i64>>,
+    others: &mut ValueBlock,
 ) -> Result<(), NoMemory>
-    ensures { IfOk result (λ _. others.new.items ≡ others.old.items ++ map (picked values.now) places.now) }
+    ensures { IfOk result (λ _. others.new ≡ others.old ++ map (picked values.now) places.now) }
 {
     for place in places {
         others.push(value_at(values, *place))?;

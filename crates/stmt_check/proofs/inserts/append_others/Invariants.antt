@@ -4,4 +4,4 @@ use Rattle.stmt_check.proofs.inserts.append_others.Given as goal
 
 -- the values so far
 abbrev pub invariant-loop-place : goal.invariant-loop-place
-invariant-loop-place l = l.others.items ≡ l.initial.others.items ++ map (picked l.values) (take l.place-index l.places)
+invariant-loop-place l = l.others ≡ l.initial.others ++ map (picked l.values) (take l.place-index l.places)
