@@ -1,10 +1,11 @@
 //! The rows of a hypertable that pass tests.
-ghost use Rattle.std.specs.Prelude.{◌≡◌, [], ◌∷◌, ◌++◌, filter, map, IfOk, OnOk};
+ghost use Rattle.std.specs.Prelude.{◌≡◌, ◌-◌, ◌≤◌, [], ◌∷◌, ◌++◌, drop, filter, length, map, take, IfOk, OnOk};
 ghost use Rattle.cell_rows.specs.Parts.{AreParts, parts};
 ghost use Rattle.ts_schema.specs.Conditions.{passes_all};
 ghost use Rattle.ts_schema.specs.Counts.{Ticks};
 ghost use Rattle.ts_model.specs.Answers.{all_columns};
 ghost use Rattle.ts_model.specs.Rows.{in_order};
+ghost use Rattle.ts_num.specs.Aggregates.{shown_or_null};
 ghost use Rattle.group_fold.specs.Spans.{HaveTimes};
 ghost use Rattle.realtime_union.specs.Whole.{all_reads, passing};
 
@@ -13,7 +14,7 @@ use cell_rows::CellRows;
 use std::alloc::Global;
 use ts_model::{ResultRows, RowsAt, put_values};
 use ts_num::Datum;
-use ts_schema::{NoMemory, Row, Seq, Steps, Test, passes, row_order};
+use ts_schema::{NoMemory, Row, Seq, Steps, Test, Values, passes, row_order};
 
 /// The rows of a hypertable that pass every test, in row order and with all their columns in declared
 /// order, where the time column is at place `at`, by one scan of all times. It counts one step for
@@ -73,7 +74,7 @@ fn columns_of_each(alloc: Global, at: u32, rows: &[Row]) -> Result<CellRows<Datu
 /// How many columns these rows have, which is the same for all rows of a table: 0 where there is no row.
 fn width_of(rows: &[Row]) -> usize {
     match rows.first() {
-        Some(row) => row.vals.items().len().saturating_add(1),
+        Some(row) => row.vals.len().saturating_add(1),
         None => 0,
     }
 }
@@ -99,9 +100,32 @@ fn show_row(
 fn put_columns(at: u32, row: &Row, cells: &mut Vec<Datum>) -> Result<(), NoMemory>
     ensures { IfOk result (λ _. cells.new.items ≡ cells.old.items ++ all_columns at row.now) }
 {
-    let vals = row.vals.items();
-    let (before, after) = vals.split_at(vals.len().min(at as usize));
-    put_values(before, cells)?;
+    let count = row.vals.len();
+    let before = count.min(at as usize);
+    put_part(&row.vals, 0, before, cells)?;
     put_values(&[Some(row.at)], cells)?;
-    put_values(after, cells)
+    put_part(&row.vals, before, count, cells)
+}
+
+/// Appends the values of a row from place `from` on and below place `to`.
+fn put_part(vals: &Values, from: usize, to: usize, cells: &mut Vec<Datum>) -> Result<(), NoMemory>
+    requires order { from ≤ to }
+    requires within { to ≤ length vals.now }
+    ensures { IfOk result (λ _. cells.new.items ≡ cells.old.items
+        ++ map shown_or_null (take (to - from) (drop from vals.now))) }
+{
+    for i in from..to {
+        cells.push(shown(vals.get(i)))?;
+    }
+    Ok(())
+}
+
+/// A number as it is shown, or NULL.
+fn shown(value: Option<i64>) -> Datum
+    ensures { result ≡ shown_or_null value }
+{
+    match value {
+        None => Datum::Null,
+        Some(number) => Datum::Int(i128::from(number)),
+    }
 }
