@@ -10,7 +10,7 @@ ghost use Rattle.base_image.specs.Rising.{spans_of};
 use std::cmp::Ordering;
 use ts_bucket::Span;
 use ts_model::{Finished, SavedGroup, SavedLast, Waiting};
-use ts_schema::{Row, values_order};
+use ts_schema::{Row, order_of_values, values_order};
 
 /// Whether a row may stand before another. Their other columns are looked at only where the times are the
 /// same.
@@ -19,7 +19,7 @@ fn may_precede(row: &Row, next: &Row) -> bool
 {
     match row.at.cmp(&next.at) {
         Ordering::Less => true,
-        Ordering::Equal => !values_order(row.vals.items(), next.vals.items()).is_gt(),
+        Ordering::Equal => !order_of_values(&row.vals, &next.vals).is_gt(),
         Ordering::Greater => false,
     }
 }
