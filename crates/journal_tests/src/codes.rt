@@ -5,7 +5,7 @@ use std::test::Fail;
 use ts_bucket::{MIN_TIME, Span, width};
 use ts_model::{Agg, Event, Fold, Hyper, Op, TableDef, ViewDef};
 use ts_num::Fun;
-use ts_schema::{Cmp, Column, Name, Row, Seq, SharedSlice, Test};
+use ts_schema::{Cmp, Column, Name, Row, Seq, SharedSlice, Test, ValueBlock, Values};
 
 /// Decodes the bytes to this event, and encodes it again to these bytes.
 fn both_ways(rt: &impl Abort, alloc: Global, bytes: &[u8], expected: &Event) -> Result<(), Fail> {
@@ -104,13 +104,13 @@ fn a_mode(rt: HostRuntime) -> Result<(), Fail> {
 
 #[test]
 fn an_insert(rt: HostRuntime) -> Result<(), Fail> {
-    let mut vals = Seq::new(rt.alloc());
+    let mut vals = ValueBlock::new(rt.alloc());
     vals.push(None)?;
     vals.push(Some(-2))?;
     let mut rows = Seq::new(rt.alloc());
     rows.push(Row {
         at: MIN_TIME,
-        vals: SharedSlice::of(rt.alloc(), vals)?,
+        vals: Values::of(rt.alloc(), vals)?,
     })?;
     let rows = SharedSlice::of(rt.alloc(), rows)?;
     let mut ops = Seq::new(rt.alloc());
