@@ -5,6 +5,7 @@ pub mod Rows
 pub mod Effect
 pub mod Scratch
 pub mod Groups
+pub mod Chosen
 pub mod Refreshes
 pub mod Results
 pub mod Answers

@@ -2,6 +2,7 @@
 ghost use Rattle.std.specs.Prelude.{◌≡◌, ◌++◌, map, IfOk};
 ghost use Rattle.ts_num.specs.Aggregates.{shown_or_null};
 ghost use Rattle.partial_agg.specs.Summaries.{value_of};
+ghost use Rattle.ts_model.specs.Chosen.{cell_or_null, chosen_cells};
 ghost use Rattle.ts_model.specs.Groups.{cells_by, shown_each};
 ghost use Rattle.ts_model.specs.Results.{cell_at};
 
@@ -57,6 +58,54 @@ fn put_parts(aggs: &[Agg], parts: &[Partial], cells: &mut Vec<Datum>) -> Result<
     Ok(())
 }
 
+/// Appends the cells at these places of a group's result row.
+pub(crate) fn put_chosen(
+    aggs: &[Agg],
+    places: &[u32],
+    group: &Group,
+    cells: &mut Vec<Datum>,
+) -> Result<(), NoMemory>
+    ensures appended { IfOk result (λ _. cells.new.items
+        ≡ cells.old.items ++ chosen_cells places.now (cells_by aggs.now group.now)) }
+{
+    for place in places {
+        cells.push(group_cell(aggs, group, *place as usize))?;
+    }
+    Ok(())
+}
+
+/// The cell at a place of the result row of a group that shows these aggregates, and NULL where there is
+/// none: 0 is the start of the bucket, then come the keys, and then what is aggregated. The row isn't made.
+#[inline]
+#[tactic(auto, using(crate::proofs::ResultLaws::cell_of_key, crate::proofs::ResultLaws::cell_behind))]
+pub fn group_cell(aggs: &[Agg], group: &Group, place: usize) -> Datum
+    ensures { result ≡ cell_or_null (cells_by aggs.now group.now) place }
+{
+    let keys = group.keys.items();
+    if place == 0 {
+        return Datum::Int(i128::from(group.start));
+    }
+    if place <= keys.len() {
+        return shown(keys[place - 1]);
+    }
+    part_cell(aggs, group.parts.items(), place - 1 - keys.len())
+}
+
+/// What the aggregate at a place shows of its part, and NULL where there is none.
+#[inline]
+#[tactic(auto, using(crate::proofs::ResultLaws::cell_of_part, crate::proofs::ResultLaws::no_agg_cell, crate::proofs::ResultLaws::no_part_cell))]
+fn part_cell(aggs: &[Agg], parts: &[Partial], at: usize) -> Datum
+    ensures { result ≡ cell_or_null (shown_each aggs.now parts.now) at }
+{
+    match aggs.get(at) {
+        None => Datum::Null,
+        Some(agg) => match parts.get(at) {
+            None => Datum::Null,
+            Some(part) => part.finish(agg.fun),
+        },
+    }
+}
+
 /// The value of the cell at a place of a row whose cells are made.
 #[inline]
 pub(crate) fn cell_value(cells: &[Datum], place: usize) -> Option<i128>
@@ -82,6 +131,16 @@ pub(crate) fn group_value(aggs: &[Agg], group: &Group, place: usize) -> Option<i
         return number(keys[place - 1]);
     }
     part_value(aggs, group.parts.items(), place - 1 - keys.len())
+}
+
+/// The value of the cell at a place among those at these places of a group's result row. The row isn't made.
+#[inline]
+#[tactic(auto, using(crate::proofs::ResultLaws::value_chosen, crate::proofs::ResultLaws::none_chosen))]
+pub(crate) fn chosen_value(aggs: &[Agg], places: &[u32], group: &Group, at: usize) -> Option<i128>
+    ensures { result ≡ cell_at (chosen_cells places.now (cells_by aggs.now group.now)) at }
+{
+    let place = places.get(at)?;
+    group_value(aggs, group, *place as usize)
 }
 
 /// A number, where it isn't missing.

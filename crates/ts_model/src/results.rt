@@ -1,10 +1,11 @@
 //! The rows of an answer.
-ghost use Rattle.std.specs.Prelude.{◌≡◌, ◌==◌, [], ◌++◌, length, map, IfOk};
+ghost use Rattle.std.specs.Prelude.{◌≡◌, ◌==◌, [], ◌++◌, length, map, IfOk, IfErr};
 ghost use Rattle.std.specs.Iterator.{YieldsFirstBy, item_count};
+ghost use Rattle.ts_model.specs.Chosen.{chosen_cells, group_shown};
 ghost use Rattle.ts_model.specs.Groups.{cells_by};
 ghost use Rattle.ts_model.specs.Results.{cell_at, row_cells};
 
-use crate::cells::{cell_value, group_value, put_group};
+use crate::cells::{cell_value, chosen_value, group_value, put_chosen, put_group};
 use crate::views::Agg;
 use block_list::Slice;
 use cell_rows::CellRows;
@@ -16,13 +17,15 @@ use ts_schema::{NoMemory, Seq};
 
 /// The rows of an answer, as lists of cells: rows whose cells are made, and behind them those of groups,
 /// whose cells are made as they are read. So an answer of many groups takes no memory for its cells, nor
-/// for groups that a store keeps, which it shares.
+/// for groups that a store keeps, which it shares. Nor does it where only some of their cells are shown.
 #[derive(Drop, Debug)]
 pub struct ResultRows {
     /// Rows whose cells are made.
     cells: CellRows<Datum>,
     /// What the groups show.
     aggs: Seq<Agg>,
+    /// Which cells of a group's row are shown, by their places, where not all are.
+    places: Option<Seq<u32>>,
     /// Groups that a store keeps.
     kept: Slice<Group>,
     /// Groups behind them.
@@ -34,11 +37,11 @@ pub struct ResultRows {
 impl Model for ResultRows {
     ghost use Rattle.std.specs.Prelude.{◌≡◌, ◌+◌, ◌++◌, List, length, map};
     ghost use Rattle.ts_num.specs.declared.values.Datum.{Datum};
-    ghost use Rattle.ts_model.specs.Groups.{cells_by};
+    ghost use Rattle.ts_model.specs.Chosen.{group_shown};
 
     ghost Value = { List (List Datum) };
 
-    ghost view = { λ r. r.cells ++ map (cells_by r.aggs) (r.kept ++ r.live) };
+    ghost view = { λ r. r.cells ++ map (group_shown r.places r.aggs) (r.kept ++ r.live) };
 
     ghost invariant = { λ r. r.len ≡ length r.cells + (length r.kept + length r.live) };
 }
@@ -59,6 +62,7 @@ impl ResultRows {
         ResultRows {
             cells,
             aggs: Seq::new(alloc),
+            places: None,
             kept: Slice::none(alloc),
             live: Seq::new(alloc),
             len,
@@ -79,10 +83,31 @@ impl ResultRows {
         ResultRows {
             cells: CellRows::new(alloc),
             aggs,
+            places: None,
             kept,
             live,
             len,
         }
+    }
+
+    /// The same rows with the cells at these places, in the order of the places: 0 is the start of the bucket,
+    /// then come the keys, and then what is aggregated. Where there is no cell it is NULL. It takes no memory
+    /// and looks at no row. As an error the rows themselves, where their cells are made or chosen already.
+    pub fn choose(self, places: Seq<u32>) -> Result<ResultRows, ResultRows>
+        ensures chosen { IfOk result (λ rows. rows ≡ map (chosen_cells places) self) }
+        ensures same { IfErr result (λ rows. rows ≡ self) }
+    {
+        if !self.cells.is_empty() || self.places.is_some() {
+            return Err(self);
+        }
+        Ok(ResultRows {
+            cells: self.cells,
+            aggs: self.aggs,
+            places: Some(places),
+            kept: self.kept,
+            live: self.live,
+            len: self.len,
+        })
     }
 
     /// How many rows there are.
@@ -106,6 +131,7 @@ impl ResultRows {
         ResultIter {
             cells: self.cells.iter(),
             aggs: self.aggs.items(),
+            places: &self.places,
             kept: self.kept.iter(),
             live: self.live.items(),
         }
@@ -118,7 +144,16 @@ pub enum ResultRow<'a> {
     /// Its cells.
     Cells(&'a [Datum]),
     /// The group that shows them, and the aggregates that it shows.
-    Group { aggs: &'a [Agg], group: &'a Group },
+    Group {
+        aggs: &'a [Agg],
+        group: &'a Group,
+    },
+    /// The same, of whose cells only those at these places are shown, in the order of the places.
+    Chosen {
+        aggs: &'a [Agg],
+        places: &'a [u32],
+        group: &'a Group,
+    },
 }
 
 impl<'a> ResultRow<'a> {
@@ -132,6 +167,11 @@ impl<'a> ResultRow<'a> {
                 Ok(())
             }
             ResultRow::Group { aggs, group } => put_group(aggs, group, cells),
+            ResultRow::Chosen {
+                aggs,
+                places,
+                group,
+            } => put_chosen(aggs, places, group, cells),
         }
     }
 
@@ -144,7 +184,27 @@ impl<'a> ResultRow<'a> {
         match self {
             ResultRow::Cells(row) => cell_value(row, place),
             ResultRow::Group { aggs, group } => group_value(aggs, group, place),
+            ResultRow::Chosen {
+                aggs,
+                places,
+                group,
+            } => chosen_value(aggs, places, group, place),
         }
+    }
+}
+
+/// The row of a group that shows these aggregates: all of its cells, or those at these places.
+#[inline]
+fn group_row<'a>(aggs: &'a [Agg], places: &'a Option<Seq<u32>>, group: &'a Group) -> ResultRow<'a>
+    ensures { row_cells result ≡ group_shown places.now aggs.now group.now }
+{
+    match places {
+        None => ResultRow::Group { aggs, group },
+        Some(places) => ResultRow::Chosen {
+            aggs,
+            places: places.items(),
+            group,
+        },
     }
 }
 
@@ -153,6 +213,7 @@ impl<'a> ResultRow<'a> {
 pub struct ResultIter<'a> {
     cells: cell_rows::Iter<'a, Datum>,
     aggs: &'a [Agg],
+    places: &'a Option<Seq<u32>>,
     kept: block_list::Iter<'a, Group>,
     live: &'a [Group],
 }
@@ -160,11 +221,11 @@ pub struct ResultIter<'a> {
 impl<'a> Model for ResultIter<'a> {
     ghost use Rattle.std.specs.Prelude.{◌++◌, List, map};
     ghost use Rattle.ts_num.specs.declared.values.Datum.{Datum};
-    ghost use Rattle.ts_model.specs.Groups.{cells_by};
+    ghost use Rattle.ts_model.specs.Chosen.{group_shown};
 
     ghost Value = { List (List Datum) };
 
-    ghost view = { λ i. i.cells ++ map (cells_by i.aggs.now) (i.kept ++ i.live.now) };
+    ghost view = { λ i. i.cells ++ map (group_shown i.places.now i.aggs.now) (i.kept ++ i.live.now) };
 }
 
 impl<'a> Iterator for ResultIter<'a> {
@@ -179,12 +240,12 @@ impl<'a> Iterator for ResultIter<'a> {
         if let Some(cells) = self.cells.next() {
             return Some(ResultRow::Cells(cells));
         }
-        let aggs = self.aggs;
+        let (aggs, places) = (self.aggs, self.places);
         if let Some(group) = self.kept.next() {
-            return Some(ResultRow::Group { aggs, group });
+            return Some(group_row(aggs, places, group));
         }
         let (group, live) = self.live.split_first()?;
         self.live = live;
-        Some(ResultRow::Group { aggs, group })
+        Some(group_row(aggs, places, group))
     }
 }

@@ -1,0 +1,13 @@
+-- The cell at a place among the chosen ones is the group's cell at the place that is chosen there.
+use Rattle.std.proofs.Common.{◌∙◌, ap, sym}
+use Rattle.ts_model.specs.Groups.{cells_by}
+use Rattle.ts_model.specs.Results.{cell_at}
+use Rattle.ts_model.proofs.ResultLaws.{value_chosen}
+use Rattle.std.proofs.lemmas.Bool.{ltb-true}
+use Rattle.ts_model.proofs.cells.chosen_value.Goals as goal
+
+pub returns : goal.returns
+returns c =
+    let cells = cells_by c.args.aggs.now c.args.group.now in
+    let found = c.in_ok-place.ensures.lookup in
+    c.group_value.ensures ∙ ap (cell_at cells) found.1 ∙ sym (value_chosen cells c.args.places.now c.args.at c.in_ok-place.place.now (ltb-true c.args.at _ (sym found.0)))
