@@ -1,10 +1,10 @@
 -- Laws of the rows of an answer: what a group's result row shows at a place, and with chosen cells.
-use Rattle.std.proofs.Common.{◌≡◌, ℕ, zero, suc, ◌+◌, ◌-◌, ◌<◌, ◌≤◌, ◌==◌, true, false, List, [], ◌∷◌, ◌++◌, map, length, get_or, ℤ, Option, None, Some, refl, sym, ap, ◌∙◌, arith}
+use Rattle.std.proofs.Common.{◌≡◌, ℕ, zero, suc, ◌-◌, ◌<◌, ◌≤◌, ◌==◌, true, false, List, [], ◌∷◌, ◌++◌, map, length, get_or, ℤ, Option, None, Some, refl, sym, ap, ◌∙◌, arith}
 use Rattle.std.proofs.lemmas.Bool.{eqb-true}
 use Rattle.std.specs.Option.{is_some}
 use Rattle.ts_num.specs.Aggregates.{shown_or_null}
 use Rattle.ts_num.specs.declared.values.Datum.{Datum}
-use Rattle.ts_num.specs.declared.values.Datum.TheVariants.{Int, Null}
+use Rattle.ts_num.specs.declared.values.Datum.TheVariants.{Null}
 use Rattle.partial_agg.specs.declared.groups.Group.{Group}
 use Rattle.partial_agg.specs.Summaries.{Summary, shown, value_of}
 use Rattle.ts_model.specs.declared.views.Agg.{Agg}

@@ -79,16 +79,16 @@ pub(crate) fn put_chosen(
 #[inline]
 #[tactic(auto, using(crate::proofs::ResultLaws::cell_of_key, crate::proofs::ResultLaws::cell_behind))]
 pub fn group_cell(aggs: &[Agg], group: &Group, place: usize) -> Datum
-    ensures { result ≡ cell_or_null (cells_by aggs.now group.now) place }
+    ensures cell { result ≡ cell_or_null (cells_by aggs.now group.now) place }
 {
     let keys = group.keys.items();
     if place == 0 {
         return Datum::Int(i128::from(group.start));
     }
-    if place <= keys.len() {
-        return shown(keys[place - 1]);
+    match keys.get(place - 1) {
+        Some(key) => shown(*key),
+        None => part_cell(aggs, group.parts.items(), place - 1 - keys.len()),
     }
-    part_cell(aggs, group.parts.items(), place - 1 - keys.len())
 }
 
 /// What the aggregate at a place shows of its part, and NULL where there is none.
