@@ -2,6 +2,7 @@
 ghost use Rattle.std.specs.Prelude.{◌≡◌, ◌++◌, codes, map, OnErr, OnOk};
 ghost use Rattle.ts_num.specs.Aggregates.{shown_or_null};
 ghost use Rattle.ts_num.specs.Texts.{datum_text};
+ghost use Rattle.ts_model.specs.Chosen.{cell_or_null, chosen_cells};
 ghost use Rattle.ts_model.specs.Groups.{cells_by, shown_each};
 ghost use Rattle.ts_model.specs.Results.{row_cells};
 ghost use Rattle.result_text.specs.Answers.{answer_counts, answer_head, answer_lines, answer_place, answer_text, cells_text, more_cells, queue_text, queued_answer_text, rows_text, stale_text};
@@ -10,7 +11,7 @@ use crate::pieces::Text;
 use crate::spans::put_span;
 use partial_agg::{Group, Partial};
 use ts_bucket::Span;
-use ts_model::{Agg, Answer, ResultRow, ResultRows};
+use ts_model::{Agg, Answer, ResultRow, ResultRows, group_cell};
 use ts_num::Datum;
 use ts_schema::NoMemory;
 
@@ -145,6 +146,11 @@ fn put_row_cells(text: &mut Text, row: ResultRow<'_>) -> Result<(), NoMemory>
     match row {
         ResultRow::Cells(cells) => put_cells(text, cells),
         ResultRow::Group { aggs, group } => put_group(text, aggs, group),
+        ResultRow::Chosen {
+            aggs,
+            places,
+            group,
+        } => put_chosen(text, aggs, places, group),
     }
 }
 
@@ -225,6 +231,49 @@ fn put_parts(text: &mut Text, aggs: &[Agg], parts: &[Partial]) -> Result<(), NoM
         parts_left = more_parts;
     }
     Ok(())
+}
+
+/// Appends the cells at these places of a group's row, of which none is made.
+fn put_chosen(text: &mut Text, aggs: &[Agg], places: &[u32], group: &Group) -> Result<(), NoMemory>
+    ensures written { OnOk result (text.new.after
+        ≡ text.old.after ++ cells_text (chosen_cells places.now (cells_by aggs.now group.now))) }
+    ensures kept { text.new.before ≡ text.old.before }
+{
+    match places {
+        [] => Ok(()),
+        [first, more @ ..] => {
+            put_cell(text, aggs, *first, group)?;
+            put_more_chosen(text, aggs, more, group)
+        }
+    }
+}
+
+/// Appends those at these places after the first.
+fn put_more_chosen(
+    text: &mut Text,
+    aggs: &[Agg],
+    more: &[u32],
+    group: &Group,
+) -> Result<(), NoMemory>
+    ensures written { OnOk result (text.new.after
+        ≡ text.old.after ++ more_cells (chosen_cells more.now (cells_by aggs.now group.now))) }
+    ensures kept { text.new.before ≡ text.old.before }
+{
+    for place in more {
+        text.bytes(b"|")?;
+        put_cell(text, aggs, *place, group)?;
+    }
+    Ok(())
+}
+
+/// Appends the cell at a place of a group's row.
+#[inline]
+fn put_cell(text: &mut Text, aggs: &[Agg], place: u32, group: &Group) -> Result<(), NoMemory>
+    ensures written { OnOk result (text.new.after
+        ≡ text.old.after ++ datum_text (cell_or_null (cells_by aggs.now group.now) place)) }
+    ensures kept { text.new.before ≡ text.old.before }
+{
+    text.datum(&group_cell(aggs, group, place as usize))
 }
 
 /// Appends a line for each stale range.

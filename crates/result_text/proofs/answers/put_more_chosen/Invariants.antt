@@ -1,0 +1,14 @@
+use Rattle.std.proofs.Common.{◌≡◌, ◌++◌, drop}
+use Rattle.ts_model.specs.Chosen.{chosen_cells}
+use Rattle.ts_model.specs.Groups.{cells_by}
+use Rattle.result_text.specs.Answers.{more_cells}
+use Rattle.result_text.proofs.answers.put_more_chosen.Given as goal
+
+-- what is written and what is left make the whole, and what stood before is kept
+abbrev pub invariant-loop-place : goal.invariant-loop-place
+invariant-loop-place l = record {
+  written :
+      l.initial.text.after ++ more_cells (chosen_cells l.fn.more (cells_by l.fn.aggs l.fn.group))
+      ≡ l.text.after ++ more_cells (chosen_cells (drop l.place-index l.fn.more) (cells_by l.fn.aggs l.fn.group));
+  kept : l.text.before ≡ l.initial.text.before;
+}
