@@ -105,7 +105,7 @@ no_part_cell (a ∷ aggs) (p ∷ parts) (suc at) l = no_part_cell aggs parts at 
 -- ---- chosen cells
 
 -- no value is read where there is no cell
-value_of_cell : (cells : List Datum) (p : ℕ) → value_of (cell_or_null cells p) ≡ cell_at cells p
+pub value_of_cell : (cells : List Datum) (p : ℕ) → value_of (cell_or_null cells p) ≡ cell_at cells p
 value_of_cell [] p = refl
 value_of_cell (c ∷ cells) zero = refl
 value_of_cell (c ∷ cells) (suc p) = value_of_cell cells p
