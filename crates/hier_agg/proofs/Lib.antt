@@ -1,10 +1,13 @@
 pub mod Alike
 pub mod Alone
 pub mod AnswerGroups
+pub mod Choosing
 pub mod Fitting
 pub mod Fresh
 pub mod Held
+pub mod KeptGroups
 pub mod Nesting
+pub mod ReadRuns
 pub mod Regrouping
 pub mod Showing
 pub mod Stands

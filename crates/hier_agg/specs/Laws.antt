@@ -20,6 +20,7 @@ use Rattle.ts_model.specs.Rows.{rows}
 use Rattle.ts_model.specs.Groups.{groups_of}
 use Rattle.ts_model.specs.Scratch.{fold_rows, scratch_of}
 use Rattle.hier_agg.specs.declared.plans.UpperPlan.{UpperPlan}
+use Rattle.hier_agg.specs.Choices.{chosen_answer, takes_groups}
 use Rattle.hier_agg.specs.Plans.{PlanFits, all_starts, composed, nests}
 use Rattle.hier_agg.specs.Regroup.{regroup}
 use Rattle.hier_agg.specs.Stale.{AreUpperRanges, AreWholeRanges, holds_stale}
@@ -120,6 +121,13 @@ abbrev pub WholeRollUpsAreTheLowerAnswer : Type 0
 WholeRollUpsAreTheLowerAnswer =
     (lower : Fold) (plan : UpperPlan) (shown : Answer) → IsWidth lower.width → takes_all lower plan ≡ true
     → AreRowsOf lower shown.rows → AreWholeRanges lower.width shown.stale → upper_answer lower plan shown ≡ shown
+
+-- and by a plan that keeps its groups it is that answer with cells chosen
+abbrev pub RollUpsOfGroupsChooseCells : Type 0
+RollUpsOfGroupsChooseCells =
+    (lower : Fold) (plan : UpperPlan) (shown : Answer) → IsWidth lower.width → takes_groups lower plan ≡ true
+    → AreRowsOf lower shown.rows → AreWholeRanges lower.width shown.stale
+    → upper_answer lower plan shown ≡ chosen_answer plan shown
 
 -- ---- at every history
 

@@ -1,5 +1,5 @@
 //! Laws of roll-ups. Each is the clause of a function that does nothing.
-ghost use Rattle.hier_agg.specs.Laws.{AnswersHaveWholeRanges, AnswersShowGroups, BucketsNest, FreshBucketsShowTheComposedFold, GroupingInTwoSteps, RollUpsShowTheComposedFold, StaleBucketsAreHeld, UpperAnswersAreRolledUp, WholeRollUpsAreTheLowerAnswer, WholeRollUpsShowTheLowerAnswer, WiderBucketsShowTheComposedFold};
+ghost use Rattle.hier_agg.specs.Laws.{AnswersHaveWholeRanges, AnswersShowGroups, BucketsNest, FreshBucketsShowTheComposedFold, GroupingInTwoSteps, RollUpsOfGroupsChooseCells, RollUpsShowTheComposedFold, StaleBucketsAreHeld, UpperAnswersAreRolledUp, WholeRollUpsAreTheLowerAnswer, WholeRollUpsShowTheLowerAnswer, WiderBucketsShowTheComposedFold};
 ghost use Rattle.hier_agg.specs.ReadLaws.{FunctionsAddUp, PlansFit};
 
 /// Where widths nest, the bucket of a time's bucket is the bucket of the time, and the first bucket lies in the
@@ -51,6 +51,11 @@ pub fn answers_show_groups()
 /// A roll-up that takes all of an aggregate is its answer.
 pub fn whole_roll_ups_are_the_lower_answer()
     ensures { WholeRollUpsAreTheLowerAnswer }
+{}
+
+/// A roll-up that keeps the groups of an aggregate is its answer with cells chosen.
+pub fn roll_ups_of_groups_choose_cells()
+    ensures { RollUpsOfGroupsChooseCells }
 {}
 
 /// A wider bucket that isn't named stale and is shown whole shows the composed fold.

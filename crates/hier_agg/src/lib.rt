@@ -7,7 +7,8 @@
 //! - `plans`: which columns of the lower answer a roll-up takes, and how.
 //! - `answers`: the upper answer and its rows.
 //! - `stale`: which wider buckets hold a stale one.
-//! - `wholes`: whether a roll-up takes all of an aggregate, and so is its answer.
+//! - `wholes`: whether a roll-up takes all of an aggregate, and so is its answer, or all its groups.
+//! - `places`: which cells of that answer it then shows.
 //! - `shapes`: a roll-up, as a grouping of cells.
 //! - `rows`: a row of an answer: its keys, and its wider bucket.
 //! - `writes`: the result rows of an answer's rows, written in one pass where their groups come in order.
@@ -20,6 +21,7 @@ mod answers;
 mod columns;
 mod gathers;
 pub mod laws;
+mod places;
 mod plans;
 mod reads;
 mod rows;
@@ -32,6 +34,7 @@ mod widths;
 mod writes;
 
 pub use answers::answer_upper;
+pub use places::chosen_places;
 pub use plans::{UpperPlan, lower_query};
 pub use reads::{UpperRead, read_upper};
-pub use wholes::takes_all;
+pub use wholes::{takes_all, takes_groups};

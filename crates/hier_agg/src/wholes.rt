@@ -1,9 +1,11 @@
-//! Roll-ups that take all of an aggregate.
+//! Roll-ups that take all of an aggregate, or all its groups.
 ghost use Rattle.std.specs.Prelude.{◌≡◌};
 ghost use Rattle.std.specs.List.{list_all};
+ghost use Rattle.hier_agg.specs.Choices.{keeps_its_cell, takes_groups};
 ghost use Rattle.hier_agg.specs.Plans.{is_additive};
 ghost use Rattle.hier_agg.specs.Wholes.{are_all, run_from, same_width, takes_all};
 
+use crate::answers::function_at;
 use crate::plans::UpperPlan;
 use ts_bucket::Width;
 use ts_model::{Agg, Fold};
@@ -20,6 +22,34 @@ pub fn takes_all(plan: &UpperPlan, lower: &Fold) -> bool
         && are_all(keys, lower.aggs.len(), plan.cols.items())
         && plan.tests.items().is_empty()
         && are_additive(lower.aggs.items())
+}
+
+/// Whether a plan keeps the groups of the fold of an aggregate: its width, all its keys, each once and in their
+/// order, and no test. Of the aggregates it takes any but means, in any order. Then the roll-up is the
+/// aggregate's answer with the cells at its `chosen_places`.
+pub fn takes_groups(plan: &UpperPlan, lower: &Fold) -> bool
+    ensures { result ≡ takes_groups lower.now plan.now }
+{
+    same_width(&plan.width, &lower.width)
+        && are_all(0, lower.keys.len(), plan.keys.items())
+        && plan.tests.is_empty()
+        && keep_their_cells(lower, plan.cols.items())
+}
+
+/// Whether what adds up these columns shows one cell of each as it is.
+fn keep_their_cells(lower: &Fold, cols: &[u32]) -> bool
+    ensures { result ≡ list_all (keeps_its_cell lower.now) cols.now }
+{
+    cols.iter().all(|col| keeps_its_cell(lower, *col))
+}
+
+/// Whether what adds up a column shows one cell of it as it is: it is an aggregate's, and no mean.
+fn keeps_its_cell(lower: &Fold, col: u32) -> bool
+    ensures { result ≡ keeps_its_cell lower.now col }
+{
+    let keys = lower.keys.len();
+    let place = col as usize;
+    keys <= place && place - keys < lower.aggs.len() && is_additive(function_at(lower, col))
 }
 
 /// Whether two widths have the same step and the same offset.

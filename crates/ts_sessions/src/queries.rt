@@ -1,5 +1,5 @@
 //! Queries.
-ghost use Rattle.std.specs.Prelude.{◌≡◌, ℕ, ◌<◌, ◌^◌, Bool, None, IsTrue, IfOk};
+ghost use Rattle.std.specs.Prelude.{◌≡◌, ℕ, ◌<◌, ◌^◌, Bool, true, None, IsTrue, IfOk};
 ghost use Rattle.std.specs.Thread.{IsSync};
 ghost use Rattle.ts_model.specs.History.{History};
 ghost use Rattle.ts_model.specs.Roster.{roster as roster_of, view_of};
@@ -7,6 +7,7 @@ ghost use Rattle.ts_schema.specs.Counts.{Ticks};
 ghost use Rattle.ts_model.specs.Allowed.{QueueFits, all_allowed};
 ghost use Rattle.ts_model.specs.Answers.{answer as answer_of, can_ask};
 ghost use Rattle.ts_model.specs.Reads.{reads as reads_of};
+ghost use Rattle.hier_agg.specs.Choices.{takes_groups as keeps_groups};
 ghost use Rattle.hier_agg.specs.Upper.{upper_answer};
 ghost use Rattle.result_text.specs.declared.replies.Said.TheVariants.{Answered};
 ghost use Rattle.ts_model.specs.States.{State};
@@ -24,7 +25,7 @@ use crate::changes::Change;
 use crate::deeds::Next;
 use crate::follows::say;
 use cal_bucket::{CalPlan, CalUnit, cal_answer};
-use hier_agg::{UpperPlan, answer_upper, lower_query, takes_all};
+use hier_agg::{UpperPlan, answer_upper, chosen_places, lower_query, takes_all, takes_groups};
 use result_text::Said;
 use std::alloc::Global;
 use std::thread::Threads;
@@ -128,7 +129,8 @@ pub fn in_form(
     }
 }
 
-/// The roll-up of an aggregate's answer, which is that answer where the plan takes all of the aggregate.
+/// The roll-up of an aggregate's answer. Where the plan takes all of the aggregate it is that answer, and where the
+/// plan keeps its groups that answer with cells chosen: then no row is made.
 fn roll_up(
     alloc: Global,
     plan: &UpperPlan,
@@ -142,7 +144,31 @@ fn roll_up(
     if takes_all(plan, &def.fold) {
         return Ok(answer);
     }
+    if takes_groups(plan, &def.fold) {
+        return choose_cells(alloc, plan, def, answer);
+    }
     answer_upper(alloc, plan, def, answer)
+}
+
+/// The roll-up of an aggregate's answer by a plan that keeps its groups: that answer with cells chosen. Its rows are
+/// made only where the cells of the answer are.
+fn choose_cells(
+    alloc: Global,
+    plan: &UpperPlan,
+    def: &ViewDef,
+    answer: Answer,
+) -> Result<Answer, NoMemory>
+    requires fits { FitsRollUp def.now.fold answer }
+    requires groups { keeps_groups def.now.fold plan.now ≡ true }
+    ensures { IfOk result (λ upper. upper ≡ upper_answer def.now.fold plan.now answer) }
+{
+    let _step = def.fold.width.step;
+    let places = chosen_places(alloc, plan)?;
+    let Answer { rows, stale } = answer;
+    match rows.choose(places) {
+        Ok(rows) => Ok(Answer { rows, stale }),
+        Err(rows) => answer_upper(alloc, plan, def, Answer { rows, stale }),
+    }
 }
 
 /// What is said of an answer at a position, with so many operations queued, if in a write block.
