@@ -1,44 +1,27 @@
 -- The roll-up by a plan that takes all of an aggregate: each row is alone in its group, and shows itself again.
-use Rattle.std.proofs.Common.{◌≡◌, ℕ, zero, suc, ◌==◌, List, [], ◌∷◌, ◌++◌, map, filter, length, drop, get_or, true, Option, Some, None, ℤ, sym, refl, ap, ◌∙◌, subst, arith}
+use Rattle.std.proofs.Common.{◌≡◌, ℕ, zero, suc, ◌==◌, List, [], ◌∷◌, ◌++◌, map, length, drop, true, Option, None, ℤ, sym, refl, ap, ◌∙◌, arith}
 use Rattle.std.proofs.lemmas.Bool.{and_parts, eqb-true}
-use Rattle.std.proofs.lemmas.Bool.Decides.{Decides-int_eq}
-use Rattle.std.proofs.lemmas.Int.{ints}
-use Rattle.std.proofs.lemmas.List.{append-nil, map-append}
-use Rattle.std.specs.Ordering.{int_cmp, int_eq, ordering_then}
-use Rattle.std.specs.declared.cmp.Ordering.TheVariants.{Less}
+use Rattle.std.proofs.lemmas.List.{append-nil}
 use Rattle.std.specs.List.{AllByRecursion, list_all}
-use Rattle.std.specs.List.Sorted.{IsStrictlySortedBy}
 use Rattle.ts_num.specs.Aggregates.{shown_or_null}
 use Rattle.ts_num.specs.declared.values.Datum.{Datum}
 use Rattle.ts_num.specs.declared.values.Datum.TheVariants.{Int}
-use Rattle.ts_num.specs.declared.values.Fun.{Fun}
-use Rattle.ts_num.specs.declared.values.Fun.TheVariants.{CountAll, Count, Sum, Min, Max, Avg}
 use Rattle.ts_model.specs.declared.queries.Answer.{Answer}
 use Rattle.ts_model.specs.declared.views.Agg.{Agg}
 use Rattle.ts_model.specs.declared.views.Fold.{Fold}
 use Rattle.ts_model.specs.Groups.{cells_of, shown_each}
 use Rattle.ts_model.specs.Results.{cell_at}
 use Rattle.partial_agg.specs.declared.groups.Group.{Group}
-use Rattle.partial_agg.specs.Groups.{AreInOrder, group_cmp}
-use Rattle.partial_agg.specs.Summaries.{Summary, shown, sum_shown, summary, value_of}
-use Rattle.group_fold.specs.Gathering.{ordered}
-use Rattle.group_fold.proofs.Gathers.{ordered_already}
-use Rattle.ts_schema.specs.Rows.{values_cmp}
-use Rattle.ts_bucket.specs.Bucket.{IsWidth, WidthValue, bucket_of}
+use Rattle.partial_agg.specs.Summaries.{Summary, shown, value_of}
+use Rattle.ts_bucket.specs.Bucket.{IsWidth}
 use Rattle.ts_bucket.specs.declared.spans.Span.{Span}
-use Rattle.ts_bucket.proofs.BucketLaws.{bucket_of-bucket}
-use Rattle.cell_groups.specs.Cells.{cells_pass}
-use Rattle.cell_groups.specs.Groups.{keys_at, row_shown, rows_shown}
-use Rattle.cell_groups.specs.Kept.{needed, row_needs}
+use Rattle.cell_groups.specs.Groups.{row_shown, rows_shown}
 use Rattle.hier_agg.specs.declared.plans.UpperPlan.{UpperPlan}
-use Rattle.hier_agg.specs.Plans.{added_by, agg_at, is_additive}
+use Rattle.hier_agg.specs.Plans.{is_additive}
 use Rattle.hier_agg.specs.Stale.{AreWholeRanges, upper_stale}
-use Rattle.hier_agg.specs.Taken.{added_at, columns_of, row_group_of, row_passes, shape_of}
+use Rattle.hier_agg.specs.Taken.{shape_of}
 use Rattle.hier_agg.specs.Upper.{upper_answer, upper_rows}
 use Rattle.hier_agg.specs.Wholes.{AreRowsOf, IsGroupOf, are_all, run_from, same_width, takes_all}
-use Rattle.hier_agg.proofs.Held.{same_stale}
-use Rattle.hier_agg.proofs.Stands.{gathered_is_upper}
-use Rattle.hier_agg.proofs.Widening.{apart_whole, widened}
 use Rattle.hier_agg.proofs.KeptGroups.{KeepsGroups, again, columns, groups_kept, part_read, rows_alone, same_ranges, shows_again, values_are}
 use Rattle.hier_agg.proofs.ReadRuns.{drop_front, read_run}
 

@@ -1,51 +1,30 @@
 -- The roll-up by a plan that keeps the groups of an aggregate: each row is alone in its group, and shows the cells that
 -- the plan takes of it.
-use Rattle.std.proofs.Common.{◌≡◌, ℕ, zero, suc, ◌-◌, ◌<◌, ◌≤◌, ◌==◌, ◌&&◌, nat_le, nat_lt, List, [], ◌∷◌, ◌++◌, map, filter, length, drop, get_or, true, Option, Some, None, ℤ, sym, refl, ap, ◌∙◌, subst, arith}
-use Rattle.std.proofs.lemmas.Bool.{and_parts, eqb-true}
-use Rattle.std.proofs.lemmas.Bool.Decides.{Decides-int_eq}
-use Rattle.std.proofs.lemmas.Int.{ints}
-use Rattle.std.proofs.lemmas.List.{append-nil, map-append}
-use Rattle.std.specs.Ordering.{int_cmp, int_eq, ordering_then}
-use Rattle.std.specs.declared.cmp.Ordering.TheVariants.{Less}
+use Rattle.std.proofs.Common.{◌≡◌, ℕ, suc, ◌-◌, ◌<◌, ◌≤◌, ◌==◌, ◌&&◌, nat_le, nat_lt, List, [], ◌∷◌, ◌++◌, map, length, get_or, true, sym, refl, ap, ◌∙◌, arith}
+use Rattle.std.proofs.lemmas.Bool.{and_parts, leb-true, ltb-true}
+use Rattle.std.proofs.lemmas.List.{length-map, map-append}
 use Rattle.std.specs.List.{AllByRecursion, list_all}
-use Rattle.std.specs.List.Sorted.{IsStrictlySortedBy}
 use Rattle.ts_num.specs.Aggregates.{shown_or_null}
 use Rattle.ts_num.specs.declared.values.Datum.{Datum}
 use Rattle.ts_num.specs.declared.values.Datum.TheVariants.{Int, Null}
-use Rattle.ts_num.specs.declared.values.Fun.{Fun}
-use Rattle.ts_num.specs.declared.values.Fun.TheVariants.{CountAll, Count, Sum, Min, Max, Avg}
 use Rattle.ts_model.specs.declared.queries.Answer.{Answer}
-use Rattle.ts_model.specs.declared.views.Agg.{Agg}
 use Rattle.ts_model.specs.declared.views.Fold.{Fold}
+use Rattle.ts_model.specs.Chosen.{cell_or_null, chosen_cells}
 use Rattle.ts_model.specs.Groups.{cells_of, shown_each}
 use Rattle.ts_model.specs.Results.{cell_at}
-use Rattle.partial_agg.specs.declared.groups.Group.{Group}
-use Rattle.partial_agg.specs.Groups.{AreInOrder, group_cmp}
-use Rattle.partial_agg.specs.Summaries.{Summary, shown, sum_shown, summary, value_of}
-use Rattle.group_fold.specs.Gathering.{ordered}
-use Rattle.group_fold.proofs.Gathers.{ordered_already}
-use Rattle.ts_schema.specs.Rows.{values_cmp}
-use Rattle.ts_bucket.specs.Bucket.{IsWidth, WidthValue, bucket_of}
-use Rattle.ts_bucket.specs.declared.spans.Span.{Span}
-use Rattle.ts_bucket.proofs.BucketLaws.{bucket_of-bucket}
-use Rattle.cell_groups.specs.Cells.{cells_pass}
-use Rattle.cell_groups.specs.Groups.{keys_at, row_shown, rows_shown}
-use Rattle.cell_groups.specs.Kept.{needed, row_needs}
-use Rattle.hier_agg.specs.declared.plans.UpperPlan.{UpperPlan}
-use Rattle.hier_agg.specs.Plans.{added_by, agg_at, is_additive}
-use Rattle.hier_agg.specs.Stale.{AreWholeRanges, upper_stale}
-use Rattle.hier_agg.specs.Taken.{added_at, columns_of, row_group_of, row_passes, shape_of}
-use Rattle.hier_agg.specs.Upper.{upper_answer, upper_rows}
-use Rattle.hier_agg.specs.Wholes.{AreRowsOf, IsGroupOf, are_all, run_from, same_width, takes_all}
-use Rattle.hier_agg.proofs.Held.{same_stale}
-use Rattle.hier_agg.proofs.Stands.{gathered_is_upper}
-use Rattle.hier_agg.proofs.Widening.{apart_whole, widened}
-use Rattle.ts_model.specs.Chosen.{cell_or_null, chosen_cells}
 use Rattle.ts_model.proofs.ResultLaws.{cell_behind, cell_of_part, value_of_cell}
-use Rattle.std.proofs.lemmas.Bool.{leb-true, ltb-true}
-use Rattle.std.proofs.lemmas.List.{length-map}
+use Rattle.partial_agg.specs.declared.groups.Group.{Group}
+use Rattle.partial_agg.specs.Summaries.{shown, summary, value_of}
+use Rattle.ts_bucket.specs.Bucket.{IsWidth}
+use Rattle.ts_bucket.specs.declared.spans.Span.{Span}
+use Rattle.cell_groups.specs.Groups.{row_shown, rows_shown}
+use Rattle.hier_agg.specs.declared.plans.UpperPlan.{UpperPlan}
 use Rattle.hier_agg.specs.Choices.{chosen_answer, chosen_places, keeps_its_cell, takes_groups}
-use Rattle.hier_agg.specs.Plans.{row_count}
+use Rattle.hier_agg.specs.Plans.{agg_at, is_additive, row_count}
+use Rattle.hier_agg.specs.Stale.{AreWholeRanges, upper_stale}
+use Rattle.hier_agg.specs.Taken.{shape_of}
+use Rattle.hier_agg.specs.Upper.{upper_answer, upper_rows}
+use Rattle.hier_agg.specs.Wholes.{AreRowsOf, IsGroupOf, are_all, same_width}
 use Rattle.hier_agg.proofs.KeptGroups.{KeepsGroups, again, columns, groups_kept, part_read, rows_alone, same_ranges, shows_again}
 use Rattle.hier_agg.proofs.ReadRuns.{read_run}
 
