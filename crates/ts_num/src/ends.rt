@@ -1,17 +1,6 @@
-//! The lesser and the greater of two numbers, each of which may be missing.
+//! The greater of two numbers, each of which may be missing.
 ghost use Rattle.std.specs.Prelude.{◌≡◌};
-ghost use Rattle.ts_num.specs.Aggregates.{greater, lesser};
-
-/// The lesser of two numbers. Where one is missing, it is the other.
-pub fn lesser(a: Option<i64>, b: Option<i64>) -> Option<i64>
-    ensures value { result ≡ lesser a b }
-{
-    match (a, b) {
-        (Some(x), Some(y)) => Some(x.min(y)),
-        (Some(x), None) => Some(x),
-        (None, y) => y,
-    }
-}
+ghost use Rattle.ts_num.specs.Aggregates.{greater};
 
 /// The greater of two numbers. Where one is missing, it is the other.
 pub fn greater(a: Option<i64>, b: Option<i64>) -> Option<i64>
