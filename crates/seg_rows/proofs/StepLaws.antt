@@ -1,13 +1,14 @@
 -- One step of a loop over the rows of a segment, at a row and a life that were read.
-use Rattle.std.proofs.Common.{◌≡◌, ℕ, ◌<◌, ◌≤◌, ◌+◌, cond, Some, None, List, [], ◌∷◌, ◌++◌, length, get_or, take, take_all, map, sym, ◌∙◌, ap, arith}
-use Rattle.std.proofs.lemmas.List.{map_more, length-take-le}
-use Rattle.ts_bucket.specs.Spans.{SpanValue}
+use Rattle.std.proofs.Common.{◌≡◌, ℕ, ◌<◌, ◌≤◌, ◌+◌, false, cond, Some, None, List, [], ◌∷◌, ◌++◌, length, get_or, take, take_all, map, sym, ◌∙◌, ap, arith}
+use Rattle.std.proofs.Math.Bool.{and-false}
+use Rattle.std.proofs.lemmas.List.{append-nil, get_or_default, map_more, length-take-le}
+use Rattle.ts_bucket.specs.Spans.{SpanValue, in_span}
 use Rattle.ts_schema.specs.declared.rows.Row.{Row}
 use Rattle.ts_schema.specs.declared.conditions.Test.{Test}
 use Rattle.seg_rows.specs.declared.lives.Life.{Life}
 use Rattle.seg_rows.specs.declared.lives.Lives.{Lives}
 use Rattle.seg_rows.specs.Hulls.{joined_hull, hull_at, hull_of}
-use Rattle.seg_rows.specs.Lives.{Covers, lives_of, is_alive_at, with_life, with_lives, versions_of}
+use Rattle.seg_rows.specs.Lives.{Covers, lives_of, is_alive_at, unharmed, with_life, with_lives, versions_of}
 use Rattle.seg_rows.specs.Versions.{Version, shown_at, rows_at, is_taken, taken_at, after_kill, later_time, latest_at}
 use Rattle.seg_rows.proofs.LifeLaws.{length-versions_of, version_read, with_lives-more}
 use Rattle.seg_rows.proofs.VersionLaws.{rows_at-more, taken_at-more_length, taken_at-more_hull, taken_at-length, latest_at-more}
@@ -42,6 +43,16 @@ module _ (rows : List Row) (lives : Lives) (i : ℕ) (r : Row) (l : Life) (cover
 
   pub life_step : (done : List Life) (m : Life) → length done ≡ i → with_lives (take (i + 1) rows) (done ++ m ∷ []) ≡ with_lives (take i rows) done ++ with_life r m ∷ []
   life_step done m e = with_lives-more rows done i r m h e ∙ ap (λ x. with_lives (take i rows) done ++ with_life x m ∷ []) (sym row_is)
+
+-- a row outside of the span adds nothing to what is shown, whatever its life
+pub hidden_step : (rows : List Row) (lives : Lives) (i : ℕ) (r : Row) → Covers (length rows) lives → i < length rows → r ≡ get_or rows i r → (p : ℕ) (s : SpanValue) → in_span s r.at ≡ false → rows_at p s (take (i + 1) (versions_of rows lives)) ≡ rows_at p s (take i (versions_of rows lives))
+hidden_step rows lives i r covers h row_is p s outside =
+    let l = get_or (lives_of (length rows) lives) i (unharmed 0) in
+    let inside : i < length (lives_of (length rows) lives) = omega (arith, covers, h) in
+    let life_is : l ≡ get_or (lives_of (length rows) lives) i l = get_or_default (lives_of (length rows) lives) i (unharmed 0) l inside in
+    let hidden : shown_at p s (with_life r l) ≡ false = rw outside (and-false (is_alive_at p l)) in
+    shown_step rows lives i r l covers h row_is life_is p s
+    ∙ (ap (λ b. rows_at p s (take i (versions_of rows lives)) ++ cond b (r ∷ []) []) hidden ∙ append-nil (rows_at p s (take i (versions_of rows lives))))
 
 -- what a delete took of the first versions is no more than these
 pub taken_within : (p : ℕ) (tests : List Test) (vs : List Version) (i : ℕ) → i ≤ length vs → length (taken_at p tests (take i vs)) ≤ i

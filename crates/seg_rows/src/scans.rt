@@ -27,17 +27,12 @@ pub fn scan_rows<L>(
     let _so_far = steps.count();
     for (i, row) in rows.iter().enumerate() {
         steps.tick();
-        let shown = is_shown(row, lives.at(i, rows.len()), pos, span);
-        push_if(shown, row, out)?;
+        // The time comes first, since most rows that aren't shown are told by it alone.
+        if span_holds(span, row) {
+            push_if(lives.at(i, rows.len()).is_visible(pos), row, out)?;
+        }
     }
     Ok(())
-}
-
-/// Whether a version is visible at a position and its time lies in a span.
-fn is_shown(row: &Row, life: Life, pos: u64, span: Span) -> bool
-    ensures { result ≡ shown_at pos span (with_life row.now life) }
-{
-    life.is_visible(pos) && span_holds(span, row)
 }
 
 /// Whether a span holds the time of a row.
