@@ -24,7 +24,7 @@ use span_map::Piece;
 use std::alloc::Global;
 use ts_bucket::Span;
 use ts_model::{Image, SavedGroup, SavedLast, SavedView, Sums, ViewDef};
-use ts_schema::{NoMemory, Seq};
+use ts_schema::{NoMemory, Seq, SharedSlice};
 
 /// What is kept of the columns of a group.
 fn partials(alloc: Global, sums: &[Sums]) -> Result<Seq<Partial>, NoMemory>
@@ -46,7 +46,7 @@ fn kept_group(alloc: Global, saved: &SavedGroup) -> Result<Group, NoMemory>
     Ok(Group {
         start: saved.start,
         keys: Keys::of(saved.keys.copy()?),
-        parts: partials(alloc, saved.parts.items())?,
+        parts: SharedSlice::of(alloc, partials(alloc, saved.parts.items())?)?,
     })
 }
 

@@ -5,7 +5,7 @@ use Rattle.std.specs.List.Sorted.{IsPermutation, IsStrictlySortedBy}
 use Rattle.std.proofs.lemmas.List.Sorted.{All-permutation}
 use Rattle.std.proofs.lemmas.List.Elements.{All-from_recursion, recursion_from_All}
 use Rattle.std.specs.declared.cmp.Ordering.TheVariants.{Less, Equal}
-use Rattle.std.proofs.lemmas.List.{append_assoc, length-append, take_more}
+use Rattle.std.proofs.lemmas.List.{append_assoc, get_or_default, length-append, take_more}
 use Rattle.ts_schema.specs.declared.rows.Row.{Row}
 use Rattle.ts_schema.specs.Conditions.{passes_all}
 use Rattle.ts_bucket.specs.Bucket.{IsWidth}
@@ -17,6 +17,7 @@ use Rattle.partial_agg.specs.Groups.{group_cmp, AreInOrder}
 use Rattle.partial_agg.proofs.GroupLaws.{group_cmp_total, group_cmp-place}
 use Rattle.group_fold.specs.Grouping.{row_group, row_parts}
 use Rattle.ts_model.specs.Groups.{groups_of}
+use Rattle.group_fold.specs.Blocks.{grown}
 use Rattle.group_fold.specs.Merging.{CanJoin, PartsFit, FitTogether, joined_parts, merged, with_group, with_groups}
 use Rattle.group_fold.specs.Gathering.{IsAt, IsBelow, ordered, most_counted, counted, HaveParts, parts_each, CanOrder, HasRoom, IsGathered, Takes}
 use Rattle.group_fold.proofs.Insertions.{by_order, equal_back, joined_parts_comm, with_group-commutes, with_group-front, with_group-twice, with_groups-with_group}
@@ -165,7 +166,7 @@ takes_alone fold row old new at g within is alone room =
     }
 
 -- a row in its group
-pub takes_merged : (fold : Fold) (row : Row) (old new : List Group) (at : ℕ) (was now : Group) → IsAt (row_group fold row) old at → was ≡ get_or old at was → new ≡ set old at now
+takes_merged : (fold : Fold) (row : Row) (old new : List Group) (at : ℕ) (was now : Group) → IsAt (row_group fold row) old at → was ≡ get_or old at was → new ≡ set old at now
     → now.start ≡ was.start → now.keys ≡ was.keys → now.parts ≡ joined_parts was.parts (row_parts fold.aggs row) → HasRoom 1 fold old → Takes fold row old new
 takes_merged fold row old new at was now place was_is is start keys parts room =
     let g = row_group fold row in
@@ -180,11 +181,21 @@ takes_merged fold row old new at was now place was_is is start keys parts room =
       few = omega (arith, ap counted is, counted-set old at now was 1 place.within count);
     }
 
+-- the same, where the group that takes it in stands for the one that was there
+pub takes_grown : (fold : Fold) (row : Row) (old new : List Group) (at : ℕ) → IsAt (row_group fold row) old at → new ≡ set old at (grown fold row (get_or old at (row_group fold row))) → HasRoom 1 fold old → Takes fold row old new
+takes_grown fold row old new at place is room =
+    let was = get_or old at (row_group fold row) in
+    takes_merged fold row old new at was (grown fold row was) place (get_or_default old at (row_group fold row) was place.within) is refl refl refl room
+
 -- where there is room for a row, each group can take it
-pub room_at : (fold : Fold) (groups : List Group) (at : ℕ) (g : Group) → at < length groups → g ≡ get_or groups at g → HasRoom 1 fold groups → IsBelow (2 ^ 62 - 1) fold g
+room_at : (fold : Fold) (groups : List Group) (at : ℕ) (g : Group) → at < length groups → g ≡ get_or groups at g → HasRoom 1 fold groups → IsBelow (2 ^ 62 - 1) fold g
 room_at fold groups at g within is room =
     let few : most_counted g.parts < 2 ^ 62 - 1 = omega (arith, ap (λ (x : Group). most_counted x.parts) is, counted_at groups at g within, room.few) in
     (ap (λ (x : Group). length x.parts) is ∙ parts_at (length fold.aggs) groups at g room.alike within, counts_under (2 ^ 62 - 1) g.parts few)
+
+pub room_each : (fold : Fold) (groups : List Group) (at : ℕ) → at < length groups → HasRoom 1 fold groups → (d : Group) → IsBelow (2 ^ 62 - 1) fold (get_or groups at d)
+room_each fold groups at within room d =
+    room_at fold groups at (get_or groups at d) within (get_or_default groups at d (get_or groups at d) within) room
 
 -- ---- rows taken in
 

@@ -3,6 +3,7 @@ pub mod BucketGroups
 pub mod Counts
 pub mod CutRows
 pub mod Gathers
+pub mod InBlocks
 pub mod Insertions
 pub mod Merges
 pub mod Occurring

@@ -105,13 +105,18 @@ theirs_taken (Some x) (g ∷ gs) (h ∷ hs) hs' is rest e c =
       kept = subst (λ ys. CanJoin (g ∷ gs) ys) (sym left) (without_theirs (g ∷ gs) h hs c);
     }
 
-pub both_taken : (g h : Group) (parts : List Summary) (gs gs' hs hs' : List Group) → gs ≡ g ∷ gs' → hs ≡ h ∷ hs' → next_of_lists gs hs ≡ Both → CanJoin gs hs → parts ≡ joined_parts g.parts h.parts → (with_groups gs hs ≡ record { start = g.start; keys = g.keys; parts = parts } ∷ with_groups gs' hs') × CanJoin gs' hs'
+both_taken : (g h : Group) (parts : List Summary) (gs gs' hs hs' : List Group) → gs ≡ g ∷ gs' → hs ≡ h ∷ hs' → next_of_lists gs hs ≡ Both → CanJoin gs hs → parts ≡ joined_parts g.parts h.parts → (with_groups gs hs ≡ record { start = g.start; keys = g.keys; parts = parts } ∷ with_groups gs' hs') × CanJoin gs' hs'
 both_taken g h parts gs gs' hs hs' p q e c made =
     let c' : CanJoin (g ∷ gs') (h ∷ hs') = subst (λ xs. CanJoin xs (h ∷ hs')) p (subst (λ ys. CanJoin gs ys) q c) in
     let e' : next_of_lists (g ∷ gs') (h ∷ hs') ≡ Both = subst (λ xs. next_of_lists xs (h ∷ hs') ≡ Both) p (subst (λ ys. next_of_lists gs ys ≡ Both) q e) in
     let tied : group_cmp g h ≡ Equal = by_order (group_cmp g h) (λ o. cc (rw o at e')) (λ o. o) (λ o. cc (rw o at e')) in
     let made' : List Summary → Group = λ ps. record { start = g.start; keys = g.keys; parts = ps } in
     (ap (λ xs. with_groups xs hs) p ∙ ap (with_groups (g ∷ gs')) q ∙ both_first g gs' h hs' c' tied ∙ ap (λ ps. made' ps ∷ with_groups gs' hs') (sym made), without_theirs gs' h hs' (without_mine g gs' (h ∷ hs') c'))
+
+pub merged_taken : (g h both : Group) (gs gs' hs hs' : List Group) → gs ≡ g ∷ gs' → hs ≡ h ∷ hs' → next_of_lists gs hs ≡ Both → CanJoin gs hs → both ≡ merged g h → (with_groups gs hs ≡ both ∷ with_groups gs' hs') × CanJoin gs' hs'
+merged_taken g h both gs gs' hs hs' p q e c made =
+    let taken = both_taken g h (joined_parts g.parts h.parts) gs gs' hs hs' p q e c refl in
+    (taken.0 ∙ ap (λ x. x ∷ with_groups gs' hs') (sym made), taken.1)
 
 -- ---- the groups of two lists of rows
 

@@ -1,6 +1,7 @@
 -- Lists of partial aggregates joined place by place, one place after the other.
 use Rattle.std.proofs.Common.{◌≡◌, ℕ, zero, suc, ◌+◌, ◌<◌, ◌^◌, List, [], ◌∷◌, ◌++◌, length, get_or, set, take, drop, sym, refl, ap, ◌∙◌, subst, arith, add-one}
 use Rattle.std.specs.List.{AllByRecursion}
+use Rattle.std.proofs.lemmas.List.{take_all, take_more}
 use Rattle.std.proofs.lemmas.List.Elements.{All-from_recursion, length_all_zip, AllZip-get_or}
 use Rattle.partial_agg.specs.Summaries.{Summary, joined}
 use Rattle.group_fold.specs.Merging.{joined_parts, PartsFit}
@@ -76,8 +77,20 @@ pub parts_fit-length : (ps qs : List Summary) → PartsFit ps qs → length ps �
 parts_fit-length ps qs h = length_all_zip (λ p q. p.count + q.count < 2 ^ 62) ps qs h
 
 -- the two parts whose turn it is fit
-pub part_room : (k : ℕ) (ps qs now : List Summary) (old other : Summary) → PartsFit ps qs → now ≡ take k (joined_parts ps qs) ++ drop k ps → k < length ps → old ≡ get_or now k old → other ≡ get_or qs k other → old.count + other.count < 2 ^ 62
-part_room k ps qs now old other fit is h was theirs =
+pub part_room : (k : ℕ) (ps qs : List Summary) (mine theirs : Summary) → PartsFit ps qs → k < length ps → mine ≡ get_or ps k mine → theirs ≡ get_or qs k theirs → mine.count + theirs.count < 2 ^ 62
+part_room k ps qs mine theirs fit h is are =
+    subst (λ p. p.count + theirs.count < 2 ^ 62) (sym is) (subst (λ q. (get_or ps k mine).count + q.count < 2 ^ 62) (sym are) (AllZip-get_or (λ p q. p.count + q.count < 2 ^ 62) ps qs k mine theirs fit h))
+
+-- one more of the joined parts
+pub joined_more : (k : ℕ) (ps qs now : List Summary) (mine theirs both : Summary) → PartsFit ps qs → k < length ps → now ≡ take k (joined_parts ps qs) → mine ≡ get_or ps k mine → theirs ≡ get_or qs k theirs → both ≡ joined mine theirs → now ++ both ∷ [] ≡ take (k + 1) (joined_parts ps qs)
+joined_more k ps qs now mine theirs both fit h so_far is are made =
     let same = parts_fit-length ps qs fit in
-    let mine : old ≡ get_or ps k old = was ∙ part_before k ps qs now old same is h in
-    subst (λ p. p.count + other.count < 2 ^ 62) (sym mine) (subst (λ q. (get_or ps k old).count + q.count < 2 ^ 62) (sym theirs) (AllZip-get_or (λ p q. p.count + q.count < 2 ^ 62) ps qs k old other fit h))
+    let many = length-joined_parts ps qs same in
+    let at : get_or (joined_parts ps qs) k both ≡ both =
+    joined_parts-at ps qs k mine theirs both h (omega (arith, same)) ∙ (ap (λ p. joined p (get_or qs k theirs)) (sym is) ∙ (ap (joined mine) (sym are) ∙ sym made)) in
+    ap (λ xs. xs ++ both ∷ []) so_far ∙ (ap (λ x. take k (joined_parts ps qs) ++ x ∷ []) (sym at) ∙ sym (take_more (joined_parts ps qs) k both (omega (arith, many))))
+
+pub joined_all : (k : ℕ) (ps qs now : List Summary) → PartsFit ps qs → now ≡ take k (joined_parts ps qs) → k ≡ length ps → now ≡ joined_parts ps qs
+joined_all k ps qs now fit so_far e =
+    let many = length-joined_parts ps qs (parts_fit-length ps qs fit) in
+    so_far ∙ take_all k (joined_parts ps qs) (omega (arith, e, many))

@@ -1,3 +1,4 @@
+pub mod Blocks
 pub mod Foldings
 pub mod Gathering
 pub mod Grouping

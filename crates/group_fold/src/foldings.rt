@@ -27,7 +27,7 @@ impl Model for Folding {
 
     ghost Value = { FoldingValue };
 
-    ghost view = { λ f. record { groups = f.gathered.groups.items; count = f.count } };
+    ghost view = { λ f. record { groups = f.gathered.groups; count = f.count } };
 }
 
 impl Folding {
@@ -67,6 +67,7 @@ impl Folding {
             → IfOk result (λ groups. groups ≡ groups_of plan rows) }
     {
         let gathered = self.gathered;
-        Ok(Seq::of(in_order(alloc, gathered.groups)?))
+        let groups = gathered.groups.settle(alloc)?;
+        Ok(Seq::of(in_order(alloc, groups)?))
     }
 }

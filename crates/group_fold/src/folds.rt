@@ -32,5 +32,5 @@ fn fold_rows(alloc: Global, plan: &Fold, rows: &[Row]) -> Result<Vec<Group>, NoM
 {
     let mut gathered = Gathered::new(alloc);
     gathered.take_rows(alloc, plan, rows)?;
-    in_order(alloc, gathered.groups)
+    in_order(alloc, gathered.groups.settle(alloc)?)
 }

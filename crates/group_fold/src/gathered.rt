@@ -4,11 +4,12 @@ ghost use Rattle.std.specs.List.{insert};
 ghost use Rattle.ts_schema.specs.declared.rows.Row.{Row};
 ghost use Rattle.ts_bucket.specs.Bucket.{IsWidth, bucket_of, holds, is_time, max_time};
 ghost use Rattle.group_fold.specs.Grouping.{AreTimes, row_at};
-ghost use Rattle.group_fold.specs.Gathering.{HasRoom, IsAt, IsStart, Takes, TakesAll};
+ghost use Rattle.group_fold.specs.Gathering.{HasRoom, HaveParts, IsAt, IsStart, Takes, TakesAll};
 
-use crate::members::{add_to, alone, is_of};
+use crate::heads::Head;
+use crate::members::is_of;
 use crate::near_places::place_of;
-use partial_agg::Group;
+use crate::open_groups::OpenGroups;
 use std::alloc::Global;
 use std::collections::HashMap;
 use ts_bucket::{Width, bucket, first};
@@ -25,7 +26,7 @@ const FREE_STRAYS: usize = 16;
 /// groups but speed: what a place names is looked at before it is used, and a group may come up twice.
 #[derive(Drop)]
 pub(crate) struct Gathered {
-    pub(crate) groups: Vec<Group>,
+    pub(crate) groups: OpenGroups,
     /// Where the group of the last row stands.
     last: usize,
     /// How often a group was searched for away from that place, and a part of how many were moved for a
@@ -41,10 +42,10 @@ pub(crate) struct Gathered {
 impl Gathered {
     /// No group.
     pub(crate) fn new(alloc: Global) -> Gathered
-        ensures none { result.groups.items ≡ [] }
+        ensures none { result.groups ≡ [] }
     {
         Gathered {
-            groups: Vec::new(alloc),
+            groups: OpenGroups::new(alloc),
             last: 0,
             strayed: 0,
             is_mixed: false,
@@ -61,8 +62,8 @@ impl Gathered {
     ) -> Result<(), NoMemory>
         requires times { AreTimes rows.now }
         requires width { IsWidth plan.now.width }
-        requires room { HasRoom (length rows.now) plan.now self.old.groups.items }
-        ensures { OnOk result (TakesAll plan.now rows.now self.old.groups.items self.new.groups.items) }
+        requires room { HasRoom (length rows.now) plan.now self.old.groups }
+        ensures { OnOk result (TakesAll plan.now rows.now self.old.groups self.new.groups) }
     {
         let mut start = first(plan.width);
         for row in rows {
@@ -84,68 +85,76 @@ impl Gathered {
         start: i64,
     ) -> Result<(), NoMemory>
         requires start { start ≡ bucket_of plan.now.width row.now.at }
-        requires room { HasRoom 1 plan.now self.old.groups.items }
-        ensures { OnOk result (Takes plan.now row.now self.old.groups.items self.new.groups.items) }
+        requires room { HasRoom 1 plan.now self.old.groups }
+        ensures { OnOk result (Takes plan.now row.now self.old.groups self.new.groups) }
     {
         self.note_if_astray()?;
         match self.find(plan, row, start) {
             Ok(at) => {
                 self.strayed = astray(self.strayed, self.last, at);
                 self.last = at;
-                add_to(plan, row, &mut self.groups[at]);
+                self.groups.add(at, plan, row);
                 Ok(())
             }
-            Err(at) => self.put(at, alone(alloc, plan, row, start)?),
+            Err(at) => self.put(alloc, at, plan, row, start),
         }
     }
 
     /// Where the group of a row stands, or else where it may be put.
     fn find(&self, plan: &Fold, row: &Row, start: i64) -> Result<usize, usize>
-        ensures found { IfOk result (IsAt (row_at plan.now start row.now) self.now.groups.items) }
-        ensures free { IfErr result (λ at. at ≤ length self.now.groups.items) }
+        ensures found { IfOk result (IsAt (row_at plan.now start row.now) self.now.groups) }
+        ensures free { IfErr result (λ at. at ≤ length self.now.groups) }
     {
         if self.is_mixed {
             self.find_by_print(plan, row, start)
         } else {
-            place_of(self.groups.as_slice(), self.last, plan, row, start)
+            place_of(self.groups.heads(), self.last, plan, row, start)
         }
     }
 
     fn find_by_print(&self, plan: &Fold, row: &Row, start: i64) -> Result<usize, usize>
-        ensures found { IfOk result (IsAt (row_at plan.now start row.now) self.now.groups.items) }
-        ensures free { IfErr result (λ at. at ≤ length self.now.groups.items) }
+        ensures found { IfOk result (IsAt (row_at plan.now start row.now) self.now.groups) }
+        ensures free { IfErr result (λ at. at ≤ length self.now.groups) }
     {
-        let groups = self.groups.as_slice();
-        if is_of(groups, self.last, plan, row, start) {
+        let heads = self.groups.heads();
+        if is_of(heads, self.last, plan, row, start) {
             return Ok(self.last);
         }
         match self.places.get(&print_of(plan, row, start)) {
-            Some(at) => if is_of(groups, *at, plan, row, start) {
+            Some(at) => if is_of(heads, *at, plan, row, start) {
                 Ok(*at)
             } else {
-                Err(groups.len())
+                Err(heads.len())
             },
-            None => Err(groups.len()),
+            None => Err(heads.len()),
         }
     }
 
-    /// Puts a group in.
-    fn put(&mut self, at: usize, group: Group) -> Result<(), NoMemory>
-        requires { at ≤ length self.old.groups.items }
-        ensures { OnOk result (self.new.groups.items ≡ insert self.old.groups.items at group) }
+    /// Puts the group of a row in.
+    fn put(
+        &mut self,
+        alloc: Global,
+        at: usize,
+        plan: &Fold,
+        row: &Row,
+        start: i64,
+    ) -> Result<(), NoMemory>
+        requires within { at ≤ length self.old.groups }
+        requires alike { HaveParts (length plan.now.aggs) self.old.groups }
+        ensures { OnOk result (self.new.groups ≡ insert self.old.groups at (row_at plan.now start row.now)) }
     {
         if self.is_mixed {
-            self.places.insert(print_of_group(&group), at)?;
+            self.places.insert(print_of(plan, row, start), at)?;
         }
         let moved = (self.groups.len() - at) / MOVES_A_SEARCH;
         self.strayed = astray(self.strayed, self.last, at).saturating_add(moved);
         self.last = at;
-        put_at(&mut self.groups, at, group)
+        self.groups.put(alloc, at, plan, row, start)
     }
 
     /// Notes where the groups stand, once rows have strayed too often for the number of groups.
     fn note_if_astray(&mut self) -> Result<(), NoMemory>
-        ensures { OnOk result (self.new.groups.items ≡ self.old.groups.items) }
+        ensures { OnOk result (self.new.groups ≡ self.old.groups) }
     {
         let most = self
             .groups
@@ -160,12 +169,13 @@ impl Gathered {
 
     /// Notes where the groups stand.
     fn note_places(&mut self) -> Result<(), NoMemory>
-        ensures { OnOk result (self.new.groups.items ≡ self.old.groups.items) }
+        ensures { OnOk result (self.new.groups ≡ self.old.groups) }
     {
         self.is_mixed = true;
         self.places.reserve(self.groups.len())?;
         for at in 0..self.groups.len() {
-            self.places.insert(print_of_group(&self.groups[at]), at)?;
+            let print = print_of_head(&self.groups.heads()[at]);
+            self.places.insert(print, at)?;
         }
         Ok(())
     }
@@ -204,19 +214,6 @@ fn astray(before: usize, last: usize, at: usize) -> usize {
     }
 }
 
-/// Puts a group in at a place.
-fn put_at(groups: &mut Vec<Group>, at: usize, group: Group) -> Result<(), NoMemory>
-    requires { at ≤ length groups.old.items }
-    ensures { OnOk result (groups.new.items ≡ insert groups.old.items at group) }
-{
-    if at < groups.len() {
-        groups.insert(at, group)?;
-        return Ok(());
-    }
-    groups.push(group)?;
-    Ok(())
-}
-
 /// A number that rows of the same bucket and keys share, and others seldom do.
 fn print_of(plan: &Fold, row: &Row, start: i64) -> u64 {
     let mut print = mixed(0, Some(start));
@@ -227,9 +224,9 @@ fn print_of(plan: &Fold, row: &Row, start: i64) -> u64 {
 }
 
 /// The number that the rows of a group share.
-fn print_of_group(group: &Group) -> u64 {
-    let mut print = mixed(0, Some(group.start));
-    for key in group.keys.items() {
+fn print_of_head(head: &Head) -> u64 {
+    let mut print = mixed(0, Some(head.start));
+    for key in head.keys.items() {
         print = mixed(print, *key);
     }
     print

@@ -1,15 +1,15 @@
 //! Two lists of groups put together.
-ghost use Rattle.std.specs.Prelude.{◌≡◌, ◌+◌, ◌<◌, ◌≤◌, IfOk, OnSome, length, take};
+ghost use Rattle.std.specs.Prelude.{◌≡◌, ◌+◌, ◌<◌, ◌≤◌, IfOk, OnOk, OnSome, length, take};
 ghost use Rattle.std.specs.VecDeque.{deque_len};
 ghost use Rattle.partial_agg.specs.Groups.{AreInOrder};
 ghost use Rattle.group_fold.specs.Merging.{AreBefore, AreGroupsOfBoth, CanJoin, PartsFit, TakesFirst};
-ghost use Rattle.group_fold.specs.Merging.{joined_parts, next_of_lists, with_groups};
+ghost use Rattle.group_fold.specs.Merging.{joined_parts, merged, next_of_lists, with_groups};
 
 use partial_agg::{Group, Partial, group_order};
 use std::alloc::Global;
 use std::cmp::Ordering;
 use std::collections::VecDeque;
-use ts_schema::{NoMemory, Seq};
+use ts_schema::{NoMemory, Seq, SharedSlice};
 
 /// The groups of both lists in order, where groups of the same bucket and keys are merged. So the
 /// groups of two lists of rows become those of both together.
@@ -42,7 +42,7 @@ pub(crate) fn join_lists(
     drop(front);
     let mut mine = VecDeque::from(behind);
     let mut theirs = VecDeque::from(b);
-    while let Some(group) = take_next(&mut mine, &mut theirs) {
+    while let Some(group) = take_next(alloc, &mut mine, &mut theirs)? {
         groups.push(group)?;
     }
     let mut rest = Vec::from(theirs);
@@ -73,21 +73,25 @@ enum Next {
 }
 
 /// Takes the next group from the list that has it, or from both, until the first list is empty.
-fn take_next(mine: &mut VecDeque<Group>, theirs: &mut VecDeque<Group>) -> Option<Group>
+fn take_next(
+    alloc: Global,
+    mine: &mut VecDeque<Group>,
+    theirs: &mut VecDeque<Group>,
+) -> Result<Option<Group>, NoMemory>
     requires { CanJoin mine.old.items theirs.old.items }
-    ensures next { TakesFirst result
+    ensures next { IfOk result (λ next. TakesFirst next
         (with_groups mine.old.items theirs.old.items)
         (with_groups mine.new.items theirs.new.items)
-        theirs.new.items }
-    ensures kept { CanJoin mine.new.items theirs.new.items }
-    ensures fewer { OnSome result
-        (deque_len mine.new + deque_len theirs.new < deque_len mine.old + deque_len theirs.old) }
+        theirs.new.items) }
+    ensures kept { OnOk result (CanJoin mine.new.items theirs.new.items) }
+    ensures fewer { IfOk result (λ next. OnSome next
+        (deque_len mine.new + deque_len theirs.new < deque_len mine.old + deque_len theirs.old)) }
 {
     match next_of(mine, theirs) {
-        Next::Rest => None,
-        Next::Mine => mine.pop_front(),
-        Next::Theirs => theirs.pop_front(),
-        Next::Both => merge_firsts(mine, theirs),
+        Next::Rest => Ok(None),
+        Next::Mine => Ok(mine.pop_front()),
+        Next::Theirs => Ok(theirs.pop_front()),
+        Next::Both => merge_firsts(alloc, mine, theirs),
     }
 }
 
@@ -106,31 +110,56 @@ fn next_of(mine: &VecDeque<Group>, theirs: &VecDeque<Group>) -> Next
 }
 
 /// Merges the first groups of both lists, which have the same bucket and keys.
-fn merge_firsts(mine: &mut VecDeque<Group>, theirs: &mut VecDeque<Group>) -> Option<Group>
+fn merge_firsts(
+    alloc: Global,
+    mine: &mut VecDeque<Group>,
+    theirs: &mut VecDeque<Group>,
+) -> Result<Option<Group>, NoMemory>
     requires both { next_of_lists mine.old.items theirs.old.items ≡ Next.Both }
     requires fit { CanJoin mine.old.items theirs.old.items }
-    ensures next { TakesFirst result
+    ensures next { IfOk result (λ next. TakesFirst next
         (with_groups mine.old.items theirs.old.items)
         (with_groups mine.new.items theirs.new.items)
-        theirs.new.items }
-    ensures kept { CanJoin mine.new.items theirs.new.items }
-    ensures fewer { OnSome result
-        (deque_len mine.new + deque_len theirs.new < deque_len mine.old + deque_len theirs.old) }
+        theirs.new.items) }
+    ensures kept { OnOk result (CanJoin mine.new.items theirs.new.items) }
+    ensures fewer { IfOk result (λ next. OnSome next
+        (deque_len mine.new + deque_len theirs.new < deque_len mine.old + deque_len theirs.old)) }
 {
-    let mut group = mine.pop_front()?;
-    let other = theirs.pop_front()?;
-    merge_parts(&mut group.parts, &other.parts);
-    Some(group)
+    match (mine.pop_front(), theirs.pop_front()) {
+        (Some(group), Some(other)) => Ok(Some(merged(alloc, group, &other)?)),
+        (None, _) => Ok(None),
+        (_, None) => Ok(None),
+    }
 }
 
-/// Merges partial aggregates, place by place.
-fn merge_parts(mine: &mut Seq<Partial>, theirs: &Seq<Partial>)
-    requires { PartsFit mine.old theirs.now }
-    ensures { mine.new ≡ joined_parts mine.old theirs.now }
+/// A group that has taken in another of the same bucket and keys. Its partial aggregates are a list of its own,
+/// since others share those of both.
+fn merged(alloc: Global, group: Group, other: &Group) -> Result<Group, NoMemory>
+    requires { PartsFit group.parts other.now.parts }
+    ensures { IfOk result (λ both. both ≡ merged group other.now) }
 {
-    for k in 0..theirs.len() {
-        let mut part = *mine.get(k);
-        part.merge(theirs.get(k));
-        mine.set(k, part);
+    let parts = merge_parts(alloc, group.parts.items(), other.parts.items())?;
+    Ok(Group {
+        start: group.start,
+        keys: group.keys,
+        parts: SharedSlice::of(alloc, Seq::of(parts))?,
+    })
+}
+
+/// Partial aggregates merged, place by place.
+fn merge_parts(
+    alloc: Global,
+    mine: &[Partial],
+    theirs: &[Partial],
+) -> Result<Vec<Partial>, NoMemory>
+    requires { PartsFit mine.now theirs.now }
+    ensures { IfOk result (λ parts. parts.items ≡ joined_parts mine.now theirs.now) }
+{
+    let mut parts = Vec::with_capacity(alloc, mine.len())?;
+    for k in 0..mine.len() {
+        let mut part = mine[k];
+        part.merge(&theirs[k]);
+        parts.push(part)?;
     }
+    Ok(parts)
 }

@@ -4,6 +4,7 @@
 //! - `folds`: the groups of a list of rows.
 //! - `foldings`: the same of rows that come list after list.
 //! - `gathered`: groups as rows are taken in, in the order in which they came up.
+//! - `open_groups`: groups that take rows in, `heads` and `blocks`: their buckets and keys, and what they sum up to.
 //! - `near_places`: where the group of a row stands, while rows come nearly in order.
 //! - `members`: one row beside the groups: which is its own, and what it adds to it.
 //! - `orders`: groups put in order.
@@ -14,13 +15,16 @@
 //! - `laws`: groups of some of the rows, and of some of the buckets.
 #![tactic(auto)]
 
+mod blocks;
 mod foldings;
 mod folds;
 mod gathered;
+mod heads;
 mod joins;
 pub mod laws;
 mod members;
 mod near_places;
+mod open_groups;
 mod orders;
 mod pieces;
 mod scans;

@@ -1,10 +1,10 @@
 //! Where the group of a row stands, while groups are in order.
 ghost use Rattle.std.specs.Prelude.{◌≤◌, length, IfOk, IfErr};
 ghost use Rattle.group_fold.specs.Grouping.{row_at};
-ghost use Rattle.group_fold.specs.Gathering.{IsAt};
+ghost use Rattle.group_fold.specs.Blocks.{IsHeadAt};
 
+use crate::heads::Head;
 use crate::members::{is_of, order_at, order_of};
-use partial_agg::Group;
 use std::cmp::Ordering;
 use ts_model::Fold;
 use ts_schema::Row;
@@ -13,50 +13,50 @@ use ts_schema::Row;
 /// The group of the row before and the one behind it are looked at first: in each bucket the same keys
 /// come up, mostly in the same order.
 pub(crate) fn place_of(
-    groups: &[Group],
+    heads: &[Head],
     last: usize,
     plan: &Fold,
     row: &Row,
     start: i64,
 ) -> Result<usize, usize>
-    ensures found { IfOk result (IsAt (row_at plan.now start row.now) groups.now) }
-    ensures free { IfErr result (λ at. at ≤ length groups.now) }
+    ensures found { IfOk result (IsHeadAt (row_at plan.now start row.now) heads.now) }
+    ensures free { IfErr result (λ at. at ≤ length heads.now) }
 {
-    match order_at(groups, last, plan, row, start) {
+    match order_at(heads, last, plan, row, start) {
         Ordering::Equal => Ok(last),
-        Ordering::Less => place_behind(groups, last + 1, plan, row, start),
-        Ordering::Greater => place_among(groups, plan, row, start),
+        Ordering::Less => place_behind(heads, last + 1, plan, row, start),
+        Ordering::Greater => place_among(heads, plan, row, start),
     }
 }
 
 /// The same, where the group in front of the place `next` comes before that of the row.
 fn place_behind(
-    groups: &[Group],
+    heads: &[Head],
     next: usize,
     plan: &Fold,
     row: &Row,
     start: i64,
 ) -> Result<usize, usize>
-    requires { next ≤ length groups.now }
-    ensures found { IfOk result (IsAt (row_at plan.now start row.now) groups.now) }
-    ensures free { IfErr result (λ at. at ≤ length groups.now) }
+    requires { next ≤ length heads.now }
+    ensures found { IfOk result (IsHeadAt (row_at plan.now start row.now) heads.now) }
+    ensures free { IfErr result (λ at. at ≤ length heads.now) }
 {
-    match order_at(groups, next, plan, row, start) {
+    match order_at(heads, next, plan, row, start) {
         Ordering::Equal => Ok(next),
-        Ordering::Less => place_among(groups, plan, row, start),
+        Ordering::Less => place_among(heads, plan, row, start),
         Ordering::Greater => Err(next),
     }
 }
 
 /// The same, by halving.
-fn place_among(groups: &[Group], plan: &Fold, row: &Row, start: i64) -> Result<usize, usize>
-    ensures found { IfOk result (IsAt (row_at plan.now start row.now) groups.now) }
-    ensures free { IfErr result (λ at. at ≤ length groups.now) }
+fn place_among(heads: &[Head], plan: &Fold, row: &Row, start: i64) -> Result<usize, usize>
+    ensures found { IfOk result (IsHeadAt (row_at plan.now start row.now) heads.now) }
+    ensures free { IfErr result (λ at. at ≤ length heads.now) }
 {
-    let at = groups.partition_point(|group: &Group| {
-        order_of(plan, row, start, group) == Ordering::Less
+    let at = heads.partition_point(|head: &Head| {
+        order_of(plan, row, start, head) == Ordering::Less
     });
-    if is_of(groups, at, plan, row, start) {
+    if is_of(heads, at, plan, row, start) {
         Ok(at)
     } else {
         Err(at)

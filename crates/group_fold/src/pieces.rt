@@ -112,5 +112,5 @@ fn fold_each(
     for piece in pieces {
         gathered.take_rows(alloc, plan, piece.items())?;
     }
-    in_order(alloc, gathered.groups)
+    in_order(alloc, gathered.groups.settle(alloc)?)
 }

@@ -5,7 +5,7 @@ ghost use Rattle.partial_agg.specs.Groups.{group_cmp};
 use crate::keys::Keys;
 use crate::partials::Partial;
 use std::cmp::Ordering;
-use ts_schema::{NoMemory, Seq, values_order};
+use ts_schema::{NoMemory, SharedSlice, values_order};
 
 /// The rows of one bucket with the same keys, aggregated.
 #[derive(Drop, Debug, Clone, PartialEq, Eq)]
@@ -14,12 +14,12 @@ pub struct Group {
     pub start: i64,
     /// The values of the columns that the rows are grouped by; NULL is `None`.
     pub keys: Keys,
-    /// One partial aggregate for each aggregate that is asked for.
-    pub parts: Seq<Partial>,
+    /// One partial aggregate for each aggregate that is asked for. Groups may share a block of them.
+    pub parts: SharedSlice<Partial>,
 }
 
 impl Group {
-    /// The same group again.
+    /// The same group again. Its partial aggregates take no memory.
     pub fn copy(&self) -> Result<Group, NoMemory>
         ensures same { IfOk result (λ copy. copy ≡ self.now) }
     {

@@ -3,8 +3,8 @@ use Rattle.group_fold.specs.Merging.{AreBefore}
 use Rattle.group_fold.proofs.Seams.{front_stays}
 use Rattle.group_fold.proofs.joins.join_lists.Goals as goal
 
-pub loop-group-init : goal.loop-group-init
-loop-group-init c =
+pub loop-theirs-init : goal.loop-theirs-init
+loop-theirs-init c =
     let k = c.count_before-before.result in
     let before : AreBefore (take k c.args.a.items) c.args.b.items =
     subst (λ gs. AreBefore (take k gs) c.args.b.items) c.as_slice.ensures.value (subst (λ hs. AreBefore (take k c.as_slice.result.now) hs) c.as_slice-2.ensures.value c.count_before-before.ensures.before) in

@@ -1,12 +1,12 @@
-use Rattle.group_fold.proofs.Merges.{both_taken}
+use Rattle.group_fold.proofs.Merges.{merged_taken}
 use Rattle.group_fold.proofs.joins.merge_firsts.Goals as goal
 
-pub returns-clause-next : goal.returns-clause-next
-returns-clause-next c =
-    (both_taken c.in_ok-group.group c.in_ok-other.other c.merge_parts.new.mine c.args.mine.now.items c.pop_front.new.self.items c.args.theirs.now.items c.pop_front-2.new.self.items
-    c.in_ok-group.ensures.items c.in_ok-other.ensures.items c.requires.both c.requires.fit c.merge_parts.ensures).0
+pub returns-in_ok-merged-in-Some-Some-clause-next : goal.returns-in_ok-merged-in-Some-Some-clause-next
+returns-in_ok-merged-in-Some-Some-clause-next c =
+    (merged_taken c.in-Some-Some.group c.in-Some-Some.other c.in_ok-merged-in-Some-Some.field-0 c.args.mine.now.items c.pop_front.new.self.items c.args.theirs.now.items c.pop_front-2.new.self.items
+    c.in-Some-Some.ensures.items c.in-Some-Some.ensures'.items c.requires.both c.requires.fit c.in_ok-merged-in-Some-Some.ensures).0
 
-pub returns-clause-kept : goal.returns-clause-kept
-returns-clause-kept c =
-    (both_taken c.in_ok-group.group c.in_ok-other.other c.merge_parts.new.mine c.args.mine.now.items c.pop_front.new.self.items c.args.theirs.now.items c.pop_front-2.new.self.items
-    c.in_ok-group.ensures.items c.in_ok-other.ensures.items c.requires.both c.requires.fit c.merge_parts.ensures).1
+pub returns-in_ok-merged-in-Some-Some-clause-kept : goal.returns-in_ok-merged-in-Some-Some-clause-kept
+returns-in_ok-merged-in-Some-Some-clause-kept c =
+    (merged_taken c.in-Some-Some.group c.in-Some-Some.other c.in_ok-merged-in-Some-Some.field-0 c.args.mine.now.items c.pop_front.new.self.items c.args.theirs.now.items c.pop_front-2.new.self.items
+    c.in-Some-Some.ensures.items c.in-Some-Some.ensures'.items c.requires.both c.requires.fit c.in_ok-merged-in-Some-Some.ensures).1

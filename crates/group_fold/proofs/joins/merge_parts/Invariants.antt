@@ -1,6 +1,6 @@
-use Rattle.std.proofs.Common.{◌≡◌, ◌++◌, take, drop}
+use Rattle.std.proofs.Common.{◌≡◌, take}
 use Rattle.group_fold.specs.Merging.{joined_parts}
 use Rattle.group_fold.proofs.joins.merge_parts.Given as goal
 
 abbrev pub invariant-loop-k : goal.invariant-loop-k
-invariant-loop-k l = l.mine ≡ take l.k (joined_parts l.initial.mine l.theirs) ++ drop l.k l.initial.mine
+invariant-loop-k l = l.parts.items ≡ take l.k (joined_parts l.mine l.theirs)

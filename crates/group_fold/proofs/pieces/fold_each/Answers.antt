@@ -20,4 +20,4 @@ loop-piece-preserved c =
     let i = c.loop-piece.piece-index in
     let whole : all_rows (take i c.args.pieces.now) ++ c.items.result.now ≡ all_rows (take (i + 1) c.args.pieces.now) =
     ap (λ rows. all_rows (take i c.args.pieces.now) ++ rows) c.items.ensures.items ∙ sym (all_rows-more c.args.pieces.now i c.piece-item.result c.loop-piece-test.true c.piece-item.is) in
-    subst (λ (rows : List Row). IsGathered c.args.plan.now rows c.take_rows.new.self.groups.items) whole (c.in_ok-take_rows.ensures (all_rows (take i c.args.pieces.now)) c.loop-piece.invariant)
+    subst (λ (rows : List Row). IsGathered c.args.plan.now rows c.take_rows.new.self.groups) whole (c.in_ok-take_rows.ensures (all_rows (take i c.args.pieces.now)) c.loop-piece.invariant)

@@ -19,21 +19,21 @@ loop-row-preserved c =
     subst (IsStart c.args.plan.now.width) (sym own) (start_of_time c.args.plan.now.width c.row-item.result.at c.requires.width time) in
     elim c.if-passes.branch [
       | then-passes+in_ok-take_row w ↦
-          let now = ap (λ s. s.groups.items) w.self-is in
+          let now = ap (λ s. s.groups) w.self-is in
           record {
             gathered = λ before was.
                 rw now (passed_gathered c.args.plan.now c.requires.width before c.args.rows.now c.loop-row.row-index c.row-item.result c.loop-row-test.true c.row-item.is
-                c.loop-row.self.groups.items _ (sym c.passes.ensures.tests ∙ w.if-passes.true) w.in_ok-take_row.ensures (c.loop-row.invariant.gathered before was));
+                c.loop-row.self.groups _ (sym c.passes.ensures.tests ∙ w.if-passes.true) w.in_ok-take_row.ensures (c.loop-row.invariant.gathered before was));
             alike = rw now w.in_ok-take_row.ensures.alike;
             start = rw (to_z-of_z w64 c.start_near-start.result near) start;
             few = omega (arith, ap counted now, w.in_ok-take_row.ensures.few, c.loop-row.invariant.few);
           }
       | else-passes w ↦
-          let now = ap (λ s. s.groups.items) w.self-is in
+          let now = ap (λ s. s.groups) w.self-is in
           record {
             gathered = λ before was.
                 failed_gathered c.args.plan.now c.requires.width before c.args.rows.now c.loop-row.row-index c.row-item.result c.loop-row-test.true c.row-item.is
-                c.loop-row.self.groups.items c.if-passes.self.groups.items (sym c.passes.ensures.tests ∙ w.if-passes.false) now (c.loop-row.invariant.gathered before was);
+                c.loop-row.self.groups c.if-passes.self.groups (sym c.passes.ensures.tests ∙ w.if-passes.false) now (c.loop-row.invariant.gathered before was);
             alike = rw now c.loop-row.invariant.alike;
             start = rw (to_z-of_z w64 c.start_near-start.result near) start;
             few = omega (arith, ap counted now, c.loop-row.invariant.few);

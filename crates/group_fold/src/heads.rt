@@ -1,0 +1,20 @@
+//! Groups whose partial aggregates stand in blocks.
+
+use partial_agg::Keys;
+
+/// Where the partial aggregates of a group begin.
+#[derive(Drop, Clone, Copy)]
+pub(crate) struct Place {
+    /// The number of the block.
+    pub(crate) block: u32,
+    /// The place in the block.
+    pub(crate) from: u32,
+}
+
+/// A group whose partial aggregates stand in a block.
+#[derive(Drop)]
+pub(crate) struct Head {
+    pub(crate) start: i64,
+    pub(crate) keys: Keys,
+    pub(crate) place: Place,
+}
