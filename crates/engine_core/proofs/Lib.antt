@@ -2,3 +2,4 @@ pub mod ActLaws
 pub mod StoreLaws
 pub mod EventLaws
 pub mod TimelineLaws
+pub mod LedgerLaws

@@ -5,3 +5,4 @@ pub mod Effects
 pub mod Acts
 pub mod Stores
 pub mod Timelines
+pub mod Ledgers

@@ -1,9 +1,18 @@
 //! The engine: its list of events, and the state that answers questions about it; a store in memory; and
 //! the states of a history at its positions.
+//!
+//! - `engines`, `prepared`, `moments`, `shots`: the engine, and what one more event makes of it.
+//! - `ledgers`: a history without its rows, which tells what may come next.
+//! - `followers`: what follows a history event by event, as its journal is read: an engine or a ledger.
+//! - `makings`, `mem_stores`: the calls of a store, and a store in memory.
+//! - `timelines`: the states of a history at its positions.
+//! - `images`: what the image of a history is made of.
 #![tactic(auto)]
 
 mod engines;
+mod followers;
 mod images;
+mod ledgers;
 mod makings;
 mod mem_stores;
 mod moments;
@@ -12,6 +21,8 @@ mod shots;
 mod timelines;
 
 pub use engines::{Engine, begun_at};
+pub use followers::Follower;
+pub use ledgers::Ledger;
 pub use makings::{cut_over, no_bucket, numbered};
 pub use mem_stores::MemStore;
 pub use prepared::Prepared;

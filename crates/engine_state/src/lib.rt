@@ -23,6 +23,7 @@ mod views;
 mod windows;
 
 pub use moves::Moved;
+pub use resumed::made_roster;
 pub use states::State;
 pub use tables::TableState;
 pub use views::ViewState;

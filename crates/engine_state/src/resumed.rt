@@ -20,7 +20,7 @@ use ts_model::{Event, Image, Roster};
 use ts_schema::{NoMemory, Seq, Steps};
 
 /// The roster that these events make.
-fn made_roster(alloc: Global, events: &[Event]) -> Result<Roster, NoMemory>
+pub fn made_roster(alloc: Global, events: &[Event]) -> Result<Roster, NoMemory>
     ensures { IfOk result (λ made. made ≡ roster_over no_relations events.now) }
 {
     let mut made = Roster {

@@ -1,5 +1,5 @@
 -- How an event is put onto the disk and counts from then on.
-use Rattle.std.proofs.Common.{◌≡◌, ◌≢◌, Bool, inl, ℕ, ◌≤◌, ◌<◌, ◌^◌, List, [], ◌∷◌, ◌++◌, length, ◌+◌, Option, Some, None, IsSomeAnd, suc, refl, sym, ◌∙◌, ap, subst, arith, length-append}
+use Rattle.std.proofs.Common.{◌≡◌, ◌≢◌, Bool, inl, ℕ, ◌≤◌, ◌<◌, ◌^◌, List, Option, Some, None, IsSomeAnd, suc, refl, sym, ◌∙◌, ap, subst, arith}
 use Rattle.std.specs.Prelude.{IsTrue, is_some}
 use Rattle.std.proofs.lemmas.Bool.{true≢false}
 use Rattle.ts_schema.specs.Faults.{Rose}

@@ -1,6 +1,5 @@
 -- Reading the events of a journal.
 use Rattle.std.proofs.Common.{◌≡◌, inl, inr, ℕ, List, sym, ◌∙◌, ap, subst}
-use Rattle.ts_model.specs.declared.events.Event.{Event}
 use Rattle.ts_model.specs.History.{History}
 use Rattle.engine_core.specs.Histories.{history_of}
 use Rattle.engine_core.specs.Values.{Past}

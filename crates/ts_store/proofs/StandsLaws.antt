@@ -1,11 +1,11 @@
 -- A journal stands for one history, or is damaged at one place.
-use Rattle.std.proofs.Common.{◌≡◌, inl, inr, ⊎_elim, ℕ, ◌≤◌, Bool, true, false, List, [], ◌∷◌, ◌++◌, length, Some, None, refl, sym, ◌∙◌, ap, subst, arith, append_assoc, length-append}
+use Rattle.std.proofs.Common.{◌≡◌, inl, inr, ⊎_elim, ℕ, ◌≤◌, true, List, [], ◌∷◌, ◌++◌, length, refl, sym, ◌∙◌, ap, subst, arith, append_assoc, length-append}
 use Rattle.std.proofs.lemmas.List.{append-nil}
 use Rattle.std.proofs.lemmas.Bool.{and_parts}
 use Rattle.ts_model.specs.Allowed.{all_allowed, allowed}
 use Rattle.ts_model.specs.History.{History, start, resumed, ◌▸◌, Begins, same, further}
 use Rattle.event_codec.specs.Spelling as spelling
-use Rattle.txn_journal.specs.Contents.{Content, is_base}
+use Rattle.txn_journal.specs.Contents.{Content}
 use Rattle.txn_journal.specs.Frames.{Follows, IsDamaged, body, frames}
 use Rattle.txn_journal.specs.declared.versions.Version.{Version}
 use Rattle.txn_journal.proofs.ContentLaws.{base_counts, next_counts}

@@ -13,7 +13,6 @@ use Rattle.base_image.specs.Formed.{IsFormed as IsFormedImage}
 use Rattle.base_image.specs.Spelling as images
 use Rattle.engine_core.specs.Histories.{history_of}
 use Rattle.engine_core.specs.Values.{Past}
-use Rattle.ts_store.specs.Images.{IsBetween, StandsForMore}
 use Rattle.ts_store.specs.Stands.{Stands}
 use Rattle.ts_store.specs.Stores.{stop_at}
 use Rattle.ts_store.specs.declared.checkpoints.CheckEnd.{CheckEnd}

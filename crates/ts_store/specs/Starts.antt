@@ -1,13 +1,16 @@
 -- The start of a store.
 use Rattle.std.specs.Prelude.{◌≡◌, ◌≢◌, ℕ, false, List, Option, None, ⊤}
 use Rattle.ts_schema.specs.Faults.{Rose}
-use Rattle.ts_model.specs.History.{position}
+use Rattle.ts_model.specs.History.{History, position}
 use Rattle.engine_core.specs.Histories.{history_of}
-use Rattle.engine_core.specs.Values.{EngineValue}
+use Rattle.engine_core.specs.Ledgers.{LedgerValue}
+use Rattle.engine_core.specs.Values.{EngineValue, Past}
 use Rattle.txn_journal.specs.Calls.{Logged, IsAtRest, IsTold}
 use Rattle.txn_journal.specs.declared.journals.Standing.TheVariants.{Still}
 use Rattle.ts_store.specs.Stands.{Stands, IsDamagedAt, IsSound, content_of}
 use Rattle.ts_store.specs.Stores.{StoreValue, opening, seen}
+use Rattle.ts_store.specs.declared.histories.HistoryRead.{HistoryRead}
+use Rattle.ts_store.specs.declared.histories.HistoryRead.TheVariants as read
 use Rattle.ts_store.specs.declared.replays.Replayed.{Replayed}
 use Rattle.ts_store.specs.declared.replays.Replayed.TheVariants as replayed
 use Rattle.ts_store.specs.declared.starts.Started.{Started}
@@ -15,50 +18,81 @@ use Rattle.ts_store.specs.declared.starts.Started.TheVariants as started
 
 -- ---- reading the events of a journal
 
-abbrev pub disk_of_replayed : {D : Type 0} → Replayed D → D
-disk_of_replayed (replayed.Ready journal engine) = journal.disk
+-- what an engine was told, and what a ledger was
+abbrev pub past_of : EngineValue → Past
+past_of e = e.past
+
+abbrev pub told_to : LedgerValue → Past
+told_to l = l.past
+
+abbrev pub disk_of_replayed : {D T : Type 0} → Replayed D T → D
+disk_of_replayed (replayed.Ready journal follower) = journal.disk
 disk_of_replayed (replayed.Damaged disk at) = disk
 disk_of_replayed (replayed.DiskFault disk) = disk
 disk_of_replayed (replayed.NoMemory disk) = disk
 
--- the file stands for the engine's history, or is damaged at this place
-abbrev pub Replays : {D : Type 0} → Replayed D → List ℕ → Type 0
-Replays (replayed.Ready journal engine) file = Stands file (history_of engine.past)
-Replays (replayed.Damaged disk at) file = IsDamagedAt file at
-Replays (replayed.DiskFault disk) file = ⊤
-Replays (replayed.NoMemory disk) file = ⊤
+-- the file stands for the history that was followed, or is damaged at this place
+abbrev pub Replays : {D T : Type 0} → (T → Past) → Replayed D T → List ℕ → Type 0
+Replays past (replayed.Ready journal follower) file = Stands file (history_of (past follower))
+Replays past (replayed.Damaged disk at) file = IsDamagedAt file at
+Replays past (replayed.DiskFault disk) file = ⊤
+Replays past (replayed.NoMemory disk) file = ⊤
 
 -- the count of faults rises with a fault, and else stays
-abbrev pub CountsReplayed : {D : Type 0} → Replayed D → ℕ → ℕ → Type 0
-CountsReplayed (replayed.Ready journal engine) before now = now ≡ before
+abbrev pub CountsReplayed : {D T : Type 0} → Replayed D T → ℕ → ℕ → Type 0
+CountsReplayed (replayed.Ready journal follower) before now = now ≡ before
 CountsReplayed (replayed.Damaged disk at) before now = now ≡ before
 CountsReplayed (replayed.DiskFault disk) before now = Rose before now
 CountsReplayed (replayed.NoMemory disk) before now = now ≡ before
 
--- P of the journal and the engine
-abbrev pub IfReplayed : {D : Type 0} → Replayed D → (Logged D → EngineValue → Type 0) → Type 0
-IfReplayed (replayed.Ready journal engine) P = P journal engine
-IfReplayed (replayed.Damaged disk at) P = ⊤
-IfReplayed (replayed.DiskFault disk) P = ⊤
-IfReplayed (replayed.NoMemory disk) P = ⊤
+-- P of the journal and of the history that was followed
+abbrev pub IfReplayed : {D T : Type 0} → (T → Past) → Replayed D T → (Logged D → History → Type 0) → Type 0
+IfReplayed past (replayed.Ready journal follower) P = P journal (history_of (past follower))
+IfReplayed past (replayed.Damaged disk at) P = ⊤
+IfReplayed past (replayed.DiskFault disk) P = ⊤
+IfReplayed past (replayed.NoMemory disk) P = ⊤
 
--- reads of the journal give the events of the engine's history
-abbrev pub TellsReplayed : {D : Type 0} → (D → Option (List ℕ)) → Replayed D → Type 0
-TellsReplayed bytes found =
-    IfReplayed found (λ journal engine. IsTold bytes journal (content_of (history_of engine.past)))
+-- reads of the journal give the events of the history
+abbrev pub TellsReplayed : {D T : Type 0} → (T → Past) → (D → Option (List ℕ)) → Replayed D T → Type 0
+TellsReplayed past bytes found = IfReplayed past found (λ journal h. IsTold bytes journal (content_of h))
 
 -- and the journal is at rest with them
-abbrev pub RestsReplayed : {D : Type 0} → (D → Option (List ℕ)) → (D → List ℕ → Type 0) → Replayed D → Type 0
-RestsReplayed bytes may_leave found =
-    IfReplayed found (λ journal engine. IsAtRest bytes may_leave journal (content_of (history_of engine.past)))
+abbrev pub RestsReplayed :
+    {D T : Type 0} → (T → Past) → (D → Option (List ℕ)) → (D → List ℕ → Type 0) → Replayed D T → Type 0
+RestsReplayed past bytes may_leave found =
+    IfReplayed past found (λ journal h. IsAtRest bytes may_leave journal (content_of h))
 
--- the engine's history may stand in a journal
-abbrev pub SoundReplayed : {D : Type 0} → Replayed D → Type 0
-SoundReplayed found = IfReplayed found (λ journal engine. IsSound (history_of engine.past))
+-- the history may stand in a journal
+abbrev pub SoundReplayed : {D T : Type 0} → (T → Past) → Replayed D T → Type 0
+SoundReplayed past found = IfReplayed past found (λ journal h. IsSound h)
 
 -- the journal didn't stop
-abbrev pub GoesOn : {D : Type 0} → Replayed D → Type 0
-GoesOn found = IfReplayed found (λ journal engine. journal.standing ≢ Still)
+abbrev pub GoesOn : {D T : Type 0} → Replayed D T → Type 0
+GoesOn (replayed.Ready journal follower) = journal.standing ≢ Still
+GoesOn (replayed.Damaged disk at) = ⊤
+GoesOn (replayed.DiskFault disk) = ⊤
+GoesOn (replayed.NoMemory disk) = ⊤
+
+-- ---- reading a history alone
+
+abbrev pub disk_of_read : {D : Type 0} → HistoryRead D → D
+disk_of_read (read.Ready disk ledger) = disk
+disk_of_read (read.Damaged disk at) = disk
+disk_of_read (read.DiskFault disk) = disk
+disk_of_read (read.NoMemory disk) = disk
+
+-- the file stands for the ledger's history, or is damaged at this place
+abbrev pub ReadsHistory : {D : Type 0} → HistoryRead D → List ℕ → Type 0
+ReadsHistory (read.Ready disk ledger) file = Stands file (history_of ledger.past)
+ReadsHistory (read.Damaged disk at) file = IsDamagedAt file at
+ReadsHistory (read.DiskFault disk) file = ⊤
+ReadsHistory (read.NoMemory disk) file = ⊤
+
+abbrev pub CountsRead : {D : Type 0} → HistoryRead D → ℕ → ℕ → Type 0
+CountsRead (read.Ready disk ledger) before now = now ≡ before
+CountsRead (read.Damaged disk at) before now = now ≡ before
+CountsRead (read.DiskFault disk) before now = Rose before now
+CountsRead (read.NoMemory disk) before now = now ≡ before
 
 -- ---- the start
 

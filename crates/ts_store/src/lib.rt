@@ -2,6 +2,7 @@
 //! counts, and a start reads them again.
 //!
 //! - `starts`: from a disk to a store, or to the place at which its journal is damaged.
+//! - `histories`: the same for the history alone, without an engine.
 //! - `stores`: a store, and how it makes an event.
 //! - `backends`: the calls of a store.
 //! - `checkpoints`: the image of a store's history, put behind its journal.
@@ -13,6 +14,7 @@ mod backends;
 mod begun;
 mod checkpoints;
 mod drafts;
+mod histories;
 pub mod laws;
 mod recorders;
 mod replays;
@@ -21,5 +23,6 @@ mod starts;
 mod stores;
 
 pub use checkpoints::{CheckEnd, Checkpointed};
+pub use histories::{HistoryRead, read_history};
 pub use starts::Started;
 pub use stores::Store;

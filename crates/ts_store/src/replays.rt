@@ -1,13 +1,12 @@
 //! The events of a journal, read one after the other.
-ghost use Rattle.std.specs.Prelude.{◌≡◌, ℕ, [], List, IfOk, IsTrue, None, OnOk};
+ghost use Rattle.std.specs.Prelude.{◌≡◌, ℕ, List, IsTrue, None};
 ghost use Rattle.event_codec.specs.Formed.{IsFormed};
 ghost use Rattle.event_codec.specs.Spelling as spelling;
 ghost use Rattle.std.specs.Thread.{IsSync};
 ghost use Rattle.ts_disk.specs.CrashImage.{Only};
 ghost use Rattle.ts_disk.specs.Disk.{Keeps};
 ghost use Rattle.ts_model.specs.Allowed.{allowed};
-ghost use Rattle.refresh_build.specs.Fitting.{JobIsFor};
-ghost use Rattle.engine_core.specs.Histories.{history_of, past_from, with_event};
+ghost use Rattle.engine_core.specs.Histories.{history_of, past_from};
 ghost use Rattle.txn_journal.specs.Contents.{nothing};
 ghost use Rattle.txn_journal.specs.Reading.{HasRead};
 ghost use Rattle.ts_store.specs.Starts.{CountsReplayed, GoesOn, Replays, RestsReplayed, SoundReplayed, TellsReplayed};
@@ -15,21 +14,20 @@ ghost use Rattle.ts_store.specs.Starts.{disk_of_replayed};
 ghost use Rattle.ts_store.specs.Takes.{Resumes, Takes};
 
 use base_image::{ReadImage, read};
-use engine_core::Engine;
+use engine_core::Follower;
 use event_codec::{Decoded, decode};
-use refresh_build::Job;
 use std::alloc::Global;
 use std::thread::Threads;
 use ts_disk::Disk;
 use ts_model::Event;
-use ts_schema::{NoMemory, Seq, Steps};
+use ts_schema::{NoMemory, Seq};
 use txn_journal::{Journal, Next, Reader};
 
 /// What reading the events of a journal found.
 #[derive(Drop)]
-pub(crate) enum Replayed<D: Disk> {
-    /// The journal, and the engine of its events.
-    Ready { journal: Journal<D>, engine: Engine },
+pub(crate) enum Replayed<D: Disk, T> {
+    /// The journal, and what followed its history.
+    Ready { journal: Journal<D>, follower: T },
     /// The least damaged place.
     Damaged { disk: D, at: u64 },
     /// The disk failed.
@@ -50,28 +48,28 @@ pub(crate) enum Applied {
 }
 
 /// Lets what counts of a journal take effect, from its base on. It holds one payload at a time.
-pub(crate) fn replay<R: Threads + Sync, D: Disk>(
+pub(crate) fn replay<R: Threads + Sync, D: Disk, T: Follower + Drop>(
     rt: &R,
     alloc: Global,
     reader: Reader<D>,
-    engine: Engine,
-) -> Replayed<D>
+    follower: T,
+) -> Replayed<D, T>
     requires sync { IsSync R.row }
-    requires empty { engine.past ≡ past_from None }
-    ensures replays { (file : List ℕ) → HasRead D.bytes reader file nothing → Replays result file }
-    ensures tells { (file : List ℕ) → HasRead D.bytes reader file nothing → TellsReplayed D.bytes result }
+    requires empty { T.past follower ≡ past_from None }
+    ensures replays { (file : List ℕ) → HasRead D.bytes reader file nothing → Replays T.past result file }
+    ensures tells { (file : List ℕ) → HasRead D.bytes reader file nothing → TellsReplayed T.past D.bytes result }
     ensures at_rest { (file : List ℕ) → HasRead D.bytes reader file nothing → Only file (D.may_leave reader.disk)
-        → RestsReplayed D.bytes D.may_leave result }
-    ensures sound { SoundReplayed result }
+        → RestsReplayed T.past D.bytes D.may_leave result }
+    ensures sound { SoundReplayed T.past result }
     ensures goes_on { GoesOn result }
     ensures kept { Keeps D.bytes D.may_leave D.moment D.left_since reader.disk (disk_of_replayed result) }
     ensures counted { CountsReplayed result (D.faults reader.disk) (D.faults (disk_of_replayed result)) }
 {
     let mut reader = reader;
-    let mut engine = engine;
+    let mut follower = follower;
     'events: loop {
         match reader.next() {
-            Next::Base(at) => match take_base(alloc, &mut engine, reader.take_out(alloc)) {
+            Next::Base(at) => match take_base(alloc, &mut follower, reader.take_out(alloc)) {
                 Applied::Done => {}
                 Applied::NoEvent => {
                     return Replayed::Damaged {
@@ -81,7 +79,7 @@ pub(crate) fn replay<R: Threads + Sync, D: Disk>(
                 }
                 Applied::NoMemory => return Replayed::NoMemory(reader.close()),
             },
-            Next::Payload(at) => match take_payload(rt, alloc, &mut engine, reader.payload()) {
+            Next::Payload(at) => match take_payload(rt, alloc, &mut follower, reader.payload()) {
                 Applied::Done => {}
                 Applied::NoEvent => {
                     return Replayed::Damaged {
@@ -94,7 +92,7 @@ pub(crate) fn replay<R: Threads + Sync, D: Disk>(
             Next::End => {
                 return Replayed::Ready {
                     journal: reader.finish(),
-                    engine,
+                    follower,
                 };
             }
             Next::Damaged(at) => {
@@ -109,16 +107,16 @@ pub(crate) fn replay<R: Threads + Sync, D: Disk>(
     }
 }
 
-/// Puts the engine of a base's image in the place of another. The base's bytes are given back before it is made.
-fn take_base(alloc: Global, engine: &mut Engine, payload: Seq<u8>) -> Applied
-    ensures resumed { Resumes result payload engine.new.past }
+/// Begins anew at the image of a base. The base's bytes are given back before that.
+fn take_base<T: Follower + Drop>(alloc: Global, follower: &mut T, payload: Seq<u8>) -> Applied
+    ensures resumed { Resumes result payload (T.past follower.new) }
 {
     let found = read(alloc, payload.items());
     drop(payload);
     match found {
-        ReadImage::Image(image) => match Engine::from_image(alloc, image, &mut Steps::new(())) {
+        ReadImage::Image(image) => match T::begin(alloc, image) {
             Ok(made) => {
-                *engine = made;
+                *follower = made;
                 Applied::Done
             }
             Err(NoMemory) => Applied::NoMemory,
@@ -129,67 +127,34 @@ fn take_base(alloc: Global, engine: &mut Engine, payload: Seq<u8>) -> Applied
 }
 
 /// Lets the event of a payload take effect.
-fn take_payload<R: Threads + Sync>(
+fn take_payload<R: Threads + Sync, T: Follower>(
     rt: &R,
     alloc: Global,
-    engine: &mut Engine,
+    follower: &mut T,
     payload: &[u8],
 ) -> Applied
     requires sync { IsSync R.row }
-    ensures taken { Takes result payload.now engine.old.past engine.new.past }
+    ensures taken { Takes result payload.now (T.past follower.old) (T.past follower.new) }
 {
     match decode(alloc, payload) {
-        Decoded::Event(event) => take_event(rt, engine, event),
+        Decoded::Event(event) => take_event(rt, follower, event),
         Decoded::BadEvent(_) => Applied::NoEvent,
         Decoded::NoMemory => Applied::NoMemory,
     }
 }
 
 /// Lets an event take effect, where it is allowed next.
-fn take_event<R: Threads + Sync>(rt: &R, engine: &mut Engine, event: Event) -> Applied
+fn take_event<R: Threads + Sync, T: Follower>(rt: &R, follower: &mut T, event: Event) -> Applied
     requires sync { IsSync R.row }
     requires formed { IsFormed event }
-    ensures taken { Takes result (spelling.event event) engine.old.past engine.new.past }
-    ensures memory { result ≡ Applied.NoMemory → IsTrue (allowed (history_of engine.old.past) event) }
+    ensures taken { Takes result (spelling.event event) (T.past follower.old) (T.past follower.new) }
+    ensures memory { result ≡ Applied.NoMemory → IsTrue (allowed (history_of (T.past follower.old)) event) }
 {
-    match engine.check(&event) {
-        Ok(()) => match install(rt, engine, event) {
+    match follower.check_next(&event) {
+        Ok(()) => match follower.follow(rt, event) {
             Ok(()) => Applied::Done,
             Err(NoMemory) => Applied::NoMemory,
         },
         Err(_) => Applied::NoEvent,
-    }
-}
-
-/// Lets an event take effect that is allowed next.
-fn install<R: Threads + Sync>(rt: &R, engine: &mut Engine, event: Event) -> Result<(), NoMemory>
-    requires sync { IsSync R.row }
-    requires allowed { IsTrue (allowed (history_of engine.old.past) event) }
-    ensures past { OnOk result (engine.new.past ≡ with_event engine.old.past event) }
-{
-    let job = job_of(rt, engine, &event)?;
-    let prepared = engine.prepare(event, job)?;
-    engine.install(prepared);
-    Ok(())
-}
-
-/// The job of a finish that is allowed next. Other events need none.
-fn job_of<R: Threads + Sync>(
-    rt: &R,
-    engine: &Engine,
-    event: &Event,
-) -> Result<Option<Job>, NoMemory>
-    requires sync { IsSync R.row }
-    requires allowed { IsTrue (allowed (history_of engine.now.past) event.now) }
-    ensures job { IfOk result (JobIsFor (history_of engine.now.past) event.now) }
-{
-    match event {
-        Event::Built { cut, snap } => Ok(Some(engine.rebuild(rt, *cut, *snap)?)),
-        Event::Table(_) => Ok(None),
-        Event::Hyper { .. } => Ok(None),
-        Event::View(_) => Ok(None),
-        Event::Mode { .. } => Ok(None),
-        Event::Commit(_) => Ok(None),
-        Event::Cut { .. } => Ok(None),
     }
 }

@@ -4,7 +4,7 @@ ghost use Rattle.std.specs.Thread.{IsSync};
 ghost use Rattle.ts_disk.specs.CrashImage.{Only};
 ghost use Rattle.ts_disk.specs.Disk.{Keeps};
 ghost use Rattle.ts_store.specs.Starts.{CountsReplayed, CountsStarted, GoesOn, IfReady, IsNew, Replays, RestsReplayed, SoundReplayed};
-ghost use Rattle.ts_store.specs.Starts.{Starts, TellsReplayed, disk_of, disk_of_replayed};
+ghost use Rattle.ts_store.specs.Starts.{Starts, TellsReplayed, disk_of, disk_of_replayed, past_of};
 ghost use Rattle.ts_store.specs.Stores.{Rests, Tells};
 
 use crate::begun::Begun;
@@ -63,13 +63,17 @@ impl<D: Disk> Store<D> {
 }
 
 /// What the start of a store found, on a disk whose journal was read so.
-fn from_replayed<D: Disk>(alloc: Global, begun: Begun<D>, replayed: Replayed<D>) -> Started<D>
+fn from_replayed<D: Disk>(
+    alloc: Global,
+    begun: Begun<D>,
+    replayed: Replayed<D, Engine>,
+) -> Started<D>
     requires bounded { D.faults begun < 2 ^ 64 }
-    requires replays { (file : List ℕ) → D.bytes begun ≡ Some file → Replays replayed file }
-    requires tells { (file : List ℕ) → D.bytes begun ≡ Some file → TellsReplayed D.bytes replayed }
+    requires replays { (file : List ℕ) → D.bytes begun ≡ Some file → Replays past_of replayed file }
+    requires tells { (file : List ℕ) → D.bytes begun ≡ Some file → TellsReplayed past_of D.bytes replayed }
     requires at_rest { (file : List ℕ) → D.bytes begun ≡ Some file → Only file (D.may_leave begun)
-        → RestsReplayed D.bytes D.may_leave replayed }
-    requires sound { SoundReplayed replayed }
+        → RestsReplayed past_of D.bytes D.may_leave replayed }
+    requires sound { SoundReplayed past_of replayed }
     requires goes_on { GoesOn replayed }
     requires kept { Keeps D.bytes D.may_leave D.moment D.left_since begun (disk_of_replayed replayed) }
     requires counted { CountsReplayed replayed (D.faults begun) (D.faults (disk_of_replayed replayed)) }
@@ -82,8 +86,8 @@ fn from_replayed<D: Disk>(alloc: Global, begun: Begun<D>, replayed: Replayed<D>)
     ensures counted { CountsStarted result (D.faults begun) (D.faults (disk_of result)) }
 {
     match replayed {
-        Replayed::Ready { journal, engine } => {
-            Started::Ready(Store::new(alloc, engine, journal, begun))
+        Replayed::Ready { journal, follower } => {
+            Started::Ready(Store::new(alloc, follower, journal, begun))
         }
         Replayed::Damaged { disk, at } => Started::Damaged { disk, at },
         Replayed::DiskFault(disk) => Started::DiskFault(disk),

@@ -12,13 +12,14 @@ use crate::checkpoints::print_line;
 use crate::endings::{Ended, Status};
 use arrayvec::ArrayString;
 use audit::{Audit, audit};
-use engine_core::Engine;
+use engine_core::Ledger;
 use itoa::Buffer;
 use std::alloc::Global;
+use std::mem::forget;
 use std::thread::Threads;
 use ts_disk::Disk;
 use ts_io::{AllEnd, Sink, Source, read_all};
-use ts_store::{Started, Store};
+use ts_store::{HistoryRead, read_history};
 
 /// The line of an audit. It takes no memory.
 type Line = ArrayString<70>;
@@ -120,33 +121,32 @@ fn print_audit<K: Sink>(sink: &mut K, audit: Audit, end: u64) -> Status
     }
 }
 
-/// Prints whether the history of an engine explains the transcript that a text is, and tells how the call
+/// Prints whether the history of a ledger explains the transcript that a text is, and tells how the call
 /// ends.
 fn audit_read<R: Threads + Sync, K: Sink>(
     rt: &R,
     alloc: Global,
     text: &[u8],
     sink: &mut K,
-    engine: &Engine,
+    ledger: &Ledger,
 ) -> Status
     requires sync { IsSync R.row }
-    ensures told { AuditTold (history_of engine.now.past) text.now result (sink.new ≡ sink.old)
+    ensures told { AuditTold (history_of ledger.now.past) text.now result (sink.new ≡ sink.old)
         (K.written sink.old) (K.written sink.new) }
     ensures counted { Counted (K.faults sink.old) (K.faults sink.new) (is_write_fault result) }
 {
-    // It is given up: asking for a snapshot tells that the history is an allowed one.
-    let _ = engine.shot();
-    let found = audit(rt, alloc, engine.base(), engine.events(), text);
-    print_audit(sink, found, engine.length())
+    let end = ledger.length();
+    let found = audit(rt, alloc, ledger.base(), ledger.events(), text);
+    print_audit(sink, found, end)
 }
 
-/// Reads a whole text, and prints whether the history of an engine explains the transcript that it is.
+/// Reads a whole text, and prints whether the history of a ledger explains the transcript that it is.
 fn audit_source<R, S, K>(
     rt: &R,
     alloc: Global,
     source: &mut S,
     sink: &mut K,
-    engine: &Engine,
+    ledger: &Ledger,
 ) -> Status
 where
     R: Threads + Sync,
@@ -154,14 +154,14 @@ where
     K: Sink,
     requires sync { IsSync R.row }
     requires untold { S.ended source.old ≡ false }
-    ensures audits { Audits (history_of engine.now.past) result (sink.new ≡ sink.old)
+    ensures audits { Audits (history_of ledger.now.past) result (sink.new ≡ sink.old)
         (S.left source.old) (S.left source.new) (K.written sink.old) (K.written sink.new) }
     ensures reads { Counted (S.faults source.old) (S.faults source.new) (is_read_fault result) }
     ensures writes { Counted (K.faults sink.old) (K.faults sink.new) (is_write_fault result) }
 {
     let mut text = Vec::new(alloc);
     match read_all(source, &mut text) {
-        AllEnd::End => audit_read(rt, alloc, &text, sink, engine),
+        AllEnd::End => audit_read(rt, alloc, &text, sink, ledger),
         AllEnd::InputLong => Status::InputLong,
         AllEnd::ReadFault => Status::ReadFault,
         AllEnd::NoMemory => Status::NoMemory,
@@ -169,7 +169,8 @@ where
 }
 
 /// Reads a transcript, and prints whether the history that the journal on the disk stands for explains it.
-/// The text is read once the journal stands for a history, and the disk stays as it was.
+/// The text is read once the journal stands for a history, and the disk stays as it was. The history stays
+/// with the process, which is at its end: letting go of its events one by one would take time.
 pub(crate) fn audit_transcript<R, S, K, D>(
     rt: &R,
     alloc: Global,
@@ -199,26 +200,27 @@ where
     ensures writes { Counted (K.faults sink.old) (K.faults sink.new) (is_write_fault result.status) }
     ensures disk { Counted (D.faults disk) (D.faults result.disk) (is_disk_fault result.status) }
 {
-    match Store::start(rt, alloc, disk) {
-        Started::Ready(store) => {
-            let status = audit_source(rt, alloc, source, sink, store.engine());
+    match read_history(rt, alloc, disk) {
+        HistoryRead::Ready { disk, ledger } => {
+            let status = audit_source(rt, alloc, source, sink, &ledger);
+            forget(ledger);
             Ended {
                 status,
-                disk: store.close(),
+                disk,
                 reads: 0,
             }
         }
-        Started::Damaged { disk, at } => Ended {
+        HistoryRead::Damaged { disk, at } => Ended {
             status: Status::Damaged(at),
             disk,
             reads: 0,
         },
-        Started::DiskFault(disk) => Ended {
+        HistoryRead::DiskFault(disk) => Ended {
             status: Status::DiskFault,
             disk,
             reads: 0,
         },
-        Started::NoMemory(disk) => Ended {
+        HistoryRead::NoMemory(disk) => Ended {
             status: Status::NoMemory,
             disk,
             reads: 0,

@@ -14,16 +14,17 @@ ghost use Rattle.ts_top.specs.Outcomes.{PrintedTo};
 
 use crate::commands::Text;
 use crate::endings::{Ended, Status};
-use engine_core::Engine;
+use engine_core::Ledger;
 use result_text::{put_event, put_history, put_pending};
 use std::alloc::Global;
+use std::mem::forget;
 use std::thread::Threads;
 use ts_bucket::first;
 use ts_disk::Disk;
 use ts_io::{Sink, WriteFault, write_whole};
-use ts_model::{Event, Image, Roster, Shown, Waiting};
+use ts_model::{Event, Image, Roster, Waiting};
 use ts_schema::NoMemory;
-use ts_store::{Started, Store};
+use ts_store::{HistoryRead, read_history};
 
 /// Why printing stopped.
 #[derive(Clone, Copy, Debug, PartialEq, Eq)]
@@ -120,19 +121,18 @@ fn print_base<K: Sink>(alloc: Global, sink: &mut K, base: &Option<Image>) -> Res
     }
 }
 
-/// Prints the log of an engine's history.
-fn print_log<K: Sink>(alloc: Global, sink: &mut K, engine: &Engine) -> Result<(), PrintStop>
+/// Prints the log of a ledger's history.
+fn print_log<K: Sink>(alloc: Global, sink: &mut K, ledger: &Ledger) -> Result<(), PrintStop>
     ensures done { OnOk result (Appends (K.written sink.old) (K.written sink.new)
-        (log_of (history_of engine.now.past))) }
+        (log_of (history_of ledger.now.past))) }
     ensures part { OnErr result (AppendsPart (K.written sink.old) (K.written sink.new)
-        (log_of (history_of engine.now.past))) }
+        (log_of (history_of ledger.now.past))) }
     ensures counted { Counted (K.faults sink.old) (K.faults sink.new) (failed_writing result) }
 {
-    let shot = engine.shot()?;
-    let events = engine.events();
-    let after = engine.length() - events.len() as u64;
-    print_base(alloc, sink, engine.base())?;
-    print_events(alloc, sink, after, events, shot.roster())?;
+    let events = ledger.events();
+    let after = ledger.length() - events.len() as u64;
+    print_base(alloc, sink, ledger.base())?;
+    print_events(alloc, sink, after, events, ledger.roster())?;
     Ok(())
 }
 
@@ -163,46 +163,45 @@ fn put_all_waiting(refreshes: &[Waiting], names: &Roster, out: &mut Vec<u8>) -> 
     Ok(())
 }
 
-/// The position of an engine's history, and the refreshes that wait.
-fn check_text(alloc: Global, engine: &Engine) -> Result<Vec<u8>, NoMemory>
-    ensures text { IfOk result (λ text. text.items ≡ check_of (history_of engine.now.past)) }
+/// The position of a ledger's history, and the refreshes that wait.
+fn check_text(alloc: Global, ledger: &Ledger) -> Result<Vec<u8>, NoMemory>
+    ensures text { IfOk result (λ text. text.items ≡ check_of (history_of ledger.now.past)) }
 {
     let mut text = Vec::new(alloc);
-    put_history(engine.length(), &mut text)?;
-    let shot = engine.shot()?;
-    put_all_waiting(engine.waiting()?.items(), shot.roster(), &mut text)?;
+    put_history(ledger.length(), &mut text)?;
+    put_all_waiting(ledger.waiting()?.items(), ledger.roster(), &mut text)?;
     Ok(text)
 }
 
-/// Prints the position of an engine's history, and the refreshes that wait.
-fn print_check<K: Sink>(alloc: Global, sink: &mut K, engine: &Engine) -> Result<(), PrintStop>
+/// Prints the position of a ledger's history, and the refreshes that wait.
+fn print_check<K: Sink>(alloc: Global, sink: &mut K, ledger: &Ledger) -> Result<(), PrintStop>
     ensures done { OnOk result (Appends (K.written sink.old) (K.written sink.new)
-        (check_of (history_of engine.now.past))) }
+        (check_of (history_of ledger.now.past))) }
     ensures part { OnErr result (AppendsPart (K.written sink.old) (K.written sink.new)
-        (check_of (history_of engine.now.past))) }
+        (check_of (history_of ledger.now.past))) }
     ensures counted { Counted (K.faults sink.old) (K.faults sink.new) (failed_writing result) }
 {
-    let text = check_text(alloc, engine)?;
+    let text = check_text(alloc, ledger)?;
     write_whole(sink, &text)?;
     Ok(())
 }
 
-/// Prints a text of an engine's history.
+/// Prints a text of a ledger's history.
 fn print_text<K: Sink>(
     alloc: Global,
     sink: &mut K,
-    engine: &Engine,
+    ledger: &Ledger,
     text: Text,
 ) -> Result<(), PrintStop>
     ensures done { OnOk result (Appends (K.written sink.old) (K.written sink.new)
-        (text_of text (history_of engine.now.past))) }
+        (text_of text (history_of ledger.now.past))) }
     ensures part { OnErr result (AppendsPart (K.written sink.old) (K.written sink.new)
-        (text_of text (history_of engine.now.past))) }
+        (text_of text (history_of ledger.now.past))) }
     ensures counted { Counted (K.faults sink.old) (K.faults sink.new) (failed_writing result) }
 {
     match text {
-        Text::Log => print_log(alloc, sink, engine),
-        Text::Check => print_check(alloc, sink, engine),
+        Text::Log => print_log(alloc, sink, ledger),
+        Text::Check => print_check(alloc, sink, ledger),
     }
 }
 
@@ -217,7 +216,8 @@ fn status_of_print(printed: Result<(), PrintStop>) -> Status
     }
 }
 
-/// Prints a text of the journal on the disk, and leaves the disk as it was.
+/// Prints a text of the journal on the disk, and leaves the disk as it was. The history stays with the
+/// process, which is at its end: letting go of its events one by one would take time.
 pub(crate) fn print<R: Threads + Sync, K: Sink, D: Disk>(
     rt: &R,
     alloc: Global,
@@ -239,26 +239,27 @@ pub(crate) fn print<R: Threads + Sync, K: Sink, D: Disk>(
     ensures writes { Counted (K.faults sink.old) (K.faults sink.new) (is_write_fault result.status) }
     ensures disk { Counted (D.faults disk) (D.faults result.disk) (is_disk_fault result.status) }
 {
-    match Store::start(rt, alloc, disk) {
-        Started::Ready(store) => {
-            let printed = print_text(alloc, sink, store.engine(), text);
+    match read_history(rt, alloc, disk) {
+        HistoryRead::Ready { disk, ledger } => {
+            let printed = print_text(alloc, sink, &ledger, text);
+            forget(ledger);
             Ended {
                 status: status_of_print(printed),
-                disk: store.close(),
+                disk,
                 reads: 0,
             }
         }
-        Started::Damaged { disk, at } => Ended {
+        HistoryRead::Damaged { disk, at } => Ended {
             status: Status::Damaged(at),
             disk,
             reads: 0,
         },
-        Started::DiskFault(disk) => Ended {
+        HistoryRead::DiskFault(disk) => Ended {
             status: Status::DiskFault,
             disk,
             reads: 0,
         },
-        Started::NoMemory(disk) => Ended {
+        HistoryRead::NoMemory(disk) => Ended {
             status: Status::NoMemory,
             disk,
             reads: 0,

@@ -1,18 +1,18 @@
-use Rattle.std.proofs.Common.{List, ℕ, sym, ◌∙◌, ap, subst}
+use Rattle.std.proofs.Common.{sym, ◌∙◌, ap, subst}
 use Rattle.engine_core.specs.Histories.{history_of}
 use Rattle.ts_disk.specs.Disk.{Keeps}
 use Rattle.txn_journal.specs.Contents.{Content}
 use Rattle.txn_journal.specs.Reading.{HasRead, based_on, with_next}
 use Rattle.txn_journal.proofs.Moments.{keeps_both}
-use Rattle.ts_store.specs.Stands.{IsNoEvent, content_of}
+use Rattle.ts_store.specs.Stands.{content_of}
 use Rattle.ts_store.proofs.ReplayLaws.{damaged_short, resumed_counts, resumed_sound, taken_more, taken_sound}
 use Rattle.ts_store.proofs.replays.replay.Goals as goal
 
 pub events-preserved : goal.events-preserved
 events-preserved g c =
-    let old = c.events.engine.past in
-    let new = c.take_payload.new.engine.past in
-    let before = content_of (history_of c.events.engine.past) in
+    let old = g.T.Follower.past c.events.follower in
+    let new = g.T.Follower.past c.take_payload.new.follower in
+    let before = content_of (history_of (g.T.Follower.past c.events.follower)) in
     record {
       read = λ file has.
           let step = c.in-Payload.ensures.steps file before (c.events.invariant.read file has) in
@@ -25,8 +25,8 @@ events-preserved g c =
 
 pub events-preserved-in-Done : goal.events-preserved-in-Done
 events-preserved-in-Done g c =
-    let before = content_of (history_of c.events.engine.past) in
-    let new = c.take_base.new.engine.past in
+    let before = content_of (history_of (g.T.Follower.past c.events.follower)) in
+    let new = g.T.Follower.past c.take_base.new.follower in
     record {
       read = λ file has.
           let step = c.in-Base.ensures.steps file before (c.events.invariant.read file has) in
@@ -41,11 +41,11 @@ events-preserved-in-Done g c =
 
 pub returns-in-End-clause-at_rest : goal.returns-in-End-clause-at_rest
 returns-in-End-clause-at_rest g c = λ file has only.
-    let now = content_of (history_of c.events.engine.past) in
+    let now = content_of (history_of (g.T.Follower.past c.events.follower)) in
     let kept = keeps_both g.D.Disk.bytes g.D.Disk.may_leave g.D.Disk.moment g.D.Disk.left_since c.args.reader.disk c.events.reader.disk c.next.new.self.disk c.events.invariant.kept c.next.ensures.kept in
     c.finish.ensures.at_rest file now (c.in-End.ensures.steps file now (c.events.invariant.read file has)).1 (λ image left. only image (kept.leaves image left))
 
 pub returns-in-Damaged-clause-replays : goal.returns-in-Damaged-clause-replays
 returns-in-Damaged-clause-replays g c = λ file has.
-    let h = history_of c.events.engine.past in
+    let h = history_of (g.T.Follower.past c.events.follower) in
     damaged_short file h c.in-Damaged.at c.events.invariant.sound (c.in-Damaged.ensures.steps file (content_of h) (c.events.invariant.read file has)).0

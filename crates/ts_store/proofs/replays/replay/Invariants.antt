@@ -9,8 +9,8 @@ use Rattle.ts_store.proofs.replays.replay.Given as goal
 
 abbrev pub invariant-events : goal.invariant-events
 invariant-events g l = record {
-  read : (file : List ℕ) → HasRead g.D.Disk.bytes l.fn.reader file nothing → HasRead g.D.Disk.bytes l.reader file (content_of (history_of l.engine.past));
-  sound : IsSound (history_of l.engine.past);
+  read : (file : List ℕ) → HasRead g.D.Disk.bytes l.fn.reader file nothing → HasRead g.D.Disk.bytes l.reader file (content_of (history_of (g.T.Follower.past l.follower)));
+  sound : IsSound (history_of (g.T.Follower.past l.follower));
   kept : Keeps g.D.Disk.bytes g.D.Disk.may_leave g.D.Disk.moment g.D.Disk.left_since l.fn.reader.disk l.reader.disk;
   counted : g.D.Disk.faults l.reader.disk ≡ g.D.Disk.faults l.fn.reader.disk;
 }

@@ -15,7 +15,7 @@ returns-in-End-clause-audits g c =
     let rest = S.left c.read_all.new.source in
     let text = c.deref.result.now in
     let told = c.audit_read.ensures.told in
-    audited (history_of c.args.engine.now.past) (c.audit_read.new.sink ≡ c.args.sink.now) input rest (K.written c.args.sink.now) (K.written c.audit_read.new.sink) text
+    audited (history_of c.args.ledger.now.past) (c.audit_read.new.sink ≡ c.args.sink.now) input rest (K.written c.args.sink.now) (K.written c.audit_read.new.sink) text
     (subst (λ out. IfSome input (λ i. ReadWhole i rest × (i ≡ out))) (sym c.deref.ensures.value) (read_whole input rest c.read_all.new.out.items c.in-End.ensures.read.0 c.in-End.ensures.read.1 c.read_all.ensures.within))
     told.audit c.audit_read.result told.answers told.prints
 

@@ -1,13 +1,10 @@
 -- The audit is over the history that the journal stood for.
-use Rattle.std.proofs.Common.{◌≡◌, IfSome, sym, ◌∙◌, subst}
-use Rattle.ts_io.specs.Faults.{Counted}
+use Rattle.std.proofs.Common.{◌≡◌, IfSome}
 use Rattle.ts_model.specs.History.{History}
 use Rattle.engine_core.specs.Histories.{history_of}
 use Rattle.ts_store.specs.Stands.{Stands}
-use Rattle.ts_store.specs.Stores.{seen}
-use Rattle.ts_top.specs.Audits.{Audits}
 use Rattle.ts_top.specs.Outcomes.{Outside}
-use Rattle.ts_top.proofs.AuditLaws.{audit_to, disk_no_fault}
+use Rattle.ts_top.proofs.AuditLaws.{audit_to}
 use Rattle.ts_top.proofs.OutcomeLaws.{if_known}
 use Rattle.ts_top.proofs.audits.audit_transcript.Goals as goal
 
@@ -16,9 +13,9 @@ returns-in-Ready-clause-outcome g c =
     let D = g.D.Disk in
     let K = g.K.Sink in
     let S = g.S.Source in
-    let h : History = seen c.in-Ready.store in
+    let h : History = history_of c.in-Ready.ledger.past in
     let told = c.audit_source-status in
-    let o : Outside = record { input = S.left c.args.source.now; rest = S.left told.new.source; written_before = K.written c.args.sink.now; written = K.written told.new.sink; file_before = D.bytes c.args.disk; file = D.bytes c.close.result; reads = 0 } in
+    let o : Outside = record { input = S.left c.args.source.now; rest = S.left told.new.source; written_before = K.written c.args.sink.now; written = K.written told.new.sink; file_before = D.bytes c.args.disk; file = D.bytes c.in-Ready.disk; reads = 0 } in
     audit_to told.result (told.new.source ≡ c.args.source.now) (told.new.sink ≡ c.args.sink.now) o h
-    (if_known (D.bytes c.args.disk) (λ file. Stands file h) c.in-Ready.ensures.starts)
-    (subst (λ e. Audits (history_of e.past) told.result (told.new.sink ≡ c.args.sink.now) o.input o.rest o.written_before o.written) c.engine.ensures.engine told.ensures.audits)
+    (if_known (D.bytes c.args.disk) (λ file. Stands file h) c.in-Ready.ensures.reads)
+    told.ensures.audits

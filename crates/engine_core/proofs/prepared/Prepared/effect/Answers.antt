@@ -1,5 +1,5 @@
 -- What is kept of the history with the event tells what the event did.
-use Rattle.std.proofs.Common.{◌≡◌, ap, ◌∙◌}
+use Rattle.std.proofs.Common.{ap, ◌∙◌}
 use Rattle.ts_model.specs.declared.outcomes.Committed.{Committed}
 use Rattle.engine_core.specs.Values.{PreparedValue}
 use Rattle.engine_core.proofs.TimelineLaws.{effect_by}

@@ -1,6 +1,6 @@
-use Rattle.std.proofs.Common.{◌≡◌, ◌≤◌, arith, ap, ◌∙◌}
-use Rattle.ts_model.specs.History.{base_position, position}
-use Rattle.engine_core.specs.Histories.{begun_by, history_of}
+use Rattle.std.proofs.Common.{◌≡◌, arith, ap, ◌∙◌}
+use Rattle.ts_model.specs.History.{position}
+use Rattle.engine_core.specs.Histories.{begun_by}
 use Rattle.engine_core.specs.Timelines.{TimelineValue}
 use Rattle.engine_core.specs.Values.{Past}
 use Rattle.engine_core.proofs.EventLaws.{base_of}

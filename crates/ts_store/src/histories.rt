@@ -1,0 +1,58 @@
+//! The history of a journal, without a store.
+ghost use Rattle.std.specs.Prelude.{◌≡◌, ℕ, List, Some};
+ghost use Rattle.std.specs.Thread.{IsSync};
+ghost use Rattle.ts_disk.specs.Disk.{Keeps};
+ghost use Rattle.ts_store.specs.Starts.{CountsRead, CountsReplayed, ReadsHistory, Replays, disk_of_read, disk_of_replayed, told_to};
+
+use crate::replays::{Replayed, replay};
+use engine_core::Ledger;
+use std::alloc::Global;
+use std::thread::Threads;
+use ts_disk::Disk;
+use txn_journal::{Opened, Reader};
+
+/// What reading the history of a journal found.
+#[derive(Drop)]
+pub enum HistoryRead<D: Disk> {
+    /// The history that the journal stands for.
+    Ready { disk: D, ledger: Ledger },
+    /// The journal stands for no history. This is its least damaged place, as the start of a store tells it.
+    Damaged { disk: D, at: u64 },
+    /// The disk failed.
+    DiskFault(D),
+    /// There is no memory.
+    NoMemory(D),
+}
+
+/// Reads the journal on a disk, event by event, as the start of a store does, and keeps its history without
+/// its rows: whether an event may come next is told without them. It writes nothing, and hands the disk back
+/// on every answer.
+pub fn read_history<R: Threads + Sync, D: Disk>(rt: &R, alloc: Global, disk: D) -> HistoryRead<D>
+    requires sync { IsSync R.row }
+    ensures reads { (file : List ℕ) → D.bytes disk ≡ Some file → ReadsHistory result file }
+    ensures kept { Keeps D.bytes D.may_leave D.moment D.left_since disk (disk_of_read result) }
+    ensures counted { CountsRead result (D.faults disk) (D.faults (disk_of_read result)) }
+{
+    match Reader::open(alloc, disk) {
+        Opened::Reading(reader) => closed(replay(rt, alloc, reader, Ledger::new(alloc))),
+        Opened::Damaged { disk, at } => HistoryRead::Damaged { disk, at },
+        Opened::DiskFault(disk) => HistoryRead::DiskFault(disk),
+    }
+}
+
+/// What was read of a journal, which is closed.
+fn closed<D: Disk>(replayed: Replayed<D, Ledger>) -> HistoryRead<D>
+    ensures reads { (file : List ℕ) → Replays told_to replayed file → ReadsHistory result file }
+    ensures disk { disk_of_read result ≡ disk_of_replayed replayed }
+    ensures counted { (before now : ℕ) → CountsReplayed replayed before now → CountsRead result before now }
+{
+    match replayed {
+        Replayed::Ready { journal, follower } => HistoryRead::Ready {
+            disk: journal.close(),
+            ledger: follower,
+        },
+        Replayed::Damaged { disk, at } => HistoryRead::Damaged { disk, at },
+        Replayed::DiskFault(disk) => HistoryRead::DiskFault(disk),
+        Replayed::NoMemory(disk) => HistoryRead::NoMemory(disk),
+    }
+}
