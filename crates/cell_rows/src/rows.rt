@@ -1,13 +1,11 @@
 //! Rows of cells.
 ghost use Rattle.std.specs.Prelude.{◌≡◌, ◌==◌, [], ◌∷◌, ◌++◌, length, IfOk, OnErr};
-ghost use Rattle.std.specs.Arc.{arc_value};
 ghost use Rattle.cell_rows.specs.Parts.{AreParts, parts};
 
 use crate::iter::Iter;
 use std::alloc::Global;
 use std::marker::Model;
-use std::sync::Arc;
-use ts_schema::{NoMemory, Seq, SharedSlice};
+use ts_schema::NoMemory;
 
 /// Rows of cells, of any length each. Contracts see them as a list of lists.
 #[derive(Drop, Debug)]
@@ -90,32 +88,4 @@ impl<T: Copy + Drop> CellRows<T> {
         self.ends.push_reserved(self.cells.as_slice().len());
         Ok(())
     }
-}
-
-impl<T: Drop> CellRows<T> {
-    /// The rows, whose cells stand in one block from here on, which they share.
-    pub fn into_shared(self, alloc: Global) -> Result<Seq<SharedSlice<T>>, NoMemory>
-        ensures rows { IfOk result (λ rows. rows ≡ self) }
-    {
-        let block = Arc::new(alloc, Seq::of(self.cells))?;
-        shared_parts(alloc, &block, self.ends.as_slice())
-    }
-}
-
-/// The parts of a block that end at these places.
-fn shared_parts<T: Drop>(
-    alloc: Global,
-    block: &Arc<Seq<T>>,
-    ends: &[usize],
-) -> Result<Seq<SharedSlice<T>>, NoMemory>
-    requires { AreParts 0 ends.now (arc_value block.now) }
-    ensures { IfOk result (λ rows. rows ≡ parts 0 ends.now (arc_value block.now)) }
-{
-    let mut rows = Vec::with_capacity(alloc, ends.len())?;
-    let mut from = 0;
-    for end in ends {
-        rows.push(SharedSlice::part(block, from, *end)?)?;
-        from = *end;
-    }
-    Ok(Seq::of(rows))
 }

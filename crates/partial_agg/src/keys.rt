@@ -51,6 +51,7 @@ impl Keys {
     }
 
     /// How many keys there are.
+    #[inline]
     pub fn len(&self) -> usize
         ensures len { result ≡ length self.now }
     {
@@ -58,6 +59,7 @@ impl Keys {
     }
 
     /// The keys, in order.
+    #[inline]
     pub fn items(&self) -> &[Option<i64>]
         ensures items { result.now ≡ self.now }
     {

@@ -72,6 +72,7 @@ impl Partial {
     }
 
     /// The partial aggregate of one row, with this value.
+    #[inline]
     pub fn one(v: Option<i64>) -> Partial
         ensures { result ≡ summary (v ∷ []) }
     {
@@ -111,6 +112,7 @@ impl Partial {
     }
 
     /// The least value, `None` where there are none.
+    #[inline]
     pub fn least(&self) -> Option<i64>
         ensures { result ≡ self.now.least }
     {
@@ -118,6 +120,7 @@ impl Partial {
     }
 
     /// The greatest value, `None` where there are none.
+    #[inline]
     pub fn most(&self) -> Option<i64>
         ensures { result ≡ self.now.most }
     {
@@ -125,6 +128,7 @@ impl Partial {
     }
 
     /// Takes in one more row, with this value. There have to be fewer than `2^62 - 1` rows before.
+    #[inline]
     pub fn add(&mut self, v: Option<i64>)
         requires { self.old.count < 2 ^ 62 - 1 }
         ensures added { self.new ≡ joined self.old (summary (v ∷ [])) }
@@ -158,6 +162,7 @@ impl Partial {
     }
 
     /// Takes in the rows of another partial aggregate. Together there have to be fewer than `2^62`.
+    #[inline]
     pub fn merge(&mut self, other: &Partial)
         requires { self.old.count + other.now.count < 2 ^ 62 }
         ensures merged { self.new ≡ joined self.old other.now }
@@ -173,6 +178,7 @@ impl Partial {
     }
 
     /// What an aggregate function shows of the rows.
+    #[inline]
     pub fn finish(&self, fun: Fun) -> Datum
         ensures shown { result ≡ shown fun self.now }
         ensures of_column { (column : List (Option ℤ)) → self.now ≡ summary column → result ≡ aggregate fun column }
@@ -188,6 +194,7 @@ impl Partial {
     }
 
     /// The whole number that an aggregate function shows of the rows: none where it shows NULL or a mean.
+    #[inline]
     pub fn number(&self, fun: Fun) -> Option<i128>
         ensures number { result ≡ value_of (shown fun self.now) }
     {
@@ -200,16 +207,10 @@ impl Partial {
             Fun::Avg => mean_number(self.values, self.sum),
         }
     }
-
-    /// States what holds of every partial aggregate. It does nothing.
-    pub fn bounds(&self)
-        ensures { IsBounded self.now.count self.now.values self.now.sum }
-    {
-        let _count = self.count;
-    }
 }
 
 /// The end that is kept beside so many values.
+#[inline]
 fn end(values: u64, v: i64) -> Option<i64>
     ensures { result ≡ end_of values v }
 {
@@ -287,6 +288,7 @@ fn mean(values: u64, sum: i128) -> Datum
 }
 
 /// A number, where it isn't missing.
+#[inline]
 fn number(v: Option<i64>) -> Option<i128>
     ensures { result ≡ value_of (shown_or_null v) }
 {

@@ -44,6 +44,7 @@ impl<T> Seq<T> {
     }
 
     /// How many items there are.
+    #[inline]
     pub fn len(&self) -> usize
         ensures len { result ≡ length self.now }
     {
@@ -58,6 +59,7 @@ impl<T> Seq<T> {
     }
 
     /// The items, in order.
+    #[inline]
     pub fn items(&self) -> &[T]
         ensures items { result.now ≡ self.now }
     {
@@ -65,6 +67,7 @@ impl<T> Seq<T> {
     }
 
     /// The item at place `i`, counted from 0.
+    #[inline]
     pub fn get(&self, i: usize) -> &T
         requires { i < length self.now }
         ensures item { result.now ≡ slice_index_or self.now i result.now }

@@ -67,6 +67,7 @@ impl<T: Drop> SharedSlice<T> {
     }
 
     /// How many items there are.
+    #[inline]
     pub fn len(&self) -> usize
         ensures len { result ≡ length self.now }
     {
@@ -74,6 +75,7 @@ impl<T: Drop> SharedSlice<T> {
     }
 
     /// The items, in order.
+    #[inline]
     pub fn items(&self) -> &[T]
         ensures items { result.now ≡ self.now }
     {
@@ -93,6 +95,7 @@ impl<T: Drop> SharedSlice<T> {
 }
 
 /// A place in a block, where 32 bits hold it.
+#[inline]
 pub(crate) fn place(i: usize) -> Result<u32, NoMemory>
     ensures place { IfOk result (λ place. place ≡ i) }
     ensures small { IfOk result (λ place. place < 2 ^ 32) }

@@ -55,6 +55,7 @@ impl ValueBlock {
     }
 
     /// How many values there are.
+    #[inline]
     pub fn len(&self) -> usize
         ensures len { result ≡ length self.now }
     {
@@ -69,6 +70,7 @@ impl ValueBlock {
     }
 
     /// The value at place `i`, counted from 0.
+    #[inline]
     pub fn get(&self, i: usize) -> Option<i64>
         requires { i < length self.now }
         ensures value { result ≡ slice_index_or self.now i None }
@@ -77,6 +79,7 @@ impl ValueBlock {
     }
 
     /// Puts a value at the end.
+    #[inline]
     pub fn push(&mut self, value: Option<i64>) -> Result<(), NoMemory>
         ensures pushed { IfOk result (λ _. self.new ≡ self.old ++ value ∷ []) }
         ensures kept { OnErr result (self.new ≡ self.old) }
@@ -88,6 +91,7 @@ impl ValueBlock {
     }
 
     /// Puts a number at the end.
+    #[inline]
     fn push_number(&mut self, number: i64) -> Result<(), NoMemory>
         ensures pushed { IfOk result (λ _. self.new ≡ self.old ++ Some number ∷ []) }
         ensures kept { OnErr result (self.new ≡ self.old) }
@@ -110,6 +114,7 @@ impl ValueBlock {
 }
 
 /// The value at a place, from the numbers and the marks.
+#[inline]
 fn value_at(numbers: &[i64], nulls: &[bool], i: usize) -> Option<i64>
     requires { i < length numbers.now }
     ensures { result ≡ slice_index_or (marked nulls.now numbers.now) i None }
@@ -118,6 +123,7 @@ fn value_at(numbers: &[i64], nulls: &[bool], i: usize) -> Option<i64>
 }
 
 /// Whether NULL stands at a place, from the marks.
+#[inline]
 fn is_marked(nulls: &[bool], i: usize) -> bool
     ensures { result ≡ slice_index_or nulls.now i false }
 {
@@ -125,6 +131,7 @@ fn is_marked(nulls: &[bool], i: usize) -> bool
 }
 
 /// A number, or NULL where it is marked.
+#[inline]
 fn unless_marked(null: bool, number: i64) -> Option<i64>
     ensures { result ≡ unless_marked null number }
 {
@@ -180,6 +187,7 @@ impl Values {
     }
 
     /// How many values there are.
+    #[inline]
     pub fn len(&self) -> usize
         ensures len { result ≡ length self.now }
     {
@@ -194,6 +202,7 @@ impl Values {
     }
 
     /// The value at place `i`, counted from 0.
+    #[inline]
     pub fn get(&self, i: usize) -> Option<i64>
         requires { i < length self.now }
         ensures value { result ≡ slice_index_or self.now i None }
