@@ -163,7 +163,7 @@ fn plan(alloc: Global, above: i64) -> Result<CalPlan, Fail>
 fn shows(row: Option<ResultRow<'_>>, cells: &[Datum]) -> bool {
     match row {
         Some(ResultRow::Cells(found)) => found == cells,
-        Some(ResultRow::Group { .. }) | Some(ResultRow::Chosen { .. }) | None => false,
+        Some(ResultRow::Group(_)) | Some(ResultRow::Chosen { .. }) | None => false,
     }
 }
 

@@ -3,15 +3,15 @@ ghost use Rattle.std.specs.Prelude.{◌≡◌, ◌++◌, codes, map, OnErr, OnOk
 ghost use Rattle.ts_num.specs.Aggregates.{shown_or_null};
 ghost use Rattle.ts_num.specs.Texts.{datum_text};
 ghost use Rattle.ts_model.specs.Chosen.{cell_or_null, chosen_cells};
-ghost use Rattle.ts_model.specs.Groups.{cells_by, shown_each};
-ghost use Rattle.ts_model.specs.Results.{row_cells};
+ghost use Rattle.ts_model.specs.Groups.{shown_each};
+ghost use Rattle.ts_model.specs.Results.{group_cells, row_cells};
 ghost use Rattle.result_text.specs.Answers.{answer_counts, answer_head, answer_lines, answer_place, answer_text, cells_text, more_cells, queue_text, queued_answer_text, rows_text, stale_text};
 
 use crate::pieces::Text;
 use crate::spans::put_span;
-use partial_agg::{Group, Partial};
+use partial_agg::Partial;
 use ts_bucket::Span;
-use ts_model::{Agg, Answer, ResultRow, ResultRows, group_cell};
+use ts_model::{Agg, Answer, GroupRow, ResultRow, ResultRows};
 use ts_num::Datum;
 use ts_schema::NoMemory;
 
@@ -145,12 +145,8 @@ fn put_row_cells(text: &mut Text, row: ResultRow<'_>) -> Result<(), NoMemory>
 {
     match row {
         ResultRow::Cells(cells) => put_cells(text, cells),
-        ResultRow::Group { aggs, group } => put_group(text, aggs, group),
-        ResultRow::Chosen {
-            aggs,
-            places,
-            group,
-        } => put_chosen(text, aggs, places, group),
+        ResultRow::Group(row) => put_group(text, &row),
+        ResultRow::Chosen { places, row } => put_chosen(text, places, &row),
     }
 }
 
@@ -182,13 +178,13 @@ fn put_more(text: &mut Text, more: &[Datum]) -> Result<(), NoMemory>
 
 /// Appends the cells of a group, of which none is made.
 #[tactic(auto, using(crate::proofs::Appending::cells_in_two))]
-fn put_group(text: &mut Text, aggs: &[Agg], group: &Group) -> Result<(), NoMemory>
-    ensures written { OnOk result (text.new.after ≡ text.old.after ++ cells_text (cells_by aggs.now group.now)) }
+fn put_group(text: &mut Text, row: &GroupRow<'_>) -> Result<(), NoMemory>
+    ensures written { OnOk result (text.new.after ≡ text.old.after ++ cells_text (group_cells row.now)) }
     ensures kept { text.new.before ≡ text.old.before }
 {
-    text.signed(i128::from(group.start))?;
-    put_keys(text, group.keys.items())?;
-    put_parts(text, aggs, group.parts.items())
+    text.signed(i128::from(row.start))?;
+    put_keys(text, row.keys)?;
+    put_parts(text, row.aggs, row.parts)
 }
 
 /// Appends the keys of a group.
@@ -234,46 +230,41 @@ fn put_parts(text: &mut Text, aggs: &[Agg], parts: &[Partial]) -> Result<(), NoM
 }
 
 /// Appends the cells at these places of a group's row, of which none is made.
-fn put_chosen(text: &mut Text, aggs: &[Agg], places: &[u32], group: &Group) -> Result<(), NoMemory>
+fn put_chosen(text: &mut Text, places: &[u32], row: &GroupRow<'_>) -> Result<(), NoMemory>
     ensures written { OnOk result (text.new.after
-        ≡ text.old.after ++ cells_text (chosen_cells places.now (cells_by aggs.now group.now))) }
+        ≡ text.old.after ++ cells_text (chosen_cells places.now (group_cells row.now))) }
     ensures kept { text.new.before ≡ text.old.before }
 {
     match places {
         [] => Ok(()),
         [first, more @ ..] => {
-            put_cell(text, aggs, *first, group)?;
-            put_more_chosen(text, aggs, more, group)
+            put_cell(text, *first, row)?;
+            put_more_chosen(text, more, row)
         }
     }
 }
 
 /// Appends those at these places after the first.
-fn put_more_chosen(
-    text: &mut Text,
-    aggs: &[Agg],
-    more: &[u32],
-    group: &Group,
-) -> Result<(), NoMemory>
+fn put_more_chosen(text: &mut Text, more: &[u32], row: &GroupRow<'_>) -> Result<(), NoMemory>
     ensures written { OnOk result (text.new.after
-        ≡ text.old.after ++ more_cells (chosen_cells more.now (cells_by aggs.now group.now))) }
+        ≡ text.old.after ++ more_cells (chosen_cells more.now (group_cells row.now))) }
     ensures kept { text.new.before ≡ text.old.before }
 {
     for place in more {
         text.bytes(b"|")?;
-        put_cell(text, aggs, *place, group)?;
+        put_cell(text, *place, row)?;
     }
     Ok(())
 }
 
 /// Appends the cell at a place of a group's row.
 #[inline]
-fn put_cell(text: &mut Text, aggs: &[Agg], place: u32, group: &Group) -> Result<(), NoMemory>
+fn put_cell(text: &mut Text, place: u32, row: &GroupRow<'_>) -> Result<(), NoMemory>
     ensures written { OnOk result (text.new.after
-        ≡ text.old.after ++ datum_text (cell_or_null (cells_by aggs.now group.now) place)) }
+        ≡ text.old.after ++ datum_text (cell_or_null (group_cells row.now) place)) }
     ensures kept { text.new.before ≡ text.old.before }
 {
-    text.datum(&group_cell(aggs, group, place as usize))
+    text.datum(&row.cell(place as usize))
 }
 
 /// Appends a line for each stale range.

@@ -4,21 +4,101 @@ ghost use Rattle.ts_num.specs.Aggregates.{shown_or_null};
 ghost use Rattle.partial_agg.specs.Summaries.{value_of};
 ghost use Rattle.ts_model.specs.Chosen.{cell_or_null, chosen_cells};
 ghost use Rattle.ts_model.specs.Groups.{cells_by, shown_each};
-ghost use Rattle.ts_model.specs.Results.{cell_at};
+ghost use Rattle.ts_model.specs.Results.{cell_at, group_cells};
 
 use crate::views::Agg;
 use partial_agg::{Group, Partial};
 use ts_num::Datum;
 use ts_schema::NoMemory;
 
-/// Appends the cells of a group's result row: the start of its bucket, its keys, and what each aggregate
-/// shows.
-pub(crate) fn put_group(aggs: &[Agg], group: &Group, cells: &mut Vec<Datum>) -> Result<(), NoMemory>
-    ensures appended { IfOk result (λ _. cells.new.items ≡ cells.old.items ++ cells_by aggs.now group.now) }
-{
-    cells.push(Datum::Int(i128::from(group.start)))?;
-    put_values(group.keys.items(), cells)?;
-    put_parts(aggs, group.parts.items(), cells)
+/// The result row of a group, none of whose cells is made. Where its keys and its partial aggregates stand is looked up
+/// once, for all of its cells. Contracts see the cells as `group_cells`: at 0 the start of the bucket, then the keys,
+/// and then what is aggregated.
+#[derive(Clone, Copy, Debug)]
+pub struct GroupRow<'a> {
+    /// The start of the bucket.
+    pub start: i64,
+    /// The values of the columns that rows are grouped by; NULL is `None`.
+    pub keys: &'a [Option<i64>],
+    /// What is shown of the partial aggregates, one after another.
+    pub aggs: &'a [Agg],
+    /// The partial aggregates.
+    pub parts: &'a [Partial],
+}
+
+impl<'a> GroupRow<'a> {
+    /// The result row of a group that shows these aggregates.
+    #[inline]
+    pub fn of(aggs: &'a [Agg], group: &'a Group) -> GroupRow<'a>
+        ensures cells { group_cells result ≡ cells_by aggs.now group.now }
+    {
+        GroupRow {
+            start: group.start,
+            keys: group.keys.items(),
+            aggs,
+            parts: group.parts.items(),
+        }
+    }
+
+    /// Appends the cells.
+    pub(crate) fn put_cells(&self, cells: &mut Vec<Datum>) -> Result<(), NoMemory>
+        ensures appended { IfOk result (λ _. cells.new.items ≡ cells.old.items ++ group_cells self.now) }
+    {
+        cells.push(Datum::Int(i128::from(self.start)))?;
+        put_values(self.keys, cells)?;
+        put_parts(self.aggs, self.parts, cells)
+    }
+
+    /// Appends the cells at these places.
+    pub(crate) fn put_chosen(&self, places: &[u32], cells: &mut Vec<Datum>) -> Result<(), NoMemory>
+        ensures appended { IfOk result (λ _. cells.new.items
+            ≡ cells.old.items ++ chosen_cells places.now (group_cells self.now)) }
+    {
+        for place in places {
+            cells.push(self.cell(*place as usize))?;
+        }
+        Ok(())
+    }
+
+    /// The cell at a place, and NULL where there is none.
+    #[inline]
+    #[tactic(auto, using(crate::proofs::ResultLaws::cell_of_key, crate::proofs::ResultLaws::cell_behind))]
+    pub fn cell(&self, place: usize) -> Datum
+        ensures cell { result ≡ cell_or_null (group_cells self.now) place }
+    {
+        if place == 0 {
+            return Datum::Int(i128::from(self.start));
+        }
+        match self.keys.get(place - 1) {
+            Some(key) => shown(*key),
+            None => part_cell(self.aggs, self.parts, place - 1 - self.keys.len()),
+        }
+    }
+
+    /// The value of the cell at a place.
+    #[inline]
+    #[tactic(auto, using(crate::proofs::ResultLaws::value_of_key, crate::proofs::ResultLaws::value_behind))]
+    pub(crate) fn value_at(&self, place: usize) -> Option<i128>
+        ensures { result ≡ cell_at (group_cells self.now) place }
+    {
+        if place == 0 {
+            return Some(i128::from(self.start));
+        }
+        if place <= self.keys.len() {
+            return number(self.keys[place - 1]);
+        }
+        part_value(self.aggs, self.parts, place - 1 - self.keys.len())
+    }
+
+    /// The value of the cell at a place among those at these places.
+    #[inline]
+    #[tactic(auto, using(crate::proofs::ResultLaws::value_chosen, crate::proofs::ResultLaws::none_chosen))]
+    pub(crate) fn chosen_value(&self, places: &[u32], at: usize) -> Option<i128>
+        ensures { result ≡ cell_at (chosen_cells places.now (group_cells self.now)) at }
+    {
+        let place = places.get(at)?;
+        self.value_at(*place as usize)
+    }
 }
 
 /// Appends values as they are shown: numbers, or NULL.
@@ -58,39 +138,6 @@ fn put_parts(aggs: &[Agg], parts: &[Partial], cells: &mut Vec<Datum>) -> Result<
     Ok(())
 }
 
-/// Appends the cells at these places of a group's result row.
-pub(crate) fn put_chosen(
-    aggs: &[Agg],
-    places: &[u32],
-    group: &Group,
-    cells: &mut Vec<Datum>,
-) -> Result<(), NoMemory>
-    ensures appended { IfOk result (λ _. cells.new.items
-        ≡ cells.old.items ++ chosen_cells places.now (cells_by aggs.now group.now)) }
-{
-    for place in places {
-        cells.push(group_cell(aggs, group, *place as usize))?;
-    }
-    Ok(())
-}
-
-/// The cell at a place of the result row of a group that shows these aggregates, and NULL where there is
-/// none: 0 is the start of the bucket, then come the keys, and then what is aggregated. The row isn't made.
-#[inline]
-#[tactic(auto, using(crate::proofs::ResultLaws::cell_of_key, crate::proofs::ResultLaws::cell_behind))]
-pub fn group_cell(aggs: &[Agg], group: &Group, place: usize) -> Datum
-    ensures cell { result ≡ cell_or_null (cells_by aggs.now group.now) place }
-{
-    let keys = group.keys.items();
-    if place == 0 {
-        return Datum::Int(i128::from(group.start));
-    }
-    match keys.get(place - 1) {
-        Some(key) => shown(*key),
-        None => part_cell(aggs, group.parts.items(), place - 1 - keys.len()),
-    }
-}
-
 /// What the aggregate at a place shows of its part, and NULL where there is none.
 #[inline]
 #[tactic(auto, using(crate::proofs::ResultLaws::cell_of_part, crate::proofs::ResultLaws::no_agg_cell, crate::proofs::ResultLaws::no_part_cell))]
@@ -115,32 +162,6 @@ pub(crate) fn cell_value(cells: &[Datum], place: usize) -> Option<i128>
         Datum::Int(v) => Some(*v),
         Datum::Null | Datum::Ratio(_) => None,
     }
-}
-
-/// The value of the cell at a place of a group's result row. The row isn't made.
-#[inline]
-#[tactic(auto, using(crate::proofs::ResultLaws::value_of_key, crate::proofs::ResultLaws::value_behind))]
-pub(crate) fn group_value(aggs: &[Agg], group: &Group, place: usize) -> Option<i128>
-    ensures { result ≡ cell_at (cells_by aggs.now group.now) place }
-{
-    let keys = group.keys.items();
-    if place == 0 {
-        return Some(i128::from(group.start));
-    }
-    if place <= keys.len() {
-        return number(keys[place - 1]);
-    }
-    part_value(aggs, group.parts.items(), place - 1 - keys.len())
-}
-
-/// The value of the cell at a place among those at these places of a group's result row. The row isn't made.
-#[inline]
-#[tactic(auto, using(crate::proofs::ResultLaws::value_chosen, crate::proofs::ResultLaws::none_chosen))]
-pub(crate) fn chosen_value(aggs: &[Agg], places: &[u32], group: &Group, at: usize) -> Option<i128>
-    ensures { result ≡ cell_at (chosen_cells places.now (cells_by aggs.now group.now)) at }
-{
-    let place = places.get(at)?;
-    group_value(aggs, group, *place as usize)
 }
 
 /// A number, where it isn't missing.

@@ -22,7 +22,7 @@ mod tables;
 mod views;
 
 pub use backends::Backend;
-pub use cells::{group_cell, put_values};
+pub use cells::{GroupRow, put_values};
 pub use events::{Event, Op};
 pub use gates::{Gate, NoGate};
 pub use images::{Finished, Image, SavedGroup, SavedLast, SavedView, Sums};

@@ -5,7 +5,7 @@ ghost use Rattle.ts_model.specs.Chosen.{chosen_cells, group_shown};
 ghost use Rattle.ts_model.specs.Groups.{cells_by};
 ghost use Rattle.ts_model.specs.Results.{cell_at, row_cells};
 
-use crate::cells::{cell_value, chosen_value, group_value, put_chosen, put_group};
+use crate::cells::{GroupRow, cell_value};
 use crate::views::Agg;
 use block_list::Slice;
 use cell_rows::CellRows;
@@ -143,16 +143,12 @@ impl ResultRows {
 pub enum ResultRow<'a> {
     /// Its cells.
     Cells(&'a [Datum]),
-    /// The group that shows them, and the aggregates that it shows.
-    Group {
-        aggs: &'a [Agg],
-        group: &'a Group,
-    },
+    /// What a group shows.
+    Group(GroupRow<'a>),
     /// The same, of whose cells only those at these places are shown, in the order of the places.
     Chosen {
-        aggs: &'a [Agg],
         places: &'a [u32],
-        group: &'a Group,
+        row: GroupRow<'a>,
     },
 }
 
@@ -166,12 +162,8 @@ impl<'a> ResultRow<'a> {
                 cells.extend_from_slice(row)?;
                 Ok(())
             }
-            ResultRow::Group { aggs, group } => put_group(aggs, group, cells),
-            ResultRow::Chosen {
-                aggs,
-                places,
-                group,
-            } => put_chosen(aggs, places, group, cells),
+            ResultRow::Group(row) => row.put_cells(cells),
+            ResultRow::Chosen { places, row } => row.put_chosen(places, cells),
         }
     }
 
@@ -183,12 +175,8 @@ impl<'a> ResultRow<'a> {
     {
         match self {
             ResultRow::Cells(row) => cell_value(row, place),
-            ResultRow::Group { aggs, group } => group_value(aggs, group, place),
-            ResultRow::Chosen {
-                aggs,
-                places,
-                group,
-            } => chosen_value(aggs, places, group, place),
+            ResultRow::Group(row) => row.value_at(place),
+            ResultRow::Chosen { places, row } => row.chosen_value(places, place),
         }
     }
 }
@@ -198,12 +186,12 @@ impl<'a> ResultRow<'a> {
 fn group_row<'a>(aggs: &'a [Agg], places: &'a Option<Seq<u32>>, group: &'a Group) -> ResultRow<'a>
     ensures { row_cells result ≡ group_shown places.now aggs.now group.now }
 {
+    let row = GroupRow::of(aggs, group);
     match places {
-        None => ResultRow::Group { aggs, group },
+        None => ResultRow::Group(row),
         Some(places) => ResultRow::Chosen {
-            aggs,
             places: places.items(),
-            group,
+            row,
         },
     }
 }

@@ -1,6 +1,6 @@
 use Rattle.std.proofs.Common.{◌≡◌, ◌++◌, drop}
 use Rattle.ts_model.specs.Chosen.{chosen_cells}
-use Rattle.ts_model.specs.Groups.{cells_by}
+use Rattle.ts_model.specs.Results.{group_cells}
 use Rattle.result_text.specs.Answers.{more_cells}
 use Rattle.result_text.proofs.answers.put_more_chosen.Given as goal
 
@@ -8,7 +8,7 @@ use Rattle.result_text.proofs.answers.put_more_chosen.Given as goal
 abbrev pub invariant-loop-place : goal.invariant-loop-place
 invariant-loop-place l = record {
   written :
-      l.initial.text.after ++ more_cells (chosen_cells l.fn.more (cells_by l.fn.aggs l.fn.group))
-      ≡ l.text.after ++ more_cells (chosen_cells (drop l.place-index l.fn.more) (cells_by l.fn.aggs l.fn.group));
+      l.initial.text.after ++ more_cells (chosen_cells l.fn.more (group_cells l.fn.row))
+      ≡ l.text.after ++ more_cells (chosen_cells (drop l.place-index l.fn.more) (group_cells l.fn.row));
   kept : l.text.before ≡ l.initial.text.before;
 }

@@ -1,7 +1,0 @@
-use Rattle.std.proofs.Common.{◌≡◌, ◌++◌, map, take}
-use Rattle.ts_model.specs.Chosen.{cell_or_null}
-use Rattle.ts_model.specs.Groups.{cells_by}
-use Rattle.ts_model.proofs.cells.put_chosen.Given as goal
-
-abbrev pub invariant-loop-place : goal.invariant-loop-place
-invariant-loop-place l = l.cells.items ≡ l.initial.cells.items ++ map (cell_or_null (cells_by l.aggs l.group)) (take l.place-index l.places)
