@@ -85,26 +85,6 @@ fn an_image_that_is_too_long_is_not_put(rt: HostRuntime) -> Result<(), Fail> {
 }
 
 #[test]
-fn a_changed_byte_of_an_image_is_damage(rt: HostRuntime) -> Result<(), Fail> {
-    let alloc = rt.alloc();
-    let nothing = Ended::Checkpoint(CheckEnd::Nothing { pos: 1 });
-    for (at, byte, want) in [
-        (7, 0x31, Ended::Damaged(26)),
-        (7, 0x39, Ended::Damaged(26)),
-        (31, 9, Ended::Damaged(26)),
-        (13, 9, nothing),
-        (40, 2, Ended::Damaged(26)),
-        (6, 0x31, Ended::Damaged(0)),
-    ] {
-        let mut bytes = SAVED;
-        bytes[at] = byte;
-        let (_disk, end) = checkpointed(&rt, alloc, disk_of(alloc, &bytes)?, 46)?;
-        assert_eq!(rt; end, want, "byte {at} is {byte}");
-    }
-    Ok(())
-}
-
-#[test]
 fn each_failing_call_leaves_the_history_or_its_image(rt: HostRuntime) -> Result<(), Fail> {
     let alloc = rt.alloc();
     for kind in [
