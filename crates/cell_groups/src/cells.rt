@@ -37,7 +37,7 @@ impl<'a> RowCells<'a> {
 
     /// The value of the cell at a place: the whole number that it shows, and none for NULL, for a mean and
     /// where there is no cell.
-    #[inline]
+    #[inline(always)]
     #[tactic(auto, using(crate::proofs::CellLaws::cell_behind))]
     pub fn value_at(&self, place: u32) -> Option<i128>
         ensures value { result ≡ cell_at self.now place }

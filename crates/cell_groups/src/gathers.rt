@@ -187,7 +187,7 @@ impl<'a> CellGroups<'a> {
 }
 
 /// How the group at a place compares with that of a row, if one stands there.
-#[inline]
+#[inline(always)]
 fn order_at(
     groups: &[CellGroup<'_>],
     at: usize,
@@ -203,7 +203,7 @@ fn order_at(
 }
 
 /// This place, where the group of a row stands there.
-#[inline]
+#[inline(always)]
 fn place_at(
     groups: &[CellGroup<'_>],
     at: usize,

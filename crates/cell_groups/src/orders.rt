@@ -19,7 +19,7 @@ use std::collections::VecDeque;
 
 /// How a group compares with that of a row in the bucket that starts at `start`: by bucket, and then by keys,
 /// where NULL is greater than every number.
-#[inline]
+#[inline(always)]
 pub(crate) fn order_beside(
     shape: &Shape,
     group: &CellGroup<'_>,
@@ -51,7 +51,7 @@ fn keys_order(keys: &[u32], a: &RowCells<'_>, b: &RowCells<'_>) -> Ordering
 }
 
 /// Keys by size; NULL is greater than every number.
-#[inline]
+#[inline(always)]
 fn key_order(a: Option<i128>, b: Option<i128>) -> Ordering
     ensures { result ≡ value_cmp a b }
 {

@@ -9,6 +9,7 @@ use ts_bucket::{MAX_TIME, MIN_TIME};
 use ts_model::{Hyper, TableDef, TableInfo};
 use ts_schema::{Column, Row, Values};
 
+#[inline(always)]
 fn value_is_fit(col: &Column, value: Option<i64>) -> bool
     ensures { result ≡ value_fits col.now value }
 {
@@ -22,6 +23,7 @@ fn value_is_fit(col: &Column, value: Option<i64>) -> bool
 }
 
 /// The value at a place, counted from 0, if there is one.
+#[inline(always)]
 fn value_at(vals: &Values, place: usize) -> Option<Option<i64>>
     ensures value { MatchOption result (drop place vals.now ≡ [])
         (λ value. drop place vals.now ≡ value ∷ drop (place + 1) vals.now) }
@@ -35,6 +37,7 @@ fn value_at(vals: &Values, place: usize) -> Option<Option<i64>>
 }
 
 /// Whether no value stands at a place or behind it.
+#[inline(always)]
 fn none_from(vals: &Values, place: usize) -> bool
     ensures { result ≡ values_fit [] (drop place vals.now) }
 {

@@ -39,6 +39,7 @@ fn with_room<T>(alloc: Global, room: usize) -> Result<Vec<T>, NoMemory>
 }
 
 /// Appends the time of a row, and the place where its values end.
+#[inline(always)]
 fn push_row(
     at: i64,
     end: usize,
@@ -76,6 +77,7 @@ fn push_rows(
 }
 
 /// The value in front, and the bytes after it. It may miss one that stands there.
+#[inline(always)]
 fn value_in_front(bytes: &[u8]) -> Option<(Option<i64>, &[u8])>
     ensures { IfSome result (λ x. value_at bytes.now ≡ Ok (x.0, x.1.now)) }
 {
@@ -94,6 +96,7 @@ fn value_in_front(bytes: &[u8]) -> Option<(Option<i64>, &[u8])>
 
 impl Reader<'_> {
     /// NULL, or a number.
+    #[inline(always)]
     fn value(&mut self) -> Result<Option<i64>, ReadError>
         ensures { Gives result (value_at self.old) self.new }
     {

@@ -33,6 +33,7 @@ fn eight_in_front(bytes: &[u8]) -> Option<(u64, &[u8])>
 }
 
 /// The signed number in the first eight bytes, and the bytes after it.
+#[inline(always)]
 #[tactic(auto, unfolding(crate::specs::Spelling::signed))]
 pub(crate) fn signed_in_front(bytes: &[u8]) -> Option<(i64, &[u8])>
     ensures { MatchOption result (length bytes.now < 8) (λ x. bytes.now ≡ signed x.0 ++ x.1.now) }

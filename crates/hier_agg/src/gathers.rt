@@ -36,6 +36,7 @@ pub(crate) fn gather<'a>(
 
 /// Takes a row in, where its keys pass. `bucket` is that of a row before it, and then its own. For a sum that
 /// takes more than 128 bits there is no room.
+#[inline(always)]
 fn take_row<'a>(
     alloc: Global,
     plan: &UpperPlan,

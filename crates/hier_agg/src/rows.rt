@@ -32,7 +32,7 @@ pub(crate) fn passes_to(
 }
 
 /// The cells of a row behind its bucket.
-#[inline]
+#[inline(always)]
 pub(crate) fn columns_of(row: ResultRow<'_>) -> RowCells<'_>
     ensures { result ≡ columns_of (row_cells row.entry) }
 {
@@ -40,7 +40,7 @@ pub(crate) fn columns_of(row: ResultRow<'_>) -> RowCells<'_>
 }
 
 /// The start of a row's bucket.
-#[inline]
+#[inline(always)]
 #[tactic(auto, using(crate::proofs::Stands::start_shown))]
 fn start_of(row: ResultRow<'_>) -> i128
     ensures { result ≡ (row_of (row_cells row.entry)).at }

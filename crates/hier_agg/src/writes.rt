@@ -42,6 +42,7 @@ pub(crate) fn write_in_order(
 
 /// Takes a row in, where its keys pass, unless its group comes before the last one, and says whether it doesn't.
 /// `bucket` is that of a row before it, and then its own. For a sum that takes more than 128 bits there is no room.
+#[inline(always)]
 fn write_row<'a>(
     alloc: Global,
     plan: &UpperPlan,

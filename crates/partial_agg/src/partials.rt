@@ -194,7 +194,7 @@ impl Partial {
     }
 
     /// The whole number that an aggregate function shows of the rows: none where it shows NULL or a mean.
-    #[inline]
+    #[inline(always)]
     pub fn number(&self, fun: Fun) -> Option<i128>
         ensures number { result ≡ value_of (shown fun self.now) }
     {

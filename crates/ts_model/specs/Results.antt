@@ -1,18 +1,16 @@
 -- Rows of an answer, and their cells read as values.
-use Rattle.std.specs.Prelude.{ℕ, List, ◌∷◌, ◌++◌, map, slice_index_or, ℤ, Option, None}
-use Rattle.ts_num.specs.Aggregates.{shown_or_null}
+use Rattle.std.specs.Prelude.{ℕ, List, map, slice_index_or, ℤ, Option, None}
 use Rattle.ts_num.specs.declared.values.Datum.{Datum}
-use Rattle.ts_num.specs.declared.values.Datum.TheVariants.{Int}
 use Rattle.partial_agg.specs.Summaries.{value_of}
 use Rattle.ts_model.specs.declared.cells.GroupRow.{GroupRow}
 use Rattle.ts_model.specs.declared.results.ResultRow.{ResultRow}
 use Rattle.ts_model.specs.declared.results.ResultRow.TheVariants.{Cells, Chosen, Group}
 use Rattle.ts_model.specs.Chosen.{chosen_cells}
-use Rattle.ts_model.specs.Groups.{shown_each}
+use Rattle.ts_model.specs.Groups.{cells_by}
 
--- the cells of the result row of a group: the bucket, the keys, and each of the aggregates
+-- the cells of the result row of a group, of which its keys and its parts are at hand
 abbrev pub group_cells : GroupRow → List Datum
-group_cells row = Int row.start ∷ (map shown_or_null row.keys.now ++ shown_each row.aggs.now row.parts.now)
+group_cells row = cells_by row.aggs.now (record { start = row.start; keys = row.keys.now; parts = row.parts.now })
 
 -- the cells of a row: those that are made, or what its group shows, or those of it that are chosen
 abbrev pub row_cells : ResultRow → List Datum

@@ -28,7 +28,7 @@ pub struct GroupRow<'a> {
 
 impl<'a> GroupRow<'a> {
     /// The result row of a group that shows these aggregates.
-    #[inline]
+    #[inline(always)]
     pub fn of(aggs: &'a [Agg], group: &'a Group) -> GroupRow<'a>
         ensures cells { group_cells result ≡ cells_by aggs.now group.now }
     {
@@ -76,7 +76,7 @@ impl<'a> GroupRow<'a> {
     }
 
     /// The value of the cell at a place.
-    #[inline]
+    #[inline(always)]
     #[tactic(auto, using(crate::proofs::ResultLaws::value_of_key, crate::proofs::ResultLaws::value_behind))]
     pub(crate) fn value_at(&self, place: usize) -> Option<i128>
         ensures { result ≡ cell_at (group_cells self.now) place }
@@ -154,7 +154,7 @@ fn part_cell(aggs: &[Agg], parts: &[Partial], at: usize) -> Datum
 }
 
 /// The value of the cell at a place of a row whose cells are made.
-#[inline]
+#[inline(always)]
 pub(crate) fn cell_value(cells: &[Datum], place: usize) -> Option<i128>
     ensures { result ≡ cell_at cells.now place }
 {
@@ -165,7 +165,7 @@ pub(crate) fn cell_value(cells: &[Datum], place: usize) -> Option<i128>
 }
 
 /// A number, where it isn't missing.
-#[inline]
+#[inline(always)]
 fn number(value: Option<i64>) -> Option<i128>
     ensures { result ≡ value_of (shown_or_null value) }
 {
@@ -176,7 +176,7 @@ fn number(value: Option<i64>) -> Option<i128>
 }
 
 /// The whole number that the aggregate at a place shows of its part.
-#[inline]
+#[inline(always)]
 #[tactic(auto, using(crate::proofs::ResultLaws::value_of_part, crate::proofs::ResultLaws::no_agg, crate::proofs::ResultLaws::no_part))]
 fn part_value(aggs: &[Agg], parts: &[Partial], at: usize) -> Option<i128>
     ensures { result ≡ cell_at (shown_each aggs.now parts.now) at }

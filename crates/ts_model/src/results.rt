@@ -169,7 +169,7 @@ impl<'a> ResultRow<'a> {
 
     /// The value of the cell at a place: the whole number that it shows, and none for NULL, for a mean and
     /// where there is no cell.
-    #[inline]
+    #[inline(always)]
     pub fn value_at(&self, place: usize) -> Option<i128>
         ensures value { result ≡ cell_at (row_cells self.now) place }
     {
@@ -182,7 +182,7 @@ impl<'a> ResultRow<'a> {
 }
 
 /// The row of a group that shows these aggregates: all of its cells, or those at these places.
-#[inline]
+#[inline(always)]
 fn group_row<'a>(aggs: &'a [Agg], places: &'a Option<Seq<u32>>, group: &'a Group) -> ResultRow<'a>
     ensures { row_cells result ≡ group_shown places.now aggs.now group.now }
 {
@@ -223,7 +223,7 @@ impl<'a> Iterator for ResultIter<'a> {
 
     ghost remaining = { item_count (λ i. i) };
 
-    #[inline]
+    #[inline(always)]
     fn next(&mut self) -> Option<ResultRow<'a>> {
         if let Some(cells) = self.cells.next() {
             return Some(ResultRow::Cells(cells));

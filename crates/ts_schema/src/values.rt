@@ -55,7 +55,7 @@ impl ValueBlock {
     }
 
     /// How many values there are.
-    #[inline]
+    #[inline(always)]
     pub fn len(&self) -> usize
         ensures len { result ≡ length self.now }
     {
@@ -70,7 +70,7 @@ impl ValueBlock {
     }
 
     /// The value at place `i`, counted from 0.
-    #[inline]
+    #[inline(always)]
     pub fn get(&self, i: usize) -> Option<i64>
         requires { i < length self.now }
         ensures value { result ≡ slice_index_or self.now i None }
@@ -79,7 +79,7 @@ impl ValueBlock {
     }
 
     /// Puts a value at the end.
-    #[inline]
+    #[inline(always)]
     pub fn push(&mut self, value: Option<i64>) -> Result<(), NoMemory>
         ensures pushed { IfOk result (λ _. self.new ≡ self.old ++ value ∷ []) }
         ensures kept { OnErr result (self.new ≡ self.old) }
@@ -91,7 +91,7 @@ impl ValueBlock {
     }
 
     /// Puts a number at the end.
-    #[inline]
+    #[inline(always)]
     fn push_number(&mut self, number: i64) -> Result<(), NoMemory>
         ensures pushed { IfOk result (λ _. self.new ≡ self.old ++ Some number ∷ []) }
         ensures kept { OnErr result (self.new ≡ self.old) }
@@ -114,7 +114,7 @@ impl ValueBlock {
 }
 
 /// The value at a place, from the numbers and the marks.
-#[inline]
+#[inline(always)]
 fn value_at(numbers: &[i64], nulls: &[bool], i: usize) -> Option<i64>
     requires { i < length numbers.now }
     ensures { result ≡ slice_index_or (marked nulls.now numbers.now) i None }
@@ -123,7 +123,7 @@ fn value_at(numbers: &[i64], nulls: &[bool], i: usize) -> Option<i64>
 }
 
 /// Whether NULL stands at a place, from the marks.
-#[inline]
+#[inline(always)]
 fn is_marked(nulls: &[bool], i: usize) -> bool
     ensures { result ≡ slice_index_or nulls.now i false }
 {
@@ -131,7 +131,7 @@ fn is_marked(nulls: &[bool], i: usize) -> bool
 }
 
 /// A number, or NULL where it is marked.
-#[inline]
+#[inline(always)]
 fn unless_marked(null: bool, number: i64) -> Option<i64>
     ensures { result ≡ unless_marked null number }
 {
@@ -187,7 +187,7 @@ impl Values {
     }
 
     /// How many values there are.
-    #[inline]
+    #[inline(always)]
     pub fn len(&self) -> usize
         ensures len { result ≡ length self.now }
     {
@@ -202,7 +202,7 @@ impl Values {
     }
 
     /// The value at place `i`, counted from 0.
-    #[inline]
+    #[inline(always)]
     pub fn get(&self, i: usize) -> Option<i64>
         requires { i < length self.now }
         ensures value { result ≡ slice_index_or self.now i None }
