@@ -10,3 +10,4 @@ pub mod OneAnswer
 pub mod ReadNumbers
 pub mod TheLaws
 pub mod RetellLaws
+pub mod HearingLaws

@@ -1,25 +1,24 @@
 -- One transcript has one answer.
-use Rattle.std.proofs.Common.{◌≡◌, ◌≤◌, ◌<◌, ℕ, zero, suc, ◌+◌, Bool, true, false, ◌&&◌, List, [], ◌∷◌, ◌++◌, map, take, length, Option, Some, None, inl, inr, refl, sym, ap, ◌∙◌, subst, arith}
+use Rattle.std.proofs.Common.{◌≡◌, ◌≤◌, ◌<◌, ℕ, zero, suc, true, false, List, [], ◌∷◌, ◌++◌, take, Option, Some, None, inl, inr, refl, sym, ap, ◌∙◌, subst, arith}
 use Rattle.std.specs.Prelude.{IsPermutation, IsTrue, nat_le, ◌⊎◌}
 use Rattle.turn_lock.specs.Positions.{positions_between}
-use Rattle.std.specs.List.{list_all, list_any}
+use Rattle.std.specs.List.{list_all}
 use Rattle.std.proofs.lemmas.Bool.{and_parts, leb-false, leb-true}
 use Rattle.std.proofs.lemmas.List.{take-take}
 use Rattle.std.proofs.lemmas.Option.{none-some, same_Some}
 use Rattle.ts_model.specs.Allowed.{all_allowed}
 use Rattle.ts_model.specs.History.{History, base_position, position}
-use Rattle.ts_sessions.specs.Places.{Places, Turn, no_places}
+use Rattle.ts_sessions.specs.Places.{Places, no_places}
 use Rattle.ts_sessions.specs.Made.{made_in}
 use Rattle.ts_sessions.specs.Replies.{reply_to}
 use Rattle.ts_sessions.proofs.GivesLaws.{gives_on}
-use Rattle.reply_looks.specs.Replies.{is_line_end}
 use Rattle.transcript.specs.Laws.{ReadsAsOne}
 use Rattle.transcript.specs.Reading.{IsReading}
 use Rattle.transcript.specs.Shape.{is_sound, is_sound_talk}
 use Rattle.transcript.specs.declared.transcripts.Exchange.{Exchange}
 use Rattle.transcript.specs.declared.transcripts.Talk.{Talk}
 use Rattle.transcript.specs.declared.transcripts.Transcript.{Transcript}
-use Rattle.audit.specs.Answers.{Answers, FirstUnexplained, HasExplanation, HasLost, IsLost, Judges, MayBeJudged, ReadsAs, reply_count}
+use Rattle.audit.specs.Answers.{Answers, FirstUnexplained, HasExplanation, HasLost, IsLost, Judges, ReadsAs, reply_count}
 use Rattle.audit.specs.Explained.{AreExplained, Came, Explained, IsExplained, IsWithin, named_by, named_by_all}
 use Rattle.audit.specs.Lines.{first_policy, line_of}
 use Rattle.audit.specs.Laws.{ExplainedIsYes, TextsHaveOneAnswer}

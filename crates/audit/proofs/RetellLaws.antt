@@ -1,6 +1,6 @@
 -- What telling one reply says of the session that is judged.
-use Rattle.std.proofs.Common.{◌≡◌, ◌≤◌, ◌<◌, ℕ, suc, ◌+◌, Bool, true, false, List, [], ◌∷◌, ◌++◌, get_or, length, take, None, Some, Option, refl, sym, ap, ◌∙◌, subst, arith}
-use Rattle.std.specs.Prelude.{All, IsTrue, map}
+use Rattle.std.proofs.Common.{◌≡◌, ◌≤◌, ◌<◌, ℕ, ◌+◌, Bool, true, false, List, [], ◌∷◌, ◌++◌, get_or, length, take, None, Some, Option, refl, sym, ap, ◌∙◌, subst, arith}
+use Rattle.std.specs.Prelude.{IsTrue}
 use Rattle.std.proofs.lemmas.Bool.{true≢false}
 use Rattle.std.proofs.lemmas.List.{take_all, take_more}
 use Rattle.std.proofs.lemmas.List.Elements.{All-append, All-cons, All-nil}
@@ -11,10 +11,9 @@ use Rattle.ts_model.specs.History.{History, base_position, position}
 use Rattle.ts_schema.specs.Names.{is_name}
 use Rattle.ts_sessions.specs.Gives.{AreEvents, numbers}
 use Rattle.ts_sessions.specs.Held.{HoldsOf, places_in}
-use Rattle.ts_sessions.specs.Made.{made_in}
 use Rattle.ts_sessions.specs.Places.{Places, Turn, no_places}
 use Rattle.ts_sessions.specs.Replies.{reply_to}
-use Rattle.ts_sessions.specs.Script.{SessionLine, text_of}
+use Rattle.ts_sessions.specs.Script.{SessionLine}
 use Rattle.past_sessions.specs.Telling.{IsToldLine, state_of}
 use Rattle.past_sessions.specs.Told.{Told, Tells}
 use Rattle.ts_sessions.specs.declared.sessions.Session.{Session}
@@ -27,7 +26,7 @@ use Rattle.transcript.specs.declared.transcripts.Exchange.{Exchange}
 use Rattle.audit.specs.Lines.{line_of}
 use Rattle.audit.specs.Judged.{IsNamedBy}
 use Rattle.audit.specs.Retold.{Leads, LieBetween, Names, StopsAt}
-use Rattle.audit.specs.Tellers.{GoesBehind, IsAt, IsBehind, RetellsTo}
+use Rattle.audit.specs.Tellers.{GoesBehind, IsAt, RetellsTo}
 use Rattle.audit.specs.declared.sessions.Teller.{Teller}
 use Rattle.audit.proofs.NameLaws.{name_of_one_line}
 use Rattle.audit.proofs.RetoldLaws.{names_led, stops_here}

@@ -3,18 +3,17 @@ use Rattle.std.proofs.Common.{◌≡◌, ◌≤◌, ◌<◌, ℕ, suc, ◌+◌, 
 use Rattle.std.proofs.lemmas.List.{append-nil, take_more}
 use Rattle.std.specs.Prelude.{Option}
 use Rattle.ts_model.specs.declared.events.Event.{Event}
-use Rattle.ts_model.specs.History.{History, base_position, position}
+use Rattle.ts_model.specs.History.{History, base_position}
 use Rattle.ts_sessions.specs.Gives.{Gives}
 use Rattle.ts_sessions.specs.Made.{made_in}
 use Rattle.ts_sessions.specs.Places.{Places, Turn, no_places}
 use Rattle.ts_sessions.specs.Replies.{reply_to}
 use Rattle.ts_sessions.specs.Script.{text_of}
 use Rattle.transcript.specs.declared.transcripts.Exchange.{Exchange}
-use Rattle.transcript.specs.declared.transcripts.Talk.{Talk}
 use Rattle.audit.specs.Answers.{HasExplanation}
 use Rattle.audit.specs.Explained.{Came, IsExplained, named_by, texts_of}
 use Rattle.audit.specs.Lines.{line_of}
-use Rattle.audit.specs.Retold.{Leads, LeavesOthers, Names, Retells, StopsAt}
+use Rattle.audit.specs.Retold.{Leads, Names, StopsAt}
 
 -- ---- the first reply, and those behind it
 

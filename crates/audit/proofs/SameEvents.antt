@@ -1,5 +1,5 @@
 -- Events that compare as equal are the same.
-use Rattle.std.proofs.Common.{◌≡◌, ℕ, Bool, true, false, List, [], ◌∷◌, Option, Some, None, refl, sym, ap, ◌∙◌}
+use Rattle.std.proofs.Common.{◌≡◌, Bool, true, false, List, Option, Some, None, refl, sym, ap, ◌∙◌}
 use Rattle.std.specs.Prelude.{ℤ}
 use Rattle.std.specs.Ordering.{int_eq}
 use Rattle.std.specs.Bool.{Decides}
@@ -22,7 +22,6 @@ use Rattle.ts_schema.specs.declared.rows.Row.{Row}
 use Rattle.ts_schema.specs.contracts.columns.ColumnPartialEq.TheImpl.{ghosts as column_eq}
 use Rattle.ts_schema.specs.contracts.conditions.CmpPartialEq.TheImpl.{ghosts as cmp_eq}
 use Rattle.ts_schema.specs.contracts.conditions.TestPartialEq.TheImpl.{ghosts as test_eq}
-use Rattle.ts_schema.specs.contracts.names.NamePartialEq.TheImpl.{ghosts as name_eq}
 use Rattle.ts_schema.specs.contracts.rows.RowPartialEq.TheImpl.{ghosts as row_eq}
 use Rattle.ts_model.specs.declared.events.Event.{Event}
 use Rattle.ts_model.specs.declared.events.Event.TheVariants.{Table, Hyper, View, Mode, Commit, Cut, Built}

@@ -1,11 +1,10 @@
 -- Sessions that are judged one after the other.
-use Rattle.std.proofs.Common.{◌≡◌, ◌≤◌, ◌<◌, ℕ, zero, suc, ◌+◌, List, [], ◌∷◌, ◌++◌, refl, sym, ap, ◌∙◌, subst, append_assoc, arith}
+use Rattle.std.proofs.Common.{◌≡◌, ℕ, suc, ◌+◌, List, [], ◌∷◌, ◌++◌, refl, sym, subst, append_assoc, arith}
 use Rattle.std.proofs.lemmas.List.{append-nil}
 use Rattle.ts_model.specs.History.{History}
 use Rattle.ts_sessions.specs.Places.{no_places}
 use Rattle.transcript.specs.declared.transcripts.Talk.{Talk}
 use Rattle.audit.specs.Answers.{FirstUnexplained}
-use Rattle.audit.specs.Explained.{named_by_all}
 use Rattle.audit.specs.Retold.{Names, NamesAll, Passes, StopsAt}
 use Rattle.audit.proofs.RetoldLaws.{has_explanation}
 

@@ -1,7 +1,6 @@
 -- What is told of a reply over a history decides whether the history explains it.
-use Rattle.std.proofs.Common.{◌≡◌, ◌≤◌, ◌<◌, ◌^◌, ℕ, suc, ◌+◌, Bool, true, false, List, [], ◌∷◌, ◌++◌, Option, Some, None, refl, sym, ap, ◌∙◌, subst, arith}
-use Rattle.std.specs.Prelude.{IsTrue}
-use Rattle.std.specs.List.{AllByRecursion, list_all, list_any}
+use Rattle.std.proofs.Common.{◌≡◌, ◌≤◌, ◌<◌, ◌^◌, ℕ, suc, true, false, List, [], ◌∷◌, ◌++◌, Some, None, refl, sym, ap, ◌∙◌, subst, arith}
+use Rattle.std.specs.List.{AllByRecursion, list_any}
 use Rattle.std.proofs.lemmas.Option.{none-some, same_Some}
 use Rattle.ts_model.specs.declared.events.Event.{Event}
 use Rattle.ts_model.specs.Allowed.{all_allowed}
@@ -23,7 +22,7 @@ use Rattle.transcript.specs.declared.transcripts.Exchange.{Exchange}
 use Rattle.audit.specs.Explained.{Came}
 use Rattle.audit.specs.Lines.{line_of}
 use Rattle.audit.specs.Retold.{Leads, Names, Retells}
-use Rattle.audit.proofs.RetoldLaws.{TextsTellReplies, SameReply, leads_more, leads_one, uncons}
+use Rattle.audit.proofs.RetoldLaws.{TextsTellReplies, leads_more, leads_one, uncons}
 
 -- the laws that it rests on
 pub record Laws : Type 0 where

@@ -4,9 +4,7 @@ use Rattle.ts_model.specs.History.{History, position}
 use Rattle.ts_sessions.specs.Places.{no_places}
 use Rattle.transcript.specs.declared.transcripts.Talk.{Talk}
 use Rattle.audit.specs.Answers.{FirstUnexplained}
-use Rattle.audit.specs.Retold.{LieBetween, Names, NamesAll, StopsAt}
-use Rattle.audit.specs.declared.sessions.JudgedTalk.{JudgedTalk}
-use Rattle.audit.specs.declared.sessions.JudgedTalk.TheVariants as of_talk
+use Rattle.audit.specs.Retold.{LieBetween, Names, NamesAll}
 use Rattle.audit.specs.declared.talks.JudgedTalks.{JudgedTalks}
 use Rattle.audit.specs.declared.talks.JudgedTalks.TheVariants as of_talks
 
@@ -15,16 +13,11 @@ pub record IsNamedBy (all : History) (start : ℕ) (talk : Talk) (numbers : List
   pub names : Names all start no_places talk.name talk.replies numbers
   pub lie : LieBetween start (position all) numbers
 
--- of one session: it is explained, with these numbers, or its first replies are
-abbrev pub JudgesTalk : History → ℕ → Talk → JudgedTalk → Type 0
-JudgesTalk all start talk (of_talk.Explained numbers) = IsNamedBy all start talk numbers
-JudgesTalk all start talk (of_talk.Unexplained count) = StopsAt all start talk count
-
 pub record AreNamedBy (all : History) (start : ℕ) (talks : List Talk) (numbers : List ℕ) : Type 0 where
   pub names : NamesAll all start talks numbers
   pub lie : LieBetween start (position all) numbers
 
--- of all: they are explained, with these numbers, or the first that aren't
+-- they are explained, with these numbers, or the first that aren't
 abbrev pub JudgesTalks : History → ℕ → List Talk → JudgedTalks → Type 0
 JudgesTalks all start talks (of_talks.Explained numbers) = AreNamedBy all start talks numbers
 JudgesTalks all start talks (of_talks.Unexplained place) = FirstUnexplained all start talks place.session place.reply

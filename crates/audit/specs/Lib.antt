@@ -7,4 +7,5 @@ pub mod Retold
 pub mod Judged
 pub mod Calls
 pub mod Tellers
+pub mod Hearings
 pub mod Laws

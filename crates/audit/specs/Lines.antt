@@ -1,5 +1,5 @@
 -- The lines of a transcript, as sessions execute them.
-use Rattle.std.specs.Prelude.{ℕ, zero, suc, Bool, List, [], ◌∷◌, map, position, take, Option, Some, None}
+use Rattle.std.specs.Prelude.{ℕ, suc, Bool, List, [], ◌∷◌, map, position, take, Option, Some, None}
 use Rattle.stmt_tokens.specs.Lines.{line_kind}
 use Rattle.stmt_tokens.specs.Streams.{stream}
 use Rattle.stmt_tokens.specs.declared.lines.LineKind.{LineKind}

@@ -1,7 +1,7 @@
 -- How the replies of sessions are judged, one after the other.
 use Rattle.std.specs.Prelude.{◌≡◌, ◌≤◌, ◌<◌, ℕ, suc, ◌+◌, List, [], ◌∷◌, ◌++◌, Bool, true, false, All, take}
 use Rattle.ts_model.specs.History.{History}
-use Rattle.ts_sessions.specs.Places.{Places, no_places}
+use Rattle.ts_sessions.specs.Places.{Places}
 use Rattle.transcript.specs.declared.transcripts.Exchange.{Exchange}
 use Rattle.transcript.specs.declared.transcripts.Talk.{Talk}
 use Rattle.audit.specs.Answers.{FirstUnexplained, HasExplanation}

@@ -6,8 +6,9 @@
 //! - `lines`: the lines of a transcript, as sessions execute them, and the first that asks for policies.
 //! - `pasts`: a history as the past of a store, with its states at each position from one on.
 //! - `calls`: what a call comes to at a position of it.
-//! - `sessions`: the replies of one session, judged one after the other.
-//! - `talks`: those of all sessions.
+//! - `sessions`: a session whose replies are judged, one after the other.
+//! - `hearings`: its replies, as far as they are judged.
+//! - `talks`: those of all sessions, judged side by side.
 //! - `numbers`: whether the numbers that replies name are the positions after the start, each once.
 //! - `laws`: laws of audits, in clauses of functions that do nothing.
 #![tactic(auto)]
@@ -15,6 +16,7 @@
 mod answers;
 mod audits;
 mod calls;
+mod hearings;
 pub mod laws;
 mod lines;
 mod numbers;

@@ -1,5 +1,5 @@
-//! The replies of one session, judged one after the other over a past.
-ghost use Rattle.std.specs.Prelude.{◌≡◌, ◌≤◌, ℕ, [], length, IfOk, IsTrue};
+//! A session whose replies are judged one after the other over a past.
+ghost use Rattle.std.specs.Prelude.{◌≡◌, ◌≤◌, ℕ, [], false, length, IfOk, IsTrue, None};
 ghost use Rattle.std.specs.Thread.{IsSync};
 ghost use Rattle.ts_model.specs.Allowed.{all_allowed};
 ghost use Rattle.ts_model.specs.History.{History, base_position, position};
@@ -8,8 +8,6 @@ ghost use Rattle.transcript.specs.Shape.{is_sound_talk};
 ghost use Rattle.ts_sessions.specs.Held.{HoldsOf, places_in};
 ghost use Rattle.ts_sessions.specs.Places.{no_places};
 ghost use Rattle.past_sessions.specs.Telling.{state_of};
-ghost use Rattle.audit.specs.Judged.{JudgesTalk};
-ghost use Rattle.audit.specs.Short.{AreShort};
 ghost use Rattle.audit.specs.Tellers.{GoesBehind, IsAt, RetellsTo};
 
 use crate::lines::line_of;
@@ -19,60 +17,28 @@ use std::alloc::Global;
 use std::thread::Threads;
 use transcript::{Exchange, Talk};
 use ts_model::Shown;
-use ts_schema::{Name, NoMemory, Seq, Steps};
+use ts_schema::{Name, NoMemory, Steps};
 use ts_sessions::Session;
 
 /// The most bytes whose operations may wait for the end of a block.
 const MOST_QUEUED: u64 = 67_108_864;
 
-/// What is told of the replies of one session.
-#[derive(Drop)]
-pub(crate) enum JudgedTalk {
-    /// They are explained, and name events with these numbers.
-    Explained(Seq<u64>),
-    /// So many of them are, and the next one isn't.
-    Unexplained(u64),
-}
-
 /// A session whose replies are judged, as far as it has come.
 #[derive(Drop)]
-struct Teller<T: Shown>
+pub(crate) struct Teller<T: Shown>
 where
     T::Job: Drop,
 {
     /// The session.
-    session: Session<T>,
+    pub session: Session<T>,
     /// The position of its last look or event.
-    at: u64,
+    pub at: u64,
     /// The numbers of the events that its replies name.
-    named: Vec<u64>,
-}
-
-/// Judges the replies of a session over a past, whose first look is at `start` or later.
-pub(crate) fn judge_talk<R: Threads + Sync, P: Past, L>(
-    rt: &R,
-    alloc: Global,
-    past: &P,
-    start: u64,
-    talk: &Talk,
-    steps: &mut Steps<L>,
-) -> Result<JudgedTalk, NoMemory>
-where
-    <P::Shot as Shown>::Job: Drop,
-    requires sync { IsSync R.row }
-    requires sound { IsTrue (is_sound_talk talk.now) }
-    requires allowed { IsTrue (all_allowed (P.all past.now)) }
-    requires known { P.from past.now ≤ start }
-    requires based { base_position (P.all past.now) ≤ start }
-    requires within { start ≤ position (P.all past.now) }
-    ensures judged { IfOk result (JudgesTalk (P.all past.now) start talk.now) }
-{
-    let teller = Teller::new(alloc, name_of(alloc, talk)?, start);
-    teller.retell_all(rt, alloc, past, talk.replies.items(), steps)
+    pub named: Vec<u64>,
 }
 
 /// The name of a session.
-fn name_of(alloc: Global, talk: &Talk) -> Result<Name, NoMemory>
+pub(crate) fn name_of(alloc: Global, talk: &Talk) -> Result<Name, NoMemory>
     requires sound { IsTrue (is_sound_talk talk.now) }
     ensures name { IfOk result (λ name. name ≡ talk.now.name) }
 {
@@ -87,7 +53,7 @@ where
     T::Job: Drop,
 {
     /// A session before its first line.
-    fn new(alloc: Global, name: Name, start: u64) -> Teller<T>
+    pub(crate) fn new(alloc: Global, name: Name, start: u64) -> Teller<T>
         ensures name { result.session.name ≡ name }
         ensures places { places_in result.session ≡ no_places }
         ensures at { result.at ≡ start }
@@ -101,38 +67,19 @@ where
         }
     }
 
-    /// Judges the replies of a session that has had no line yet.
-    fn retell_all<R: Threads + Sync, P: Past<Shot = T>, L>(
-        self,
-        rt: &R,
-        alloc: Global,
-        past: &P,
-        exchanges: &[Exchange],
-        steps: &mut Steps<L>,
-    ) -> Result<JudgedTalk, NoMemory>
-        requires sync { IsSync R.row }
-        requires short { AreShort exchanges.now }
-        requires allowed { IsTrue (all_allowed (P.all past.now)) }
-        requires known { P.from past.now ≤ self.at }
-        requires based { base_position (P.all past.now) ≤ self.at }
-        requires within { self.at ≤ position (P.all past.now) }
-        requires holds { HoldsOf T.Shown self.session (state_of (P.all past.now)) }
-        requires fresh { places_in self.session ≡ no_places }
-        requires unnamed { self.named.items ≡ [] }
-        ensures judged { IfOk result (JudgesTalk (P.all past.now) self.at
-            (record { name = self.session.name; replies = exchanges.now })) }
+    /// Whether it has come to a position or beyond, where one is named.
+    #[inline]
+    pub(crate) fn has_come_to(&self, position: Option<u64>) -> bool
+        ensures { position ≡ None → result ≡ false }
     {
-        let mut teller = self;
-        for (place, exchange) in exchanges.iter().enumerate() {
-            if !teller.retell(rt, alloc, past, exchange, steps)? {
-                return Ok(JudgedTalk::Unexplained(place as u64));
-            }
+        match position {
+            None => false,
+            Some(position) => position <= self.at,
         }
-        Ok(JudgedTalk::Explained(Seq::of(teller.named)))
     }
 
     /// Judges one more reply. Where it isn't explained, the session may be any.
-    fn retell<R: Threads + Sync, P: Past<Shot = T>, L>(
+    pub(crate) fn retell<R: Threads + Sync, P: Past<Shot = T>, L>(
         &mut self,
         rt: &R,
         alloc: Global,

@@ -1,6 +1,6 @@
 use Rattle.std.proofs.Common.{◌≡◌, ◌∙◌, ◌<◌, ◌≤◌, ap, sym, arith}
 use Rattle.ts_model.specs.History.{base_position, position}
-use Rattle.engine_core.specs.Histories.{begun_by, history_of}
+use Rattle.engine_core.specs.Histories.{history_of}
 use Rattle.engine_core.specs.Values.{Past}
 use Rattle.engine_core.proofs.EventLaws.{base_of}
 use Rattle.audit.specs.Lines.{first_policy}

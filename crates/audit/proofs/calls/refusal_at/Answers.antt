@@ -1,4 +1,4 @@
-use Rattle.std.proofs.Common.{◌≤◌, arith, sym, ap, ◌∙◌, subst}
+use Rattle.std.proofs.Common.{◌≤◌, arith, sym, ap, ◌∙◌}
 use Rattle.ts_model.specs.History.{base_position, prefix}
 use Rattle.ts_model.proofs.HistoryLaws.{base_prefix}
 use Rattle.ts_sessions.proofs.StopLaws.{position_at}

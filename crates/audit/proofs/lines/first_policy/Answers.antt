@@ -1,4 +1,4 @@
-use Rattle.std.proofs.Common.{◌≡◌, ◌≤◌, Option, Some, length, sym, ap, ◌∙◌, ℕ, arith}
+use Rattle.std.proofs.Common.{◌≡◌, ◌≤◌, Some, length, sym, ap, ◌∙◌, arith}
 use Rattle.audit.specs.Lines.{policy_among}
 use Rattle.audit.proofs.PolicyLaws.{policy_found, policy_nowhere}
 use Rattle.audit.proofs.lines.first_policy.Goals as goal

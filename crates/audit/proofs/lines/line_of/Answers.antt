@@ -1,4 +1,4 @@
-use Rattle.std.proofs.Common.{◌≡◌, ◌≤◌, length, sym, ◌∙◌, arith}
+use Rattle.std.proofs.Common.{◌≡◌, ◌≤◌, length, sym, arith}
 use Rattle.std.proofs.lemmas.List.{length-take-le}
 use Rattle.stmt_tokens.specs.Lines.{line_kind}
 use Rattle.stmt_tokens.specs.declared.lines.LineKind.TheVariants.{Stmt}

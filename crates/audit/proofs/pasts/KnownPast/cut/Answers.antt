@@ -1,10 +1,10 @@
-use Rattle.std.proofs.Common.{◌≡◌, ◌≤◌, ℕ, suc, arith, sym, ap, ◌∙◌, subst}
+use Rattle.std.proofs.Common.{◌≤◌, ℕ, suc, arith, sym, ap, ◌∙◌, subst}
 use Rattle.ts_model.specs.declared.events.Event.TheVariants.{Cut}
 use Rattle.ts_model.specs.declared.outcomes.CutDone.TheVariants.{Cut as CutMade, Nothing as NothingDone}
 use Rattle.ts_model.specs.declared.outcomes.Refusal.{Refusal}
 use Rattle.ts_model.specs.declared.refreshes.Window.TheVariants.{NoBucket, Nothing, Whole}
 use Rattle.ts_model.specs.Calls.{cutting}
-use Rattle.ts_model.specs.History.{base_position, event_at, position, prefix}
+use Rattle.ts_model.specs.History.{base_position, event_at, prefix}
 use Rattle.past_sessions.specs.Pasts.{CameTo}
 use Rattle.past_sessions.specs.declared.pasts.Came.TheVariants.{Refused, Returned}
 use Rattle.ts_sessions.proofs.StopLaws.{position_at}

@@ -1,10 +1,10 @@
-use Rattle.std.proofs.Common.{◌≡◌, Ok, Some, sym, ap, ◌∙◌, subst}
+use Rattle.std.proofs.Common.{◌≡◌, Ok, ap, ◌∙◌, subst}
 use Rattle.std.specs.Prelude.{IsTrue}
 use Rattle.std.proofs.lemmas.Result.{IfOk-weaker}
 use Rattle.ts_sessions.specs.Held.{places_in}
 use Rattle.ts_sessions.specs.Replies.{reply_to}
 use Rattle.ts_sessions.specs.Script.{SessionLine}
-use Rattle.past_sessions.specs.Telling.{IsToldLine, LineTells}
+use Rattle.past_sessions.specs.Telling.{LineTells}
 use Rattle.reply_looks.specs.Replies.{looks_in}
 use Rattle.audit.specs.Tellers.{GoesBehind, IsAt, RetellsTo}
 use Rattle.audit.proofs.RetellLaws.{goes_on, retells_none, retells_some}
