@@ -6,7 +6,7 @@ mkfifo lines
 tsctl run <lines >replies &
 exec 3>lines
 echo "feed: CREATE TABLE load (time BIGINT NOT NULL, busy BIGINT)" >&3
-until grep -q TABLE replies; do sleep 0.05; done
+until grep -qs TABLE replies; do sleep 0.05; done
 
 status=0
 echo "other: CREATE TABLE more (time BIGINT)" | tsctl run 2>&1 || status=$?

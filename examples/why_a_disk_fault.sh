@@ -18,7 +18,7 @@ mkfifo lines
 tsctl --in data run <lines >replies &
 exec 3>lines
 echo "feed: CREATE TABLE more (time BIGINT)" >&3
-until grep -q TABLE replies; do sleep 0.05; done
+until grep -qs TABLE replies; do sleep 0.05; done
 tsctl --in data run </dev/null 2>&1; echo "status $?"
 why --in data
 exec 3>&-
