@@ -14,24 +14,22 @@ chmod +x "$1"
 END
 cat >kit/rt <<'END'
 #!/bin/sh
-echo "$*" >>"$CALLS"
-# As the toolchain does, it asks for each crate that crates.txt names.
-for crate in $(cut -d: -f1 ../../crates.txt); do
-  [ -d "../$crate/src" ] || { echo "there is no folder ../$crate/src"; exit 1; }
+echo "$* of $(cut -d: -f1 crates.txt | sort | tr '\n' ' ')" >>"$CALLS"
+if [ "$SAYS" = slow ]; then
+  sleep 600 &
+  echo "$!" >"$CALLS.slow"
+  wait
+fi
+if [ "$SAYS" = refused ]; then
+  echo "rt: low NOT PROVED"
+  exit 1
+fi
+for crate in low tsctl; do
+  [ -d "crates/$crate/src" ] && echo "rt: $crate proved"
 done
-case "$*" in
-  "lib --jobs "*)
-    echo "$SAYS"
-    if [ "$SAYS" = slow ]; then
-      sleep 600 &
-      echo "$!" >"$CALLS.slow"
-      wait
-    fi
-    [ "$SAYS" = proved ] ;;
-  "run -- check")
-    printf '#!/bin/sh\necho "proved: $*"\n' >out/tsctl
-    chmod +x out/tsctl ;;
-esac
+mkdir crates/tsctl/out
+printf '#!/bin/sh\necho "proved: $*"\n' >crates/tsctl/out/tsctl
+chmod +x crates/tsctl/out/tsctl
 END
 chmod +x copy/bench/unproved kit/rt
 export CALLS="$PWD/calls" SAYS=proved
