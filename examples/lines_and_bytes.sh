@@ -18,6 +18,13 @@ line() {
 { line 65535; echo; line 65536; echo; line 65537; echo; echo "b: COMMIT"; line 500000; echo; echo "b: COMMIT"; line 131072; } | tsctl run
 line 65536 | tsctl run
 
+# With a worker for each session what is refused of the input comes first, and then each session's replies: here of two
+# sessions, and of 64 where 65 speak, whose statements have no word.
+printf 'a: x -- c\n\n-- note\nb:y\n?\n\xff\na:z' | tsctl par
+{ for name in {a..m}{a..e}; do echo "$name:"; done; line 65537; } | tsctl par >many
+head -n 2 many
+tail -n +3 many | awk '{ $1 = ""; print }' | sort | uniq -c
+
 # Nothing is printed for nothing.
 tsctl run </dev/null
 printf '\n  -- nothing\n\t\r\n' | tsctl run

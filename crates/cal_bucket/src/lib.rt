@@ -16,6 +16,3 @@ pub use answers::cal_answer;
 pub use buckets::calendar_bucket;
 pub use months::{month_of, month_start};
 pub use plans::{CalPlan, CalUnit};
-
-#[cfg(test)]
-mod tests;

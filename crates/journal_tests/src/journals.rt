@@ -86,45 +86,6 @@ fn an_event_is_appended_to_an_empty_disk(rt: HostRuntime) -> Result<(), Fail> {
 }
 
 #[test]
-fn a_cut_journal_is_damaged_at_its_open_gate(rt: HostRuntime) -> Result<(), Fail> {
-    let mut shut = ONE;
-    shut[8] = 0;
-    for len in 0..=ONE.len() {
-        let open = read(rt.alloc(), &ONE[..len])?;
-        let want = match len {
-            0..=9 => sound(0),
-            27 => sound(1),
-            _ => broken(0, 8),
-        };
-        assert_eq!(rt; open, want, "{len} bytes");
-        let closed = read(rt.alloc(), &shut[..len])?;
-        assert_eq!(rt; closed, sound(0));
-    }
-    Ok(())
-}
-
-#[test]
-fn a_changed_byte_is_found_where_frames_tell_it(rt: HostRuntime) -> Result<(), Fail> {
-    for (at, byte, want) in [
-        (100, 0, sound(2)),
-        (0, 0, broken(0, 0)),
-        (6, 0x31, broken(0, 0)),
-        (8, 0, sound(0)),
-        (9, 36, broken(0, 8)),
-        (12, 1, broken(0, 8)),
-        (26, 2, sound(1)),
-        (27, 18, broken(1, 26)),
-        (31, 8, sound(2)),
-        (48, 1, broken(2, 48)),
-    ] {
-        let bytes = changed(rt.alloc(), at, byte)?;
-        let found = read(rt.alloc(), &bytes)?;
-        assert_eq!(rt; found, want, "byte {at} is {byte}");
-    }
-    Ok(())
-}
-
-#[test]
 fn payloads_are_read_one_at_a_time(rt: HostRuntime) -> Result<(), Fail> {
     let alloc = rt.alloc();
     let disk = MemDisk::new(alloc, changed(alloc, 100, 0)?);
@@ -163,40 +124,6 @@ fn append_ten<D: Disk + Drop>(alloc: Global, disk: D) -> Result<(D, Append), NoM
         }
     }
     Ok((journal.close(), last))
-}
-
-/// What is found in so many of the first bytes of ten payloads.
-fn found_in(len: usize) -> Found {
-    match len {
-        0..=9 => sound(0),
-        10..=13 => broken(0, 8),
-        14..=19 => broken(1, 13),
-        20..=26 => broken(2, 19),
-        27..=34 => broken(3, 26),
-        35..=43 => broken(4, 34),
-        44..=53 => broken(5, 43),
-        54..=64 => broken(6, 53),
-        65..=76 => broken(7, 64),
-        77..=89 => broken(8, 76),
-        90..=103 => broken(9, 89),
-        _ => sound(10),
-    }
-}
-
-#[test]
-fn every_cut_of_ten_payloads_keeps_those_before_it(rt: HostRuntime) -> Result<(), Fail> {
-    let alloc = rt.alloc();
-    let (disk, last) = append_ten(alloc, MemDisk::new(alloc, Vec::new(alloc)))?;
-    assert_eq!(rt; last, Append::Done);
-    let whole = disk.bytes();
-    assert_eq!(rt; whole.len(), 104);
-    for len in 0..105 {
-        if let Some(cut) = whole.get(..len) {
-            let found = read(alloc, cut)?;
-            assert_eq!(rt; found, found_in(len), "{len} bytes");
-        }
-    }
-    Ok(())
 }
 
 /// Whether each of eight images of a disk stands for some first ones of the ten payloads.
@@ -284,41 +211,6 @@ fn with_base(alloc: Global, mark: u8) -> Result<Vec<u8>, NoMemory> {
         *place = mark;
     }
     Ok(bytes)
-}
-
-#[test]
-fn reading_begins_at_a_base_in_version_2_alone(rt: HostRuntime) -> Result<(), Fail> {
-    let alloc = rt.alloc();
-    for (mark, want) in [
-        (0x31, sound(2)),
-        (0x32, sound(1)),
-        (0x33, sound(2)),
-        (0, sound(2)),
-    ] {
-        let found = read(alloc, &with_base(alloc, mark)?)?;
-        assert_eq!(rt; found, want, "the version's byte is {mark}");
-    }
-    Ok(())
-}
-
-#[test]
-fn what_stands_behind_a_base_is_read(rt: HostRuntime) -> Result<(), Fail> {
-    let alloc = rt.alloc();
-    let mut bytes = with_base(alloc, 0x32)?;
-    for (at, byte, want) in [
-        (48, 1, broken(1, 48)),
-        (13, 9, broken(1, 48)),
-        (48, 2, sound(1)),
-        (26, 0, sound(1)),
-        (8, 2, sound(0)),
-    ] {
-        if let Some(place) = bytes.get_mut(at) {
-            *place = byte;
-        }
-        let found = read(alloc, &bytes)?;
-        assert_eq!(rt; found, want, "byte {at} is {byte}");
-    }
-    Ok(())
 }
 
 #[test]

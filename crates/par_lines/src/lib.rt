@@ -13,8 +13,6 @@ mod names;
 mod phases;
 mod sessions;
 mod sorting;
-#[cfg(test)]
-mod tests;
 
 pub use phases::{Phases, into_phases};
 pub use sessions::{LinePlace, SessionLines};

@@ -20,8 +20,6 @@ mod pieces;
 mod reading;
 mod sending;
 mod shape;
-#[cfg(test)]
-mod tests;
 mod transcripts;
 
 pub use ascii::is_ascii;

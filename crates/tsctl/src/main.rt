@@ -128,30 +128,3 @@ fn main(rt: HostRuntime) -> ExitCode {
     }
     ExitCode::from(status.code())
 }
-
-#[cfg(test)]
-mod tests {
-    use super::*;
-
-    #[test]
-    fn each_ending_is_told_on_standard_error(rt: HostRuntime) {
-        let rows = [
-            (Status::Done, None),
-            (Status::Refused, None),
-            (
-                Status::BadWords,
-                Some(
-                    "tsctl: usage: tsctl run | par [json] | log | check | checkpoint | audit | demo N",
-                ),
-            ),
-            (Status::ReadFault, Some("tsctl: read fault")),
-            (Status::WriteFault, Some("tsctl: write fault")),
-            (Status::DiskFault, Some("tsctl: disk fault")),
-            (Status::NoMemory, Some("tsctl: no memory")),
-            (Status::InputLong, Some("tsctl: input too long")),
-        ];
-        for (status, want) in rows {
-            assert_eq!(rt; message(status), want);
-        }
-    }
-}
