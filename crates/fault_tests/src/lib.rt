@@ -1,12 +1,11 @@
-//! Tests of the top call under faults of its source, its sink and its disk, and over damaged journals, by the
-//! public calls alone. What has to come out is worked out by hand. They stand in a crate without any other
-//! code, since a crate with tests is proved twice.
+//! Tests of the top call under faults of its source, its sink and its disk, by the public calls alone. What has
+//! to come out is worked out by hand. They stand in a crate without any other code, since a crate with tests is
+//! proved twice.
 //!
 //! - `script`: a script with its replies and its events.
 //! - `calls`: how calls are made and looked at.
 //! - `ends`: a read or a write that fails.
 //! - `disks`: a call of the disk that fails, a disk that stops, and what a crash leaves of it.
-//! - `journals`: journals that are cut or changed.
 //! - `reads`: how many stored rows a run looks at, which no reply tells.
 //! - `checkpoints`: a checkpoint whose sink or disk fails.
 //! - `ticks`: a tick whose disk fails.
@@ -21,8 +20,6 @@ mod checkpoints;
 mod disks;
 #[cfg(test)]
 mod ends;
-#[cfg(test)]
-mod journals;
 #[cfg(test)]
 mod reads;
 #[cfg(test)]
