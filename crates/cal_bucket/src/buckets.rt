@@ -37,6 +37,7 @@ pub(crate) fn no_bucket() -> Bucket
 }
 
 /// The bucket that holds the time `t`: the one at hand, or another.
+#[inline(always)]
 pub(crate) fn bucket_with(unit: CalUnit, number: u32, at_hand: Bucket, t: i64) -> Bucket
     requires number { IsNumber number }
     requires time { IsTrue (is_time t) }

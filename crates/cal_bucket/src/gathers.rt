@@ -46,6 +46,7 @@ pub(crate) fn gather<'a>(
 }
 
 /// Takes a row in, where it passes every test. `bucket` is that of a row before it, and then its own.
+#[inline(always)]
 fn take_row<'a>(
     alloc: Global,
     plan: &CalPlan,
@@ -77,6 +78,7 @@ fn take_row<'a>(
 }
 
 /// Takes a row of 64-bit numbers in, of which fewer than `2^64` never make a number too great.
+#[inline(always)]
 fn take_words<'a>(
     alloc: Global,
     shape: &Shape,

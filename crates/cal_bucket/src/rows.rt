@@ -6,6 +6,7 @@ ghost use Rattle.cal_bucket.specs.Rows.{ShowARow, row_shown};
 use cell_groups::RowCells;
 
 /// The time that a cell shows.
+#[inline(always)]
 fn time_shown(value: Option<i128>) -> i64
     requires { IsSomeAnd value (λ n. IsTrue (is_time n)) }
     ensures value { result ≡ unwrap_or value (pos 0) }
@@ -18,6 +19,7 @@ fn time_shown(value: Option<i128>) -> i64
 }
 
 /// The time of the row that cells show.
+#[inline(always)]
 pub(crate) fn time_of(at: u32, cells: &RowCells<'_>) -> i64
     requires { ShowARow at cells.now }
     ensures value { result ≡ (row_shown at cells.now).at }

@@ -1,5 +1,5 @@
 -- Laws of cells read as values.
-use Rattle.std.proofs.Common.{◌≡◌, ℕ, zero, suc, ◌+◌, List, [], ◌∷◌, drop, refl, sym, ap, ◌∙◌, arith}
+use Rattle.std.proofs.Common.{◌≡◌, ℕ, zero, suc, ◌+◌, List, [], ◌∷◌, drop, refl, ap, ◌∙◌, arith}
 use Rattle.ts_num.specs.declared.values.Datum.{Datum}
 use Rattle.ts_model.specs.Results.{cell_at}
 

@@ -87,6 +87,7 @@ impl<'a> CellGroups<'a> {
 
     /// Where the group of a row stands. It is looked for first where it is expected: in each bucket the same
     /// keys come up, mostly in the same order.
+    #[inline(always)]
     fn find(&self, shape: &Shape, start: i128, cells: &RowCells<'_>) -> Place
         ensures { IsPlace shape.now start cells.now self.now.groups.items result }
     {

@@ -36,7 +36,7 @@ pub(crate) fn order_beside(
 }
 
 /// The keys of two rows, from left to right.
-#[inline]
+#[inline(always)]
 fn keys_order(keys: &[u32], a: &RowCells<'_>, b: &RowCells<'_>) -> Ordering
     ensures { result ≡ values_cmp (keys_at keys.now a.now) (keys_at keys.now b.now) }
 {

@@ -24,7 +24,7 @@ pub struct Tally {
 }
 
 /// The tally of one cell.
-#[inline]
+#[inline(always)]
 pub(crate) fn tally_of(fun: Fun, value: Option<i128>) -> Tally
     ensures { result ≡ cell_tally fun value }
 {
@@ -38,7 +38,7 @@ pub(crate) fn tally_of(fun: Fun, value: Option<i128>) -> Tally
 }
 
 /// The tally of one cell where its value counts.
-#[inline]
+#[inline(always)]
 fn tally_of_value(value: Option<i128>) -> Tally
     ensures { result ≡ cell_tally Sum value }
 {
@@ -55,7 +55,7 @@ fn tally_of_value(value: Option<i128>) -> Tally
 }
 
 /// The tally of the cells of both, where it can be kept.
-#[inline]
+#[inline(always)]
 fn both(fun: Fun, a: &Tally, b: &Tally) -> Option<Tally>
     ensures sum { IfSome result (λ t. as_part fun t ≡ joined (as_part fun a.now) (as_part fun b.now)) }
     ensures room { CanBeKept (joined (as_part fun a.now) (as_part fun b.now)) → IsSome result }
@@ -69,7 +69,7 @@ fn both(fun: Fun, a: &Tally, b: &Tally) -> Option<Tally>
 }
 
 /// The same where rows are counted.
-#[inline]
+#[inline(always)]
 fn rows_of_both(a: &Tally, b: &Tally) -> Option<Tally>
     ensures sum { IfSome result (λ t. as_part CountAll t ≡ joined (as_part CountAll a.now) (as_part CountAll b.now)) }
     ensures room { CanBeKept (joined (as_part CountAll a.now) (as_part CountAll b.now)) → IsSome result }
@@ -79,7 +79,7 @@ fn rows_of_both(a: &Tally, b: &Tally) -> Option<Tally>
 }
 
 /// The same where their sum is what counts.
-#[inline]
+#[inline(always)]
 fn sum_of_both(a: &Tally, b: &Tally) -> Option<Tally>
     ensures sum { IfSome result (λ t. as_part Sum t ≡ joined (as_part Sum a.now) (as_part Sum b.now)) }
     ensures room { CanBeKept (joined (as_part Sum a.now) (as_part Sum b.now)) → IsSome result }
@@ -90,7 +90,7 @@ fn sum_of_both(a: &Tally, b: &Tally) -> Option<Tally>
 }
 
 /// The same where the least is what counts.
-#[inline]
+#[inline(always)]
 fn least_of_both(a: &Tally, b: &Tally) -> Option<Tally>
     ensures sum { IfSome result (λ t. as_part Min t ≡ joined (as_part Min a.now) (as_part Min b.now)) }
     ensures room { CanBeKept (joined (as_part Min a.now) (as_part Min b.now)) → IsSome result }
@@ -100,7 +100,7 @@ fn least_of_both(a: &Tally, b: &Tally) -> Option<Tally>
 }
 
 /// The same where the greatest is what counts.
-#[inline]
+#[inline(always)]
 fn most_of_both(a: &Tally, b: &Tally) -> Option<Tally>
     ensures sum { IfSome result (λ t. as_part Max t ≡ joined (as_part Max a.now) (as_part Max b.now)) }
     ensures room { CanBeKept (joined (as_part Max a.now) (as_part Max b.now)) → IsSome result }
@@ -110,7 +110,7 @@ fn most_of_both(a: &Tally, b: &Tally) -> Option<Tally>
 }
 
 /// The number of a tally, where it has one.
-#[inline]
+#[inline(always)]
 fn bound_of(tally: &Tally) -> Option<i128>
     ensures { result ≡ bound tally.now.values tally.now.number }
 {
@@ -121,7 +121,7 @@ fn bound_of(tally: &Tally) -> Option<i128>
 }
 
 /// The tally of so many cells with this number.
-#[inline]
+#[inline(always)]
 fn tally_with(values: u64, number: Option<i128>) -> Tally
     ensures values { result.values ≡ values }
     ensures number { result.number ≡ unwrap_or number (pos 0) }
@@ -133,7 +133,7 @@ fn tally_with(values: u64, number: Option<i128>) -> Tally
 }
 
 /// The lesser of two numbers. Where one is missing, it is the other.
-#[inline]
+#[inline(always)]
 fn lesser_of(a: Option<i128>, b: Option<i128>) -> Option<i128>
     ensures { result ≡ lesser a b }
 {
@@ -145,7 +145,7 @@ fn lesser_of(a: Option<i128>, b: Option<i128>) -> Option<i128>
 }
 
 /// The greater of two numbers. Where one is missing, it is the other.
-#[inline]
+#[inline(always)]
 fn greater_of(a: Option<i128>, b: Option<i128>) -> Option<i128>
     ensures { result ≡ greater a b }
 {
@@ -178,14 +178,16 @@ pub(crate) fn add_row(
 }
 
 /// A tally with one more cell, where it can be kept.
-#[inline]
+#[inline(always)]
 fn with_cell(fun: Fun, tally: &Tally, value: Option<i128>) -> Option<Tally>
     ensures sum { IfSome result (λ t. as_part fun t ≡ joined (as_part fun tally.now) (as_part fun (cell_tally fun value))) }
     ensures room { CanBeKept (joined (as_part fun tally.now) (as_part fun (cell_tally fun value))) → IsSome result }
 {
-    match value {
-        None => both(fun, tally, &tally_of(fun, None)),
-        Some(v) => both(fun, tally, &tally_of(fun, Some(v))),
+    match fun {
+        Fun::CountAll => rows_of_both(tally, &tally_of(Fun::CountAll, value)),
+        Fun::Count | Fun::Sum | Fun::Avg => sum_of_both(tally, &tally_of_value(value)),
+        Fun::Min => least_of_both(tally, &tally_of_value(value)),
+        Fun::Max => most_of_both(tally, &tally_of_value(value)),
     }
 }
 
@@ -222,7 +224,7 @@ pub(crate) fn shown_of(fun: Fun, tally: &Tally) -> Datum
 }
 
 /// What a function shows of one cell.
-#[inline]
+#[inline(always)]
 pub(crate) fn shown_alone(fun: Fun, value: Option<i128>) -> Datum
     ensures { result ≡ tally_shown fun (cell_tally fun value) }
 {
@@ -234,7 +236,7 @@ pub(crate) fn shown_alone(fun: Fun, value: Option<i128>) -> Datum
 }
 
 /// The number of one cell, NULL where it has none.
-#[inline]
+#[inline(always)]
 fn number_alone(value: Option<i128>) -> Datum
     ensures { result ≡ tally_shown Sum (cell_tally Sum value) }
 {

@@ -40,6 +40,7 @@ fn bytes_of_columns(cols: &[Column]) -> u64
 }
 
 /// The bytes that a value takes, or NULL.
+#[inline(always)]
 pub fn bytes_of_value(value: Option<i64>) -> u64
     ensures { result ≡ value_bytes value }
 {
@@ -61,6 +62,7 @@ pub fn bytes_of_values(vals: &[Option<i64>]) -> u64
 }
 
 /// The bytes that the values of a row take.
+#[inline(always)]
 fn bytes_of_others(vals: &Values) -> u64
     ensures { result ≡ min (sum_by value_bytes vals.now) (2 ^ 64 - 1) }
 {
@@ -71,6 +73,7 @@ fn bytes_of_others(vals: &Values) -> u64
     total
 }
 
+#[inline(always)]
 fn bytes_of_row(row: &Row) -> u64
     ensures { result ≡ min (row_bytes row.now) (2 ^ 64 - 1) }
 {

@@ -48,6 +48,7 @@ fn none_from(vals: &Values, place: usize) -> bool
 }
 
 /// Whether the values from a place on fit columns.
+#[inline(always)]
 fn values_are_fit(cols: &[Column], vals: &Values, place: usize) -> bool
     ensures { result ≡ values_fit cols.now (drop place vals.now) }
 {
@@ -61,6 +62,7 @@ fn values_are_fit(cols: &[Column], vals: &Values, place: usize) -> bool
 }
 
 /// Whether the values from a place on fit the columns but the one at another place.
+#[inline(always)]
 fn others_are_fit(at: usize, cols: &[Column], vals: &Values, place: usize) -> bool
     ensures { result ≡ values_fit (remove cols.now at) (drop place vals.now) }
 {
@@ -79,6 +81,7 @@ fn others_are_fit(at: usize, cols: &[Column], vals: &Values, place: usize) -> bo
     }
 }
 
+#[inline(always)]
 fn row_is_fit(def: &TableDef, hyper: Hyper, row: &Row) -> bool
     ensures { result ≡ row_fits def.now hyper row.now }
 {

@@ -59,6 +59,7 @@ impl Block {
     }
 
     /// Takes a row into the group whose partial aggregates begin at a place.
+    #[inline(always)]
     pub(crate) fn add_row(&mut self, from: usize, aggs: &[Agg], row: &Row)
         requires within { from + length aggs.now ≤ length self.old }
         requires room { AllByRecursion (λ p. p.count < 2 ^ 62 - 1) (take (length aggs.now) (drop from self.old)) }

@@ -77,6 +77,7 @@ impl Gathered {
 
     /// Takes a row in, whose bucket starts at `start`: into the group of its bucket and keys, or as a group
     /// of its own.
+    #[inline(always)]
     fn take_row(
         &mut self,
         alloc: Global,
@@ -101,6 +102,7 @@ impl Gathered {
     }
 
     /// Where the group of a row stands, or else where it may be put.
+    #[inline(always)]
     fn find(&self, plan: &Fold, row: &Row, start: i64) -> Result<usize, usize>
         ensures found { IfOk result (IsAt (row_at plan.now start row.now) self.now.groups) }
         ensures free { IfErr result (λ at. at ≤ length self.now.groups) }
@@ -153,6 +155,7 @@ impl Gathered {
     }
 
     /// Notes where the groups stand, once rows have strayed too often for the number of groups.
+    #[inline(always)]
     fn note_if_astray(&mut self) -> Result<(), NoMemory>
         ensures { OnOk result (self.new.groups ≡ self.old.groups) }
     {
@@ -183,6 +186,7 @@ impl Gathered {
 
 /// The start of the bucket of a time, beside the start of some bucket. Where that is its own, as most often that
 /// of the row before, nothing is divided.
+#[inline(always)]
 fn start_near(width: Width, near: i64, at: i64) -> i64
     requires width { IsWidth width }
     requires near { IsStart width near }
@@ -197,6 +201,7 @@ fn start_near(width: Width, near: i64, at: i64) -> i64
 }
 
 /// Whether the bucket that starts there holds a time.
+#[inline(always)]
 fn is_held(width: Width, start: i64, at: i64) -> bool
     requires width { IsWidth width }
     requires low { start ≤ℤ max_time }
@@ -206,6 +211,7 @@ fn is_held(width: Width, start: i64, at: i64) -> bool
 }
 
 /// How often rows have strayed, where a row's group is found at a place, after one that is the last.
+#[inline(always)]
 fn astray(before: usize, last: usize, at: usize) -> usize {
     if at == last || at.wrapping_sub(last) == 1 {
         before

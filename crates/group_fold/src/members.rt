@@ -17,6 +17,7 @@ use ts_model::{Agg, Fold};
 use ts_schema::{NoMemory, Row, Seq, field, value_order};
 
 /// Whether the group at a place is that of a row, in its bucket.
+#[inline(always)]
 pub(crate) fn is_of(heads: &[Head], at: usize, plan: &Fold, row: &Row, start: i64) -> bool
     ensures { result ≡ true → IsHeadAt (row_at plan.now start row.now) heads.now at }
 {
@@ -24,6 +25,7 @@ pub(crate) fn is_of(heads: &[Head], at: usize, plan: &Fold, row: &Row, start: i6
 }
 
 /// How the group at a place compares with that of a row. Behind the last group nothing comes before it.
+#[inline(always)]
 pub(crate) fn order_at(heads: &[Head], at: usize, plan: &Fold, row: &Row, start: i64) -> Ordering
     ensures same { result ≡ Equal → IsHeadAt (row_at plan.now start row.now) heads.now at }
     ensures before { result ≡ Less → at < length heads.now }
@@ -35,6 +37,7 @@ pub(crate) fn order_at(heads: &[Head], at: usize, plan: &Fold, row: &Row, start:
 }
 
 /// How a group compares with that of a row.
+#[inline(always)]
 pub(crate) fn order_of(plan: &Fold, row: &Row, start: i64, head: &Head) -> Ordering
     ensures { result ≡ group_cmp (shown_group 0 [] head.now) (row_at plan.now start row.now) }
 {
@@ -46,6 +49,7 @@ pub(crate) fn order_of(plan: &Fold, row: &Row, start: i64, head: &Head) -> Order
 }
 
 /// How keys compare with those of a row.
+#[inline(always)]
 fn keys_order(keys: &[Option<i64>], cols: &[u32], row: &Row) -> Ordering
     ensures { result ≡ values_cmp keys.now (keys_of cols.now row.now) }
 {
@@ -87,6 +91,7 @@ fn keys_listed(alloc: Global, cols: &[u32], row: &Row) -> Result<Vec<Option<i64>
 }
 
 /// Takes a row into the partial aggregates of its group.
+#[inline(always)]
 pub(crate) fn add_to_parts(aggs: &[Agg], row: &Row, parts: &mut [Partial])
     requires many { length parts.old ≡ length aggs.now }
     requires room { AllByRecursion (λ p. p.count < 2 ^ 62 - 1) parts.old }

@@ -66,6 +66,7 @@ impl OpenGroups {
     }
 
     /// Takes a row into the group at a place.
+    #[inline(always)]
     pub(crate) fn add(&mut self, at: usize, plan: &Fold, row: &Row)
         requires within { at < length self.old }
         requires room { (d : GroupValue) → IsBelow (2 ^ 62 - 1) plan.now (slice_index_or self.old at d) }

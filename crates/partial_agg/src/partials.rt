@@ -128,7 +128,7 @@ impl Partial {
     }
 
     /// Takes in one more row, with this value. There have to be fewer than `2^62 - 1` rows before.
-    #[inline]
+    #[inline(always)]
     pub fn add(&mut self, v: Option<i64>)
         requires { self.old.count < 2 ^ 62 - 1 }
         ensures added { self.new ≡ joined self.old (summary (v ∷ [])) }
@@ -141,6 +141,7 @@ impl Partial {
     }
 
     /// Takes in one more row, with NULL.
+    #[inline(always)]
     fn add_null(&mut self)
         requires { self.old.count < 2 ^ 62 - 1 }
         ensures { self.new ≡ joined self.old (summary (None ∷ [])) }
@@ -149,6 +150,7 @@ impl Partial {
     }
 
     /// Takes in one more row, with this value.
+    #[inline(always)]
     fn add_value(&mut self, v: i64)
         requires { self.old.count < 2 ^ 62 - 1 }
         ensures { self.new ≡ joined self.old (summary (Some v ∷ [])) }
@@ -210,7 +212,7 @@ impl Partial {
 }
 
 /// The end that is kept beside so many values.
-#[inline]
+#[inline(always)]
 fn end(values: u64, v: i64) -> Option<i64>
     ensures { result ≡ end_of values v }
 {
@@ -221,6 +223,7 @@ fn end(values: u64, v: i64) -> Option<i64>
 }
 
 /// The least and the greatest of so many values and of one more.
+#[inline(always)]
 fn ends_with(values: u64, least: i64, most: i64, v: i64) -> (i64, i64)
     ensures least { Some result.0 ≡ lesser (end_of values least) (Some v) }
     ensures most { Some result.1 ≡ greater (end_of values most) (Some v) }
@@ -299,6 +302,7 @@ fn number(v: Option<i64>) -> Option<i128>
 }
 
 /// The sum of so many values as a number.
+#[inline(always)]
 fn sum_number(values: u64, sum: i128) -> Option<i128>
     ensures { result ≡ value_of (sum_shown values sum) }
 {
@@ -309,6 +313,7 @@ fn sum_number(values: u64, sum: i128) -> Option<i128>
 }
 
 /// The mean of so many values as a whole number: none, since it is shown as a ratio.
+#[inline(always)]
 fn mean_number(values: u64, sum: i128) -> Option<i128>
     ensures { result ≡ value_of (mean_shown values sum) }
 {

@@ -80,6 +80,7 @@ fn width_of(rows: &[Row]) -> usize {
 }
 
 /// Appends a row with all its columns: its cells, and the place where they end.
+#[inline(always)]
 fn show_row(
     at: u32,
     row: &Row,
@@ -97,6 +98,7 @@ fn show_row(
 }
 
 /// Appends all columns of a row in declared order, where the time column is at this place.
+#[inline(always)]
 fn put_columns(at: u32, row: &Row, cells: &mut Vec<Datum>) -> Result<(), NoMemory>
     ensures { IfOk result (λ _. cells.new.items ≡ cells.old.items ++ all_columns at row.now) }
 {
@@ -108,6 +110,7 @@ fn put_columns(at: u32, row: &Row, cells: &mut Vec<Datum>) -> Result<(), NoMemor
 }
 
 /// Appends the values of a row from place `from` on and below place `to`.
+#[inline(always)]
 fn put_part(vals: &Values, from: usize, to: usize, cells: &mut Vec<Datum>) -> Result<(), NoMemory>
     requires order { from ≤ to }
     requires within { to ≤ length vals.now }
@@ -121,6 +124,7 @@ fn put_part(vals: &Values, from: usize, to: usize, cells: &mut Vec<Datum>) -> Re
 }
 
 /// A number as it is shown, or NULL.
+#[inline(always)]
 fn shown(value: Option<i64>) -> Datum
     ensures { result ≡ shown_or_null value }
 {

@@ -17,6 +17,7 @@ pub struct Row {
 
 /// The value of column `col`: column 0 is the time, the others count from 1. A row that has no such
 /// column has NULL there.
+#[inline(always)]
 pub fn field(row: &Row, col: u32) -> Option<i64>
     ensures value { result ≡ field_of row.now col }
 {
@@ -27,6 +28,7 @@ pub fn field(row: &Row, col: u32) -> Option<i64>
 }
 
 /// The value at a place, counted from 0; NULL where there is none.
+#[inline(always)]
 fn value_or_null(vals: &Values, i: usize) -> Option<i64>
     ensures { result ≡ slice_index_or vals.now i None }
 {
@@ -75,6 +77,7 @@ pub fn values_order(a: &[Option<i64>], b: &[Option<i64>]) -> Ordering
 }
 
 /// Values by size; NULL is greater than every number.
+#[inline(always)]
 pub fn value_order(a: Option<i64>, b: Option<i64>) -> Ordering
     ensures order { result ≡ value_cmp a b }
 {

@@ -44,7 +44,7 @@ impl<T> Seq<T> {
     }
 
     /// How many items there are.
-    #[inline]
+    #[inline(always)]
     pub fn len(&self) -> usize
         ensures len { result ≡ length self.now }
     {
@@ -59,7 +59,7 @@ impl<T> Seq<T> {
     }
 
     /// The items, in order.
-    #[inline]
+    #[inline(always)]
     pub fn items(&self) -> &[T]
         ensures items { result.now ≡ self.now }
     {
@@ -67,7 +67,7 @@ impl<T> Seq<T> {
     }
 
     /// The item at place `i`, counted from 0.
-    #[inline]
+    #[inline(always)]
     pub fn get(&self, i: usize) -> &T
         requires { i < length self.now }
         ensures item { result.now ≡ slice_index_or self.now i result.now }
@@ -76,6 +76,7 @@ impl<T> Seq<T> {
     }
 
     /// Replaces the item at place `i`, counted from 0.
+    #[inline(always)]
     pub fn set(&mut self, i: usize, item: T)
     where
         T: Drop,

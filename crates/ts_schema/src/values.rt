@@ -172,6 +172,7 @@ impl Values {
 
     /// The values of a block from place `from` on and below place `to`. A place above 2^32 - 1 is answered as
     /// want of memory.
+    #[inline(always)]
     pub fn part(block: &Arc<ValueBlock>, from: usize, to: usize) -> Result<Values, NoMemory>
         requires order { from ≤ to }
         requires within { to ≤ length (arc_value block.now) }
