@@ -33,13 +33,11 @@ use Rattle.ts_sessions.specs.Places.{Places, Turn, cuts, held_for, holds, turns}
 use Rattle.ts_sessions.specs.Procedures.{Procedure, followed_by, tries_at}
 use Rattle.ts_sessions.specs.Step.{after_cut, after_snapshot, finish_turn, finishes, finishes_held, refreshed, refreshes, snap_turn, snaps, taken, taken_of, unfinished}
 use Rattle.image_runs.proofs.PlaceLaws.{IsFrom, IsHeld, PlacesFit, gone_held, held_there, places_on, put_held}
-use Rattle.image_runs.proofs.TwinLaws.{Alongside, Same, Twins, along_as, along_call, along_ends, along_sees, along_then, along_tries, twins_alike, twins_base, twins_on}
+use Rattle.image_runs.proofs.TwinLaws.{Alongside, Same, SameEnd, Twins, along_as, along_call, along_ends, along_sees, along_then, along_tries, twins_alike, twins_base, twins_on}
 
--- two turns leave the same places, which fit the second history, and say the same
-pub record SameTurn (base used : ℕ) (k : History) (t u : Turn Places) : Type 0 where
-  pub places : t.places ≡ u.places
-  pub said : t.said ≡ u.said
-  pub fit : PlacesFit base used k u.places
+-- two turns of a session end the same
+abbrev pub SameTurn : ℕ → ℕ → History → Turn Places → Turn Places → Type 0
+SameTurn base used = SameEnd (PlacesFit base used)
 
 -- a session has the same turn at two histories
 abbrev pub TurnsAlong : ℕ → ℕ → History → History → Procedure (Turn Places) → Procedure (Turn Places) → Type 0

@@ -3,5 +3,7 @@ mod TwinLaws
 mod CallLaws
 mod AskLaws
 mod ActLaws
-mod LineLaws
+mod SessionLaws
 mod ScriptLaws
+mod LineLaws
+mod PolicyLaws

@@ -1,5 +1,5 @@
 -- What a line of a session does to a history and to its image.
-use Rattle.std.proofs.Common.{◌≡◌, ℕ, ◌+◌, ◌≤◌, true, false, List, length, Option, Some, None, sym, refl, ap, ◌∙◌, subst, arith}
+use Rattle.std.proofs.Common.{◌≡◌, ℕ, ◌+◌, ◌≤◌, true, List, length, Option, Some, None, sym, refl, ap, ◌∙◌, subst, arith}
 use Rattle.std.specs.Prelude.{Result, Ok, Err, is_some}
 use Rattle.std.proofs.lemmas.Bool.{true≢false}
 use Rattle.ts_model.specs.declared.images.Image.{Image}
@@ -27,6 +27,7 @@ use Rattle.hier_agg.specs.Reads.{upper_read}
 use Rattle.result_text.specs.declared.replies.Said.TheVariants as said
 use Rattle.ts_sessions.specs.Places.{Block, none, writing, reading, Places, Turn, enters, refuses, turns}
 use Rattle.ts_sessions.specs.Procedures.{Procedure, ends, looks as looks_at}
+use Rattle.ts_sessions.specs.Script.{session_semantics}
 use Rattle.ts_sessions.specs.Sound.{AsksSoundly}
 use Rattle.ts_sessions.specs.Step.{acts, answers, block_refusal, calendar_plan, closes, given_up, kind_of, misread, named, named_as, named_first, named_here, plan_of, read_at, refusal_reading, roll_up_plan, step, unit_of, as_read, passes_block, performs, unless}
 use Rattle.ts_sessions.proofs.NamedLaws.{performs_holds, unless_holds}
@@ -35,6 +36,7 @@ use Rattle.image_runs.proofs.ActLaws.{acts_along}
 use Rattle.image_runs.proofs.AskLaws.{answers_along}
 use Rattle.image_runs.proofs.CallLaws.{SameTurn, TurnsAlong, same_said}
 use Rattle.image_runs.proofs.PlaceLaws.{BlockFits, IsFrom, PlacesFit, places_on}
+use Rattle.image_runs.proofs.ScriptLaws.{LinesGoOn}
 use Rattle.image_runs.proofs.TwinLaws.{Twins, along_ends, along_sees, twins_alike, twins_allowed, twins_prefix}
 
 module _ (h : History) (i : Image) (ok : all_allowed h ≡ true) (is : IsImage h i) (used bytes : ℕ) (few : used + bytes ≤ longest_input) (p : Places) (g k : History) (t : Twins h i g k) (fit : PlacesFit i.pos used k p) where
@@ -184,3 +186,11 @@ pub step_along : (h : History) (i : Image) (ok : all_allowed h ≡ true) (is : I
 step_along h i ok is used p g k t text skip few short within fit =
     said_along h i ok is used (length text) few p g k t fit (statement (stream text skip))
     (λ stmt rest e. asks_soundly (length text) stmt short (statements_are_written.read text skip stmt rest within e))
+
+-- so lines of sessions without policies go on
+pub session_lines : LinesGoOn session_semantics PlacesFit
+session_lines = record {
+  opening = λ base used h n. record { block = tt; held = tt };
+  fits_on = places_on;
+  lines = step_along;
+}

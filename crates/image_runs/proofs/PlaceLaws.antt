@@ -8,13 +8,11 @@ use Rattle.std.specs.BTreeMap.{insert_entry, is_at}
 use Rattle.std.specs.Ordering.{is_eq, nat_cmp, match_ordering}
 use Rattle.std.specs.declared.cmp.Ordering.TheVariants.{Less, Equal, Greater}
 use Rattle.ts_model.specs.History.{History, position, Begins}
-use Rattle.ts_model.specs.Roster.{same_name}
 use Rattle.ts_model.proofs.HistoryLaws.{position_begins}
 use Rattle.stmt_syntax.specs.Limits.{longest_input}
 use Rattle.stmt_check.specs.Sound.{IsQueue}
 use Rattle.stmt_check.proofs.QueueLaws.{queues_are_sound}
 use Rattle.ts_sessions.specs.Places.{Block, none, writing, reading, Places, held_for}
-use Rattle.ts_sessions.specs.Script.{places_of, with_places}
 use Rattle.ts_sessions.proofs.JobLaws.{same_key}
 
 -- a position of a history at or above another
@@ -42,10 +40,6 @@ pub record PlacesFit (base used : ℕ) (h : History) (p : Places) : Type 0 where
   pub block : BlockFits base used h p.block
   pub held : AreHeld base h p.held
 
--- so does what each session carries
-abbrev pub SessionsFit : ℕ → ℕ → History → List (List ℕ × Places) → Type 0
-SessionsFit base used h sessions = AllByRecursion (λ e. PlacesFit base used h e.1) sessions
-
 -- ---- as a history grows
 
 from_on : (base : ℕ) (g h : History) (at : ℕ) → Begins g h → IsFrom base g at → IsFrom base h at
@@ -65,10 +59,6 @@ places_on base used more g h p on le few f = record {
   block = block_on base used more g h p.block on le few f.block;
   held = held_on base g h p.held on f.held;
 }
-
-pub sessions_on : (base used more : ℕ) (g h : History) (sessions : List (List ℕ × Places)) → Begins g h → used ≤ more → used ≤ longest_input → SessionsFit base used g sessions → SessionsFit base more h sessions
-sessions_on base used more g h [] on le few f = tt
-sessions_on base used more g h (e ∷ sessions) on le few f = (places_on base used more g h e.1 on le few f.0, sessions_on base used more g h sessions on le few f.1)
 
 -- ---- snapshots
 
@@ -95,20 +85,3 @@ held_there base h (e ∷ held) c at f is =
       | true ↦ λ key here. subst (λ n. IsHeld base h n at) (same_key c e.0 key) (subst (λ n. IsHeld base h e.0 n) (same_some e.1 at here) f.0)
       | false ↦ λ _ further. held_there base h held c at f.1 further
     ] refl is
-
--- ---- sessions
-
-pub places_there : (base used : ℕ) (h : History) (name : List ℕ) (sessions : List (List ℕ × Places)) (p : Places) → SessionsFit base used h sessions → places_of name sessions ≡ Some p → PlacesFit base used h p
-places_there base used h name [] p f e = absurd (true≢false (sym (ap is_some e)))
-places_there base used h name (s ∷ sessions) p f is =
-    elim (same_name s.0 name) as (λ t. cond t (Some s.1) (places_of name sessions) ≡ Some p → PlacesFit base used h p) [
-      | true ↦ λ here. subst (PlacesFit base used h) (same_places s.1 p here) f.0
-      | false ↦ λ further. places_there base used h name sessions p f.1 further
-    ] is
-  where
-    same_places : (x y : Places) → Some x ≡ Some y → x ≡ y
-    same_places x y e = cc
-
-pub sessions_with : (base used : ℕ) (h : History) (name : List ℕ) (p : Places) (sessions : List (List ℕ × Places)) → PlacesFit base used h p → SessionsFit base used h sessions → SessionsFit base used h (with_places name p sessions)
-sessions_with base used h name p [] new f = (new, tt)
-sessions_with base used h name p (s ∷ sessions) new f = elim (same_name s.0 name) as (λ t. SessionsFit base used h (cond t ((name, p) ∷ sessions) (s ∷ with_places name p sessions))) [ true ↦ (new, f.1) | false ↦ (f.0, sessions_with base used h name p sessions new f.1) ]

@@ -7,15 +7,17 @@ use Rattle.ts_model.specs.declared.images.Image.{Image}
 use Rattle.ts_model.specs.declared.outcomes.Refusal.{Refusal}
 use Rattle.ts_model.specs.Allowed.{all_allowed}
 use Rattle.ts_model.specs.Calls.{Act, refuses, returns, makes}
-use Rattle.ts_model.specs.History.{History, resumed, ◌▸◌, ◌▸▸◌, base_position, prefix}
+use Rattle.ts_model.specs.History.{History, resumed, ◌▸▸◌, base_position, prefix}
 use Rattle.ts_model.specs.Laws.{MakesAllowed}
 use Rattle.ts_model.proofs.AllowedLaws.{allowed_begins}
 use Rattle.ts_model.proofs.HistoryLaws.{base_begins, begins_followed, begins_prefix, followed_append}
 use Rattle.image_laws.specs.Alike.{Alike, are_from}
 use Rattle.image_laws.specs.Images.{IsImage}
 use Rattle.image_laws.proofs.CheckpointLaws.{checkpoints_keep, prefix_from, upto}
-use Rattle.ts_sessions.specs.Procedures.{Procedure, sees, adds, ends, followed_by, ending_as, tries_at}
+use Rattle.ts_sessions.specs.Places.{Turn}
+use Rattle.ts_sessions.specs.Procedures.{Procedure, sees, ends, followed_by, ending_as, tries_at}
 use Rattle.ts_sessions.specs.Walks.{history_after, ending}
+use Rattle.policy_jobs.proofs.AloneLaws.{ending_then, history_then}
 
 -- ---- twins
 
@@ -60,16 +62,6 @@ module _ (h : History) (i : Image) (ok : all_allowed h ≡ true) (is : IsImage h
 
 -- ---- procedures, one after the other
 
-history_then : {A B : Type 0} (d : Procedure A) (f : A → Procedure B) (h : History) → history_after (followed_by d f) h ≡ history_after (f (ending d h)) (history_after d h)
-history_then (sees shown d) f h = history_then (d h) f h
-history_then (adds e next stop) f h = history_then next f (h ▸ e)
-history_then (ends a) f h = refl
-
-ending_then : {A B : Type 0} (d : Procedure A) (f : A → Procedure B) (h : History) → ending (followed_by d f) h ≡ ending (f (ending d h)) (history_after d h)
-ending_then (sees shown d) f h = ending_then (d h) f h
-ending_then (adds e next stop) f h = ending_then next f (h ▸ e)
-ending_then (ends a) f h = refl
-
 -- two procedures make the same events of two histories, which are allowed after the second, and their ends go together
 pub record Alongside {A : Type 0} (Go : History → A → A → Type 0) (g k : History) (d e : Procedure A) : Type 0 where
   pub events : List Event
@@ -77,6 +69,12 @@ pub record Alongside {A : Type 0} (Go : History → A → A → Type 0) (g k : H
   pub second : history_after e k ≡ k ▸▸ events
   pub allowed : all_allowed (k ▸▸ events) ≡ true
   pub ends_go : Go (k ▸▸ events) (ending d g) (ending e k)
+
+-- two turns leave the same places, which fit the second history, and say the same
+pub record SameEnd {P : Type 0} (Fit : History → P → Type 0) (k : History) (t u : Turn P) : Type 0 where
+  pub places : t.places ≡ u.places
+  pub said : t.said ≡ u.said
+  pub fit : Fit k u.places
 
 -- the same end
 abbrev pub Same : {A : Type 0} → History → A → A → Type 0

@@ -7,35 +7,32 @@ use Rattle.ts_model.specs.History.{History, resumed, ◌▸▸◌}
 use Rattle.image_laws.specs.Alike.{Alike}
 use Rattle.image_laws.specs.Images.{IsImage}
 use Rattle.stmt_syntax.specs.Limits.{longest_input}
-use Rattle.ts_sessions.specs.Places.{Places}
-use Rattle.ts_sessions.specs.Script.{ScriptState, session_semantics, opening_script_state, output, is_refused, final_script_state}
+use Rattle.ts_sessions.specs.Script.{ScriptState, Semantics, opening_script_state, output, is_refused, final_script_state}
 
--- where the lines of a script come to over a history
-abbrev pub script_over : History → List (List ℕ) → ScriptState Places
-script_over h lines = final_script_state session_semantics (opening_script_state h) 1 lines
+-- where the lines of a script come to over a history, by what lines mean
+abbrev pub script_over : {P : Type 0} → Semantics P → History → List (List ℕ) → ScriptState P
+script_over semantics h lines = final_script_state semantics (opening_script_state h) 1 lines
 
 -- the same lines over two histories write the same, and one has a FAULT where the other has. The same events follow
 -- both histories, which are allowed and alike then, and each session has the same places. How many stored rows were
 -- looked at may differ, since an image has no row that was deleted
-pub record WriteTheSame (g h : History) (lines : List (List ℕ)) : Type 0 where
+pub record WriteTheSame {P : Type 0} (semantics : Semantics P) (g h : History) (lines : List (List ℕ)) : Type 0 where
   pub text :
-      output session_semantics (opening_script_state g) 1 lines
-      ≡ output session_semantics (opening_script_state h) 1 lines
+      output semantics (opening_script_state g) 1 lines ≡ output semantics (opening_script_state h) 1 lines
   pub faults :
-      is_refused session_semantics (opening_script_state g) 1 lines
-      ≡ is_refused session_semantics (opening_script_state h) 1 lines
-  pub sessions : (script_over g lines).sessions ≡ (script_over h lines).sessions
+      is_refused semantics (opening_script_state g) 1 lines ≡ is_refused semantics (opening_script_state h) 1 lines
+  pub sessions : (script_over semantics g lines).sessions ≡ (script_over semantics h lines).sessions
   pub events : List Event
-  pub first : (script_over g lines).history ≡ g ▸▸ events
-  pub second : (script_over h lines).history ≡ h ▸▸ events
+  pub first : (script_over semantics g lines).history ≡ g ▸▸ events
+  pub second : (script_over semantics h lines).history ≡ h ▸▸ events
   pub first_allowed : all_allowed (g ▸▸ events) ≡ true
   pub second_allowed : all_allowed (h ▸▸ events) ≡ true
   pub alike : Alike (g ▸▸ events) (h ▸▸ events)
 
 -- the lines of an input do so over an allowed history and over its image, and over both with the same events after
 -- them, where these are allowed after the image
-abbrev pub ScriptsGoOn : Type 0
-ScriptsGoOn =
+abbrev pub ScriptsGoOn : {P : Type 0} → Semantics P → Type 0
+ScriptsGoOn semantics =
     (h : History) (i : Image) (es : List Event) (lines : List (List ℕ)) → all_allowed h ≡ true → IsImage h i
     → all_allowed (resumed i ▸▸ es) ≡ true → sum_by length lines ≤ longest_input
-    → WriteTheSame (h ▸▸ es) (resumed i ▸▸ es) lines
+    → WriteTheSame semantics (h ▸▸ es) (resumed i ▸▸ es) lines

@@ -1,8 +1,24 @@
 //! Laws of scripts over images. Each is the clause of a function that does nothing.
 ghost use Rattle.image_runs.specs.Laws.{ScriptsGoOn};
+ghost use Rattle.policy_jobs.specs.Laws.{policy_sessions};
+ghost use Rattle.ts_sessions.specs.Script.{session_semantics};
+
+use ts_model::Shown;
+use ts_sessions::{Actor, Session};
 
 /// The same lines over an allowed history and over its image, or over both with the same events after them,
-/// write the same text, and the same events follow, where the lines have at most 2^26 bytes in all.
+/// write the same text, and the same events follow, where the lines have at most 2^26 bytes in all. The sessions
+/// have no policies.
 pub fn scripts_go_on_from_images()
-    ensures { ScriptsGoOn }
+    ensures { ScriptsGoOn session_semantics }
 {}
+
+/// The same of sessions with policies, as those of the program are: of statements that add them, and of all that
+/// ticks run.
+pub fn policy_scripts_go_on_from_images<T: Shown + Drop>()
+where
+    T::Job: Drop,
+    ensures { ScriptsGoOn policy_sessions }
+{
+    Session::<T>::stays_outside();
+}

@@ -12,4 +12,5 @@ pub mod OtherLines
 pub mod ActorLaws
 pub mod DueLaws
 pub mod PlaceLaws
+pub mod AloneLaws
 pub mod TickLines

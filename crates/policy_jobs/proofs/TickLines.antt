@@ -1,13 +1,12 @@
 -- A tick is its line and then the lines of its due statements.
-use Rattle.std.proofs.Common.{◌≡◌, ◌∙◌, ℕ, suc, ◌+◌, ◌≤◌, ℤ, true, false, cond, List, [], ◌∷◌, ◌++◌, append-nil, length, map, take, Option, Some, None, refl, sym, ap, subst, inl, inr, arith}
+use Rattle.std.proofs.Common.{◌≡◌, ◌∙◌, ℕ, suc, ◌+◌, ◌≤◌, ℤ, true, false, cond, List, [], ◌∷◌, ◌++◌, append-nil, length, map, take, Option, Some, refl, sym, ap, subst, arith}
 use Rattle.std.specs.Prelude.{Ok, ◌||◌}
 use Rattle.std.specs.List.{AllByRecursion}
 use Rattle.std.proofs.Math.Seq.{take-length}
 use Rattle.std.proofs.lemmas.Bool.{le-ltb}
 use Rattle.std.proofs.lemmas.List.{append_assoc}
 use Rattle.ts_bucket.specs.Bucket.{is_time}
-use Rattle.ts_model.specs.History.{History, position, ◌▸◌}
-use Rattle.ts_model.specs.States.{State}
+use Rattle.ts_model.specs.History.{History}
 use Rattle.stmt_tokens.specs.Lines.{line_kind, session_name}
 use Rattle.stmt_reader.specs.Reading.{statement as any_statement}
 use Rattle.stmt_tokens.specs.Streams.{Stream, stream}
@@ -18,10 +17,10 @@ use Rattle.result_text.specs.Replies.{reply_text}
 use Rattle.ts_sessions.specs.declared.kinds.StatementKind.TheVariants.{Defines}
 use Rattle.ts_sessions.specs.Actors.{ReadsEvent, StaysOutside}
 use Rattle.ts_sessions.specs.Places.{Places, Turn, none, turns}
-use Rattle.ts_sessions.specs.Procedures.{Procedure, sees, adds, ends, followed_by, ending_as}
+use Rattle.ts_sessions.specs.Procedures.{Procedure, ends, ending_as}
 use Rattle.ts_sessions.specs.Script.{LineResult, ScriptState, executes, executes_as, executes_kind, final_script_state, has_fault, is_refused, output, places_of, reads_in, refused_line, takes_turn, text_of, with_places}
 use Rattle.ts_sessions.specs.Step.{block_refusal, step}
-use Rattle.ts_sessions.specs.Walks.{Walks, history_after, ending}
+use Rattle.ts_sessions.specs.Walks.{history_after, ending}
 use Rattle.policy_jobs.specs.Laws.{ArePolicies, IsPolicy, IsTickLine, TicksAreTheirLines, due_lines, due_statement, line_of, policy_sessions, with_session}
 use Rattle.policy_jobs.specs.Policies.{due, due_text, due_texts, is_due, ticked}
 use Rattle.policy_jobs.specs.Reading.{statement}
@@ -30,45 +29,12 @@ use Rattle.policy_jobs.specs.declared.jobs.Job.{Job}
 use Rattle.policy_jobs.specs.declared.jobs.Job.TheVariants as jobs
 use Rattle.policy_jobs.specs.declared.policies.Policy.{Policy}
 use Rattle.policy_jobs.specs.declared.statements.PolicyStmt.TheVariants as stmts
+use Rattle.policy_jobs.proofs.AloneLaws.{ending_then, history_then, store_of, walks_alone}
 use Rattle.policy_jobs.proofs.CleanTexts.{IsSaidBy, IsSession, said_by, session_of_line}
 use Rattle.policy_jobs.proofs.DueTexts.{due_clean, due_reads}
 use Rattle.policy_jobs.proofs.OtherLines.{events_begin_otherwise}
 use Rattle.policy_jobs.proofs.PlaceLaws.{found, put_twice}
 use Rattle.policy_jobs.proofs.RunLaws.{fault_behind, or_behind, or_false, text_behind}
-
--- ---- procedures over a history that nobody else changes
-
-history_then : {A B : Type 0} (d : Procedure A) (f : A → Procedure B) (h : History) → history_after (followed_by d f) h ≡ history_after (f (ending d h)) (history_after d h)
-history_then (sees shown d) f h = history_then (d h) f h
-history_then (adds e next stop) f h = history_then next f (h ▸ e)
-history_then (ends a) f h = refl
-
-ending_then : {A B : Type 0} (d : Procedure A) (f : A → Procedure B) (h : History) → ending (followed_by d f) h ≡ ending (f (ending d h)) (history_after d h)
-ending_then (sees shown d) f h = ending_then (d h) f h
-ending_then (adds e next stop) f h = ending_then next f (h ▸ e)
-ending_then (ends a) f h = refl
-
--- a store that is alone and goes on comes to what the procedure comes to
-record WalksAlone {A : Type 0} (d : Procedure A) (old : State) : Type 0 where
-  new : State
-  walks : Walks true false old d new (ending d old.history)
-
-walks_alone : {A : Type 0} (d : Procedure A) (old : State) → old.failed ≡ None → WalksAlone d old
-walks_alone (sees shown d) old going =
-    let rest = walks_alone (d old.history) old going in
-    record { new = rest.new; walks = record { mid = old; first = inl refl; rest = rest.walks } }
-walks_alone (adds e next stop) old going =
-    let mid : State = record { history = old.history ▸ e; failed = None; faults = old.faults; made = old.made ++ suc (position old.history) ∷ []; origin = old.origin } in
-    let rest = walks_alone next mid refl in
-    record {
-      new = rest.new;
-      walks = inr (inl (record { mid = mid; first = record { went_on = going; history = refl; failed = refl; faults = refl; made = refl; origin = refl }; rest = rest.walks }));
-    }
-walks_alone (ends a) old going = record { new = old; walks = (refl, refl, refl) }
-
--- a store of a history
-abbrev store_of : History → State
-store_of h = record { history = h; failed = None; faults = 0; made = []; origin = record { faults = 0; opening = h; moment = 0 } }
 
 -- ---- one statement after the other
 
