@@ -1,10 +1,11 @@
 //! What an audit answers.
 
-/// What an audit of a transcript answers. Sessions and replies count from 0.
+/// What an audit of a transcript answers: the first of `BadText`, `Early`, `Policy`, `No` and `Lost` that holds, and
+/// `Yes` where none does, unless memory runs out. Sessions and replies count from 0.
 #[derive(Clone, Copy, Debug, PartialEq, Eq)]
 pub enum Audit {
-    /// Every reply is explained, and the events that they name are all after the start, each once. There
-    /// are so many replies.
+    /// Every reply is explained, and together they name each event after the start once, and no other. There are so
+    /// many replies.
     Yes(u64),
     /// This reply is the first that isn't explained.
     No { session: u64, reply: u64 },

@@ -31,7 +31,7 @@ pub struct Outline {
     pub tallies: Seq<Tally>,
 }
 
-/// That of the history that a state stands for. It holds few of the state's rows at a time.
+/// The outline of the history that a state stands for. It holds the rows of one span of `Imaged::spans` at a time.
 pub fn outline_of<I: Imaged>(alloc: Global, of: &I) -> Result<Outline, NoMemory>
     ensures outline { IfOk result (IsOutline (I.held of.now)) }
     ensures image { (h : History) → I.stands of.now h
@@ -58,8 +58,9 @@ impl Outline {
         size(&self.rest).saturating_add(bytes_of_commits(self.tallies.items()))
     }
 
-    /// Appends the bytes of the image, where it is valid. The rows are those of the state that it was taken of,
-    /// of which it holds few at a time.
+    /// Appends the bytes of the image, which is valid and has fewer than 2^32 of them. The rows come from the state
+    /// that the outline was taken of, those of one span at a time. Where memory runs out `out` may have some of
+    /// the bytes.
     pub fn put<I: Imaged>(&self, of: &I, out: &mut Vec<u8>) -> Result<(), NoMemory>
         requires outline { IsOutline (I.held of.now) self.now }
         requires valid { valid (whole (I.held of.now) self.now) ≡ true }

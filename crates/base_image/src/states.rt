@@ -20,6 +20,7 @@ pub trait Imaged {
     ghost use Rattle.base_image.specs.Outlines.{rows_in, span_rows};
     ghost use Rattle.base_image.specs.Taking.{AreDirty, AreLasts, AreLeft};
 
+    /// What it holds stands for this history.
     ghost stands: { Self → History → Type 0 };
 
     /// The rows of each table, by its number.

@@ -210,8 +210,8 @@ fn close_block<T: Drop>(
 ///
 /// Blocks, and likewise shelves, are half full on average, the last one apart: one that isn't stands
 /// beside another with which it doesn't fit into one. Blocks on different shelves aren't put together,
-/// so two blocks of each shelf are left out of that. However often items are replaced, there are at
-/// least 32 blocks a shelf and 120 items a block on average.
+/// so two blocks of each shelf are left out of that. However often items are replaced, there are on
+/// average at least 32 blocks a shelf and 30 items a block.
 fn is_merged(before: usize, len: usize, after: usize, most: usize) -> bool {
     if 0 < before {
         before.saturating_add(len) <= most

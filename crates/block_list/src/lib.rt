@@ -1,6 +1,6 @@
-//! Lists in blocks that are shared: a copy is a count. Blocks stand on shelves that are shared too, so
-//! a change copies the blocks that it changes, the lists of blocks of the shelves where it is, and the
-//! list of shelves.
+//! Lists in blocks that are shared. A copy of a list all of whose items are shared is a count: it copies no item, and
+//! counts one sharer more. Blocks stand on shelves that are shared too, so a change copies the blocks that it changes,
+//! the lists of blocks of the shelves where it is, and the list of shelves.
 //!
 //! - `blocks`: blocks of items.
 //! - `parts`: parts of a list, as blocks of a shelf or shelves, and where each of them begins.

@@ -1,7 +1,8 @@
 //! What a query by buckets of the calendar asks for.
 use ts_model::Fold;
 
-/// A unit of the calendar.
+/// A unit of the calendar, in UTC: a day is 86,400 seconds, a week seven days from a Monday on, and a year twelve
+/// months from January on.
 #[derive(Clone, Copy, Debug, PartialEq, Eq)]
 pub enum CalUnit {
     Day,

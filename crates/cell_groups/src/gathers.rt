@@ -60,7 +60,8 @@ impl<'a> CellGroups<'a> {
     }
 
     /// Takes a row in: into the group of its keys in the bucket that starts at `start`, or as a group of its
-    /// own. Of fewer than `2^64` rows of 64-bit numbers no count and no sum is too great.
+    /// own. Of fewer than `2^64` rows of 64-bit numbers no count and no sum is too great. After an error nothing is
+    /// known of the groups.
     pub fn take(
         &mut self,
         alloc: Global,

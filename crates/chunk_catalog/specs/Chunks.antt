@@ -10,10 +10,8 @@ use Rattle.ts_schema.specs.Conditions.{passes_all}
 use Rattle.seg_rows.specs.Versions.{Version, visible_at, rows_of}
 
 -- what contracts see of `Chunks`: how long a chunk is, every version that was ever put there, and how many levels of
--- chunks and
--- of segments a look at a version goes through at most. A scan gives versions in the order of this list. No clause
--- tells the order
--- of what was put there, which is free: `put` tells which versions there are, each as often
+-- chunks and of segments a look at a version goes through at most. A scan gives versions in the order of this list.
+-- Where in it new versions stand is free: `put_shared` says only which versions there are, and how often each
 pub record ChunksValue : Type 0 where
   pub interval : ℤ
   pub versions : List Version

@@ -148,8 +148,10 @@ impl Chunks {
         })
     }
 
-    /// The same of rows that stay where they are, and which the chunks share wherever they stand in the order of
-    /// their times. Where they don't, no more than a piece of them is copied at a time.
+    /// The chunks with rows that are born at a position, which is at least those of the earlier changes. Each row
+    /// has a time in the range of times. Rows are taken in pieces of up to 1,024: a piece whose times are in order
+    /// is shared with the list, and of any other a sorted copy is made. More than 2^62 versions in all are answered
+    /// as want of memory.
     pub fn put_shared(&self, rows: &SharedSlice<Row>, pos: u64) -> Result<Chunks, NoMemory>
         requires times { HaveTimes rows.now }
         ensures interval { IfOk result (λ chunks. chunks.interval ≡ self.now.interval) }
@@ -191,7 +193,8 @@ impl Chunks {
     }
 
     /// A drop at a position, which is at least those of the earlier changes: the versions that are
-    /// visible there, of the chunks that end at or before `n`, die there.
+    /// visible there, of the chunks that end at or before `n`, die there. It is for callers that have no
+    /// tests; the statement `drop_chunks` is a delete by a test of the time, and so a `kill`.
     pub fn drop_below(&self, n: i64, pos: u64) -> Result<KilledChunks, NoMemory>
         ensures interval { IfOk result (λ k. k.chunks.interval ≡ self.now.interval) }
         ensures after { IfOk result (λ k.

@@ -175,6 +175,7 @@ impl Pile {
                     return beside(alloc, self.copy()?, Pile::of(segment));
                 }
                 let right = right.append(alloc, segment)?;
+                // A count that is read has 64 bits.
                 let _few = right.count();
                 beside(alloc, left.copy()?, right)
             }
@@ -303,6 +304,7 @@ fn beside(alloc: Global, left: Pile, right: Pile) -> Result<Pile, NoMemory>
     requires countable { length left.0 + length right.0 < 2 ^ 64 }
     ensures versions { IfOk result (λ pile. pile.0 ≡ left.0 ++ right.0) }
 {
+    // A count that is read has 64 bits.
     let _some = left.count();
     match left.joined(&right)? {
         Some(segment) => Ok(Pile::of(segment)),

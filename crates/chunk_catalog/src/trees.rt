@@ -368,6 +368,7 @@ fn fork(left: Arc<Tree>, chunk: Chunk, right: Arc<Tree>) -> Tree
     requires countable { length (tree_over (arc_value left) chunk (arc_value right)).0 < 2 ^ 64 }
     ensures tree { result ≡ tree_over (arc_value left) chunk (arc_value right) }
 {
+    // A count that is read has 64 bits.
     let _some = chunk.count();
     let starts = hull_with(&chunk, join_hulls(left.starts(), right.starts()));
     let height = left.height().max(right.height()) + 1;

@@ -7,7 +7,7 @@ pub fn definitions_read_nothing()
     ensures { DefinitionsReadNothing }
 {}
 
-/// Nor do inserts.
+/// An insert of a demonstration looks at no row, over whatever history with room for one more event.
 pub fn inserts_read_nothing()
     ensures { InsertsReadNothing }
 {}

@@ -52,10 +52,11 @@ aggregate_line =
 unfoldable pub insert_line : ℕ → ℕ → ℕ → List ℕ
 insert_line demo round part = codes "d: INSERT INTO m VALUES " ++ rows_text demo round (100 * part) 100
 
--- the aggregate is refreshed over the times of the round before
+-- a range of times, and the parenthesis that closes the call
 abbrev pub range_text : ℤ → ℕ → List ℕ
 range_text start end = signed_decimal start ++ codes ", " ++ decimal end ++ codes ")"
 
+-- the aggregate is refreshed over the times of the round before
 unfoldable pub refresh_line : ℕ → List ℕ
 refresh_line round =
     codes "d: CALL refresh_continuous_aggregate('m100', " ++ range_text (pos (5000 * round) -ℤ pos 5000) (5000 * round)

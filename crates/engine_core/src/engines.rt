@@ -191,7 +191,7 @@ impl Engine {
     }
 
     /// The event with this number. The first one has the number after the position at which the history
-    /// begins.
+    /// begins. It is for callers that ask for a single event; the program goes through all of them.
     pub fn event(&self, number: u64) -> Option<&Event>
         ensures event { option_copied result ≡ event_at (history_of self.now.past) number }
     {

@@ -39,7 +39,7 @@ pub trait Follower {
         ensures refused { IfErr result (λ refusal.
             event_refusal (history_of (past self.now)) event.now ≡ Some refusal) };
 
-    /// Lets an event take effect that is allowed next.
+    /// Lets an event take effect that is allowed next. Where memory runs out nothing is promised of what it was told.
     fn follow<R: Threads + Sync>(&mut self, rt: &R, event: Event) -> Result<(), NoMemory>
         requires sync { IsSync R.row }
         requires allowed { IsTrue (allowed (history_of (past self.old)) event) }

@@ -127,7 +127,7 @@ pub fn end_of(base: &Option<Image>, events: &[Event]) -> u64
 impl<'a> Timeline<'a> {
     /// The states of the history that begins with an image, where there is one, and goes on with these
     /// events, each of which was allowed after those before it. They are kept from the position `start`
-    /// on. It counts one step for each row of the image over whose table an aggregate was refreshed.
+    /// on. Steps are counted by `State::from_image` alone, where there is an image.
     pub fn of<R: Threads + Sync, L>(
         rt: &R,
         alloc: Global,
@@ -243,6 +243,7 @@ impl<'a> Timeline<'a> {
         ensures effect { (e : EventMade) → event_at (history_of self.now.past) (suc position) ≡ Some e
             → result ≡ effect_of (prefix (history_of self.now.past) position) e }
     {
+        // A position that is read has 64 bits.
         let _end = self.length();
         self.moment(position + 1).effect()
     }

@@ -13,7 +13,8 @@ use Rattle.refresh_build.specs.Fitting.{JobFits, JobIsFor}
 use Rattle.engine_state.specs.Stands.{StateValue, StandsFor}
 use Rattle.engine_state.specs.Afters.{CountsAre}
 
--- whatever history a state stands for, where the event is consistent with it, the new one stands for the history with it
+-- whatever history a state stands for, where the event is consistent with it, the new one stands for the history with
+-- the event
 abbrev pub StepsTo : StateValue → Event → StateValue → Type 0
 StepsTo s e new = (h : History) → StandsFor h s → consistent h e ≡ true → StandsFor (h ▸ e) new
 

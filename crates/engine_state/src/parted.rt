@@ -14,7 +14,7 @@ use std::alloc::Global;
 use ts_bucket::Span;
 use ts_schema::{NoMemory, Row, Seq, Steps};
 
-/// A span is parted so often at most: a tree of chunks has fewer levels.
+/// A span is parted to this depth at most: each cut goes down the tree of chunks, which has fewer levels.
 const MOST_CUTS: u32 = 64;
 
 /// Appends a span, or its parts one after another, where its rows are many.

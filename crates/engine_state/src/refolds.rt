@@ -266,6 +266,7 @@ fn finished(alloc: Global, refold: Option<Refold>) -> Result<MatRows, NoMemory>
     match refold {
         None => Ok(MatRows::new(alloc)),
         Some(refold) => {
+            // Reading a width tells that it keeps its bounds.
             let _step = refold.plan.width.step;
             MatRows::of(alloc, refold.folding.finish(alloc)?)
         }

@@ -37,6 +37,7 @@ impl RowsAt for TableAt<'_> {
     ghost interval = { λ s t. s.table.now.rows.interval };
 
     fn scan<L>(&self, table: u32, span: Span, steps: &mut Steps<L>) -> Result<Seq<Row>, NoMemory> {
+        // These are the rows of one table, whatever its number.
         let _named = table;
         self.table.rows().scan(self.position, span, steps)
     }
@@ -73,6 +74,7 @@ impl RowsAt for TimedRows<'_> {
     ghost interval = { λ s t. s.rows.table.now.rows.interval };
 
     fn scan<L>(&self, table: u32, span: Span, steps: &mut Steps<L>) -> Result<Seq<Row>, NoMemory> {
+        // These are the rows of one table, whatever its number.
         let _named = table;
         let part = both(span, self.times);
         self.rows

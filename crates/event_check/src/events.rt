@@ -201,8 +201,8 @@ fn unsound_refusal(sound: bool, position: u64) -> Option<Refusal>
 }
 
 /// Why an event isn't allowed next at a history with this roster and position, which begins at `base`.
-/// It is refused as the call of a store that makes such an event is, as `E07`, `E21` or `E19`, and else
-/// with the number 0.
+/// It is refused as the call of a store that makes such an event is, as `E07`, `E21`, `E19` or `E30`, and
+/// else with the number 0.
 ///
 /// `pending` is what became of the refresh that the event finishes. At an event that finishes none it
 /// plays no part.

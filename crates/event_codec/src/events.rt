@@ -144,7 +144,7 @@ pub fn put_event_bytes(event: &Event, out: &mut Vec<u8>) -> Result<(), NoMemory>
     }
 }
 
-/// The bytes of an event.
+/// The bytes of an event, as a list of their own. The program appends them to a frame, by `put_event_bytes`.
 pub fn encode(alloc: Global, event: &Event) -> Result<Seq<u8>, NoMemory>
     requires formed { IsFormed event.now }
     ensures bytes { IfOk result (λ bytes. bytes ≡ spelling.event event.now) }

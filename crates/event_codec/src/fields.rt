@@ -22,7 +22,7 @@ pub trait Field {
     /// What the bytes in front say.
     ghost reading: { Reads Self };
 
-    /// Appends its bytes.
+    /// Appends its bytes. Where memory runs out the buffer may have grown, and what stood in it stays.
     fn put(&self, out: &mut Vec<u8>) -> Result<(), NoMemory>
         requires fits { fits self.now }
         ensures put { OnOk result (out.new.items ≡ out.old.items ++ spelling self.now) }

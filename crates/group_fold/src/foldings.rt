@@ -41,7 +41,8 @@ impl Folding {
         }
     }
 
-    /// Takes these rows in by the plan that it took the others in by. After want of memory it is of no use.
+    /// Takes these rows in by the plan that it took the others in by. 2^62 rows or more in all are answered as want
+    /// of memory. After want of memory it is of no use.
     pub fn take(&mut self, alloc: Global, plan: &Fold, rows: &[Row]) -> Result<(), NoMemory>
         requires times { AreTimes rows.now }
         requires before { (before : List RowValue) × HasTaken plan.now before self.old }
@@ -54,6 +55,7 @@ impl Folding {
         if count >= MOST_ROWS {
             return Err(NoMemory);
         }
+        // Reading a width tells that it keeps its bounds.
         let _step = plan.width.step;
         self.gathered.take_rows(alloc, plan, rows)?;
         self.count = count;

@@ -21,6 +21,7 @@ pub fn fold(alloc: Global, plan: &Fold, rows: &Seq<Row>) -> Result<Seq<Group>, N
     ensures any_order { IfOk result (AreGroupsInAnyOrder plan.now rows.now) }
     ensures bounds { IsWidth plan.now.width }
 {
+    // Reading a width tells that it keeps its bounds.
     let _step = plan.width.step;
     Ok(Seq::of(fold_rows(alloc, plan, rows.items())?))
 }

@@ -12,7 +12,8 @@ use std::collections::VecDeque;
 use ts_schema::{NoMemory, Seq, SharedSlice};
 
 /// The groups of both lists in order, where groups of the same bucket and keys are merged. So the
-/// groups of two lists of rows become those of both together.
+/// groups of two lists of rows become those of both together. It is for callers that keep both lists; a
+/// fold in pieces gives its own up to `join_lists`.
 pub fn join_parts(alloc: Global, a: &Seq<Group>, b: &Seq<Group>) -> Result<Seq<Group>, NoMemory>
     requires { CanJoin a.now b.now }
     ensures joined { IfOk result (λ groups. groups ≡ with_groups a.now b.now) }

@@ -3,7 +3,7 @@
 //!
 //! - `folds`: the groups of a list of rows.
 //! - `foldings`: the same of rows that come list after list.
-//! - `gathered`: groups as rows are taken in, in the order in which they came up.
+//! - `gathered`: groups as rows are taken in, in order while rows come nearly in order, and else as they come up.
 //! - `open_groups`: groups that take rows in, `heads` and `blocks`: their buckets and keys, and what they sum up to.
 //! - `near_places`: where the group of a row stands, while rows come nearly in order.
 //! - `members`: one row beside the groups: which is its own, and what it adds to it.

@@ -154,6 +154,7 @@ fn shared_group(head: Head, blocks: &[SharedSlice<Partial>], each: usize) -> Res
     ensures { IfOk result (λ group. group ≡ shown_group each blocks.now head) }
 {
     let block = &blocks[head.place.block as usize];
+    // A length that is read has 64 bits.
     let _count = block.len();
     let from = head.place.from as usize;
     let parts = block.part_of(from, from + each)?;

@@ -22,9 +22,12 @@ pub(crate) const MOST_ROWS: u64 = 4_611_686_018_427_387_904;
 /// Fewer rows than these are folded in one thread, for which the system isn't asked how many there are.
 const FEW_ROWS: u64 = 8_192;
 
-/// The groups of the rows of all pieces, as `fold` gives them for the pieces joined. Each piece is
-/// a task, tasks are shared among as many threads as there are processors, and their groups are
-/// put together in pairs. Where a thread can't be started, the caller does its work.
+/// The groups of the rows of all pieces, as `fold` gives them for the pieces joined. 2^62 rows or more are
+/// answered as want of memory.
+///
+/// Fewer than 8,192 rows are folded in the caller's thread. Else the list of pieces is halved, and its halves
+/// again, into at most as many parts as there are processors. Each part is folded in one thread, and the groups
+/// of two halves are put together. Where a thread can't be started, the caller does its work.
 pub fn fold_pieces<R: Threads + Sync>(
     rt: &R,
     alloc: Global,
@@ -37,6 +40,7 @@ pub fn fold_pieces<R: Threads + Sync>(
     ensures any_order { IfOk result (AreGroupsInAnyOrder plan.now (all_rows pieces.now)) }
     ensures bounds { IsWidth plan.now.width }
 {
+    // Reading a width tells that it keeps its bounds.
     let _step = plan.width.step;
     let count = count_rows(pieces.items());
     if count >= MOST_ROWS {

@@ -19,8 +19,8 @@ use ts_model::{Answer, Fold, ResultRows, ViewDef};
 use ts_num::{Datum, Fun};
 use ts_schema::NoMemory;
 
-/// The upper answer, made of the answer of an aggregate over all its buckets. For a sum that takes
-/// more than 128 bits there is no room.
+/// The upper answer, made of the answer of an aggregate over all its buckets. A count over 64 bits, a sum or a
+/// wider bucket over 128, and a stale range that can't be widened in 64 are answered as want of memory.
 pub fn answer_upper(
     alloc: Global,
     plan: &UpperPlan,
@@ -46,6 +46,7 @@ fn made_rows(
 ) -> Result<CellRows<Datum>, NoMemory>
     ensures { IfOk result (λ upper. upper ≡ upper_rows lower.now plan.now rows.now) }
 {
+    // Reading a width tells that it keeps its bounds.
     let _step = plan.width.step;
     let shape = shape_of(alloc, lower, plan)?;
     let upper = rolled_rows(alloc, plan, lower, &shape, rows)?;

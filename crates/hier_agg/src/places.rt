@@ -7,7 +7,7 @@ use std::alloc::Global;
 use ts_schema::{NoMemory, Seq};
 
 /// The places of the cells that a plan takes of a row of the lower answer: its bucket, then its keys, then what it
-/// adds up. A column whose number is the greatest of 32 bits has no place, and then there is no room.
+/// adds up. A column whose number is the greatest of 32 bits has no place, and is answered as want of memory.
 pub fn chosen_places(alloc: Global, plan: &UpperPlan) -> Result<Seq<u32>, NoMemory>
     ensures places { IfOk result (λ places. places ≡ chosen_places plan.now) }
 {

@@ -182,7 +182,8 @@ fn fields_law(image: &Image)
     done_law(image.done.items());
 }
 
-/// All parts of an image that is valid with these commits as its rows.
+/// An image that is valid with some events as its rows, and has fewer than 2^32 bytes with them, has all its parts
+/// in the range of their fields. It does nothing.
 #[tactic(auto, using(crate::proofs::FormedLaws::formed_with))]
 pub fn image_law(image: &Image)
     ensures formed { (events : List Event) → valid (with_rows events image.now) ≡ true

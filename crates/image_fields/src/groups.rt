@@ -28,7 +28,7 @@ fn view_is_few(view: &SavedView) -> bool
     view.groups.items().iter().all(|group| group_is_few(group))
 }
 
-/// Whether the groups of an image are.
+/// Whether the saved groups of an image count fewer than 2^62 rows each, as those of a valid image do.
 pub fn groups_are_few(image: &Image) -> bool
     ensures { result ≡ few_in_image image.now }
 {

@@ -68,7 +68,8 @@ impl InvalLog {
     }
 
     /// The same log, all of whose entries are shared from here on, so that a copy of it is a count.
-    /// It costs a block.
+    /// It costs what `BlockList::shared` does: a block, and once in a block of new entries the blocks of the last
+    /// shelf and the number of shelves too.
     pub fn shared(&self) -> Result<InvalLog, NoMemory>
         ensures threshold { IfOk result (λ shared. shared.threshold ≡ self.now.threshold) }
         ensures entries { IfOk result (λ shared. shared.entries ≡ self.now.entries) }
@@ -90,7 +91,7 @@ impl InvalLog {
     }
 
     /// Logs the hull of the commit at this position where it begins below the threshold, and says
-    /// whether it does.
+    /// whether it does. It takes no memory: there has to be room for the entry, which `reserve` makes.
     pub fn note(&mut self, hull: Hull, pos: u64) -> bool
         requires { 1 ≤ self.old.room }
         ensures logged { result ≡ begins_below hull self.old.threshold }

@@ -73,9 +73,8 @@ impl MatLog {
         })
     }
 
-    /// The log of an aggregate whose last refreshes are these pieces of whole buckets, which rise. At a
-    /// position something is pending in each bucket of these ranges, and at 0 in each bucket that was
-    /// never refreshed.
+    /// The log of an aggregate whose last refreshes are `lasts`, pieces of whole buckets, which rise. Each bucket of
+    /// the ranges `dirty` is pending at `pos`, and each other bucket that was never refreshed is pending at 0.
     pub fn resumed(
         alloc: Global,
         w: Width,
@@ -184,7 +183,8 @@ impl MatLog {
     }
 
     /// The dirty buckets below the mark, the end of a bucket that holds a time, that start in a
-    /// span, as ranges that are as long as can be. Below no mark there is none.
+    /// span, as ranges that are as long as can be. Below no mark there is none. It is for a log that has been
+    /// fed all entries; the engine asks by `stale_with`, which needs no such log.
     pub fn stale(&self, starts: Span, mark: Option<i64>) -> Result<Seq<Span>, NoMemory>
         requires { ForSome mark (IsMark self.now.width) }
         ensures ranges { IfOk result (AreRanges self.now.width starts (is_stale self.now mark)) }

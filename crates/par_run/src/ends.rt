@@ -8,7 +8,7 @@ pub enum ParStop {
     Done,
     /// Each line was executed, and the disk failed at an event of one. From there on the store stood still.
     DiskFault,
-    /// There was no memory.
+    /// There was no memory. The events that lines had made by then stand in the store.
     NoMemory,
 }
 

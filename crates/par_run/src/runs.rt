@@ -96,7 +96,8 @@ where
     ensures goes_on { GoesOn (B.state backend) (B.state result.backend) }
     ensures kin { B.kin result.backend ≡ B.kin backend }
 {
-    // Each worker that runs has one share, and one stays with the first pass.
+    // Each worker that runs has one share, and one stays with the first pass. `setup` and `final` have at most one
+    // worker, and need two shares even where no session runs at once.
     let shares = crews.at_once.len() as u32 + 2;
     match SharedStore::new(alloc, backend, shares) {
         MadeStore::Made { store, pass } => run_crews(rt, alloc, store, pass, start, crews),

@@ -95,7 +95,8 @@ impl Partial {
     }
 
     /// The partial aggregate with these numbers of rows and of values, this sum, and this least and greatest
-    /// value. These have to be there exactly where there are values.
+    /// value. The last two have to be there exactly where there are values. There have to be fewer than `2^62` rows
+    /// and no more values than rows, and the sum has to be one that so many 64-bit values can have.
     pub fn of(count: u64, values: u64, sum: i128, least: Option<i64>, most: Option<i64>) -> Partial
         requires bounded { IsBounded count values sum }
         requires least { is_some least ≡ nat_lt 0 values }

@@ -237,6 +237,7 @@ fn with_place<P: Past, A>(past: &P, at: u64, came: Came<A>) -> Option<Met<A>>
     requires { CameWithin at (position_of (P.all past.now)) came }
     ensures { result ≡ met_of at came }
 {
+    // A position that is read has 64 bits.
     let _end = past.length();
     match came {
         Came::Made(value) => Some(Met {

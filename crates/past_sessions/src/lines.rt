@@ -28,9 +28,13 @@ pub struct ToldLine {
     pub last: u64,
 }
 
-/// Tells what a line came to over a past, from a position on, whose looks were at these positions; others were at
-/// its end. It came to nothing where its event isn't that of the history, or where a look has no position.
-/// `text` is the line before its comment, and its statement stands after the first `skip` bytes.
+/// Tells what a line came to over a past, and changes the session as the line says. The session had looked at the
+/// position `at` last. The looks of the line take their positions from `looks`, in order; one that takes none was at
+/// the end of the past. `None`: the line came to nothing, since its event isn't that of the history, or since a look
+/// has no position. `text` is the line before its comment, and its statement stands after the first `skip` bytes.
+///
+/// After `None` and `NoMemory` no clause says which places the session has; what it holds goes with the past still,
+/// and its name and its number are as they were.
 pub fn tell<T: Shown + Drop, R: Threads + Sync, P: Past<Shot = T>, L>(
     rt: &R,
     alloc: Global,

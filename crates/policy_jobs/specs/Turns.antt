@@ -92,7 +92,7 @@ module _ {P : Type 0} (does : P → List ℕ → ℕ → Procedure (Turn P)) whe
   lets_pass p stmt (Some r) = ends (refuses p r)
   lets_pass p stmt None = performs p stmt
 
-  -- what was read as a statement on policies, in this block, which lets pass what it does of definitions
+  -- what was read as a statement on policies: a block refuses it as it refuses a statement that makes a relation
   abbrev pub reads_as : PolicyPlaces P → Block → Result (PolicyStmt × Stream) Fault → Procedure (Turn (PolicyPlaces P))
   reads_as p b (Ok read) = lets_pass p read.0 (block_refusal b Defines)
   reads_as p b (Err f) = ends (refuses p (misread f))

@@ -51,10 +51,12 @@ impl Policy {
     {
         match &self.job {
             Job::Refresh { view, from, to } => {
+                // Reading a name tells that it is one.
                 let _name = view.bytes();
                 refresh_at(alloc, now, view, *from, *to)
             }
             Job::Drop { table, after } => {
+                // Reading a name tells that it is one.
                 let _name = table.bytes();
                 retention_at(alloc, now, table, *after)
             }

@@ -22,9 +22,9 @@ use ts_bucket::Span;
 use ts_model::{RowsAt, ViewDef};
 use ts_schema::{NoMemory, Seq, Steps};
 
-/// The job of a refresh: it makes the buckets of its span anew that have no last refresh or at which
-/// something is pending once the entries were fed, as ranges that are as long as can be. Each of them
-/// is scanned once. It counts one step for each stored row in the chunks that meet the range.
+/// The job of a refresh: it makes anew those buckets of its span that have no last refresh, or at which
+/// something is pending once the entries were fed, as ranges that are as long as can be. Each range is
+/// scanned once, and counts one step for each stored row in the chunks that meet it.
 pub fn build<R: Threads + Sync, W: RowsAt, L>(
     rt: &R,
     alloc: Global,

@@ -102,6 +102,7 @@ fn with_mark(
     requires stands { StandsAt list.now.items cut place }
     ensures marked { IfOk result (λ new. new.items ≡ map (finished_at cut by) list.now.items) }
 {
+    // A length that is read has 64 bits.
     let _many = list.len();
     let marked = marked(*list.get(place), by);
     list.replaced(place, place + 1, &[marked])
@@ -197,7 +198,7 @@ impl Refreshes {
         }
     }
 
-    /// The refreshes that aren't finished, in order of their cuts.
+    /// The refreshes that aren't finished, in order of their cuts. It looks at all refreshes, finished ones too.
     pub fn waiting(&self) -> Result<Seq<Waiting>, NoMemory>
         ensures waiting { IfOk result (λ found. found ≡ waiting_in self.now) }
     {

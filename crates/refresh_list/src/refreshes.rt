@@ -1,4 +1,4 @@
-//! Refreshes in order of their cuts.
+//! One refresh, and what became of it.
 
 use ts_bucket::Span;
 

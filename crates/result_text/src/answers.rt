@@ -26,8 +26,8 @@ pub fn put_answer(answer: &Answer, pos: u64, min: i64, out: &mut Vec<u8>) -> Res
     text.finish(written, out)
 }
 
-/// The same of an answer to a write block with so many operations queued, which its first line says. The
-/// program writes it behind the name of a session, by `put_reply`.
+/// The same of an answer to a write block with so many operations queued, which its first line says. It is
+/// for callers without sessions; the program writes it behind the name of one, by `put_reply`.
 pub fn put_queued_answer(
     answer: &Answer,
     pos: u64,

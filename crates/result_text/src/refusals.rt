@@ -32,7 +32,8 @@ struct Entry {
     tail: Tail,
 }
 
-/// Appends a refusal as a line: `FAULT`, its number, its word and its tail.
+/// Appends a refusal as a line: `FAULT`, its number, its word and its tail. It is for callers without
+/// sessions; the program writes it behind the name of one, by `put_reply`.
 pub fn put_refusal(refusal: &Refusal, out: &mut Vec<u8>) -> Result<(), NoMemory>
     ensures appended { OnOk result (out.new.items ≡ out.old.items ++ refusal_text refusal.now) }
     ensures kept { OnErr result (out.new.items ≡ out.old.items) }

@@ -11,8 +11,10 @@ use ts_bucket::Span;
 use ts_model::{Answer, Committed, Refusal};
 use ts_schema::{Name, NoMemory};
 
-/// What a line of a reply says. Positions are those of a history, numbers those of events, and `min` is
-/// the start of the first bucket of the aggregate.
+/// What a line of a reply says. Positions are those of a history, and numbers those of events. Of a refresh `cut`
+/// is the number, `pos` that of the event which finished it, `snap` the position of its snapshot, and `span` the
+/// range of its buckets, without the end. `min` is the start of the first bucket of the aggregate, or of its
+/// roll-up: a range that begins there is printed with `min`.
 #[derive(Drop, Debug)]
 pub enum Said {
     /// A table was made, by the event with this number.

@@ -8,7 +8,8 @@ use transcript::{Exchange, Talk, Transcript};
 use ts_schema::{Name, NoMemory, Seq};
 
 /// The transcript of a run that began at a position, by the names of its sessions, and their lines with the
-/// replies.
+/// replies. A line names its session by a place among the names, counted from 0; one whose place isn't there is left
+/// out. The sessions stand in the order of the names, and the lines of each in their order here.
 pub fn transcript_of(
     alloc: Global,
     start: u64,

@@ -49,7 +49,7 @@ taken_at p tests vs = rows_of (filter (is_taken p tests) vs)
 abbrev pub after_kill : ℕ → List Test → Version → Version
 after_kill p tests v = cond (is_taken p tests v) (record { row = v.row; born = v.born; died = Some p }) v
 
--- the greater of two times, where there is no time below all others
+-- the greater of two times; where one is missing, it is the other
 abbrev pub later_time : Option ℤ → Option ℤ → Option ℤ
 later_time None b = b
 later_time (Some x) None = Some x

@@ -86,7 +86,7 @@ fn seen_time(row: &Row, life: Life, pos: u64) -> Option<i64>
     }
 }
 
-/// The greater of two times, where there is no time below all others.
+/// The greater of two times. Where one is missing, it is the other.
 pub fn later(a: Option<i64>, b: Option<i64>) -> Option<i64>
     ensures later { result ≡ later_time a b }
 {

@@ -13,7 +13,8 @@ use ts_model::{Backend, Committed, CutDone, Hyper, Op, Outcome, Shown, TableDef,
 use ts_schema::{NoMemory, Seq};
 
 /// A place at a shared store for one holder of a pass. It is a store: each call but `position` and
-/// `stopped` takes the turn of its pass, for which it may wait.
+/// `stopped` takes the turn of its pass, for which it may wait. Those two tell how the last call left the store,
+/// and nothing of what others did since.
 #[derive(Drop)]
 pub struct Desk<'a, B: Backend, R: Threads + Wait> {
     lock: &'a StoreLock<B>,
@@ -35,7 +36,8 @@ impl<'a, B: Backend, R: Threads + Wait> Model for Desk<'a, B, R> {
 }
 
 impl<B: Backend> SharedStore<B> {
-    /// A desk for the holder of the pass. It stands where the pass does.
+    /// A desk for the holder of the pass. It stands where the pass does. It is for callers that have the whole
+    /// store; a worker has its lock alone, and calls `desk_at`.
     pub fn desk<'a, R: Threads + Wait>(&'a self, rt: &'a R, pass: Pass<B>) -> Desk<'a, B, R>
         requires { IsPassOf self.now pass }
         ensures { result ≡ fresh_desk self.now pass }

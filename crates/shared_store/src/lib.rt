@@ -1,4 +1,4 @@
-//! One alone backend that several threads use, each through a desk of its own. A desk is a store too:
+//! One backend that is alone, which several threads use, each through a desk of its own. A desk is a store too:
 //! each call of it takes its turn at the backend.
 #![tactic(auto)]
 

@@ -30,7 +30,7 @@ fn keep<B: Backend>(backend: B) -> Kept<B>
 }
 
 impl<B: Backend> SharedStore<B> {
-    /// A store over an alone backend that doesn't stand still, and the first pass, which has all the shares.
+    /// A store over a backend that is alone and doesn't stand still, and the first pass, which has all the shares.
     pub fn new(alloc: Global, backend: B, shares: u32) -> MadeStore<B>
         requires alone { IsTrue B.alone }
         requires going { (B.state backend).failed ≡ None }

@@ -14,7 +14,7 @@ pub type Pass<B> = turn_lock::Pass<Kept<B>>;
 /// The lock of a store, which threads share.
 pub type StoreLock<B> = TurnLock<Kept<B>>;
 
-/// An alone backend behind a lock, which the holders of its passes use in turn.
+/// A backend that is alone, behind a lock: the holders of its passes use it in turn.
 #[derive(Drop)]
 pub struct SharedStore<B: Backend> {
     pub(crate) lock: StoreLock<B>,

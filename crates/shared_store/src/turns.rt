@@ -29,6 +29,7 @@ pub(crate) fn begin<B: Backend, R: Threads + Wait>(
     ensures { Begun B.alone B.state B.kin (shared_of lock.now) pass.old pass.new result }
 {
     let held = lock.take(rt, pass);
+    // Reading what is kept tells what holds of it.
     let _ = &held.value.backend;
     held
 }

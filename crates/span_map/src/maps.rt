@@ -20,7 +20,11 @@ use std::marker::Model;
 use ts_bucket::Span;
 use ts_schema::{NoMemory, Seq};
 
-/// A partial function from whole numbers to positions.
+/// A partial function from whole numbers to positions, kept as edges: the numbers at which its value changes.
+///
+/// A change takes no memory: the room that it asks for, in edges, is made by `reserve` before. `assign` and
+/// `clear_upto` ask for 2, `raise` for 3 and one more for each piece of the map, and `assign_above` for 3 and 3 more
+/// for each piece of the floor.
 #[derive(Drop, Debug)]
 pub struct SpanMap {
     edges: Vec<Edge>,

@@ -14,7 +14,7 @@ use std::alloc::Global;
 use std::sync::Arc;
 use ts_bucket::{MAX_TIME, MIN_TIME};
 use ts_catalog::column_place;
-use ts_model::codes::{NAME_TAKEN, NO_COLUMN, NULL_VALUE, TOO_MANY, VALUE_COUNT};
+use ts_model::codes::{BAD_TIME, NAME_TAKEN, NO_COLUMN, NULL_VALUE, TOO_MANY, VALUE_COUNT};
 use ts_schema::{Column, Name, NoMemory, Row, Seq, SharedSlice, ValueBlock, Values};
 
 /// What a value has to meet.
@@ -295,7 +295,7 @@ fn check_value(pos: u64, rule: Rule, value: Option<i64>) -> Result<(), NotResolv
         None => refuse_if(pos, NULL_VALUE, rule.must),
         Some(number) => refuse_if(
             pos,
-            9,
+            BAD_TIME,
             rule.time && !(MIN_TIME <= number && number <= MAX_TIME),
         ),
     }
@@ -310,6 +310,7 @@ fn make_rows(
     ensures { IfOk result (λ made. made ≡ rows_of shape.now rows.now) }
 {
     let block = Arc::new(alloc, other_values(alloc, shape, rows)?)?;
+    // A length that is read has 64 bits, so the place behind a row's values in the block has too.
     let _total = block.len();
     let mut made = Vec::with_capacity(alloc, rows.len())?;
     let mut from = 0;

@@ -191,7 +191,7 @@ select_list = do
   aggs ← listed (mark marks.Comma) aggregate
   means (keys, aggs)
 
--- { , item }, one for each name; the item of output column i is its name or the number i
+-- { , item }, one for each name: the name or the number of its output column, the first of which has i before it
 abbrev pub items_from : ℕ → List (List ℕ) → Rule (Unit {0})
 items_from i [] = means tt
 items_from i (n ∷ names) = mark marks.Comma >> wanted (is_item i n) >> items_from (suc i) names

@@ -37,12 +37,12 @@ refused (t then s) = Syntax t.at
 abbrev pub Parser : Type 0 → Type 0
 Parser A = Stream → Result (A × Stream) Fault
 
--- What a function of the code returned, with these tokens left, is what reading gives, unless memory ran out.
+-- an error of the code is the fault that reading gives, unless memory ran out
 abbrev pub Fails : {A : Type 0} → ReadError → Result (A × Stream) Fault → Type 0
 Fails errors.Memory read = Unit {0}
 Fails (errors.Fault f) read = read ≡ Err f
 
--- what a function returned is what reading gives
+-- what a function of the code returned, with these tokens left, is what reading gives, unless memory ran out
 abbrev pub Gives : {A : Type 0} → Result A ReadError → Result (A × Stream) Fault → Stream → Type 0
 Gives (Ok a) read left = read ≡ Ok (a, left)
 Gives (Err e) read left = Fails e read

@@ -17,6 +17,10 @@ use ts_schema::{Cmp, Name};
 
 /// A reader over the text of a line. It knows the token that comes next, and never goes back.
 /// Contracts see the text and how many of its bytes were read.
+///
+/// `is_at_..` looks at the next token, and `takes_..` goes past it where it is the one that is named. A method that
+/// answers `Result` reads what it is named for and goes past that; else it answers the first fault with its place,
+/// or `ReadError::Memory`, and no clause says how far it has read then.
 #[derive(Drop)]
 pub struct Reader<'a> {
     alloc: Global,

@@ -11,7 +11,8 @@ pub enum Stmt {
         name: Name,
         cols: Seq<Column>,
     },
-    /// `SELECT create_hypertable`
+    /// `SELECT create_hypertable`: `col` is to be the time column, and `interval` is how much time a chunk spans, in
+    /// the unit of that column.
     Hyper {
         table: Name,
         col: Name,
@@ -43,12 +44,13 @@ pub enum Stmt {
         table: Name,
         tests: Seq<NamedTest>,
     },
-    /// `SELECT drop_chunks`
+    /// `SELECT drop_chunks`, of the chunks that end at or before the time `below`.
     Drop {
         table: Name,
         below: i64,
     },
-    /// `CALL refresh_continuous_aggregate`
+    /// `CALL refresh_continuous_aggregate`, over the whole buckets that lie from `lo` up to `hi`, without `hi`
+    /// itself. A bound that is `None` leaves that end open.
     Refresh {
         view: Name,
         lo: Option<i64>,

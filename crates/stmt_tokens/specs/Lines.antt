@@ -41,9 +41,8 @@ of_text text blanks =
     else NoSession
 
 -- what a line is: blank; with a byte outside ASCII before its comment; without a session name; or a statement of a
--- session, with
--- the length of the session name, how many bytes stand up to the colon and with it, and how many stand before the
--- comment
+-- session, with the length of the session's name, how many bytes stand before the statement, the last of which is the
+-- colon, and how many stand before the comment
 abbrev pub line_kind : List ℕ → LineKind
 line_kind line = let text = take (comment_at line) line in of_text text (blank_len text)
 

@@ -16,7 +16,8 @@ pub enum LineKind {
     Blank,
     /// A byte of 128 or more stands before the comment.
     NotAscii,
-    /// It has no session name with a colon.
+    /// It doesn't begin, behind blanks or none, with a session name and a colon directly after it. A session name is
+    /// a letter from `a` to `z`, then such letters, digits and `_`, 1 to 16 bytes in all.
     NoSession,
     /// A session name, a colon, and a statement.
     Stmt {

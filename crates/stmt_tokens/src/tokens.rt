@@ -24,7 +24,7 @@ use ts_schema::Cmp;
 pub enum TokenAt {
     /// A token.
     Token { kind: TokenKind, at: u32, end: u32 },
-    /// The end: no token is left. Its place is that of the first byte after the last token.
+    /// The end: no token is left. Its place is that of the first byte after those that were skipped.
     End(u32),
     /// No token begins at this place.
     NoToken(u32),
@@ -286,7 +286,9 @@ pub enum Ahead<'a> {
     Nothing(usize),
 }
 
-/// The next token after the first `skip` bytes of a text. The text is a line before its comment.
+/// The next token after the first `skip` bytes of a text, by its places. The text is a line before its comment.
+/// The reader of statements goes by `look`, which hands out the token itself; this is for callers that keep
+/// places alone.
 pub fn next_token(text: &[u8], skip: u32) -> TokenAt
     requires short { length text.now ≤ longest_line }
     requires within { skip ≤ length text.now }
@@ -341,8 +343,8 @@ pub struct MarkAt {
     pub end: usize,
 }
 
-/// The mark that comes after the first `skip` bytes of a text, where one space or none stands before it and its byte
-/// begins no longer one. Most marks are such. `None` says nothing.
+/// The mark that comes after the first `skip` bytes of a text, where at most one space stands before it and no mark
+/// of two bytes begins with its byte. Most marks are such. `None` doesn't tell that no mark comes next.
 #[inline]
 pub fn lone_mark_at(text: &[u8], skip: usize) -> Option<MarkAt>
     requires within { skip ≤ length text.now }
@@ -556,8 +558,8 @@ pub struct NumberAt {
     pub end: usize,
 }
 
-/// The number that comes after the first `skip` bytes of a text, where it is written with few digits and one space
-/// or none stands before it. Most values of a row are such. `None` says nothing.
+/// The number that comes after the first `skip` bytes of a text, where it has fewer than 18 digits and at most one
+/// space stands before it. Most values of a row are such. `None` doesn't tell that no number comes next.
 #[inline]
 pub fn short_number_at(text: &[u8], skip: usize) -> Option<NumberAt>
     requires within { skip ≤ length text.now }

@@ -26,9 +26,9 @@ pub enum ReadTranscript {
 /// every session has the members `name` and `replies` and every reply `line` and `reply`. Of equal keys
 /// the last stands. `start` is a number of 64 bits without a point or an exponent.
 ///
-/// A session has a name of 1 to 16 letters, digits and `_`, and no name comes twice. Each of its lines is
-/// one in which that session speaks, as the lines of an input are told apart: without a line feed, of at
-/// most 65,536 bytes, ASCII up to its comment. A comment is let pass.
+/// A session has a name of 1 to 16 bytes, a letter from `a` to `z` and then such letters, digits and `_`, and no
+/// name comes twice. Each of its lines is one in which that session speaks, as the lines of an input are told
+/// apart: without a line feed, of at most 65,536 bytes, ASCII up to its comment. It may have a comment.
 ///
 /// Beside the text it takes some 24 bytes of memory for each byte of a text of short replies.
 pub fn read_transcript(alloc: Global, text: &[u8]) -> ReadTranscript

@@ -5,7 +5,8 @@ ghost use Rattle.ts_catalog.specs.Relations.{CanBeNumbered, IsThere, found_in, o
 use ts_model::{Roster, TableInfo, ViewDef};
 use ts_schema::Name;
 
-/// What a name stands for. Tables and aggregates have their numbers.
+/// What a name stands for. The number of a table or of an aggregate is its place in the roster's list of them,
+/// which counts from 0.
 #[derive(Clone, Copy, Debug, PartialEq, Eq)]
 pub enum Found {
     /// No relation has this name.

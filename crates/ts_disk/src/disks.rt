@@ -43,7 +43,7 @@ pub trait Disk {
         ensures kept { Keeps bytes may_leave moment left_since self.old self.new }
         ensures counted { Counted (faults self.old) (faults self.new) result };
 
-    /// Reads the bytes from place `at` on, as many as there is room for.
+    /// Fills `into` with the bytes from place `at` on. Where it fails `into` may hold any bytes.
     fn read_at(&mut self, at: u64, into: &mut [u8]) -> Result<(), Failed>
         requires most { at + length into.old ≤ MOST_BYTES }
         requires range { HasRange (bytes self.old) (at + length into.old) }

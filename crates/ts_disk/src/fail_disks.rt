@@ -91,7 +91,7 @@ impl FailDisk {
         }
     }
 
-    /// The disk that it holds.
+    /// The disk that it holds, for tests that look at its bytes and at what a crash would leave.
     pub fn inner(&self) -> &MemDisk
         ensures { result.now ≡ self.now.disk }
     {

@@ -15,7 +15,7 @@ const STEP: u64 = 1 << 18;
 const ZEROS: [u8; 4096] = [0; 4096];
 
 /// An open file as a disk, by positioned reads and writes and data syncs, with a count of its errors.
-/// It tells no content. Contracts see it as the count.
+/// Contracts see the count alone: of a file they promise neither what a read gives nor what a crash leaves.
 ///
 /// A write past the end that doesn't begin at place 0 may leave zeros behind its bytes: the file grows
 /// ahead in steps.

@@ -73,8 +73,8 @@ impl MemDisk {
         }
     }
 
-    /// Appends one of the images that a crash at this moment may leave. Write number `i` since the last
-    /// sync, from 0, is kept where bit `i mod 63` of `pick` is 1. Kept writes are applied in order to the
+    /// Appends one of the images that a crash at this moment may leave, for tests. Write number `i` since the
+    /// last sync, from 0, is kept where bit `i mod 63` of `pick` is 1. Kept writes are applied in order to the
     /// bytes of that sync, and a gap is filled with zeros. Where bit 63 is 1 the last write that is kept
     /// has only its first half, rounded up.
     pub fn crash(&self, pick: u64, out: &mut Vec<u8>) -> Result<(), NoMemory>

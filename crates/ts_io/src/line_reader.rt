@@ -95,7 +95,8 @@ impl Lines {
         })
     }
 
-    /// The line of the last `Line`, without its line end.
+    /// The line that the last call of `next` gave, where that answered `Line`. Its LF is no part of it, and a CR
+    /// before the LF is. After another answer nothing is said of these bytes.
     pub fn line(&self) -> &[u8]
         ensures line { result.now ≡ self.now.line }
     {
@@ -103,7 +104,8 @@ impl Lines {
     }
 
     /// The next line. It asks the source only where it holds no whole line and the source hasn't told
-    /// its end, and takes no memory. After `End`, `InputLong` or `ReadFault` there is no other.
+    /// its end, and takes no memory. Each call is to have the same source, which hasn't told its end before the
+    /// first. After `End`, `InputLong` or `ReadFault` there is no other line, and this may not be called again.
     pub fn next<S: Source>(&mut self, source: &mut S) -> LineEnd
         requires is_open { self.old.is_open ≡ true }
         requires follows { Follows self.old (S.ended source.old) (S.left source.old) }

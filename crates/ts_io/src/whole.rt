@@ -43,8 +43,8 @@ pub enum AllEnd {
 }
 
 /// Reads a whole input into `out`, which is empty: all of it, or its first 67,108,864 bytes where it
-/// is longer. A source that has told its end is asked no more. After a fault or for want of memory `out`
-/// holds all that was given before.
+/// is longer; then one byte more was taken from the source, and dropped. A source that has told its end is
+/// asked no more. After a fault or for want of memory `out` holds all that was given before.
 pub fn read_all<S: Source>(source: &mut S, out: &mut Vec<u8>) -> AllEnd
     requires untold { S.ended source.old ≡ false }
     requires empty { out.old.items ≡ [] }

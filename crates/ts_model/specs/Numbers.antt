@@ -49,7 +49,7 @@ bad_number = 10
 abbrev pub value_count : ℕ
 value_count = 11
 
--- NULL in the time column or in a NOT NULL column
+-- NULL in the time column or in a NOT NULL column, or the column list of an INSERT leaves such a column out
 abbrev pub null_value : ℕ
 null_value = 12
 
@@ -57,7 +57,8 @@ null_value = 12
 abbrev pub not_hypertable : ℕ
 not_hypertable = 13
 
--- a width, an offset or an interval is out of its range
+-- a width, an offset or an interval is out of its range, or the buckets of an aggregate don't lie whole in those of a
+-- roll-up over it
 abbrev pub bad_width : ℕ
 bad_width = 14
 
@@ -117,7 +118,8 @@ too_many_policies = 27
 abbrev pub bad_rollup : ℕ
 bad_rollup = 28
 
--- a unit of the calendar, or how many of them a bucket has, is none
+-- a bucket of the calendar would have fewer than 1 or more than 1,200 units, or its unit isn't a day, a week, a month
+-- or a year
 abbrev pub bad_unit : ℕ
 bad_unit = 29
 

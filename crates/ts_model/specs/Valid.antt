@@ -92,7 +92,7 @@ abbrev pub dirty_fits : ViewDef → List SavedLast → List Span → Bool
 dirty_fits def ls ss =
     list_all (λ s. span_fits s (Some def) && has_lasts def.fold.width ls s) ss && spans_rise ss
 
--- there is no least and no greatest value exactly where there is none
+-- a least or a greatest value is told exactly where there are values
 abbrev pub is_told : ℕ → Option ℤ → Bool
 is_told zero o = is_none o
 is_told (suc n) o = is_some o
@@ -161,6 +161,8 @@ done_fits p ws fs =
 abbrev pub image_roster : Image → Roster
 image_roster i = roster_over no_relations i.roster
 
+-- an image is valid: its position isn't after the last one; its tables and aggregates can be made in this order; and
+-- its rows, what is kept of each aggregate, the refreshes that wait and the finished ones fit them and one another
 abbrev pub valid : Image → Bool
 valid i =
     nat_le i.pos last_position && make_relations no_relations i.roster && hold_rows (image_roster i) 0 i.rows

@@ -12,6 +12,10 @@ use ts_schema::{NoMemory, Seq};
 /// if it did, from where on it stands still; a count of faults; the numbers of the events that calls of
 /// this value made; and how it was opened. Each call finds a history that begins with the one seen, and
 /// makes at most one event. Beside the state stands what its owner knows it by, which no call changes.
+///
+/// A call that makes an event answers the event's number, alone or with more. After the refusals that stand at the
+/// call, one that would make an event is refused as `E30` where the history is at its end, and then as `E24` where
+/// the store stands still. A refused call changes nothing.
 pub trait Backend {
     ghost use Rattle.std.specs.Prelude.{◌≡◌, ℕ, Bool, IsTrue, IsSome};
     ghost use Rattle.std.specs.Option.{ForSome};
@@ -72,8 +76,11 @@ pub trait Backend {
         ensures called { Called alone (state self.old) (committing ops) result (state self.new) }
         ensures kin { kin self.new ≡ kin self.old };
 
-    /// Begins a refresh of the whole buckets of a window. It is refused as `E15` where the window has a
-    /// given end and holds no whole bucket.
+    /// Begins a refresh of the whole buckets of the window from `lo` on and below `hi`. Without `lo` it starts at the
+    /// first bucket. Without `hi` it ends at the watermark or at the end of the bucket of the table's greatest time,
+    /// whichever is greater. Where no whole bucket lies in the window, the call is refused as `E15` if `hi` is given,
+    /// and else answers `CutDone::Nothing` and makes no event. See `refresh_continuous_aggregate` in the API reference
+    /// of TimescaleDB.
     fn cut(&mut self, view: u32, lo: Option<i64>, hi: Option<i64>) -> Outcome<CutDone>
         requires view { IsSome (view_of (roster (state self.old).history) view) }
         requires low { ForSome lo (λ t. IsTrue (is_time t)) }

@@ -39,13 +39,14 @@ pub const BAD_NUMBER: u8 = 10;
 /// `E11`: a row has another count of values than columns are listed.
 pub const VALUE_COUNT: u8 = 11;
 
-/// `E12`: NULL in the time column or in a NOT NULL column.
+/// `E12`: NULL in the time column or in a NOT NULL column, or the column list of an INSERT leaves such a column out.
 pub const NULL_VALUE: u8 = 12;
 
 /// `E13`: the relation is there and isn't a hypertable.
 pub const NOT_HYPERTABLE: u8 = 13;
 
-/// `E14`: a width, an offset or an interval is out of its range.
+/// `E14`: a width, an offset or an interval is out of its range, or the buckets of an aggregate don't lie whole in
+/// those of a roll-up over it.
 pub const BAD_WIDTH: u8 = 14;
 
 /// `E15`: a window with a given end holds no whole bucket.
@@ -90,7 +91,8 @@ pub const TOO_MANY_POLICIES: u8 = 27;
 /// `E28`: a function doesn't fit the column that it rolls up.
 pub const BAD_ROLLUP: u8 = 28;
 
-/// `E29`: a unit of the calendar, or how many of them a bucket has, is none.
+/// `E29`: a bucket of the calendar would have fewer than 1 or more than 1,200 units, or its unit isn't a day, a week, a
+/// month or a year.
 pub const BAD_UNIT: u8 = 29;
 
 /// `E30`: an event would be made, and the history is at its end.

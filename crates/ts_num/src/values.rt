@@ -1,7 +1,8 @@
 //! The aggregate functions, and the value that a cell of an answer shows.
 use crate::fractions::Frac;
 
-/// An aggregate function of the rows of a group.
+/// An aggregate function of the rows of a group. The values are those of its column that aren't NULL, as in
+/// PostgreSQL ("Aggregate Functions").
 #[derive(Clone, Copy, Debug, PartialEq, Eq)]
 pub enum Fun {
     /// The number of rows.

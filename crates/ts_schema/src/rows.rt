@@ -76,7 +76,7 @@ pub fn values_order(a: &[Option<i64>], b: &[Option<i64>]) -> Ordering
     }
 }
 
-/// Values by size; NULL is greater than every number.
+/// Values by size; NULL is greater than every number, as PostgreSQL sorts by default ("Sorting Rows (ORDER BY)").
 #[inline(always)]
 pub fn value_order(a: Option<i64>, b: Option<i64>) -> Ordering
     ensures order { result ≡ value_cmp a b }

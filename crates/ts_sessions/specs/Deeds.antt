@@ -219,6 +219,8 @@ pub record IsAsked (h : History) (asked : Asked) : Type 0 where
   pub low : ForSome asked.lo (λ t. IsTrue (is_time t))
   pub high : ForSome asked.hi (λ t. IsTrue (is_time t))
 
+-- what a deed needs of the state that it is done at: the aggregate of a refresh is there and its bounds are times, a
+-- job is that of its refresh and snapshot, an event is sound, and an aggregate that is filled is there under its name
 abbrev pub DeedFits : {T J : Type 0} → Shown T J → Deed T J → State → Type 0
 DeedFits shown (deeds.Refresh asked) s = IsAsked s.history asked
 DeedFits shown (deeds.Cut asked) s = IsAsked s.history asked
@@ -245,7 +247,8 @@ NextFits shown bytes (nexts.Deed d) s = DeedFits shown d s
 NextFits shown bytes (nexts.End t) s = EndFits shown bytes t s
 
 -- this comes next of a statement. It leaves what is left by the places and by the rows read so far, of which it counts
--- those that it goes on from; it goes with a state that has what it needs; and it meets the store less often than before
+-- those that it goes on from; it goes with a state that has what it needs; and it meets the store less often than
+-- the deed before it
 pub record FollowsReading {T J : Type 0} (shown : Shown T J) (next : Next T J) (before : ℕ) (needs : State → Type 0)
     (rows : ℕ → ℕ) (left_then : Places → ℕ → History → Procedure (Turn Places)) : Type 0 where
   pub rest : (p : Places) (read : ℕ) (h : History) → rest_next p (rows read) h next ≡ left_then p read h

@@ -15,7 +15,7 @@ IsEnded (ends a) = Unit {0}
 
 -- a procedure from a history on: what isn't printed stays and comes last, and each event comes directly after a look
 -- that is printed, or after an event.
--- fresh: so was the last step
+-- fresh: the step before was a look that is printed, or an event
 abbrev pub Steady : {A : Type 0} → Bool → History → Procedure A → Type 0
 Steady fresh base (sees shown f) =
     (h : History) → Begins base h

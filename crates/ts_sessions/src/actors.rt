@@ -77,7 +77,9 @@ pub trait Actor {
         ensures { result ≡ block_kind (Self.within (Self.places self.now)) };
 
     /// Does what a line asks for. `text` is the line before its comment, and its statement stands after
-    /// the first `skip` bytes. It may be called again after a disk fault.
+    /// the first `skip` bytes. `rt` has the threads that queries and refreshes may use, `gate` is called directly
+    /// before the finish of a refresh, and `steps` counts the stored rows that are looked at. It may be called again
+    /// after a disk fault, and not after `NoMemory`: then no clause says that what it holds goes with the store.
     fn act<R: Threads + Sync, B: Backend<Shot = Self::Shot>, G: Gate, L>(
         &mut self,
         rt: &R,

@@ -111,7 +111,8 @@ impl<T> Open<T> {
         }
     }
 
-    /// Why a statement of this kind may not be, where it may not.
+    /// Why the block lets no statement of this kind pass, if it doesn't: `E16` in a write block, `E17` in a read
+    /// block, and outside of blocks `E18` for a statement that ends one.
     pub fn barrier(&self, kind: StatementKind) -> Option<Refusal>
         ensures { result ≡ block_refusal (block_of self.now) kind }
     {

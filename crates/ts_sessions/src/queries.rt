@@ -140,6 +140,7 @@ fn roll_up(
     requires { FitsRollUp def.now.fold answer }
     ensures { IfOk result (λ upper. upper ≡ upper_answer def.now.fold plan.now answer) }
 {
+    // Reading a width tells that it keeps its bounds.
     let _step = def.fold.width.step;
     if takes_all(plan, &def.fold) {
         return Ok(answer);
@@ -162,6 +163,7 @@ fn choose_cells(
     requires groups { keeps_groups def.now.fold plan.now ≡ true }
     ensures { IfOk result (λ upper. upper ≡ upper_answer def.now.fold plan.now answer) }
 {
+    // Reading a width tells that it keeps its bounds.
     let _step = def.fold.width.step;
     let places = chosen_places(alloc, plan)?;
     let Answer { rows, stale } = answer;

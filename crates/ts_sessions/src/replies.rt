@@ -25,7 +25,8 @@ pub enum StepEnd {
     /// The line has this reply.
     Reply(Reply),
     /// The disk failed at an event of the line, and the store is stopped. The reply has the lines of the
-    /// events that were made before, and then the refusal `E24`.
+    /// events that were made before, and then the refusal `E24`. A `TICK` goes on: behind that stand the replies to
+    /// the other statements that are due.
     DiskFault(Reply),
     /// There was no memory. Events of the line that were made before stand.
     NoMemory,

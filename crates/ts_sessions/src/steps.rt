@@ -29,7 +29,8 @@ where
 {
     /// Does what a line asks for. `text` is the line before its comment, and its statement stands after
     /// the first `skip` bytes. It is one step of the model: the procedure of the line, over whatever history
-    /// the store is found at.
+    /// the store is found at. Where there is no memory the session stays as it was; only where the line was to finish
+    /// a refresh, it may have given up the snapshot that it held for that.
     pub fn step<R: Threads + Sync, B: Backend<Shot = T>, G: Gate, L>(
         &mut self,
         rt: &R,

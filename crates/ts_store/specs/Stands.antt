@@ -79,7 +79,7 @@ pub record IsWrong (file : List ℕ) (h : History) (at : ℕ) : Type 0 where
   pub neither : IsNeither version h payload
 
 -- a file is damaged at this place, behind the events of this history: it doesn't begin as a journal, too little
--- follows an open gate, or no event that may come next
+-- follows an open gate, or a base that is no valid image, or another payload that is no event that may come next
 pub record IsDamagedAfter (file : List ℕ) (h : History) (at : ℕ) : Type 0 where
   pub sound : IsSound h
   pub broken : IsDamaged file (content_of h) at ⊎ IsWrong file h at

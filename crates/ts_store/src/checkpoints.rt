@@ -19,7 +19,8 @@ use std::alloc::Global;
 use ts_disk::Disk;
 use txn_journal::{Append, Frame, Journal};
 
-/// How a checkpoint ended.
+/// How a checkpoint ended. Where it is neither `Done` nor `DiskFault` nothing was written. After `DiskFault` the
+/// journal stands for the history as before, or for its image.
 #[derive(Clone, Copy, Debug, PartialEq, Eq)]
 pub enum CheckEnd {
     /// The image of the history stands on the disk, at this position and of so many bytes.

@@ -16,7 +16,7 @@ use txn_journal::{Opened, Reader};
 pub enum HistoryRead<D: Disk> {
     /// The history that the journal stands for.
     Ready { disk: D, ledger: Ledger },
-    /// The journal stands for no history. This is its least damaged place, as the start of a store tells it.
+    /// The journal stands for no history. This is its first damaged place, as the start of a store tells it.
     Damaged { disk: D, at: u64 },
     /// The disk failed.
     DiskFault(D),

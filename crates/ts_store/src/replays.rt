@@ -28,7 +28,7 @@ use txn_journal::{Journal, Next, Reader};
 pub(crate) enum Replayed<D: Disk, T> {
     /// The journal, and what followed its history.
     Ready { journal: Journal<D>, follower: T },
-    /// The least damaged place.
+    /// The first damaged place.
     Damaged { disk: D, at: u64 },
     /// The disk failed.
     DiskFault(D),

@@ -22,9 +22,10 @@ use txn_journal::{Opened, Reader};
 pub enum Started<D: Disk> {
     /// A store of the history that its journal stands for.
     Ready(Store<D>),
-    /// The journal stands for no history. This is its least damaged place: its magic bytes, or an open
-    /// gate behind which the file is too short, or behind which stand other bytes than those of an event
-    /// that may come next.
+    /// The journal stands for no history. This is its first damaged place: 0 where the file begins with other
+    /// bytes than a journal, or else the place of an open gate. Behind such a gate the file is too short, or there
+    /// is a base that isn't the bytes of a valid image, or another payload that isn't those of an event that may
+    /// come next.
     Damaged { disk: D, at: u64 },
     /// The disk failed.
     DiskFault(D),

@@ -10,7 +10,8 @@ use ts_disk::Disk;
 pub enum Status {
     /// Everything was done, and no reply is a FAULT.
     Done,
-    /// Everything was done, and a reply is a FAULT.
+    /// Everything was done, and a reply is a FAULT, or the image of a checkpoint is too long, or an audit didn't
+    /// answer `YES`.
     Refused,
     /// The words ask for nothing that there is.
     BadWords,
@@ -24,7 +25,8 @@ pub enum Status {
     Damaged(u64),
     /// There was no memory.
     NoMemory,
-    /// The source gave a byte beyond the limit. The lines that end within it were executed.
+    /// The source gave a byte beyond the limit. `run` has executed the lines that end within it; `par` has executed
+    /// none, and `audit` has printed nothing.
     InputLong,
 }
 

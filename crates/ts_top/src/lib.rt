@@ -8,6 +8,7 @@
 //! - `prints`: what is printed of a journal.
 //! - `parallel`: inputs that are run by a worker for each session.
 //! - `checkpoints`: the image of a journal's history, put behind the journal.
+//! - `audits`: the audit of a transcript beside a journal.
 //! - `demos`: the demonstration.
 //! - `endings`: how a call ended.
 #![tactic(auto)]

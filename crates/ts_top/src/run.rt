@@ -30,8 +30,11 @@ use ts_model::Gate;
 /// in place of its replies, where neither memory nor the disk failed; `demo` and a number runs a script of
 /// its own over a disk of its own, and writes a summary; `log` and `check` print what stands in the journal;
 /// `checkpoint` puts the image of the journal's history behind the journal, so that a later call begins
-/// there. The source is one that hasn't told its end. The gate is called by the workers of `par` and `par
-/// json` alone, for which the call may wait.
+/// there; `audit` reads a transcript, and writes whether the history of the journal explains it. With other words
+/// nothing is done.
+///
+/// The source is one that hasn't told its end. The gate is called by the workers of `par` and `par json` alone,
+/// for which the call may wait.
 pub fn run_words<R, S, K, D, G>(
     rt: &R,
     alloc: Global,

@@ -78,6 +78,10 @@ module _ {V B E : Type 0} (base : V → B) (events : V → List E) (closed : V �
   Stands root log shut away (some (Some v)) = IsValue root log shut v
 
 module _ {V B E : Type 0} (base : V → B) (first : B → ℕ) (events : V → List E) (closed : V → Option E) where
+  -- the rule, by the next ticket and the one that is served, the holder of each ticket, what slot 0 has, the events so
+  -- far and what closed them, and the place of a view that has seen them all. Each ticket that was drawn and isn't past
+  -- has a holder; each view is in place and fits the events; the value is at home, or away with the view that has the
+  -- turn; there are as many shares as at first; and each position added since then was made once
   pub record Kept (key : Opening V) (s : State (Option V) (Knows B E)) : Type 0 where
     pub next : ℕ
     pub serving : ℕ

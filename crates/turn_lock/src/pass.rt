@@ -12,7 +12,7 @@ use std::marker::Model;
 pub(crate) type Place<V> = Seat<Option<V>, Knows<<V as Grown>::Base, <V as Grown>::Entry>>;
 
 /// What one holder carries: shares of the right to the whole, the events that it has seen, and the
-/// positions that it added.
+/// positions that it added. Where a pass is dropped its shares are lost, and the lock can't be closed any more.
 pub struct Pass<V: Grown> {
     pub(crate) seat: Place<V>,
     pub(crate) shares: u32,

@@ -5,6 +5,7 @@ use crate::view::Knows;
 use atomic_table::{Join, Play, Split, TableRule};
 use std::marker::{Brand, PhantomData};
 
+/// The rule of the lock, which each step keeps.
 pub struct Turns;
 
 impl<V: Grown> TableRule<Option<V>, Knows<V::Base, V::Entry>, Opening<V>> for Turns {

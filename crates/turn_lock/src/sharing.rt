@@ -19,6 +19,7 @@ impl<V: Grown> TurnLock<V> {
         ensures left { seat.new.me ≡ (left_with shares seat.old.me.0, seat.old.me.1) }
         ensures right { result.me ≡ (given shares seat.old.me.0, []) }
     {
+        // The number is for the contract alone.
         let _ = shares;
         self.table.shared.split_seat::<Cut<C>>(seat)
     }

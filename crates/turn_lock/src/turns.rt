@@ -12,8 +12,8 @@ use std::sync::Wait;
 use std::thread::Threads;
 
 impl<V: Grown> TurnLock<V> {
-    /// Waits for the turn of the pass, and takes the value. While it waits it yields the processor, and sleeps for
-    /// some microseconds at a time where a turn lasts.
+    /// Waits for the turn of the pass, without a limit, and takes the value. Meanwhile it yields the processor,
+    /// and sleeps for some microseconds at a time where a turn lasts.
     pub fn take<R: Threads + Wait>(&self, rt: &R, pass: &mut Pass<V>) -> Held<V>
         requires lock { IsPassOf self.now pass.old }
         requires idle { IsIdle pass.old }

@@ -23,7 +23,7 @@ pub record AreListed (payloads : List Payload) (content : Content) : Type 0 wher
   pub places : payloads ≡ placed first (payloads_of payloads)
   pub from_first_gate : (first ≡ 8) ⊎ IsSome content.base
 
--- what counts with the places of its payloads, or what counts before the least damaged place
+-- what counts with the places of its payloads, or what counts before the first damaged place
 abbrev pub Recovers : {D : Type 0} → Recovered D → List ℕ → Type 0
 Recovers (Ready journal payloads) file = (content : Content) × AreListed payloads content × StandsFor file content
 Recovers (Damaged disk payloads at) file = (content : Content) × AreListed payloads content × IsDamaged file content at

@@ -10,7 +10,8 @@ use ts_schema::{NoMemory, Seq};
 /// The bytes of a length and of a gate.
 const AROUND: usize = 5;
 
-/// The frame of a payload.
+/// The frame of a payload that is there as a list. The program makes its frames by `open_frame` and
+/// `close_frame`, without such a list.
 pub fn frame(alloc: Global, payload: &Seq<u8>) -> Result<Frame, NoMemory>
     requires fits { Fits payload.now }
     ensures same { IfOk result (λ made. made ≡ payload.now) }

@@ -60,7 +60,7 @@ pub enum Next {
     Base(u64),
     /// Another payload, which `Reader::payload` gives, with the place of its open gate.
     Payload(u64),
-    /// A closed gate ends the journal.
+    /// A closed gate ends the journal, or the file has at most nine bytes and isn't a header.
     End,
     /// Behind the open gate at this place the file is too short for its frame and a next gate.
     Damaged(u64),
@@ -93,8 +93,8 @@ impl<D: Disk> Reader<D> {
         }
     }
 
-    /// Reads the next payload. After `Base` and `Payload` there may be others; `End` and `Damaged` come
-    /// again.
+    /// Reads the next payload. After `Base` and `Payload` there may be others. After each other answer the reader
+    /// stays at the same gate, and another step begins there.
     pub fn next(&mut self) -> Next
         ensures steps { (file : List ℕ) (content : Content) → HasRead D.bytes self.old file content
             → Steps D.bytes result file content self.old self.new }
@@ -136,7 +136,8 @@ impl<D: Disk> Reader<D> {
         }
     }
 
-    /// The payload of the last `Base` or `Payload`.
+    /// The payload of the last step, where that answered `Base` or `Payload` and the payload wasn't taken out since.
+    /// After `DiskFault` and `NoMemory` it may be any bytes.
     pub fn payload(&self) -> &[u8]
         ensures payload { result.now ≡ self.now.payload }
     {

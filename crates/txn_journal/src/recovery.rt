@@ -22,7 +22,7 @@ pub enum Recovered<D: Disk> {
         journal: Journal<D>,
         payloads: Seq<Payload>,
     },
-    /// The least damaged place, and what counts of the payloads of the open frames before it.
+    /// The first damaged place, and what counts of the payloads of the open frames before it.
     Damaged {
         disk: D,
         payloads: Seq<Payload>,
@@ -34,7 +34,8 @@ pub enum Recovered<D: Disk> {
     NoMemory(D),
 }
 
-/// Reads a journal from its base on. It writes nothing. It holds all these payloads at once; `Reader` holds one at a time.
+/// Reads a journal from its base on. It writes nothing. It holds all these payloads at once, for callers that
+/// want a list of them; the program reads by `Reader`, which holds one at a time.
 pub fn recover<D: Disk>(alloc: Global, disk: D) -> Recovered<D>
     ensures recovers { (file : List ℕ) → D.bytes disk ≡ Some file → Recovers result file }
     ensures tells { (file : List ℕ) → D.bytes disk ≡ Some file → TellsAfter D.bytes result }
