@@ -323,7 +323,8 @@ def read(file):
     history = History()
     if len(file) <= 9:
         return history
-    if file[:8] != MAGIC:
+    # The eighth byte is that of the version, which makes no difference where there is no base.
+    if file[:7] != MAGIC[:7]:
         raise Damaged(0)
     gate = 8
     while file[gate] == 1:

@@ -2,12 +2,17 @@
 # answer named as stale.
 set -euo pipefail
 
-# The refreshes that an aggregate's answer asks for: aggregate.
+# The refreshes that an aggregate's answer asks for: aggregate, and a time from which on they are wanted. Where chunks
+# were dropped that is their end, since a refresh would do away with what is still shown of their rows.
 refreshes_of() {
-  local from to
+  local from to least="${2:-}"
   echo "watch: SELECT * FROM $1" | tsctl run | sed -n 's/^stale \(.*\)\.\.\(.*\)$/\1 \2/p' |
     while read -r from to; do
       [ "$from" != min ] || from=NULL
+      if [ -n "$least" ]; then
+        [ "$to" -gt "$least" ] || continue
+        if [ "$from" = NULL ] || [ "$from" -lt "$least" ]; then from="$least"; fi
+      fi
       echo "watch: CALL refresh_continuous_aggregate('$1', $from, $to)"
     done
 }
@@ -23,6 +28,7 @@ feed: INSERT INTO load VALUES (26, 53)
 END
 
 # The first run has ended before the second begins: one at a time may write in a folder.
+refreshes_of tens 20
 refreshes="$(refreshes_of tens)"
 echo "$refreshes"
 echo "$refreshes" | tsctl run

@@ -18,3 +18,13 @@ echo
 "$tsq" export --plain 2>/dev/null
 echo
 "$tsq" export --plain --stale | tail -n 5
+
+# Where tsctl doesn't say what is stale nothing is printed; two names that begin alike have a table each.
+TSCTL=false "$tsq" export --stale 2>&1 || echo "status $?"
+long=a_name_of_fifty_letters_and_some_more_as_there_may_be
+for name in "${long}_x" "${long}_y"; do
+  echo "feed: CREATE MATERIALIZED VIEW $name WITH (timescaledb.continuous) AS SELECT time_bucket(10, time) AS start, count(*) FROM load GROUP BY start"
+done | tsctl run >/dev/null
+echo "feed: DELETE FROM load WHERE host = 1" | tsctl run >/dev/null
+"$tsq" export --stale | grep -c "^CREATE TABLE .*_stale"
+"$tsq" export --stale | grep "^CREATE TABLE .*_stale" | sort -u | wc -l

@@ -38,8 +38,29 @@ printf '%s,1\n' 0 60 30 3660 7200 7230 10000 9000 >hours.csv
 "$tsq" load hours.csv --table m --columns time,v --gap 1000 2>&1
 "$tsq" load hours.csv --table m --columns time,v --gap 0 2>&1 | wc -l
 
+# A file from the latest row to the earliest: the rows behind the first one are late, and nothing parts them.
+seq -f "%.0f,1" 2500 -1 1 >newest.csv
+"$tsq" load newest.csv --table m --columns time,v 2>&1 >newest.sql
+awk '{ print gsub(/\(/, "") - 1 }' newest.sql
+
+# What is no date, and what is no number.
+dates=("$tsq" load - --table m --columns time,v --times us)
+echo "1612011531200,1" | "${dates[@]}" 2>&1 || echo "status $?"
+echo "2024-01-01T00:00:00.1234569Z,1" | "${dates[@]}" 2>&1 || echo "status $?"
+echo "2024-01-01 00:00:00.123456+01:30,1" | "${dates[@]}"
+printf '1,1%099d\n' 0 | "$tsq" load - --table m --columns time,v 2>&1 || echo "status $?"
+
+# Columns of the file that are exchanged, by their names, and cells that a tab parts.
+printf 'time,pump,bar\n1,2,3\n' >named.csv
+"$tsq" load named.csv --table m --columns time,bar,pump --header 2>&1 || echo "status $?"
+"$tsq" load named.csv --table m --columns time,device,pressure --header
+printf '1\t2\n' | "$tsq" load - --table m --columns time,v --delimiter '\t'
+echo "2024-01-01,2" | "$tsq" load - --table m --columns time,v 2>&1 || echo "status $?"
+
 # What is no CSV, and what the words ask for.
 printf '1,"2\n' | "$tsq" load - --table m --columns time,v 2>&1 || echo "status $?"
 echo "1,2" | "$tsq" load - --table m --columns time,v --session "x y" 2>&1 || echo "status $?"
 echo "1,2" | "$tsq" load - --table m --columns time,v --time v --scale w=1 2>&1 || echo "status $?"
+echo "1,2" | "$tsq" load - --table m --columns time,v --times s --scale time=3 2>&1 || echo "status $?"
+echo "1,2" | "$tsq" load - --table m --columns time,v --gap -5 2>&1 | tail -n 1 || true
 printf '1;2\r\n\r\n3;4\r\n' | "$tsq" load - --table m --columns time,v --delimiter ";" --time v

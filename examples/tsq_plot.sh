@@ -17,6 +17,10 @@ END
 "$tsq" plot empty 2>&1 || echo "status $?"
 "$tsq" plot load 2>&1 || echo "status $?"
 "$tsq" plot seconds --columns v 2>&1 || echo "status $?"
+"$tsq" plot seconds --scale maen=1 2>&1 || echo "status $?"
+mkdir other
+"$tsq" plot seconds --in other 2>&1 || echo "status $?"
+ls other
 "$tsq" plot seconds --key second=0 2>&1 || echo "status $?"
 "$tsq" plot seconds --key host=3 2>&1 || echo "status $?"
 "$tsq" plot seconds --key host=x 2>&1 | tail -n 1 || true

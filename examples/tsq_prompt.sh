@@ -15,3 +15,6 @@ SELECT * FROM tens LIMIT 1
 COMMIT
 \q
 END
+
+# Bytes that are no text are refused as in a script, whatever the locale, and the prompt goes on.
+printf 'SELECT \377\nSELECT * FROM tens\n' | HOME=/nowhere LC_ALL=C "$tsq" prompt

@@ -32,12 +32,44 @@ wall: SELECT calendar_bucket(1, 'month', time) AS month, count(*), max(time) AS 
 wall: SELECT time_bucket(86400, minute) AS day, max(max) AS last FROM minutes GROUP BY day
 END
 "$tsq" run dates.sql --times s
+"$tsq" run dates.sql --json 2>/dev/null
+"$tsq" run dates.sql --json --ranges
+"$tsq" run ask.sql --csv --ranges --times s
+"$tsq" run ask.sql --ranges 2>&1 || echo "status $?"
+
+# Columns may have words of the SQL for names, and the greatest time of an aggregate makes no time of another greatest.
+cat >names.sql <<'END'
+n: CREATE TABLE odd (time BIGINT NOT NULL, max BIGINT, as BIGINT, from BIGINT)
+n: SELECT create_hypertable('odd', 'time', chunk_time_interval => 86400)
+n: INSERT INTO odd VALUES (1704067200, 7, 8, 9)
+n: SELECT time_bucket(60, time) AS b, max, count(*) AS as, sum(as), sum(from) AS from FROM odd GROUP BY b, max
+n: CREATE MATERIALIZED VIEW tops WITH (timescaledb.continuous) AS SELECT time_bucket(60, time) AS minute, max(as) AS top, max(time) FROM odd GROUP BY minute
+n: SELECT time_bucket(86400, minute) AS day, max(top), max(max) AS last FROM tops GROUP BY day
+END
+"$tsq" run names.sql --times s
 
 # A script with Windows line ends; replies that were kept; sessions at once.
 mkdir other
 sed 's/$/\r/' script.sql >windows.sql
 (cd other && tsctl run <../windows.sql >../replies || true)
-"$tsq" run windows.sql --replies replies --csv 2>/dev/null | tail -n 2
+"$tsq" run windows.sql --replies replies --csv 2>/dev/null | tail -n 2 || true
+
+# Replies that are cut off, too few or too many are told.
+printf 'wall: ANSWER @7 rows 2 stale 1\n1704067200|1|124/3|1704067230\n' >cut
+"$tsq" run ask.sql --replies cut 2>&1 || echo "status $?"
+"$tsq" run ask.sql --replies /dev/null 2>&1 || echo "status $?"
+"$tsq" run /dev/null --replies cut 2>&1 || echo "status $?"
+
+# A program that a signal ends, and one that is named from here and called in another folder.
+printf '#!/bin/sh\nkill -9 $$\n' >killed
+printf '#!/bin/sh\nexec tsctl "$@"\n' >named
+chmod +x killed named
+TSCTL=./killed "$tsq" run ask.sql --in other 2>&1 || echo "status $?"
+echo "wall: SELECT * FROM load WHERE host = 2" | TSCTL=./named "$tsq" run --in other
+
+# Without a standard input nothing is asked.
+"$tsq" run --in other <&-
+
 mkdir par
 cat >par.sql <<'END'
 final: SELECT * FROM load

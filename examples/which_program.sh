@@ -64,6 +64,7 @@ tsctl --proved run
 echo "# a proof that is stopped, with all that it has started"
 SAYS=slow copy/bin/prove --jobs 1 >said 2>&1 &
 until [ -s calls.slow ]; do sleep 0.05; done
+copy/bin/prove 2>&1 || echo "status $?, of another call meanwhile"
 kill -TERM "$!"
 wait "$!" || echo "status $?"
 said <said

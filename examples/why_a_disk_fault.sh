@@ -36,3 +36,11 @@ why --in other
 # Where a file may not grow as far as the journal does:
 mkdir small
 (ulimit -f 64; why --in small)
+
+# Where the journal is damaged, which a run says with another line:
+mkdir wrong
+cp before wrong/tsctl.journal
+printf '\001' | dd of=wrong/tsctl.journal bs=1 seek=8 conv=notrunc status=none
+truncate -s 20 wrong/tsctl.journal
+tsctl --in wrong run </dev/null 2>&1; echo "status $?"
+why --in wrong

@@ -14,6 +14,13 @@ ls data
 tsctl --in data log
 tsctl --in data -- check
 
+# That folder is meant, whatever CDPATH says, and nothing is printed of where it is.
+mkdir -p elsewhere/data
+CDPATH="$PWD/elsewhere" tsctl --in data log
+
+# A script is read from standard input.
+tsctl run script.sql 2>&1 | head -n 1
+
 # Without a journal there is an empty history, and standard error says so.
 tsctl check 2>&1 | said
 tsctl log 2>&1 | said

@@ -2,6 +2,8 @@
 import csv
 import io
 import json
+from bisect import bisect_right
+from math import inf
 from typing import NamedTuple
 
 from .cells import date, decimal, divided, time_text
@@ -41,7 +43,9 @@ def is_stale(reply, row):
     if not reply.stale:
         return False
     start = int(row[0])
-    return any((low is None or low <= start) and start < high for low, high in reply.stale)
+    # The ranges rise and don't meet, so of those that begin at or before the start the last one may hold it.
+    begun = bisect_right(reply.stale, start, key=lambda bounds: -inf if bounds[0] is None else bounds[0])
+    return begun > 0 and start < reply.stale[begun - 1][1]
 
 
 def range_text(bounds, unit, is_iso=False):
@@ -105,7 +109,7 @@ def table(reply, output, style):
 def cells_for_programs(reply, output, style):
     """The names of the columns, and the rows as lists of texts, with `true` or `false` for stale buckets."""
     columns = columns_of(reply, output, style, is_iso=True)
-    if output.is_view:
+    if output.is_view or reply.stale:
         columns.append(Column("stale", [str(is_stale(reply, row)).lower() for row in reply.rows], ""))
     names = distinct([column.name for column in columns])
     return names, list(zip(*(column.texts for column in columns)))
@@ -126,12 +130,36 @@ def is_literal(text):
     return text in ("null", "true", "false") or text.lstrip("-").replace(".", "", 1).isdigit()
 
 
+def literal(text):
+    """A cell as it stands in JSON."""
+    return text if is_literal(text) else json.dumps(text)
+
+
 def json_lines(reply, output, style):
     """An answer as JSON, an object a row."""
     names, rows = cells_for_programs(reply, output, style)
     keys = [json.dumps(name) for name in names]
     lines = []
     for row in rows:
-        values = [text if is_literal(text) else json.dumps(text) for text in row]
-        lines.append("{" + ", ".join(f"{key}: {value}" for key, value in zip(keys, values)) + "}")
+        lines.append("{" + ", ".join(f"{key}: {literal(text)}" for key, text in zip(keys, row)) + "}")
     return lines
+
+
+# ---- stale ranges for other programs
+
+
+def range_cells(bounds, style):
+    """The ends of a stale range as they are written, `null` for `min`."""
+    return ["null" if bound is None else time_text(bound, style.unit, is_iso=True) for bound in bounds]
+
+
+def csv_ranges(reply, _output, style):
+    """The stale ranges of an answer as CSV, with `from` and `to` in its first line; `min` is an empty cell."""
+    cells = [range_cells(bounds, style) for bounds in reply.stale]
+    return ["from,to", *(",".join("" if cell == "null" else cell for cell in row) for row in cells)]
+
+
+def json_ranges(reply, _output, style):
+    """The stale ranges of an answer as JSON, an object a range."""
+    rows = [range_cells(bounds, style) for bounds in reply.stale]
+    return ["{" + f'"from": {literal(low)}, "to": {literal(high)}' + "}" for low, high in rows]

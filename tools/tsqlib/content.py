@@ -14,13 +14,14 @@ class Content:
         self.windows = {}
         self.has_removed = False
         self.has_groups = False
-        for self.history, event, _ in follow(file):
+        for history, event, _ in follow(file):
+            self.history = history
             if isinstance(event, Image):
                 self.resume(event)
             elif isinstance(event, Commit):
                 self.commit(event)
             elif isinstance(event, Built):
-                cut = self.history.cuts[event.cut]
+                cut = history.cuts[event.cut]
                 self.windows.setdefault(cut.view, []).append((cut.start, cut.end))
 
     def resume(self, image):

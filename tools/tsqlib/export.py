@@ -1,5 +1,6 @@
 """`tsq export`: a journal as SQL for TimescaleDB or PostgreSQL, to be loaded by psql."""
 import tempfile
+from itertools import chain
 from pathlib import Path
 
 from . import programs
@@ -8,9 +9,8 @@ from .cells import decimal
 from .content import Content
 from .journal import Damaged
 from .log import DAMAGED
-from .replies import replies_of
-from .run import say
-from .statements import lines_of
+from .messages import Trouble, say
+from .replies import replies_in
 
 # PostgreSQL has these columns in every table.
 SYSTEM_COLUMNS = {"tableoid", "xmin", "cmin", "xmax", "cmax", "ctid"}
@@ -137,8 +137,10 @@ def answers_of(views, journal):
     script = "".join(f"export: SELECT * FROM {view.name}\n" for view in views).encode()
     with tempfile.TemporaryDirectory() as folder:
         (Path(folder) / "tsctl.journal").write_bytes(journal)
-        _, output = programs.call(["run"], script, folder)
-    return replies_of(lines_of(script), output.decode("ascii", "replace").split("\n")[:-1])
+        status, output = programs.call(["run"], script, folder)
+    if status:
+        raise Trouble(f"tsctl ended with status {status}: what aggregates show of stale buckets isn't known")
+    return replies_in(output, script)
 
 
 def cell_value(cell):
@@ -156,6 +158,7 @@ def stale_table(view, reply, taken):
     name = f"{view.name[:50]}_stale"
     while name in taken:
         name += "_"
+    taken.add(name)
     types = ["BIGINT"] * (1 + len(view.keys)) + ["NUMERIC"] * len(view.functions)
     columns = [column(name, view.names) for name in view.names]
     yield f"CREATE TABLE {quoted(name)} ({', '.join(map(' '.join, zip(columns, types)))});"
@@ -169,6 +172,14 @@ def stale_tables(history, journal):
         yield from stale_table(view, reply, taken)
 
 
+def tell_left_out(content):
+    """Says where an aggregate may show something of rows that are no longer there."""
+    if content.has_removed and content.history.views:
+        say("rows were removed: what an aggregate still shows of them is exported by `--stale` alone")
+    elif content.has_groups:
+        say("what an aggregate still shows of rows that were removed before the image is exported by `--stale` alone")
+
+
 def export(options):
     """Prints the export of a journal. One that is damaged, or has no event, gives nothing."""
     journal = programs.read(options.journal)
@@ -179,13 +190,10 @@ def export(options):
         return DAMAGED
     if not content.history:
         return 0
-    for line in statements(content, options.plain):
+    # tsctl is asked first, so that nothing is printed where it doesn't answer.
+    stale = list(stale_tables(content.history, journal)) if options.stale else []
+    for line in chain(statements(content, options.plain), stale):
         print(line)
-    if options.stale:
-        for line in stale_tables(content.history, journal):
-            print(line)
-    elif content.has_removed and content.history.views:
-        say("rows were removed: what an aggregate still shows of them is exported by `--stale` alone")
-    elif content.has_groups:
-        say("what an aggregate still shows of rows that were removed before the image is exported by `--stale` alone")
+    if not options.stale:
+        tell_left_out(content)
     return 0

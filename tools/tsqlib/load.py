@@ -1,15 +1,15 @@
 """`tsq load`: the rows of a CSV file as INSERT statements."""
 import csv
 import io
+import math
 import re
-import sys
 from datetime import datetime, timedelta, timezone
 from typing import NamedTuple
 
 from .cells import UNITS
 from .journal import LEAST_TIME, MOST_TIME
-from .programs import Trouble, read
-from .run import say
+from .messages import Trouble, say
+from .programs import read, read_input
 from .statements import SESSION
 
 MOST_ROWS = 1000
@@ -18,7 +18,10 @@ MOST_INPUT = 67108864
 LEAST, MOST = -(2**63), 2**63 - 1
 EPOCH = datetime(1970, 1, 1, tzinfo=timezone.utc)
 WORD = re.compile(r"[A-Za-z_][A-Za-z0-9_]{0,62}")
-NUMBER = re.compile(r"([+-]?)([0-9]*)(?:\.([0-9]*))?(?:[eE]([+-]?[0-9]{1,2}))?")
+NUMBER = re.compile(r"([+-]?)([0-9]{0,99})(?:\.([0-9]{0,99}))?(?:[eE]([+-]?[0-9]{1,2}))?")
+# `fromisoformat` takes numbers for dates too, by the version of Python, and drops digits behind the sixth.
+CLOCK = r"[0-9]{2}:[0-9]{2}(?::[0-9]{2}(?:\.[0-9]{1,6})?)?"
+DATE = re.compile(rf"[0-9]{{4}}-[0-9]{{2}}-[0-9]{{2}}(?:[Tt ]{CLOCK}(?:[Zz]|[+-][0-9]{{2}}(?::?[0-9]{{2}})?)?)?")
 
 
 class Bad(Exception):
@@ -41,7 +44,7 @@ def number_of(text, column):
     """The whole number that a cell is, scaled by the power of ten of its column."""
     found = NUMBER.fullmatch(text)
     if not found or not (found[2] or found[3]):
-        raise Bad("is no number")
+        raise Bad("is no number" + " (--times reads dates)" * bool(DATE.fullmatch(text)))
     part = (found[3] or "").rstrip("0")
     digits, power = int(found[2] + part or "0"), column.scale + int(found[4] or 0) - len(part)
     number, rest = divmod(digits, 10 ** max(0, -power))
@@ -53,9 +56,11 @@ def number_of(text, column):
 def time_of(text, unit):
     """The time that a date is. One without a zone is in UTC."""
     try:
+        if not DATE.fullmatch(text):
+            raise ValueError
         moment = datetime.fromisoformat(re.sub("[Zz]$", "+00:00", text))
     except ValueError:
-        raise Bad("is no date") from None
+        raise Bad("is no date (--time names the time column)") from None
     moment = moment if moment.tzinfo else moment.replace(tzinfo=timezone.utc)
     ticks, rest = divmod((moment - EPOCH) // timedelta(microseconds=1), UNITS["us"] // UNITS[unit])
     if rest:
@@ -110,17 +115,27 @@ def columns_of(options):
     for name in scales:
         if name not in loaded:
             raise Trouble(f"--scale {name}={scales[name]}: --columns has no such name")
+    if options.times and time in scales:
+        raise Trouble(f"--scale {time}={scales[time]}: --times says what its unit is")
     return [Column(name, scales.get(name, 0), name == time, options.times if name == time else None) for name in names]
+
+
+def check_names(names, columns):
+    """That none of the columns has the name of another column of the file, as where two were exchanged."""
+    for place, column in enumerate(columns):
+        if column.name and column.name in names and column.name != "".join(names[place : place + 1]):
+            other = names.index(column.name) + 1
+            raise Trouble(f"--columns has {column.name} for column {place + 1} of the file, but it is column {other}")
 
 
 def rows_of(options, columns):
     """The rows of the file. The first cell that can't be put in ends it as Trouble."""
-    raw = sys.stdin.buffer.read() if options.file == "-" else read(options.file)
+    raw = read_input() if options.file == "-" else read(options.file)
     text = io.StringIO(raw.decode("utf-8-sig", "replace"), newline="")
     reader = csv.reader(text, delimiter=options.delimiter, strict=True)
     try:
         if options.header:
-            next(reader, None)
+            check_names([name.strip() for name in next(reader, [])], columns)
         return [row_of(cells, columns, reader.line_num) for cells in reader if cells]
     except csv.Error as error:
         raise Trouble(f"line {reader.line_num}: {error}") from None
@@ -198,7 +213,8 @@ def load(options):
     statements = Statements(f"{options.session}: INSERT INTO {options.table} ({names}) VALUES ")
     late, step = put_in_order(rows, at, options.gap, statements)
     in_order = len(statements.done)
-    put_late(late, at, step if options.gap is None else options.gap, statements)
+    # Of a file that begins with its latest row there is no step to go by.
+    put_late(late, at, (step or math.inf) if options.gap is None else options.gap, statements)
     print("".join(f"{statement}\n" for statement in statements.done), end="")
     if late:
         say(f"late rows: {len(late)} of {len(rows)}; statements of their own: {len(statements.done) - in_order}")

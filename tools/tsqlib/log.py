@@ -1,8 +1,8 @@
 """`tsq log`: what `tsctl log` prints, read by `docs/JOURNAL.md`."""
 from .history import follow
 from .journal import Damaged
+from .messages import say
 from .programs import read
-from .run import say
 
 DAMAGED = 6
 

@@ -6,10 +6,10 @@ import sys
 from .export import export
 from .load import load
 from .log import log
+from .messages import Trouble, say
 from .plot import plot
-from .programs import Trouble
 from .prompt import prompt
-from .run import run, say
+from .run import run
 
 MOST_POWER = 30
 TROUBLE = 2
@@ -42,8 +42,24 @@ def key(text):
         raise argparse.ArgumentTypeError(f"{text}: wanted is NAME=N, with a whole number or null") from None
 
 
+def places(text):
+    """A number of digits."""
+    if not text.isdecimal() or len(text) > 3:
+        raise argparse.ArgumentTypeError(f"{text}: wanted is a number from 0 to 999")
+    return int(text)
+
+
+def distance(text):
+    """How far two times lie apart."""
+    if not text.isdecimal() or len(text) > 19:
+        raise argparse.ArgumentTypeError(f"{text}: wanted is a whole number from 0")
+    return int(text)
+
+
 def character(text):
-    """A single character."""
+    """A single character; a tab may be written as in Python."""
+    if text == "\\t":
+        return "\t"
     if len(text) != 1:
         raise argparse.ArgumentTypeError("wanted is one character")
     return text
@@ -58,7 +74,7 @@ def style_options(parser):
     forms.add_argument("--csv", dest="form", action="store_const", const="csv", help="answers as CSV")
     forms.add_argument("--json", dest="form", action="store_const", const="json", help="answers as JSON")
     times_option(parser, "print times as dates in UTC; times are seconds, milliseconds or microseconds since 1970")
-    parser.add_argument("--places", type=int, metavar="N", help="digits behind the point of an average")
+    parser.add_argument("--places", type=places, metavar="N", help="digits behind the point of averages that don't end")
     parser.add_argument("--fractions", action="store_true", help="in CSV and JSON, averages as fractions too")
     scale_option(parser, "divide a column by 10 so many times, as mean=2; may stand several times")
     folder_option(parser)
@@ -69,6 +85,8 @@ def add_run(commands):
     parser.add_argument("script", nargs="?", metavar="SCRIPT", help="a file; without it standard input")
     parser.add_argument("--replies", metavar="FILE", help="run nothing: this is what tsctl printed for the script")
     parser.add_argument("--par", action="store_true", help="by `tsctl par`")
+    ranges = "with --csv or --json, the stale ranges of each answer in place of its rows"
+    parser.add_argument("--ranges", action="store_true", help=ranges)
     style_options(parser)
     parser.set_defaults(call=run)
 
@@ -90,7 +108,7 @@ def add_load(commands):
     scale_option(parser, "multiply a column by 10 so many times, as temp=2; may stand several times")
     times_option(parser, "times are dates, as 2024-01-31T12:00:00Z, and become seconds, milliseconds or microseconds")
     gap = "no two neighbours in time in a statement lie further apart; without it only late rows are parted"
-    parser.add_argument("--gap", type=int, metavar="N", help=gap)
+    parser.add_argument("--gap", type=distance, metavar="N", help=gap)
     parser.add_argument("--session", default="load", help="the session that puts them in")
     delimiter = "what stands between the cells, instead of a comma"
     parser.add_argument("--delimiter", type=character, default=",", metavar="CHARACTER", help=delimiter)
@@ -135,12 +153,15 @@ def parser_of_words():
     return parser, commands.choices
 
 
-def with_command(words, commands):
-    """The words with the command that is meant where none is named: at a terminal the prompt, else `run`."""
+def options_of(words):
+    """What the words ask for. Without a command that is `run`, and at a terminal, without a script, the prompt."""
+    parser, commands = parser_of_words()
     if words[:1] in (["-h"], ["--help"]) or words and words[0] in commands:
-        return words
-    has_script = not sys.stdin.isatty() or any(os.path.isfile(word) for word in words)
-    return ["run" if has_script else "prompt", *words]
+        return parser.parse_args(words)
+    options = parser.parse_args(["run", *words])
+    if sys.stdin.isatty() and not (options.script or options.replies or options.par or options.ranges):
+        options.call = prompt
+    return options
 
 
 def done(options):
@@ -158,10 +179,12 @@ def done(options):
 
 def main(words):
     """Does what the words ask for, and gives the exit status."""
+    # Where one of these is closed Python has none.
+    sys.stdin = sys.stdin or open(os.devnull)
+    sys.stdout = sys.stdout or open(os.devnull, "w")
     # What a terminal can't show is no reason to end.
     sys.stdout.reconfigure(errors="replace")
-    parser, commands = parser_of_words()
-    options = parser.parse_args(with_command(words, commands))
+    options = options_of(words)
     try:
         return done(options)
     except OSError as error:

@@ -10,12 +10,10 @@ from typing import NamedTuple
 from . import programs
 from .answers import output_for
 from .cells import UNITS
-from .programs import Trouble
+from .messages import Trouble, say
 from .refusals import explanation
-from .replies import replies_of
-from .run import say
+from .replies import replies_in
 from .schema import Schema
-from .statements import lines_of
 
 SHADE = "#f4c7a1"
 SIZE = "size 1000,600"
@@ -71,10 +69,13 @@ def answer_of(options):
     where = f" WHERE {options.where}" if options.where else ""
     script = f"plot: SELECT * FROM {options.view}{where}\n".encode()
     folder = options.folder or "."
+    journal = programs.journal_in(folder)
+    if not journal:
+        raise Trouble(f"there is no tsctl.journal in {folder} to draw from")
     schema = Schema()
-    schema.learn_journal(programs.journal_in(folder))
+    schema.learn_journal(journal)
     _, output = programs.call(["run"], script, folder)
-    for reply in replies_of(lines_of(script), output.decode("ascii", "replace").split("\n")[:-1]):
+    for reply in replies_in(output, script):
         if reply.fault():
             raise Trouble("\n".join([*reply.heads, *explanation(reply, is_numbered=False)]))
         return reply, output_for(reply, schema)
@@ -88,7 +89,11 @@ def scales_of(options, output):
     for name in wanted:
         if name not in functions:
             raise Trouble(f"no column `{name}` to draw; there are {', '.join(functions)}")
-    return {output.names.index(name): dict(options.scale).get(name, 0) for name in wanted}
+    scales = dict(options.scale)
+    for name in scales:
+        if name not in wanted:
+            raise Trouble(f"--scale {name}={scales[name]}: no such column is drawn")
+    return {output.names.index(name): scales.get(name, 0) for name in wanted}
 
 
 def with_keys(reply, output, pairs):
@@ -278,7 +283,10 @@ def draw_by_gnuplot(picture, out):
 
 def place(at, has_dates):
     """A time as matplotlib takes it."""
-    return datetime(1970, 1, 1) + timedelta(seconds=at) if has_dates else at
+    try:
+        return datetime(1970, 1, 1) + timedelta(seconds=at) if has_dates else at
+    except OverflowError:
+        raise Trouble("times lie outside of the years 1 to 9999: is --times another unit than theirs?") from None
 
 
 def draw_lines(picture, left, right):

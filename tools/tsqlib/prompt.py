@@ -1,10 +1,10 @@
 """`tsq prompt`: statements typed at a terminal, with history and completion."""
 import os
-import re
 import subprocess
-from pathlib import Path
+import sys
 
-from . import programs
+from . import programs, statements
+from .messages import Trouble
 from .replies import replies_of
 from .run import Printer, style_of
 from .schema import Schema
@@ -18,18 +18,24 @@ except ImportError:
 SESSION = "me"
 # A line of this session is put in behind each statement: its refusal says that the reply before it is whole.
 MARK = "tsq_mark"
-HISTORY = Path("~/.tsq_history").expanduser()
+HISTORY = os.path.expanduser("~/.tsq_history")
 MOST_KEPT = 1000
 WORDS = """ALTER AND AS BEGIN BIGINT CALL COMMIT CREATE CUT DATA DELETE FALSE FINISH FROM GROUP BY INSERT INTO IS
-    MATERIALIZED NO NOT NULL ONLY READ REFRESH ROLLBACK SELECT SET SNAP TABLE TRUE VALUES VIEW WHERE WITH avg
-    chunk_time_interval count create_hypertable drop_chunks max min older_than refresh_continuous_aggregate sum
-    time_bucket timescaledb.continuous timescaledb.materialized_only""".split()
+    MATERIALIZED NO NOT NULL ONLY READ REFRESH ROLLBACK SELECT SET SNAP TABLE TICK TRUE VALUES VIEW WHERE WITH
+    add_continuous_aggregate_policy add_retention_policy avg calendar_bucket chunk_time_interval count
+    create_hypertable drop_after drop_chunks end_offset max min older_than refresh_continuous_aggregate
+    schedule_interval start_offset sum time_bucket timescaledb.continuous timescaledb.materialized_only""".split()
+
+
+def bytes_of(text):
+    """The bytes that were typed, also those that are no text."""
+    return text.encode("utf-8", "surrogateescape")
 
 
 def with_session(text):
     """A line as it was typed, in the session `me` where it names none."""
-    has_one = re.match(r"[ \t]*[a-z][a-z0-9_]{0,15}:", text)
-    return text if has_one or not lines_of(text.encode()) else f"{SESSION}: {text}"
+    has_one = statements.SESSION.match(text)
+    return text if has_one or not lines_of(bytes_of(text)) else f"{SESSION}: {text}"
 
 
 class Talk:
@@ -41,12 +47,12 @@ class Talk:
         try:
             self.program = subprocess.Popen([programs.tsctl(), "run"], cwd=folder, **how)
         except OSError as error:
-            raise programs.Trouble(f"{error.filename}: {error.strerror}") from None
+            raise Trouble(f"{error.filename}: {error.strerror}") from None
 
     def ask(self, text):
         """The lines of the reply to a line, and whether the program goes on."""
         try:
-            self.program.stdin.write(f"{text}\n{MARK}: ROLLBACK\n".encode("utf-8", "surrogateescape"))
+            self.program.stdin.write(bytes_of(f"{text}\n{MARK}: ROLLBACK\n"))
             self.program.stdin.flush()
         except BrokenPipeError:
             return [], False
@@ -64,7 +70,7 @@ class Talk:
             self.program.stdin.close()
         except BrokenPipeError:
             pass
-        return self.program.wait()
+        return programs.as_of_shell(self.program.wait())
 
 
 def completer(schema):
@@ -101,7 +107,7 @@ def keep_history():
 
 def answer(talk, number, text, printer):
     """Puts a line in and prints its reply. Gives whether the program goes on."""
-    lines = [line._replace(number=number) for line in lines_of(text.encode("utf-8", "surrogateescape"))]
+    lines = [line._replace(number=number) for line in lines_of(bytes_of(text))]
     output, goes_on = talk.ask(text)
     for reply in replies_of(lines, output):
         printer.print(reply)
@@ -128,6 +134,7 @@ def converse(talk, printer):
 
 def prompt(options):
     """Answers statements as they are typed; gives the exit status, which a refusal doesn't change."""
+    sys.stdin.reconfigure(errors="surrogateescape")
     folder = options.folder or "."
     schema = Schema()
     schema.learn_journal(programs.journal_in(folder))

@@ -1,5 +1,6 @@
 """Explains a refusal: the line, a caret under the place, and what the number means."""
 import re
+from functools import cache
 from pathlib import Path
 
 PAGE = Path(__file__).resolve().parents[2] / "docs" / "SQL.md"
@@ -7,6 +8,7 @@ ROW = re.compile(r"\| (E\d\d) \| `\w+` \| (.*) \| [^|]* ?\|$", re.MULTILINE)
 MOST_SHOWN = 100
 
 
+@cache
 def meanings():
     """What each number means, from the table of `docs/SQL.md`."""
     try:

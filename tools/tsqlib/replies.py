@@ -3,16 +3,13 @@ import re
 from itertools import islice
 from typing import NamedTuple
 
-from .statements import Line
+from .messages import Trouble
+from .statements import Line, lines_of
 
 ANSWER = re.compile(r"ANSWER @\d+(?: queue \d+)? rows (\d+) stale (\d+)")
 FAULT = re.compile(r"FAULT (E\d\d) (\w+)(?: at (\d+))?")
 TICK = re.compile(r"TICK -?\d+ due (\d+)")
 STALE = re.compile(r"stale (min|-?\d+)\.\.(-?\d+)")
-
-
-class Mismatch(Exception):
-    """The replies aren't those of the script."""
 
 
 class Reply(NamedTuple):
@@ -53,7 +50,7 @@ def heads_of(line, output):
     heads, left = [], 1
     for head in output:
         if not head.startswith((f"{line.session}: ", f"line {line.number}: ")):
-            raise Mismatch(f"line {line.number} of the script has another reply: {head}")
+            raise Trouble(f"line {line.number} of the script has another reply: {head}")
         heads.append(head)
         text = head.split(": ", 1)[1]
         if ticked := TICK.match(text):
@@ -64,11 +61,16 @@ def heads_of(line, output):
     return heads
 
 
+def replies_in(output, script):
+    """The replies to the lines of a script, from the bytes of an output."""
+    return replies_of(lines_of(script), output.decode("ascii", "replace").split("\n")[:-1])
+
+
 def range_of(text):
     """The bounds of a line `stale lo..hi`."""
     found = STALE.fullmatch(text)
     if not found:
-        raise Mismatch(f"no stale range: {text}")
+        raise Trouble(f"no stale range: {text}")
     low, high = found.groups()
     return None if low == "min" else int(low), int(high)
 
@@ -83,4 +85,9 @@ def replies_of(lines, output):
         found = ANSWER.match(heads[0].split(": ", 1)[1])
         rows, stale = map(int, found.groups()) if found else (0, 0)
         cells = [row.split("|") for row in islice(output, rows)]
-        yield Reply(line, heads, cells, [range_of(text) for text in islice(output, stale)])
+        ranges = [range_of(text) for text in islice(output, stale)]
+        if len(cells) < rows or len(ranges) < stale:
+            raise Trouble(f"the answer to line {line.number} of the script is cut off")
+        yield Reply(line, heads, cells, ranges)
+    for more in output:
+        raise Trouble(f"there are more replies than the script has lines: {more}")

@@ -42,10 +42,15 @@ def split(tokens):
     return parts
 
 
+def is_as(tokens, place):
+    """Whether the word at a place is that of `AS x`, which stands behind a parenthesis, and no name."""
+    return tokens[place] == "as" and tokens[place - 1] == ")"
+
+
 def list_end(tokens):
     """The place of the FROM that ends a SELECT list. A column may be called `from` too."""
     for place, token in enumerate(tokens):
-        if token == "from" and tokens[place - 1] not in (",", "(", "as"):
+        if token == "from" and tokens[place - 1] not in (",", "(") and not is_as(tokens, place - 1):
             return place
     return len(tokens)
 
@@ -63,9 +68,9 @@ def fold_output(tokens, is_view, times_read=frozenset()):
     for place, item in enumerate(items):
         is_key = len(item) == 1
         keys += is_key
-        named = item[-1] if is_key or item[-2] == "as" else item[0]
-        names.append(named)
-        if item[0] in times_read or item[:1] in (["min"], ["max"]) and item[2] in times_read:
+        names.append(item[-1] if not is_key and is_as(item, len(item) - 2) else item[0])
+        shown = item[0] if is_key else item[2] if item[0] in ("min", "max") else None
+        if shown in times_read:
             times.add(place)
     # An aggregate's names are different; those of a query may repeat, as in `sum(v), sum(w)`.
     if len(set(names)) < len(names):
@@ -123,4 +128,4 @@ class Schema:
             return self.outputs.get(tokens[3])
         source = self.outputs.get(tokens[list_end(tokens) + 1])
         times = frozenset(source.names[place] for place in source.times) if source else frozenset()
-        return fold_output(tokens[1:], False, times)
+        return fold_output(tokens[1:], bool(source and source.is_view), times)
