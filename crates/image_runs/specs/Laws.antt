@@ -7,7 +7,8 @@ use Rattle.ts_model.specs.History.{History, resumed, ◌▸▸◌}
 use Rattle.image_laws.specs.Alike.{Alike}
 use Rattle.image_laws.specs.Images.{IsImage}
 use Rattle.stmt_syntax.specs.Limits.{longest_input}
-use Rattle.ts_sessions.specs.Script.{ScriptState, Semantics, opening_script_state, output, is_refused, final_script_state}
+use Rattle.ts_sessions.specs.Script.{ScriptState, Semantics, final_script_state, opening_script_state}
+use Rattle.ts_sessions.specs.Script.{is_refused, output}
 
 -- where the lines of a script come to over a history, by what lines mean
 abbrev pub script_over : {P : Type 0} → Semantics P → History → List (List ℕ) → ScriptState P
