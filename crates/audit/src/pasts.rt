@@ -5,8 +5,9 @@ use crate::calls::{call, cut_over, numbered};
 use engine_core::{Shot, Timeline};
 use past_sessions::{Came, Past};
 use ts_model::codes::NO_BUCKET;
-use ts_model::{Committed, CutDone, Event, Hyper, Op, Refusal, TableDef, ViewDef, Window};
+use ts_model::{Committed, CutDone, Event, Op, Refusal, ViewDef, Window};
 use ts_schema::{NoMemory, Seq};
+use ts_sessions::deeds::Making;
 
 /// A history, with its states at each position from one on.
 #[derive(Drop)]
@@ -32,20 +33,12 @@ impl<'a> Past for Known<'a> {
         self.timeline.at(position)
     }
 
-    fn make_table(&self, at: u64, def: TableDef) -> Came<u64> {
-        numbered(call(&self.timeline, at, &Event::Table(def)))
-    }
-
-    fn make_hyper(&self, at: u64, table: u32, hyper: Hyper) -> Came<u64> {
-        numbered(call(&self.timeline, at, &Event::Hyper { table, hyper }))
+    fn make(&self, at: u64, making: Making) -> Came<u64> {
+        numbered(call(&self.timeline, at, &making.event()))
     }
 
     fn make_view(&self, at: u64, def: ViewDef) -> Came<u64> {
         numbered(call(&self.timeline, at, &Event::View(def)))
-    }
-
-    fn set_mode(&self, at: u64, view: u32, only: bool) -> Came<u64> {
-        numbered(call(&self.timeline, at, &Event::Mode { view, only }))
     }
 
     fn commit(&self, at: u64, ops: Seq<Op>) -> Came<Committed> {

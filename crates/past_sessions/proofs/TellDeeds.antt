@@ -13,6 +13,7 @@ use Rattle.ts_sessions.specs.declared.deeds.Deed.{Deed}
 use Rattle.ts_sessions.specs.declared.deeds.Deed.TheVariants as deeds
 use Rattle.ts_sessions.specs.declared.deeds.Next.{Next}
 use Rattle.ts_sessions.specs.declared.deeds.Next.TheVariants as nexts
+use Rattle.past_sessions.specs.declared.deeds.MetAt.{MetAt}
 use Rattle.past_sessions.specs.declared.deeds.Reached.{Reached}
 use Rattle.past_sessions.specs.declared.deeds.Went.{Went}
 use Rattle.ts_sessions.specs.declared.refreshes.Asked.{Asked}
@@ -23,8 +24,8 @@ use Rattle.ts_sessions.specs.Places.{Places, Turn, turns}
 use Rattle.ts_sessions.specs.Procedures.{Procedure, ends}
 use Rattle.ts_sessions.specs.Sessions.{ChangeHolds, FitsSnapped, IsTakenAs, changed, read_by, taken_as, turn_of}
 use Rattle.ts_sessions.specs.Step.{Taken, taken}
-use Rattle.past_sessions.specs.Telling.{AsksThere, GoesTo, IsWent, LedTo, NextStands, ReachesTo, TellsBy, TellsNothing, after_look, looks_then, meets_at, rest_at, state_of}
-use Rattle.past_sessions.proofs.TellWalks.{LiesWithin, end_reached, led_nothing, led_reached, look_lies, look_nothing, look_tells, nothing_then, reached_then, tells_same, tells_then, went_here}
+use Rattle.past_sessions.specs.Telling.{AsksThere, GoesTo, IsWent, LedTo, MeetsAt, NextStands, ReachesTo, TellsBy, TellsNothing, after_look, looks_then, meets_at, rest_at, state_of}
+use Rattle.past_sessions.proofs.TellWalks.{LiesWithin, end_reached, led_nothing, led_reached, look_lies, look_nothing, look_tells, nothing_then, reached_then, tells_same, tells_then}
 use Rattle.ts_sessions.proofs.ViewWalks.{view_stays}
 
 -- ---- where a deed meets the past
@@ -51,8 +52,7 @@ asked_later all a b asked le k = record { view = view_stays (prefix all a) (pref
 
 -- an aggregate that is there is there where the deed meets the past
 pub deed_asks : {T J : Type 0} (all : History) (at look : ℕ) (ps : List ℕ) (d : Deed T J) → meets_at all at ps d ≡ Some look → AsksThere d (prefix all at) → AsksThere d (prefix all look)
-deed_asks all at look ps (deeds.Refresh asked) e k = asked_later all at look asked (look_lies all at look ps e).low k
-deed_asks all at look ps (deeds.Cut asked) e k = asked_later all at look asked (look_lies all at look ps e).low k
+deed_asks all at look ps (deeds.Cut asked then) e k = asked_later all at look asked (look_lies all at look ps e).low k
 deed_asks {T} {J} all at look ps (deeds.Fill new made) e k = subst (λ n. AsksThere {T = T} {J = J} (deeds.Fill new made) (prefix all n)) (ap (λ o. unwrap_or o at) e) k
 deed_asks all at look ps other e k = tt
 
@@ -61,8 +61,8 @@ pub next_asks : {T J : Type 0} (shown : Shown T J) (bytes : ℕ) (all : History)
 next_asks shown bytes all at next d e k = subst (NextStands shown bytes all at) e k
 
 -- what a deed comes to that was read as another
-pub deed_goes : {T J : Type 0} (shown : Shown T J) (all : History) (at : ℕ) (deed like : Deed T J) (result : Result (Option (Went T J)) NoMemory) → deed ≡ like → GoesTo shown all at (left like) (λ p read. rest_at p read (prefix all at) like) result → GoesTo shown all at (left deed) (λ p read. rest_at p read (prefix all at) deed) result
-deed_goes {T} {J} shown all at deed like result e w = subst (λ (d : Deed T J). GoesTo shown all at (left d) (λ p read. rest_at p read (prefix all at) d) result) (sym e) w
+pub deed_met : {T J : Type 0} (shown : Shown T J) (all : History) (at : ℕ) (deed like : Deed T J) (o : Option (MetAt T)) → deed ≡ like → MeetsAt shown all at (left like) (λ p read. rest_at p read (prefix all at) like) o → MeetsAt shown all at (left deed) (λ p read. rest_at p read (prefix all at) deed) o
+deed_met {T} {J} shown all at deed like o e w = subst (λ (d : Deed T J). MeetsAt shown all at (left d) (λ p read. rest_at p read (prefix all at) d) o) (sym e) w
 
 -- what a deed came to
 pub went_is : {T J : Type 0} (shown : Shown T J) (all : History) (at before : ℕ) (procedure : Places → ℕ → Procedure (Turn Places)) (o : Option (Went T J)) (w : Went T J) → o ≡ Some w → GoesTo shown all at before procedure (Ok o) → IsWent shown all at before procedure w
@@ -70,19 +70,6 @@ went_is {T} {J} shown all at before procedure o w e k = subst (λ (x : Option (W
 
 pub nothing_is : {T J : Type 0} (shown : Shown T J) (all : History) (at before : ℕ) (procedure : Places → ℕ → Procedure (Turn Places)) (o : Option (Went T J)) → o ≡ None → GoesTo shown all at before procedure (Ok o) → (p : Places) (read : ℕ) (ps : List ℕ) → TellsNothing all at (procedure p read) ps
 nothing_is {T} {J} shown all at before procedure o e k = subst (λ (x : Option (Went T J)). GoesTo shown all at before procedure (Ok x)) e k
-
--- ---- what makes no event
-
--- one line is said
-pub said_went : {T J : Type 0} (shown : Shown T J) (fits_on : (job : J) (g h : History) → Begins g h → shown.fits job g → shown.fits job h) (all : History) (at : ℕ) (next : Next T J) (line : Said) (change : Change T J) → at ≤ position all → next ≡ said_once line change → ((bytes : ℕ) → ChangeHolds shown bytes change (prefix all at)) → IsWent shown all at 1 (λ p read. ends (turns (changed change p) line)) (record { said = None; next = next; at = at })
-said_went {T} {J} shown fits_on all at next line change le e k =
-    subst (λ (n : Next T J). IsWent shown all at 1 (λ p read. ends (turns (changed change p) line)) (record { said = None; next = n; at = at })) (sym e)
-    (went_here shown fits_on all at 1 (λ p read. ends (turns (changed change p) line)) (said_once line change) (λ read. 0) le (λ p read. refl) (λ bytes. record { change = k bytes; stands = refl }) (omega arith))
-
--- a snapshot for a refresh
-pub snap_went : {T J : Type 0} (shown : Shown T J) (fits_on : (job : J) (g h : History) → Begins g h → shown.fits job g → shown.fits job h) (all : History) (at before c : ℕ) (k : Places → Result Taken Refusal → Procedure (Turn Places)) (next : Next T J) (s : Snapped J) (from to : ℕ) → at ≤ position all → FollowsReading shown next before (λ t. FitsSnapped shown c t.history s) (λ read. read_by read s) (λ p read h. k p (taken_as read s)) → IsTakenAs (prefix all at) c s from to → FitsSnapped shown c (prefix all at) s → IsWent shown all at before (λ p read. k p (taken c (prefix all at))) (record { said = None; next = next; at = at })
-snap_went shown fits_on all at before c k next s from to le follows t fits =
-    went_here shown fits_on all at before (λ p read. k p (taken c (prefix all at))) next (λ read. read_by t.read s) le (λ p read. follows.rest p t.read (prefix all at) ∙ ap (k p) t.is) (λ bytes. follows.fits (state_of (prefix all at)) bytes fits) follows.shorter
 
 -- ---- what a statement came to
 

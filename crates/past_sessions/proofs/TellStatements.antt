@@ -24,6 +24,7 @@ use Rattle.ts_sessions.specs.declared.blocks.Open.TheVariants as opens
 use Rattle.ts_sessions.specs.declared.changes.Change.{Change}
 use Rattle.ts_sessions.specs.declared.changes.Change.TheVariants as changes
 use Rattle.ts_sessions.specs.declared.changes.Completion.{Completion}
+use Rattle.ts_sessions.specs.declared.deeds.AfterLook.TheVariants as looks_for
 use Rattle.ts_sessions.specs.declared.deeds.Deed.{Deed}
 use Rattle.ts_sessions.specs.declared.deeds.Deed.TheVariants as deeds
 use Rattle.ts_sessions.specs.declared.deeds.Lacks.TheVariants as lacks
@@ -32,6 +33,10 @@ use Rattle.ts_sessions.specs.declared.deeds.Next.TheVariants as nexts
 use Rattle.ts_sessions.specs.declared.kinds.StatementKind.{StatementKind}
 use Rattle.ts_sessions.specs.declared.kinds.StatementKind.TheVariants as kinds
 use Rattle.ts_sessions.specs.declared.deeds.Finishing.TheVariants as finishings
+use Rattle.ts_sessions.specs.declared.openings.Opening.TheVariants as openings
+use Rattle.ts_sessions.specs.Openings.{opening_of}
+use Rattle.ts_sessions.proofs.BlockWalks.{begins_outside, snaps_outside}
+use Rattle.ts_sessions.proofs.OpeningLaws.{same_next}
 use Rattle.past_sessions.specs.declared.deeds.Reached.{Reached}
 use Rattle.past_sessions.specs.declared.deeds.Went.{Went}
 use Rattle.ts_sessions.specs.Deeds.{EndFits, NextFits, closing, finished, holding, led, opening, rest, rest_next, said_once}
@@ -94,8 +99,8 @@ module _ {T J : Type 0} (shown : Shown T J) (bytes : ℕ) (all : History) (at : 
       (unprinted_reaches shown bytes all at (λ h. false) (λ h. ends (turns (enters (writing [] 0) p) said.Begin)) ps p result (λ h. refl)
       (subst (λ (n : Next T J). ReachesTo shown bytes all at (rest_next p 0 (prefix all at) n) ps p result) is (k bytes (begin_stands shown bytes all at next is))))
 
-  pub read_told : stmt ≡ stmts.BeginRead → ReachesTo shown bytes all at (rest_next {T = T} {J = J} p 0 (prefix all at) (nexts.Deed deeds.BeginRead)) ps p result → ReachesTo shown bytes all at (named_here p bytes stmt) ps p result
-  read_told e k = outside_as stmts.BeginRead (rest {T = T} {J = J} p 0 (prefix all at) deeds.BeginRead) e refl k
+  pub read_told : stmt ≡ stmts.BeginRead → ReachesTo shown bytes all at (rest_next {T = T} {J = J} p 0 (prefix all at) (nexts.Deed (deeds.Look looks_for.BeginRead))) ps p result → ReachesTo shown bytes all at (named_here p bytes stmt) ps p result
+  read_told e k = outside_as stmts.BeginRead (rest {T = T} {J = J} p 0 (prefix all at) (deeds.Look looks_for.BeginRead)) e refl k
 
   snap_is : (number : Option ℤ) (m : Option ℕ) → refresh_meant p number ≡ m → here_in p bytes (stmts.Snap number) none ≡ rest {T = T} {J = J} p 0 (prefix all at) (holding m)
   snap_is number None i = ap (λ m. looks (λ h. ends (snaps p h m))) i
@@ -110,10 +115,10 @@ module _ {T J : Type 0} (shown : Shown T J) (bytes : ℕ) (all : History) (at : 
   finish_told number e k = outside_as (stmts.Finish number) (looks (λ h. finishes p h (refresh_meant p number))) e refl k
 
 module _ {T J : Type 0} (shown : Shown T J) (bytes : ℕ) (all : History) (at : ℕ) (ps : List ℕ) (p : Places) (number : Option ℤ) where
-  pub finish_unmeant : (result : Result (Option (Reached T J)) NoMemory) → refresh_meant p number ≡ None → ReachesTo shown bytes all at (rest_next {T = T} {J = J} p 0 (prefix all at) (nexts.Deed deeds.Unknown)) ps p result → ReachesTo shown bytes all at (looks (λ h. finishes p h (refresh_meant p number))) ps p result
+  pub finish_unmeant : (result : Result (Option (Reached T J)) NoMemory) → refresh_meant p number ≡ None → ReachesTo shown bytes all at (rest_next {T = T} {J = J} p 0 (prefix all at) (nexts.Deed (deeds.Look looks_for.Unknown))) ps p result → ReachesTo shown bytes all at (looks (λ h. finishes p h (refresh_meant p number))) ps p result
   finish_unmeant result e k = reaches_as shown bytes all at (looks (λ h. finishes p h (refresh_meant p number))) (looks (λ h. finishes p h None)) ps p result (ap (λ m. looks (λ h. finishes p h m)) e) k
 
-  pub finish_unheld : (c : ℕ) (result : Result (Option (Reached T J)) NoMemory) → refresh_meant p number ≡ Some c → held_for c p.held ≡ None → ReachesTo shown bytes all at (rest_next {T = T} {J = J} p 0 (prefix all at) (nexts.Deed (deeds.Refuse c lacks.Snapshot))) ps p result → ReachesTo shown bytes all at (looks (λ h. finishes p h (refresh_meant p number))) ps p result
+  pub finish_unheld : (c : ℕ) (result : Result (Option (Reached T J)) NoMemory) → refresh_meant p number ≡ Some c → held_for c p.held ≡ None → ReachesTo shown bytes all at (rest_next {T = T} {J = J} p 0 (prefix all at) (nexts.Deed (deeds.Look (looks_for.Refuse c lacks.Snapshot)))) ps p result → ReachesTo shown bytes all at (looks (λ h. finishes p h (refresh_meant p number))) ps p result
   finish_unheld c result e f k = reaches_as shown bytes all at (looks (λ h. finishes p h (refresh_meant p number))) (looks (λ h. finishes_held p h c None)) ps p result (ap (λ m. looks (λ h. finishes p h m)) e ∙ ap (λ o. looks (λ h. finishes_held p h c o)) f) k
 
   pub finish_held : (c at_snap : ℕ) (result : Result (Option (Reached T J)) NoMemory) → refresh_meant p number ≡ Some c → held_for c p.held ≡ Some at_snap → ReachesTo shown bytes all at (looks (λ h. finishes_held p h c (Some at_snap))) ps p result → ReachesTo shown bytes all at (looks (λ h. finishes p h (refresh_meant p number))) ps p result
@@ -272,3 +277,43 @@ module _ {T J : Type 0} (shown : Shown T J) (bytes : ℕ) (all : History) (at : 
 pub query_stands : {T J : Type 0} (shown : Shown T J) (bytes : ℕ) (all : History) (at begun : ℕ) (b : Block) (next : Next T J) → b ≡ reading begun → LeftIn b next → NextFits shown bytes next (state_of all) → NextStands shown bytes all at next
 query_stands {T} {J} shown bytes all at begun b (nexts.Deed d) e l k = absurd (subst (λ x. LeftIn {T = T} {J = J} x (nexts.Deed d)) e l)
 query_stands {T} {J} shown bytes all at begun b (nexts.End t) e l k = k
+
+-- ---- what comes first
+
+begins_none : (b : Block) → block_refusal b kinds.Begins ≡ None → b ≡ none
+begins_none none pass = refl
+begins_none (writing ops n) pass = absurd cc
+begins_none (reading begun) pass = absurd cc
+
+module _ {T J : Type 0} (shown : Shown T J) (bytes : ℕ) (all : History) (at : ℕ) (ps : List ℕ) (p : Places) where
+  pub opening_stands : (bytes : ℕ) (stmt : Stmt) (next : Next T J) → opening_of p stmt ≡ openings.Next next → NextStands shown bytes all at next
+  opening_stands bytes (stmts.Snap number) next e = subst (λ (n : Next T J). NextStands shown bytes all at n) (same_next _ next e) (snap_stands shown bytes all at (refresh_meant p number) (holding (refresh_meant p number)) refl)
+  opening_stands bytes stmts.Begin next e = begin_stands shown bytes all at next (sym (same_next _ next e))
+  opening_stands bytes stmts.BeginRead next e = subst (λ (n : Next T J). NextStands shown bytes all at n) (same_next _ next e) tt
+  opening_stands bytes stmts.Commit next e = closing_stands shown bytes all at p.block next (sym (same_next _ next e))
+  opening_stands bytes stmts.Rollback next e = given_up_stands shown bytes all at (given_up p.block) next (sym (same_next _ next e))
+  opening_stands bytes other next e = absurd cc
+
+  commit_told : (b : Block) (next : Next T J) (result : Result (Option (Reached T J)) NoMemory) → p.block ≡ b → block_refusal b kinds.Commits ≡ None → next ≡ closing b → ReachesTo shown bytes all at (rest_next p 0 (prefix all at) next) ps p result → ReachesTo shown bytes all at (named_here p bytes stmts.Commit) ps p result
+  commit_told none next result i pass e k = absurd cc
+  commit_told (writing ops n) next result i pass e k = close_writing shown bytes all at ps p stmts.Commit result ops n next i refl e k
+  commit_told (reading begun) next result i pass e k = close_reading shown bytes all at ps p stmts.Commit result begun next i refl e k
+
+  rollback_told : (b : Block) (next : Next T J) (result : Result (Option (Reached T J)) NoMemory) → p.block ≡ b → block_refusal b kinds.RollsBack ≡ None → next ≡ said_once (given_up p.block) (changes.Enters opens.Nothing) → ReachesTo shown bytes all at (rest_next p 0 (prefix all at) next) ps p result → ReachesTo shown bytes all at (named_here p bytes stmts.Rollback) ps p result
+  rollback_told none next result i pass e k = absurd cc
+  rollback_told (writing ops n) next result i pass e k = given_up_told shown bytes all at ps p stmts.Rollback result (writing ops n) next i (λ h. refl) refl e k
+  rollback_told (reading begun) next result i pass e k = given_up_told shown bytes all at ps p stmts.Rollback result (reading begun) next i (λ h. refl) refl e k
+
+  -- what comes first of a statement that looks at no names
+  pub opening_told : (stmt : Stmt) (next : Next T J) (result : Result (Option (Reached T J)) NoMemory) → opening_of p stmt ≡ openings.Next next → block_refusal p.block (kind_of stmt) ≡ None → ((n : ℕ) → NextStands shown n all at next → ReachesTo shown n all at (rest_next p 0 (prefix all at) next) ps p result) → ReachesTo shown bytes all at (named_here p bytes stmt) ps p result
+  opening_told (stmts.Snap number) next result e pass k =
+      let is : next ≡ nexts.Deed (holding (refresh_meant p number)) = sym (same_next _ next e) in
+      snap_told shown bytes all at ps p (stmts.Snap number) result (snaps_outside p.block pass) number (holding (refresh_meant p number)) refl refl
+      (subst (λ (n : Next T J). ReachesTo shown bytes all at (rest_next p 0 (prefix all at) n) ps p result) is (k bytes (opening_stands bytes (stmts.Snap number) next e)))
+  opening_told stmts.Begin next result e pass k = begin_told shown bytes all at ps p stmts.Begin result (begins_none p.block pass) next refl (sym (same_next _ next e)) k
+  opening_told stmts.BeginRead next result e pass k =
+      read_told shown bytes all at ps p stmts.BeginRead result (begins_outside p.block pass) refl
+      (subst (λ (n : Next T J). ReachesTo shown bytes all at (rest_next p 0 (prefix all at) n) ps p result) (sym (same_next _ next e)) (k bytes (opening_stands bytes stmts.BeginRead next e)))
+  opening_told stmts.Commit next result e pass k = commit_told p.block next result refl pass (sym (same_next _ next e)) (k bytes (opening_stands bytes stmts.Commit next e))
+  opening_told stmts.Rollback next result e pass k = rollback_told p.block next result refl pass (sym (same_next _ next e)) (k bytes (opening_stands bytes stmts.Rollback next e))
+  opening_told other next result e pass k = absurd cc

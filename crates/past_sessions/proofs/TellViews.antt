@@ -13,8 +13,7 @@ use Rattle.ts_model.specs.History.{History, event_at, position, prefix}
 use Rattle.ts_model.specs.Roster.{roster, view_of}
 use Rattle.ts_model.specs.States.{State}
 use Rattle.result_text.specs.declared.replies.Said.TheVariants as said
-use Rattle.ts_sessions.specs.declared.deeds.Deed.TheVariants as deeds
-use Rattle.ts_sessions.specs.declared.deeds.Next.TheVariants as nexts
+use Rattle.ts_sessions.specs.declared.calls.CallOutcome.TheVariants as outcomes_of
 use Rattle.past_sessions.specs.declared.deeds.Met.{Met}
 use Rattle.past_sessions.specs.declared.pasts.Came.{Came}
 use Rattle.past_sessions.specs.declared.pasts.Came.TheVariants as came
@@ -24,8 +23,8 @@ use Rattle.past_sessions.specs.Pasts.{CameTo}
 use Rattle.ts_sessions.specs.Places.{Places}
 use Rattle.ts_sessions.specs.Sound.{IsThere, number_at, view_number}
 use Rattle.ts_sessions.specs.Step.{after_view, view_made}
-use Rattle.past_sessions.specs.Telling.{IsWent, met_of, state_of}
-use Rattle.past_sessions.proofs.TellWalks.{prefix_next, tells_same}
+use Rattle.past_sessions.specs.Telling.{IsMet, met_of, state_of}
+use Rattle.past_sessions.proofs.TellWalks.{met_here, prefix_next}
 use Rattle.ts_sessions.proofs.ViewWalks.{WasMade, number_named, was_made}
 
 -- the state after an event
@@ -75,14 +74,7 @@ told_view_fits def n h (Ok k) name made e =
 told_view_fits def n h (Err r) name made e = tt
 
 -- an aggregate that is filled
-pub fill_went : {T J : Type 0} (shown : Shown T J) (all : History) (at : ℕ) (name : List ℕ) (min : ℤ) (made : ℕ) (asked : Asked) → at ≤ position all → IsThere (prefix all at) name → asked ≡ record { view = number_at (prefix all at) name; lo = None; hi = None; min = min } → IsWent shown all at 4 (λ p read. view_made p (number_at (prefix all at) name) min made true) (record { said = Some (said.View made); next = nexts.Deed (deeds.Refresh asked); at = at })
-fill_went {T} {J} shown all at name min made asked le there e =
-    subst (λ (a : Asked). IsWent {T = T} {J = J} shown all at 4 (λ p read. view_made p (number_at (prefix all at) name) min made true) (record { said = Some (said.View made); next = nexts.Deed (deeds.Refresh a); at = at })) (sym e)
-    (record {
-      read_then = λ read. read;
-      tells = λ p read ps. tells_same all at (view_made p (number_at (prefix all at) name) min made true) ps;
-      stands = λ bytes. record { view = there; low = λ x i. absurd cc; high = λ x i. absurd cc };
-      low = omega arith;
-      high = le;
-      shorter = omega arith;
-    })
+pub fill_met : {T J : Type 0} (shown : Shown T J) (all : History) (at : ℕ) (name : List ℕ) (min : ℤ) (made : ℕ) (asked : Asked) → at ≤ position all → IsThere (prefix all at) name → asked ≡ record { view = number_at (prefix all at) name; lo = None; hi = None; min = min } → IsMet shown all at 4 (λ p read. view_made p (number_at (prefix all at) name) min made true) (record { outcome = outcomes_of.Found asked made; at = at })
+fill_met {T} {J} shown all at name min made asked le there e =
+    subst (λ (a : Asked). IsMet {T = T} {J = J} shown all at 4 (λ p read. view_made p (number_at (prefix all at) name) min made true) (record { outcome = outcomes_of.Found a made; at = at })) (sym e)
+    (met_here shown all at 4 (λ p read. view_made p (number_at (prefix all at) name) min made true) (outcomes_of.Found (record { view = number_at (prefix all at) name; lo = None; hi = None; min = min }) made) le (λ p read. refl) (record { view = there; low = λ x i. absurd cc; high = λ x i. absurd cc }) refl)

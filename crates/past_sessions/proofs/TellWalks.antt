@@ -12,6 +12,7 @@ use Rattle.ts_model.specs.History.{History, start, resumed, ◌▸◌, Begins, e
 use Rattle.ts_model.specs.States.{State}
 use Rattle.ts_model.proofs.HistoryLaws.{begins_prefix, prefix_end}
 use Rattle.result_text.specs.declared.replies.Said.{Said}
+use Rattle.ts_sessions.specs.declared.calls.CallOutcome.{CallOutcome}
 use Rattle.ts_sessions.specs.declared.changes.Change.{Change}
 use Rattle.ts_sessions.specs.declared.changes.Change.TheVariants as changes
 use Rattle.ts_sessions.specs.declared.changes.Completion.{Completion}
@@ -20,10 +21,13 @@ use Rattle.ts_sessions.specs.declared.deeds.Deed.TheVariants as deeds
 use Rattle.ts_sessions.specs.declared.deeds.Next.{Next}
 use Rattle.ts_sessions.specs.declared.deeds.Next.TheVariants as nexts
 use Rattle.past_sessions.specs.declared.deeds.Met.{Met}
+use Rattle.past_sessions.specs.declared.deeds.MetAt.{MetAt}
 use Rattle.past_sessions.specs.declared.deeds.Reached.{Reached}
 use Rattle.past_sessions.specs.declared.pasts.Came.{Came}
 use Rattle.past_sessions.specs.declared.pasts.Came.TheVariants as came
-use Rattle.ts_sessions.specs.Deeds.{DeedFits, EndFits, FollowsReading, Joins, NextFits, led, left_next, rest_next}
+use Rattle.ts_sessions.specs.declared.follows.Followed.{Followed}
+use Rattle.ts_sessions.specs.Calls.{IsFollowed, OutcomeFits, left_after, meets_left}
+use Rattle.ts_sessions.specs.Deeds.{DeedFits, EndFits, Joins, NextFits, led, left_next, rest_next}
 use Rattle.ts_sessions.specs.Holding.{block_on}
 use Rattle.past_sessions.specs.Pasts.{CameTo}
 use Rattle.ts_sessions.specs.Places.{Places, Turn}
@@ -31,7 +35,7 @@ use Rattle.ts_sessions.specs.Procedures.{Procedure, sees, ends, followed_by, loo
 use Rattle.ts_sessions.specs.Sessions.{ChangeHolds, turn_of}
 use Rattle.ts_sessions.specs.Step.{after_line}
 use Rattle.past_sessions.specs.Told.{Tells, may_look}
-use Rattle.past_sessions.specs.Telling.{AsksThere, CameWithin, IsReached, IsWent, NextStands, TellsBy, TellsNothing, later_looks, met_of, next_look, state_of}
+use Rattle.past_sessions.specs.Telling.{AsksThere, CameWithin, IsMet, IsReached, IsWent, NextStands, TellsBy, TellsNothing, later_looks, met_of, next_look, state_of}
 use Rattle.ts_sessions.proofs.DeedWalks.{joined_turn, led_turn}
 use Rattle.ts_sessions.proofs.GivesLaws.{numbered}
 use Rattle.past_sessions.proofs.ToldLaws.{tells_as}
@@ -234,8 +238,7 @@ met_lies all at came.Otherwise m le w is = absurd (true≢false (sym (ap is_some
 -- ---- what goes with a history goes with a longer one
 
 pub asks_there : {T J : Type 0} (shown : Shown T J) (d : Deed T J) (h : History) → DeedFits shown d (state_of h) → AsksThere d h
-asks_there shown (deeds.Refresh asked) h k = k
-asks_there shown (deeds.Cut asked) h k = k
+asks_there shown (deeds.Cut asked then) h k = k
 asks_there shown (deeds.Fill new made) h k = k.1
 asks_there shown other h k = tt
 
@@ -256,26 +259,35 @@ next_stands shown fits_on all at (nexts.End t) k bytes = record { change = chang
 
 -- ---- deeds
 
--- what came of a call, and what follows it
-pub went_by : {A T J : Type 0} (shown : Shown T J) (fits_on : (job : J) (g h : History) → Begins g h → shown.fits job g → shown.fits job h) (all : History) (at before : ℕ) (act : Act A) (c : Came A) (m : Met A) (k : Places → ℕ → Result A Refusal → Procedure (Turn Places)) (next : Next T J) (needs : State → Type 0) (rows : ℕ → ℕ) (left_then : Places → ℕ → History → Procedure (Turn Places)) → at ≤ position all → CameTo act (event_at all (suc at)) c → met_of at c ≡ Some m → FollowsReading shown next before needs rows left_then → ((p : Places) (read : ℕ) → k p read m.came ≡ left_then p read (prefix all m.at)) → needs (state_of (prefix all m.at)) → IsWent shown all at before (λ p read. followed_by (tries_at (prefix all at) act) (k p read)) (record { said = None; next = next; at = m.at })
-went_by shown fits_on all at before act c m k next needs rows left_then le w is follows same has =
+-- a call that may make an event
+pub met_by : {A T J : Type 0} (shown : Shown T J) (all : History) (at before : ℕ) (act : Act A) (c : Came A) (m : Met A) (k : Places → ℕ → Result A Refusal → Procedure (Turn Places)) (outcome : CallOutcome T) → at ≤ position all → CameTo act (event_at all (suc at)) c → met_of at c ≡ Some m → ((p : Places) (read : ℕ) → k p read m.came ≡ left_after p read (prefix all m.at) outcome) → OutcomeFits shown (prefix all m.at) outcome → meets_left outcome ≡ before → IsMet shown all at before (λ p read. followed_by (tries_at (prefix all at) act) (k p read)) (record { outcome = outcome; at = m.at })
+met_by shown all at before act c m k outcome le w is same fits left =
     let lies = met_lies all at c m le (came_within act all at c w) is in
     record {
-      read_then = rows;
-      tells = λ p read ps. subst (λ d. TellsBy all at (followed_by (tries_at (prefix all at) act) (k p read)) ps m.at d ps) (same p read ∙ sym (follows.rest p read (prefix all m.at))) (call_tells all at (prefix all at) act c m (k p read) ps w is);
-      stands = next_stands shown fits_on all m.at next (λ bytes. follows.fits (state_of (prefix all m.at)) bytes has);
+      tells = λ p read ps. subst (λ d. TellsBy all at (followed_by (tries_at (prefix all at) act) (k p read)) ps m.at d ps) (same p read) (call_tells all at (prefix all at) act c m (k p read) ps w is);
+      fits = fits;
+      left_so = left;
       low = lies.low;
       high = lies.high;
-      shorter = follows.shorter;
     }
 
--- what makes no event, and what follows it
-pub went_here : {T J : Type 0} (shown : Shown T J) (fits_on : (job : J) (g h : History) → Begins g h → shown.fits job g → shown.fits job h) (all : History) (at before : ℕ) (procedure : Places → ℕ → Procedure (Turn Places)) (next : Next T J) (rows : ℕ → ℕ) → at ≤ position all → ((p : Places) (read : ℕ) → rest_next p (rows read) (prefix all at) next ≡ procedure p read) → ((bytes : ℕ) → NextFits shown bytes next (state_of (prefix all at))) → left_next next < before → IsWent shown all at before procedure (record { said = None; next = next; at = at })
-went_here shown fits_on all at before procedure next rows le same fits short = record {
-  read_then = rows;
-  tells = λ p read ps. subst (λ d. TellsBy all at (procedure p read) ps at d ps) (sym (same p read)) (tells_same all at (procedure p read) ps);
-  stands = next_stands shown fits_on all at next fits;
+-- one that makes none
+pub met_here : {T J : Type 0} (shown : Shown T J) (all : History) (at before : ℕ) (procedure : Places → ℕ → Procedure (Turn Places)) (outcome : CallOutcome T) → at ≤ position all → ((p : Places) (read : ℕ) → procedure p read ≡ left_after p read (prefix all at) outcome) → OutcomeFits shown (prefix all at) outcome → meets_left outcome ≡ before → IsMet shown all at before procedure (record { outcome = outcome; at = at })
+met_here shown all at before procedure outcome le same fits left = record {
+  tells = λ p read ps. subst (λ d. TellsBy all at (procedure p read) ps at d ps) (same p read) (tells_same all at (procedure p read) ps);
+  fits = fits;
+  left_so = left;
   low = omega arith;
   high = le;
-  shorter = short;
+}
+
+-- what follows a call
+pub met_follows : {T J : Type 0} (shown : Shown T J) (fits_on : (job : J) (g h : History) → Begins g h → shown.fits job g → shown.fits job h) (all : History) (at before : ℕ) (procedure : Places → ℕ → Procedure (Turn Places)) (m : MetAt T) (f : Followed T J) (from to : ℕ) → IsMet shown all at before procedure m → IsFollowed shown (prefix all m.at) m.outcome f from to → IsWent shown all at before procedure (record { said = f.said; next = f.next; at = m.at })
+met_follows shown fits_on all at before procedure m f from to i w = record {
+  read_then = w.read_then;
+  tells = λ p read ps. subst (λ d. TellsBy all at (procedure p read) ps m.at d ps) (sym (w.rest_so p read)) (i.tells p read ps);
+  stands = next_stands shown fits_on all m.at f.next (λ bytes. w.fits (state_of (prefix all m.at)) bytes refl);
+  low = i.low;
+  high = i.high;
+  shorter = subst (λ n. left_next f.next < n) i.left_so w.shorter;
 }

@@ -13,10 +13,12 @@ use Rattle.ts_sessions.specs.declared.deeds.Deed.TheVariants as deeds
 use Rattle.ts_sessions.specs.declared.deeds.Next.{Next}
 use Rattle.ts_sessions.specs.declared.deeds.Next.TheVariants as nexts
 use Rattle.past_sessions.specs.declared.deeds.Met.{Met}
+use Rattle.past_sessions.specs.declared.deeds.MetAt.{MetAt}
 use Rattle.past_sessions.specs.declared.deeds.Reached.{Reached}
 use Rattle.past_sessions.specs.declared.deeds.Went.{Went}
 use Rattle.past_sessions.specs.declared.pasts.Came.{Came}
 use Rattle.past_sessions.specs.declared.pasts.Came.TheVariants.{Made, Returned, Refused, Otherwise}
+use Rattle.ts_sessions.specs.Calls.{OutcomeFits, left_after, meets_left}
 use Rattle.ts_sessions.specs.Deeds.{EndFits, IsAsked, Joins, led, left_next, rest, rest_next, said_once}
 use Rattle.ts_sessions.specs.Places.{Block, Places, Turn}
 use Rattle.ts_sessions.specs.Procedures.{Procedure, sees, adds, ends, followed_by, tries_at}
@@ -84,8 +86,7 @@ rest_at {T} {J} p read h other = after_look h (rest {T = T} {J = J} p read h oth
 
 -- the aggregate that is to be refreshed is there
 abbrev pub AsksThere : {T J : Type 0} → Deed T J → History → Type 0
-AsksThere (deeds.Refresh asked) h = IsAsked h asked
-AsksThere (deeds.Cut asked) h = IsAsked h asked
+AsksThere (deeds.Cut asked then) h = IsAsked h asked
 AsksThere (deeds.Fill new made) h = IsThere h new.name
 AsksThere other h = ⊤
 
@@ -135,6 +136,22 @@ pub record TellsBy {A : Type 0} (all : History) (at : ℕ) (procedure : Procedur
 -- a procedure comes to nothing
 abbrev pub TellsNothing : {A : Type 0} → History → ℕ → Procedure A → List ℕ → Type 0
 TellsNothing all at procedure ps = (so_far : List (ℕ × Event)) → Tells all at so_far procedure ps None
+
+-- a call at a position of the past came to this, which leaves what was left of a procedure
+pub record IsMet {T J : Type 0} (shown : Shown T J) (all : History) (at before : ℕ)
+    (procedure : Places → ℕ → Procedure (Turn Places)) (m : MetAt T) : Type 0 where
+  pub tells : (p : Places) (read : ℕ) (ps : List ℕ) → TellsBy all at (procedure p read) ps m.at
+      (left_after p read (prefix all m.at) m.outcome) ps
+  pub fits : OutcomeFits shown (prefix all m.at) m.outcome
+  pub left_so : meets_left m.outcome ≡ before
+  pub low : at ≤ m.at
+  pub high : m.at ≤ position all
+
+-- so, or it came to nothing
+abbrev pub MeetsAt :
+    {T J : Type 0} → Shown T J → History → ℕ → ℕ → (Places → ℕ → Procedure (Turn Places)) → Option (MetAt T) → Type 0
+MeetsAt shown all at before procedure (Some m) = IsMet shown all at before procedure m
+MeetsAt shown all at before procedure None = (p : Places) (read : ℕ) (ps : List ℕ) → TellsNothing all at (procedure p read) ps
 
 -- a deed that met the past at a position led to this, which meets the past less often than before
 pub record IsWent {T J : Type 0} (shown : Shown T J) (all : History) (at before : ℕ)

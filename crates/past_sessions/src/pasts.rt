@@ -1,6 +1,7 @@
 //! The past of a store: its whole history, with what calls of the store come to at positions of it.
-use ts_model::{Committed, CutDone, Hyper, Op, Refusal, Shown, TableDef, ViewDef};
+use ts_model::{Committed, CutDone, Op, Refusal, Shown, ViewDef};
 use ts_schema::{NoMemory, Seq};
+use ts_sessions::deeds::Making;
 
 /// What a call of a store comes to at a position of its past.
 #[derive(Drop, Debug, PartialEq, Eq)]
@@ -26,7 +27,8 @@ pub trait Past {
     ghost use Rattle.ts_bucket.specs.Bucket.{is_time};
     ghost use Rattle.ts_model.specs.History.{History, event_at, position as position_of, prefix};
     ghost use Rattle.ts_model.specs.Roster.{roster, view_of};
-    ghost use Rattle.ts_model.specs.Calls.{making_table, making_hyper, making_view, setting_mode, committing, cutting, finishing};
+    ghost use Rattle.ts_model.specs.Calls.{making_view, committing, cutting, finishing};
+    ghost use Rattle.ts_sessions.specs.Deeds.{making_of};
     ghost use Rattle.past_sessions.specs.Pasts.{CameTo};
 
     /// A snapshot.
@@ -48,30 +50,17 @@ pub trait Past {
         requires within { position ≤ position_of (all self.now) }
         ensures { IfOk result (λ shot. Self.Shot.stands shot (prefix (all self.now) position)) };
 
-    /// What making a table comes to.
-    fn make_table(&self, at: u64, def: TableDef) -> Came<u64>
+    /// What making a table, or setting one thing of a relation, comes to.
+    fn make(&self, at: u64, making: Making) -> Came<u64>
         requires known { from self.now ≤ at }
         requires within { at ≤ position_of (all self.now) }
-        ensures { CameTo (making_table def (prefix (all self.now) at)) (event_at (all self.now) (suc at)) result };
-
-    /// What making a table a hypertable comes to.
-    fn make_hyper(&self, at: u64, table: u32, hyper: Hyper) -> Came<u64>
-        requires known { from self.now ≤ at }
-        requires within { at ≤ position_of (all self.now) }
-        ensures { CameTo (making_hyper table hyper (prefix (all self.now) at)) (event_at (all self.now) (suc at))
-            result };
+        ensures { CameTo (making_of making (prefix (all self.now) at)) (event_at (all self.now) (suc at)) result };
 
     /// What making an aggregate comes to.
     fn make_view(&self, at: u64, def: ViewDef) -> Came<u64>
         requires known { from self.now ≤ at }
         requires within { at ≤ position_of (all self.now) }
         ensures { CameTo (making_view def (prefix (all self.now) at)) (event_at (all self.now) (suc at)) result };
-
-    /// What setting the mode of an aggregate comes to.
-    fn set_mode(&self, at: u64, view: u32, only: bool) -> Came<u64>
-        requires known { from self.now ≤ at }
-        requires within { at ≤ position_of (all self.now) }
-        ensures { CameTo (setting_mode view only (prefix (all self.now) at)) (event_at (all self.now) (suc at)) result };
 
     /// What a commit of operations comes to.
     fn commit(&self, at: u64, ops: Seq<Op>) -> Came<Committed>

@@ -15,7 +15,7 @@ ghost use Rattle.ts_sessions.specs.Sound.{AsksSoundly};
 ghost use Rattle.ts_sessions.specs.Step.{block_refusal, finishes, finishes_held, kind_of as kind_of_stmt, named_here, refresh_meant};
 ghost use Rattle.past_sessions.specs.Telling.{NextStands, ReachesTo, ended_of, state_of};
 
-use crate::deeds::{Reached, Went, after_next, go_on, next_look, tell_finish};
+use crate::deeds::{Reached, Went, after_next, finish, follow_met, go_on, next_look};
 use crate::pasts::Past;
 use crate::queues::{tell_change, tell_query};
 use result_text::Said;
@@ -25,10 +25,9 @@ use stmt_syntax::Stmt;
 use ts_model::{Refusal, Shown};
 use ts_schema::{NoMemory, Steps};
 use ts_sessions::changes::Change;
-use ts_sessions::deeds::{Deed, Finishing, Lacks, Next};
-use ts_sessions::endings::begin;
+use ts_sessions::deeds::{AfterLook, Deed, Finishing, Lacks, Next};
 use ts_sessions::follows::say;
-use ts_sessions::{Open, Queue, Session};
+use ts_sessions::{Open, Opening, Session, StatementKind, kind_of};
 
 /// A statement that is refused, after a look or event at a position.
 pub(crate) fn refuse_at<T: Shown + Drop>(
@@ -111,23 +110,18 @@ where
     ensures { ReachesTo T.Shown bytes (P.all past.now) at (named_here (places_in session.now) bytes stmt.now)
         looks.now (places_in session.now) result }
 {
-    match &session.block {
-        Open::Nothing => tell_outside(rt, alloc, session, past, at, looks, stmt, bytes, steps),
-        Open::Write(queue) => {
-            tell_writing(
-                rt, alloc, session, past, at, looks, queue, stmt, bytes, steps,
-            )
-        }
-        Open::Read { at: begun, shot } => {
-            tell_reading(
-                rt, alloc, session, past, at, looks, *begun, shot, stmt, bytes, steps,
-            )
+    let opening = session.opening(alloc, stmt)?;
+    match opening {
+        Opening::Next(next) => start(rt, alloc, past, at, looks, next, steps),
+        Opening::Names => tell_by_names(rt, alloc, session, past, at, looks, stmt, bytes, steps),
+        Opening::Finish(number) => {
+            tell_finishing(rt, alloc, session, past, at, looks, number, steps)
         }
     }
 }
 
-/// Tells a statement outside a block.
-fn tell_outside<T: Shown + Drop, R: Threads + Sync, P: Past<Shot = T>, L>(
+/// Tells a statement whose names are looked at, by the block of its session.
+fn tell_by_names<T: Shown + Drop, R: Threads + Sync, P: Past<Shot = T>, L>(
     rt: &R,
     alloc: Global,
     session: &Session<T>,
@@ -143,49 +137,34 @@ where
     requires sync { IsSync R.row }
     requires counts { steps.old < 2 ^ 64 }
     requires sound { AsksSoundly bytes stmt.now }
-    requires passes { block_refusal none (kind_of_stmt stmt.now) ≡ None }
-    requires outside { (places_in session.now).block ≡ none }
+    requires names { IsTrue (looks_at_names (kind_of_stmt stmt.now)) }
+    requires passes { block_refusal (places_in session.now).block (kind_of_stmt stmt.now) ≡ None }
     requires allowed { IsTrue (all_allowed (P.all past.now)) }
     requires known { P.from past.now ≤ at }
     requires within { at ≤ position_of (P.all past.now) }
+    requires holds { HoldsOf T.Shown session.now (state_of (P.all past.now)) }
     ensures { ReachesTo T.Shown bytes (P.all past.now) at (named_here (places_in session.now) bytes stmt.now)
         looks.now (places_in session.now) result }
 {
-    match stmt {
-        Stmt::Begin => {
-            let next = begin(alloc)?;
-            start(rt, alloc, past, at, looks, next, steps)
-        }
-        Stmt::BeginRead => {
-            start(
-                rt,
-                alloc,
-                past,
-                at,
-                looks,
-                Next::Deed(Deed::BeginRead),
-                steps,
+    match &session.block {
+        Open::Nothing => tell_names(rt, alloc, session, past, at, looks, stmt, bytes, steps),
+        Open::Write(queue) => match kind_of(stmt) {
+            StatementKind::Asks => {
+                tell_query(rt, alloc, past, at, looks, queue, stmt, bytes, steps)
+            }
+            StatementKind::Changes => tell_change(alloc, past, at, looks, stmt, bytes),
+            StatementKind::Defines
+            | StatementKind::Snaps
+            | StatementKind::Finishes
+            | StatementKind::Begins
+            | StatementKind::BeginsRead
+            | StatementKind::Commits
+            | StatementKind::RollsBack => unreachable!(),
+        },
+        Open::Read { at: begun, shot } => {
+            tell_reading(
+                rt, alloc, session, past, at, looks, *begun, shot, stmt, bytes, steps,
             )
-        }
-        Stmt::Snap { cut } => {
-            let deed = session.snap(*cut);
-            start(rt, alloc, past, at, looks, Next::Deed(deed), steps)
-        }
-        Stmt::Finish { cut } => tell_finishing(rt, alloc, session, past, at, looks, *cut, steps),
-        Stmt::Commit | Stmt::Rollback => unreachable!(),
-        Stmt::Table { .. }
-        | Stmt::Hyper { .. }
-        | Stmt::View { .. }
-        | Stmt::Mode { .. }
-        | Stmt::Insert { .. }
-        | Stmt::Delete { .. }
-        | Stmt::Drop { .. }
-        | Stmt::Refresh { .. }
-        | Stmt::Cut { .. }
-        | Stmt::Buckets(_)
-        | Stmt::Calendar { .. }
-        | Stmt::Rows { .. } => {
-            tell_names(rt, alloc, session, past, at, looks, stmt, bytes, steps)
         }
     }
 }
@@ -249,13 +228,13 @@ where
         looks.now (places_in session.now) result }
 {
     match session.meant(number) {
-        None => start(rt, alloc, past, at, looks, Next::Deed(Deed::Unknown), steps),
+        None => start(rt, alloc, past, at, looks, Next::Deed(Deed::Look(AfterLook::Unknown)), steps),
         Some(cut) => match session.held_at(cut) {
             None => {
-                let deed = Deed::Refuse {
+                let deed = Deed::Look(AfterLook::Refuse {
                     cut,
                     lacks: Lacks::Snapshot,
-                };
+                });
                 start(rt, alloc, past, at, looks, Next::Deed(deed), steps)
             }
             Some(snap) => tell_held(rt, alloc, past, at, looks, cut, snap, steps),
@@ -263,7 +242,7 @@ where
     }
 }
 
-/// Tells a statement in a read block.
+/// Tells a query in a read block.
 fn tell_reading<T: Shown + Drop, R: Threads + Sync, P: Past<Shot = T>, L>(
     rt: &R,
     alloc: Global,
@@ -282,6 +261,7 @@ where
     requires sync { IsSync R.row }
     requires counts { steps.old < 2 ^ 64 }
     requires sound { AsksSoundly bytes stmt.now }
+    requires names { IsTrue (looks_at_names (kind_of_stmt stmt.now)) }
     requires passes { block_refusal (places_in session.now).block (kind_of_stmt stmt.now) ≡ None }
     requires block { session.now.block ≡ opens.Read begun shot.now }
     requires allowed { IsTrue (all_allowed (P.all past.now)) }
@@ -291,89 +271,9 @@ where
     ensures { ReachesTo T.Shown bytes (P.all past.now) at (named_here (places_in session.now) bytes stmt.now)
         looks.now (places_in session.now) result }
 {
-    match stmt {
-        Stmt::Commit => {
-            let next = session.end_block(alloc)?;
-            start(rt, alloc, past, at, looks, next, steps)
-        }
-        Stmt::Rollback => {
-            let next = session.roll_back(alloc)?;
-            start(rt, alloc, past, at, looks, next, steps)
-        }
-        Stmt::Buckets(_) | Stmt::Calendar { .. } | Stmt::Rows { .. } => {
-            let next = session.at_names(rt, alloc, shot, stmt, bytes, steps)?;
-            let _so_far = steps.count();
-            start(rt, alloc, past, at, looks, next, steps)
-        }
-        Stmt::Table { .. }
-        | Stmt::Hyper { .. }
-        | Stmt::View { .. }
-        | Stmt::Mode { .. }
-        | Stmt::Insert { .. }
-        | Stmt::Delete { .. }
-        | Stmt::Drop { .. }
-        | Stmt::Refresh { .. }
-        | Stmt::Cut { .. }
-        | Stmt::Snap { .. }
-        | Stmt::Finish { .. }
-        | Stmt::Begin
-        | Stmt::BeginRead => unreachable!(),
-    }
-}
-
-/// Tells a statement in a write block.
-fn tell_writing<T: Shown + Drop, R: Threads + Sync, P: Past<Shot = T>, L>(
-    rt: &R,
-    alloc: Global,
-    session: &Session<T>,
-    past: &P,
-    at: u64,
-    looks: &[u64],
-    queue: &Queue,
-    stmt: &Stmt,
-    bytes: u64,
-    steps: &mut Steps<L>,
-) -> Result<Option<Reached<T>>, NoMemory>
-where
-    T::Job: Drop,
-    requires sync { IsSync R.row }
-    requires counts { steps.old < 2 ^ 64 }
-    requires sound { AsksSoundly bytes stmt.now }
-    requires passes { block_refusal (places_in session.now).block (kind_of_stmt stmt.now) ≡ None }
-    requires block { session.now.block ≡ opens.Write queue.now }
-    requires allowed { IsTrue (all_allowed (P.all past.now)) }
-    requires known { P.from past.now ≤ at }
-    requires within { at ≤ position_of (P.all past.now) }
-    requires holds { HoldsOf T.Shown session.now (state_of (P.all past.now)) }
-    ensures { ReachesTo T.Shown bytes (P.all past.now) at (named_here (places_in session.now) bytes stmt.now)
-        looks.now (places_in session.now) result }
-{
-    match stmt {
-        Stmt::Commit => {
-            let next = session.end_block(alloc)?;
-            start(rt, alloc, past, at, looks, next, steps)
-        }
-        Stmt::Rollback => {
-            let next = session.roll_back(alloc)?;
-            start(rt, alloc, past, at, looks, next, steps)
-        }
-        Stmt::Insert { .. } | Stmt::Delete { .. } | Stmt::Drop { .. } => {
-            tell_change(alloc, past, at, looks, stmt, bytes)
-        }
-        Stmt::Buckets(_) | Stmt::Calendar { .. } | Stmt::Rows { .. } => {
-            tell_query(rt, alloc, past, at, looks, queue, stmt, bytes, steps)
-        }
-        Stmt::Table { .. }
-        | Stmt::Hyper { .. }
-        | Stmt::View { .. }
-        | Stmt::Mode { .. }
-        | Stmt::Refresh { .. }
-        | Stmt::Cut { .. }
-        | Stmt::Snap { .. }
-        | Stmt::Finish { .. }
-        | Stmt::Begin
-        | Stmt::BeginRead => unreachable!(),
-    }
+    let next = session.at_names(rt, alloc, shot, stmt, bytes, steps)?;
+    let _so_far = steps.count();
+    start(rt, alloc, past, at, looks, next, steps)
 }
 
 /// Tells the finish of a refresh with the snapshot at a position.
@@ -401,9 +301,13 @@ where
         None => Ok(None),
         Some(look) => {
             let finishing = Finishing::Held { cut, at: snap };
-            match tell_finish(alloc, past, look, &finishing)? {
+            let met = finish(past, look, finishing);
+            match follow_met(rt, alloc, met, steps)? {
                 None => Ok(None),
-                Some(went) => go_on(rt, alloc, past, after_next(looks), went, steps),
+                Some(went) => {
+                    let _so_far = steps.count();
+                    go_on(rt, alloc, past, after_next(looks), went, steps)
+                }
             }
         }
     }

@@ -1,6 +1,6 @@
 -- Deeds: each leads on to what comes next, and a statement is carried out from one on.
 use Rattle.std.proofs.Common.{◌≡◌, ℕ, ◌≤◌, Bool, true, false, List, length, Option, Some, None, sym, refl, ◌∙◌, ap, subst, inr, arith}
-use Rattle.std.specs.Prelude.{ℤ, Result, Ok, Err, OnOk}
+use Rattle.std.specs.Prelude.{ℤ, Result, Ok, Err, IsTrue, OnOk}
 use Rattle.std.specs.Result.{IsErr}
 use Rattle.std.proofs.lemmas.Bool.{true≢false}
 use Rattle.ts_schema.specs.Counts.{raised_by}
@@ -12,26 +12,37 @@ use Rattle.ts_model.specs.declared.views.ViewDef.{ViewDef}
 use Rattle.ts_model.specs.Calls.{Answered, Called, Looked, making_view}
 use Rattle.ts_model.specs.Roster.{roster}
 use Rattle.result_text.specs.declared.replies.Said.{Said}
+use Rattle.result_text.specs.declared.replies.Said.TheVariants as said
+use Rattle.ts_model.specs.Allowed.{all_allowed}
+use Rattle.ts_model.proofs.CallLaws.{begins_looked}
 use Rattle.ts_model.specs.declared.snapshots.Shown.{Ghosts as Shown}
 use Rattle.ts_model.specs.History.{History, Begins, position}
 use Rattle.ts_model.specs.States.{State, Found}
 use Rattle.ts_sessions.specs.declared.changes.Change.TheVariants as changes
 use Rattle.ts_sessions.specs.declared.changes.Completion.{Completion}
+use Rattle.ts_sessions.specs.declared.calls.CallOutcome.{CallOutcome}
+use Rattle.ts_sessions.specs.declared.calls.CallOutcome.TheVariants as outcomes
+use Rattle.ts_sessions.specs.declared.calls.Meeting.{Meeting}
 use Rattle.ts_sessions.specs.declared.deeds.Advanced.{Advanced}
+use Rattle.ts_sessions.specs.declared.deeds.AfterLook.{AfterLook}
 use Rattle.ts_sessions.specs.declared.deeds.Deed.{Deed}
 use Rattle.ts_sessions.specs.declared.deeds.Deed.TheVariants as deeds
 use Rattle.ts_sessions.specs.declared.deeds.Finishing.{Finishing}
 use Rattle.ts_sessions.specs.declared.deeds.Finishing.TheVariants as finishing
 use Rattle.ts_sessions.specs.declared.deeds.Next.{Next}
 use Rattle.ts_sessions.specs.declared.deeds.Next.TheVariants as nexts
+use Rattle.ts_sessions.specs.declared.events.NewView.{NewView}
+use Rattle.ts_sessions.specs.declared.follows.Followed.{Followed}
+use Rattle.ts_sessions.specs.declared.refreshes.Asked.{Asked}
 use Rattle.ts_sessions.specs.declared.tries.Tried.{Tried}
 use Rattle.ts_sessions.specs.declared.tries.Tried.TheVariants as tried
-use Rattle.ts_sessions.specs.Deeds.{Advances, CarriesOut, CountsFrom, DeedFits, Goes, Leads, IsLostBy, IsLostNext, Joins, MadeFits, NextFits, at_in, cut_in, led, led_lines, rest, rest_next, said_once, spent, spent_by, spent_next, view_leaves}
+use Rattle.ts_sessions.specs.Deeds.{Advances, CarriesOut, CountsFrom, DeedFits, Goes, IsAsked, Leads, IsLostBy, IsLostNext, Joins, MadeFits, NextFits, at_in, cut_in, led, led_lines, look_left, rest, rest_next, said_once, spent, spent_by, spent_next, view_leaves}
+use Rattle.ts_sessions.specs.Calls.{AnswersDeed, IsFollowed, Meets, MeetsTo, left_after}
 use Rattle.ts_sessions.specs.Places.{Places, Turn}
-use Rattle.ts_sessions.specs.Procedures.{Procedure, ends, followed_by, looks, sees, tries_at}
+use Rattle.ts_sessions.specs.Procedures.{Procedure, ending_as, ends, followed_by, looks, sees, tries_at}
 use Rattle.ts_sessions.specs.Sessions.{Brings, ChangeHolds, EndsAt, Tries, came, changed, has_failed, turn_of}
-use Rattle.ts_sessions.specs.Sound.{number_at, view_number}
-use Rattle.ts_sessions.specs.Step.{after_line, after_view, finishes_refresh, view_made}
+use Rattle.ts_sessions.specs.Sound.{IsThere, number_at, view_number}
+use Rattle.ts_sessions.specs.Step.{after_cut, after_line, after_view, cuts_refresh, finishes_refresh, view_made}
 use Rattle.ts_sessions.specs.Held.{GoesOn}
 use Rattle.ts_sessions.specs.Holding.{lost_stays}
 use Rattle.ts_sessions.specs.Tried.{IsTried}
@@ -39,9 +50,9 @@ use Rattle.ts_sessions.specs.Walks.{Walks, Breaks, Sees}
 use Rattle.ts_sessions.proofs.CallWalks.{answered_tries}
 use Rattle.ts_sessions.proofs.HoldLaws.{goes_ends}
 use Rattle.ts_sessions.proofs.JobLaws.{always_ok}
-use Rattle.ts_sessions.proofs.StateLaws.{goes_seen}
+use Rattle.ts_sessions.proofs.StateLaws.{goes_seen, sees_looked}
 use Rattle.ts_sessions.proofs.NameCheckWalks.{looked_breaks, looked_only, looked_walks}
-use Rattle.ts_sessions.proofs.ViewWalks.{done_outcome, made_is_named, number_named, was_made}
+use Rattle.ts_sessions.proofs.ViewWalks.{done_outcome, made_is_named, number_named, view_stays, was_made}
 use Rattle.ts_sessions.proofs.WalkLaws.{break_together, breaks_first, breaks_seen, not_begun, put_together, walks_as, walks_break, walks_seen}
 
 -- ---- one deed
@@ -53,42 +64,48 @@ walk_leads alone failed old first mid a next w = record {
   breaks = λ new v. break_together alone failed old first mid a next new w v;
 }
 
-pub broken_off : {T J : Type 0} (alone : Bool) (old : State) (p : Places) (read : ℕ) (deed : Deed T J) (result : Result (Advanced T J) NoMemory) (new : State) (n : ℕ) → IsErr result → Breaks alone old (rest p read old.history deed) new → Advances alone old p read deed result new n n
-broken_off alone old p read deed (Ok a) new n i b = absurd (true≢false (sym i))
-broken_off alone old p read deed (Err e) new n i b = (b, omega arith)
+pub broken_off : {T J : Type 0} (alone : Bool) (old : State) (p : Places) (read : ℕ) (deed : Deed T J) (result : Result (Advanced T J) NoMemory) (new : State) (before after : ℕ) → IsErr result → Breaks alone old (rest p read old.history deed) new → before ≤ after → Advances alone old p read deed result new before after
+broken_off alone old p read deed (Ok a) new before after i b rose = absurd (true≢false (sym i))
+broken_off alone old p read deed (Err e) new before after i b rose = (b, rose)
 
--- no memory for a call, or for what follows it
-pub call_broken : {A T J : Type 0} (alone : Bool) (old : State) (p : Places) (read : ℕ) (deed : Deed T J) (first : Procedure A) (k : A → Procedure (Turn Places)) (result : Result (Advanced T J) NoMemory) (new : State) (n : ℕ) → IsErr result → rest p read old.history deed ≡ followed_by first k → Breaks alone old first new → Advances alone old p read deed result new n n
-call_broken alone old p read deed first k result new n i e b =
-    broken_off alone old p read deed result new n i (subst (λ d. Breaks alone old d new) (sym e) (breaks_first alone old first k new b))
+-- ---- calls
 
-pub next_broken : {A T J : Type 0} (alone : Bool) (old : State) (p : Places) (read : ℕ) (deed : Deed T J) (first : Procedure (Result A Refusal)) (k : Result A Refusal → Procedure (Turn Places)) (t : Tried A) (result : Result (Advanced T J) NoMemory) (new : State) (n : ℕ) → IsErr result → rest p read old.history deed ≡ followed_by first k → Tries alone old first (Ok t) new → Advances alone old p read deed result new n n
-next_broken alone old p read deed first k t result new n i e w =
-    broken_off alone old p read deed result new n i
-    (subst (λ d. Breaks alone old d new) (sym e) ((walk_leads alone (has_failed t) old first new (came t) k w).breaks new (not_begun alone new (k (came t)))))
+-- a call broke off for want of memory
+pub call_broken : {T J : Type 0} (shown : Shown T J) (alone : Bool) (old : State) (deed : Deed T J) (result : Result (Meeting T) NoMemory) (new : State) → IsErr result → ((p : Places) (read : ℕ) → Breaks alone old (rest p read old.history deed) new) → MeetsTo shown alone old deed result new
+call_broken shown alone old deed (Ok m) new i b = absurd (true≢false (sym i))
+call_broken shown alone old deed (Err e) new i b = b
+
+pub tried_broken : {A T J : Type 0} (shown : Shown T J) (alone : Bool) (old : State) (deed like : Deed T J) (first : Procedure A) (k : Places → ℕ → A → Procedure (Turn Places)) (result : Result (Meeting T) NoMemory) (new : State) → IsErr result → deed ≡ like → ((p : Places) (read : ℕ) → rest p read old.history like ≡ followed_by first (k p read)) → Breaks alone old first new → MeetsTo shown alone old deed result new
+tried_broken {A} {T} {J} shown alone old deed like first k result new i e same b =
+    call_broken shown alone old deed result new i (λ p read. subst (λ (d : Deed T J). Breaks alone old (rest p read old.history d) new) (sym e) (subst (λ x. Breaks alone old x new) (sym (same p read)) (breaks_first alone old first (k p read) new b)))
+
+-- a call that may make an event
+pub tried_meets : {A T J : Type 0} (shown : Shown T J) (alone : Bool) (old : State) (deed like : Deed T J) (first : Procedure (Result A Refusal)) (k : Places → ℕ → Result A Refusal → Procedure (Turn Places)) (t : Tried A) (r : Result A Refusal) (failed : Bool) (outcome : CallOutcome T) (new : State) → deed ≡ like → ((p : Places) (read : ℕ) → rest p read old.history like ≡ followed_by first (k p read)) → ((p : Places) (read : ℕ) → left_after p read new.history outcome ≡ k p read r) → Tries alone old first (Ok t) new → failed ≡ has_failed t → r ≡ came t → AnswersDeed shown new.history like outcome → Meets shown alone old deed (record { outcome = outcome; failed = failed }) new
+tried_meets {A} {T} {J} shown alone old deed like first k t r failed outcome new e same leaves w f j answers =
+    subst (λ (d : Deed T J). Meets shown alone old d (record { outcome = outcome; failed = failed }) new) (sym e)
+    (record {
+      leads = λ p read.
+          subst (λ x. Leads alone x old (rest p read old.history like) new (left_after p read new.history outcome)) (sym f)
+          (subst (λ x. Leads alone (has_failed t) old x new (left_after p read new.history outcome)) (sym (same p read))
+          (subst (λ x. Leads alone (has_failed t) old (followed_by first (k p read)) new x) (sym (leaves p read ∙ ap (k p read) j)) (walk_leads alone (has_failed t) old first new (came t) (k p read) w)));
+      answers = answers;
+    })
+
+-- what a call leads to, and what follows it
+pub met_goes : {T J : Type 0} (shown : Shown T J) (alone : Bool) (old : State) (p : Places) (read : ℕ) (deed : Deed T J) (m : Meeting T) (f : Followed T J) (mid : State) (before after : ℕ) → Meets shown alone old deed m mid → IsFollowed shown mid.history m.outcome f before after → Goes alone old p read deed (record { said = f.said; next = f.next; failed = m.failed }) mid before after
+met_goes shown alone old p read deed m f mid before after k w = record {
+  read_then = w.read_then read;
+  leads = subst (λ x. Leads alone m.failed old (rest p read old.history deed) mid x) (sym (w.rest_so p read)) (k.leads p read);
+  spent_then = w.spent_so read;
+  counted = λ from had. w.counted read from (subst (λ n. before ≡ raised_by n from) (sym (k.answers.spent_so read)) had);
+  rose = w.rose;
+}
 
 -- the finish of a job that fits
 pub job_tries : {T J : Type 0} (shown : Shown T J) (alone : Bool) (old : State) (deed : Deed T J) (job : J) (f : Finishing) (result : Result (Tried ℕ) NoMemory) (new : State) → DeedFits shown deed old → deed ≡ deeds.Finish job f → Tries alone old (finishes_refresh (shown.cut_of job) (shown.snap_of job)) result new → Tries alone old (finishes_refresh (cut_in f) (at_in f)) result new
 job_tries shown alone old deed job f result new fits e w =
     let k = subst (λ d. DeedFits shown d old) e fits in
     subst (λ c. Tries alone old (finishes_refresh c (at_in f)) result new) k.1 (subst (λ n. Tries alone old (finishes_refresh (shown.cut_of job) n) result new) k.2 w)
-
--- a call that may make an event, and what follows it
-pub call_goes : {A T J : Type 0} (alone : Bool) (old : State) (p : Places) (read read_then : ℕ) (deed : Deed T J) (first : Procedure (Result A Refusal)) (k : Result A Refusal → Procedure (Turn Places)) (t : Tried A) (r : Result A Refusal) (failed : Bool) (next : Next T J) (new : State) (n : ℕ) → rest p read old.history deed ≡ followed_by first k → spent read deed ≡ read_then → Tries alone old first (Ok t) new → failed ≡ has_failed t → r ≡ came t → rest_next p read_then new.history next ≡ k r → spent_next read_then next ≡ read_then → Goes alone old p read deed (record { said = None; next = next; failed = failed }) new n n
-call_goes alone old p read read_then deed first k t r failed next new n e s w f j d spent_so = record {
-  read_then = read_then;
-  leads =
-      subst (λ x. Leads alone x old (rest p read old.history deed) new (rest_next p read_then new.history next)) (sym f)
-      (subst (λ x. Leads alone (has_failed t) old x new (rest_next p read_then new.history next)) (sym e)
-      (subst (λ x. Leads alone (has_failed t) old (followed_by first k) new x) (sym (d ∙ ap k j)) (walk_leads alone (has_failed t) old first new (came t) k w)));
-  spent_then = spent_so;
-  counted = λ from had. subst (λ m. n ≡ raised_by m from) s had;
-  rose = omega arith;
-}
-
--- a statement that says one line and changes nothing goes with each state
-pub said_fits : {T J : Type 0} (shown : Shown T J) (bytes : ℕ) (s : State) (next : Next T J) (line : Said) → next ≡ said_once line changes.Nothing → NextFits shown bytes next s
-said_fits shown bytes s next line e = subst (λ n. NextFits shown bytes n s) (sym e) (record { change = tt; stands = refl })
 
 -- ---- rows that were read
 
@@ -222,24 +239,48 @@ view_fits alone old def outcome pos (tried.Done k) mid name c i e = let w = made
 view_fits alone old def outcome pos (tried.Refused r) mid name c i e = tt
 view_fits alone old def outcome pos (tried.Failed r) mid name c i e = tt
 
--- a deed whose procedure leads to this
-pub goes_by : {T J : Type 0} (alone : Bool) (old : State) (p : Places) (read read_then : ℕ) (deed : Deed T J) (procedure : Procedure (Turn Places)) (a : Advanced T J) (new : State) (n : ℕ) (left : Procedure (Turn Places)) → rest p read old.history deed ≡ procedure → spent read deed ≡ read_then → Leads alone a.failed old procedure new left → led a.said (rest_next p read_then new.history a.next) ≡ left → spent_next read_then a.next ≡ read_then → Goes alone old p read deed a new n n
-goes_by alone old p read read_then deed procedure a new n left e s w d spent_so = record {
-  read_then = read_then;
-  leads = subst (λ x. Leads alone a.failed old x new (led a.said (rest_next p read_then new.history a.next))) (sym e) (subst (λ x. Leads alone a.failed old procedure new x) (sym d) w);
-  spent_then = spent_so;
-  counted = λ from had. subst (λ m. n ≡ raised_by m from) s had;
-  rose = omega arith;
-}
+-- an aggregate that is made
+pub view_meets : {T J : Type 0} (shown : Shown T J) (alone : Bool) (old : State) (deed : Deed T J) (def : ViewDef) (filled : Bool) (outcome : Outcome ℕ) (pos : ℕ) (t : Tried ℕ) (r : Result ℕ Refusal) (failed : Bool) (new : NewView) (mid : State) → deed ≡ deeds.View def filled → Called alone old (making_view def) outcome mid → pos ≡ position mid.history → IsTried pos outcome (Ok t) → failed ≡ has_failed t → r ≡ came t → new.name ≡ def.name → new.width ≡ def.fold.width → Meets shown alone old deed (record { outcome = outcomes.View new filled r; failed = failed }) mid
+view_meets {T} {J} shown alone old deed def filled outcome pos t r failed new mid e c at i f j name width =
+    subst (λ (d : Deed T J). Meets shown alone old d (record { outcome = outcomes.View new filled r; failed = failed }) mid) (sym e)
+    (record {
+      leads = λ p read.
+          let procedure = looks (λ g. followed_by (tries_at g (making_view def g)) (after_view p (length (roster g).views) def filled)) in
+          subst (λ x. Leads alone x old procedure mid (view_leaves p (number_at mid.history new.name) (first_of new.width) filled r)) (sym f)
+          (subst (λ x. Leads alone (has_failed t) old procedure mid (view_leaves p (number_at mid.history new.name) (first_of new.width) filled x)) (sym j)
+          (view_leads alone old def filled outcome pos t mid new.name (first_of new.width) p c at i name (ap first_of width)));
+      answers = record {
+        fits = subst (λ x. MadeFits x mid.history new.name) (sym j) (view_fits alone old def outcome pos t mid new.name c i name);
+        left_so = refl;
+        spent_so = λ read. refl;
+      };
+    })
 
--- a deed that only looks, or had no memory for it
-pub look_goes : {T J : Type 0} (alone : Bool) (old : State) (p : Places) (read : ℕ) (deed : Deed T J) (Reports : History → Type 0) (f : History → Procedure (Turn Places)) (next : Next T J) (mid : State) (n : ℕ) → rest p read old.history deed ≡ looks f → spent read deed ≡ 0 → Looked alone old Reports mid → rest_next p 0 mid.history next ≡ f mid.history → Goes alone old p read deed (record { said = None; next = next; failed = false }) mid n n
-look_goes alone old p read deed Reports f next mid n e s l d =
-    goes_by alone old p read 0 deed (looks f) (record { said = None; next = next; failed = false }) mid n (f mid.history) e s (look_leads alone old Reports mid (λ h. true) f l) d (unspent next)
+-- the number of an aggregate that was made
+pub found_meets : {T J : Type 0} (shown : Shown T J) (alone : Bool) (old : State) (deed : Deed T J) (new : NewView) (made : ℕ) (asked : Asked) (Reports : History → Type 0) (mid : State) → deed ≡ deeds.Fill new made → IsThere old.history new.name → Looked alone old Reports mid → asked ≡ record { view = number_at old.history new.name; lo = None; hi = None; min = first_of new.width } → Meets shown alone old deed (record { outcome = outcomes.Found asked made; failed = false }) mid
+found_meets {T} {J} shown alone old deed new made asked Reports mid e there looked is =
+    let n = number_at old.history new.name in
+    let min = first_of new.width in
+    subst (λ (d : Deed T J). Meets shown alone old d (record { outcome = outcomes.Found asked made; failed = false }) mid) (sym e)
+    (record {
+      leads = λ p read.
+          subst (λ a. Leads alone false old (view_made p n min made true) mid (ending_as (after_line (said.View made)) (followed_by (cuts_refresh a.view a.lo a.hi) (after_cut p a.min)))) (sym is)
+          (seen_leads alone old mid (λ h. true) _ (sees_looked alone old Reports mid looked));
+      answers = record {
+        fits = subst (λ a. IsAsked mid.history a) (sym is) (record { view = view_stays old.history mid.history n (begins_looked looked) there; low = λ x e. absurd cc; high = λ x e. absurd cc });
+        left_so = refl;
+        spent_so = λ read. refl;
+      };
+    })
 
-pub look_broken : {T J : Type 0} (alone : Bool) (old : State) (p : Places) (read : ℕ) (deed : Deed T J) (Reports : History → Type 0) (f : History → Procedure (Turn Places)) (result : Result (Advanced T J) NoMemory) (mid : State) (n : ℕ) → IsErr result → rest p read old.history deed ≡ looks f → Looked alone old Reports mid → Advances alone old p read deed result mid n n
-look_broken alone old p read deed Reports f result mid n i e l =
-    broken_off alone old p read deed result mid n i (subst (λ d. Breaks alone old d mid) (sym e) (looked_only alone old Reports mid (λ h. true) f l))
+-- a snapshot
+pub look_meets : {T J : Type 0} (shown : Shown T J) (alone : Bool) (old : State) (deed : Deed T J) (then : AfterLook) (shot : T) (Reports : History → Type 0) (mid : State) → deed ≡ deeds.Look then → Looked alone old Reports mid → shown.stands shot mid.history → IsTrue (all_allowed mid.history) → Meets shown alone old deed (record { outcome = outcomes.Look then shot; failed = false }) mid
+look_meets {T} {J} shown alone old deed then shot Reports mid e looked stands allowed =
+    subst (λ (d : Deed T J). Meets shown alone old d (record { outcome = outcomes.Look then shot; failed = false }) mid) (sym e)
+    (record {
+      leads = λ p read. look_leads alone old Reports mid (λ h. true) (λ g. look_left p g then) looked;
+      answers = record { fits = (stands, allowed); left_so = refl; spent_so = λ read. refl };
+    })
 
 -- ---- a refresh that can't be finished any more stays so
 

@@ -28,6 +28,7 @@ use Rattle.stmt_check.specs.Check.{refusal_of}
 use Rattle.stmt_check.specs.Sound.{IsQueue}
 use Rattle.stmt_check.proofs.QueueLaws.{queues_are_sound}
 use Rattle.ts_sessions.specs.declared.changes.Completion.{Completion}
+use Rattle.ts_sessions.specs.declared.deeds.AfterLook.TheVariants as looks_for
 use Rattle.ts_sessions.specs.declared.deeds.Deed.TheVariants as deeds
 use Rattle.ts_sessions.specs.declared.deeds.Next.{Next}
 use Rattle.ts_sessions.specs.declared.deeds.Next.TheVariants as nexts
@@ -153,7 +154,7 @@ module _ {T J : Type 0} (shown : Shown T J) (bytes : ℕ) (s : State) (p : Place
     taken = refl;
   }
 
-  pub reads_first : block_refusal p.block kinds.BeginsRead ≡ None → IsFirst shown bytes s p stmts.BeginRead (nexts.Deed deeds.BeginRead)
+  pub reads_first : block_refusal p.block kinds.BeginsRead ≡ None → IsFirst shown bytes s p stmts.BeginRead (nexts.Deed (deeds.Look looks_for.BeginRead))
   reads_first pass = record {
     stands = λ alone. performs_looks alone s p bytes stmts.BeginRead (λ h. ends (turns (enters (reading (position h)) p) (said.BeginRead (position h)))) refl (λ h on. ap (λ b. named p bytes stmts.BeginRead (read_at b h)) (begins_outside p.block pass));
     fits = tt;

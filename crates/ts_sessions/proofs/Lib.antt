@@ -11,10 +11,12 @@ pub mod HoldLaws
 pub mod JobLaws
 pub mod SessionLaws
 pub mod DeedWalks
+pub mod FollowLaws
 pub mod NamedLaws
 pub mod CalendarLaws
 pub mod FormLaws
 pub mod FirstLaws
+pub mod OpeningLaws
 pub mod MeantLaws
 pub mod HeldDeeds
 pub mod LeftLaws

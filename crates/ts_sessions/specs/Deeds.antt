@@ -12,6 +12,7 @@ use Rattle.ts_model.specs.declared.events.Event.TheVariants as events
 use Rattle.ts_model.specs.Numbers.{no_refresh, no_snapshot}
 use Rattle.result_text.specs.declared.replies.Said.{Said}
 use Rattle.result_text.specs.declared.replies.Said.TheVariants as said
+use Rattle.ts_model.specs.declared.outcomes.CutDone.{CutDone}
 use Rattle.ts_model.specs.declared.outcomes.Refusal.{Refusal}
 use Rattle.ts_model.specs.declared.queries.Answer.{Answer}
 use Rattle.ts_model.specs.declared.rosters.Roster.{Roster}
@@ -28,6 +29,10 @@ use Rattle.ts_sessions.specs.declared.changes.Change.{Change}
 use Rattle.ts_sessions.specs.declared.changes.Change.TheVariants as changes
 use Rattle.ts_sessions.specs.declared.changes.Completion.{Completion}
 use Rattle.ts_sessions.specs.declared.deeds.Advanced.{Advanced}
+use Rattle.ts_sessions.specs.declared.deeds.AfterCut.{AfterCut}
+use Rattle.ts_sessions.specs.declared.deeds.AfterCut.TheVariants as after_cuts
+use Rattle.ts_sessions.specs.declared.deeds.AfterLook.{AfterLook}
+use Rattle.ts_sessions.specs.declared.deeds.AfterLook.TheVariants as looks_for
 use Rattle.ts_sessions.specs.declared.deeds.Deed.{Deed}
 use Rattle.ts_sessions.specs.declared.deeds.Deed.TheVariants as deeds
 use Rattle.ts_sessions.specs.declared.deeds.Finishing.{Finishing}
@@ -60,7 +65,7 @@ use Rattle.ts_sessions.specs.Held.{GoesOn, HoldsOf, IsJobOf, is_lost, places_in}
 use Rattle.ts_sessions.specs.Places.{Block, Places, Turn, cuts, enters, none, reading, refuses, turns, writing}
 use Rattle.ts_sessions.specs.Procedures.{Procedure, ending_as, ends, followed_by, looks, tries, tries_at}
 use Rattle.ts_sessions.specs.Sessions.{ChangeHolds, EndsAt, Spares, turn_of}
-use Rattle.ts_sessions.specs.Step.{after_cut, after_line, after_snapshot, after_view, committed, cut_turn, cuts_refresh, finish_turn, finishes_refresh, lost_code, refreshed, reported, snap_turn, takes_snapshot, unfinished, view_made}
+use Rattle.ts_sessions.specs.Step.{after_cut, after_line, after_snapshot, after_view, committed, cut_turn, cuts_refresh, finish_turn, finishes_refresh, lost_code, refreshed, reported, snap_turn, taken, unfinished, view_made}
 use Rattle.ts_sessions.specs.Sound.{IsNamed, IsThere, number_at}
 use Rattle.ts_sessions.specs.Walks.{Walks, Breaks}
 
@@ -134,31 +139,38 @@ closing (reading at) = said_once said.End (changes.Enters opens.Nothing)
 
 -- what takes a snapshot for a refresh, if one is meant
 abbrev pub holding : {T J : Type 0} → Option ℕ → Deed T J
-holding None = deeds.Unknown
-holding (Some c) = deeds.Hold c
+holding None = deeds.Look looks_for.Unknown
+holding (Some c) = deeds.Look (looks_for.Hold c)
+
+-- what is left after a cut of a refresh whose aggregate's first bucket starts there
+abbrev pub cut_left : Places → ℤ → AfterCut → Result CutDone Refusal → Procedure (Turn Places)
+cut_left p min after_cuts.Refresh r = after_cut p min r
+cut_left p min after_cuts.End r = ends (cut_turn p min r)
+
+-- what is left after a look at a history, by what it is for
+abbrev pub look_left : Places → History → AfterLook → Procedure (Turn Places)
+look_left p h looks_for.BeginRead =
+    ends (turns (enters (reading (position h)) p) (said.BeginRead (position h)))
+look_left p h (looks_for.Snapshot begun) =
+    after_snapshot (cuts begun.cut p) begun.cut begun.span begun.min (taken begun.cut h)
+look_left p h (looks_for.Hold cut) = ends (snap_turn p cut (taken cut h))
+look_left p h (looks_for.Refuse cut lack) = ends (refuses p (unfinished (lack_code lack h) h (pending h cut)))
+look_left p h looks_for.Unknown = ends (refuses p (refusal no_refresh h 0))
 
 -- what is left of a statement of a session with these places, which has read so many rows, where this is to be done
--- next and this history was seen
+-- next and this history was seen: a call, and what its answer leaves
 abbrev pub rest : {T J : Type 0} → Places → ℕ → History → Deed T J → Procedure (Turn Places)
-rest p read h (deeds.Refresh asked) =
-    followed_by (cuts_refresh asked.view asked.lo asked.hi) (after_cut p asked.min)
-rest p read h (deeds.Cut asked) =
-    followed_by (cuts_refresh asked.view asked.lo asked.hi) (λ r. ends (cut_turn p asked.min r))
-rest p read h (deeds.Snapshot begun) =
-    followed_by (takes_snapshot begun.cut) (after_snapshot (cuts begun.cut p) begun.cut begun.span begun.min)
-rest p read h (deeds.Hold cut) = followed_by (takes_snapshot cut) (λ r. ends (snap_turn p cut r))
+rest p read h (deeds.Cut asked then) =
+    followed_by (cuts_refresh asked.view asked.lo asked.hi) (cut_left p asked.min then)
 rest p read h (deeds.Finish job f) =
     followed_by (finishes_refresh (cut_in f) (at_in f)) (λ r. ends (finished p read f r))
-rest p read h (deeds.Refuse cut lack) = looks (λ g. ends (refuses p (unfinished (lack_code lack g) g (pending g cut))))
 rest p read h (deeds.Make m) = followed_by (tries (making_of m)) (λ r. ends (reported p (says (line_of m)) r))
 rest p read h (deeds.Commit ops leaves) =
     followed_by (tries (committing ops)) (λ r. ends (committed p (left_by leaves p) r))
 rest p read h (deeds.View def filled) =
     looks (λ g. followed_by (tries_at g (making_view def g)) (after_view p (length (roster g).views) def filled))
 rest p read h (deeds.Fill new made) = view_made p (number_at h new.name) (first_of new.width) made true
-rest p read h deeds.BeginRead =
-    looks (λ g. ends (turns (enters (reading (position g)) p) (said.BeginRead (position g))))
-rest p read h deeds.Unknown = looks (λ g. ends (refuses p (refusal no_refresh g 0)))
+rest p read h (deeds.Look then) = looks (λ g. look_left p g then)
 
 -- the same of what comes next
 abbrev pub rest_next : {T J : Type 0} → Places → ℕ → History → Next T J → Procedure (Turn Places)
@@ -166,19 +178,22 @@ rest_next p read h (nexts.Deed d) = rest p read h d
 rest_next p read h (nexts.End t) = ends (turn_of p read t)
 
 -- how many meetings with the store are left at most
+abbrev pub cut_meets : AfterCut → ℕ
+cut_meets after_cuts.Refresh = 3
+cut_meets after_cuts.End = 1
+
+abbrev pub look_meets : AfterLook → ℕ
+look_meets (looks_for.Snapshot begun) = 2
+look_meets other = 1
+
 abbrev pub left : {T J : Type 0} → Deed T J → ℕ
-left (deeds.Refresh asked) = 3
-left (deeds.Cut asked) = 1
-left (deeds.Snapshot begun) = 2
-left (deeds.Hold cut) = 1
+left (deeds.Cut asked then) = cut_meets then
 left (deeds.Finish job f) = 1
-left (deeds.Refuse cut lack) = 1
 left (deeds.Make m) = 1
 left (deeds.Commit ops leaves) = 1
 left (deeds.View def filled) = 5
 left (deeds.Fill new made) = 4
-left deeds.BeginRead = 1
-left deeds.Unknown = 1
+left (deeds.Look then) = look_meets then
 
 -- what is left after a line that was said already
 abbrev pub led : Option Said → Procedure (Turn Places) → Procedure (Turn Places)
@@ -222,8 +237,7 @@ pub record IsAsked (h : History) (asked : Asked) : Type 0 where
 -- what a deed needs of the state that it is done at: the aggregate of a refresh is there and its bounds are times, a
 -- job is that of its refresh and snapshot, an event is sound, and an aggregate that is filled is there under its name
 abbrev pub DeedFits : {T J : Type 0} → Shown T J → Deed T J → State → Type 0
-DeedFits shown (deeds.Refresh asked) s = IsAsked s.history asked
-DeedFits shown (deeds.Cut asked) s = IsAsked s.history asked
+DeedFits shown (deeds.Cut asked then) s = IsAsked s.history asked
 DeedFits shown (deeds.Finish job f) s = IsJobOf shown (cut_in f) (at_in f) s.history job
 DeedFits shown (deeds.Make m) s = IsTrue (sound s.history (event_of m))
 DeedFits shown (deeds.Commit ops leaves) s = IsTrue (sound s.history (events.Commit ops))

@@ -22,4 +22,6 @@ pub mod Sessions
 pub mod Sound
 pub mod Parts
 pub mod Deeds
+pub mod Calls
+pub mod Openings
 pub mod Meant

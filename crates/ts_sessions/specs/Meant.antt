@@ -17,6 +17,8 @@ use Rattle.hier_agg.specs.Reads.{upper_read}
 use Rattle.result_text.specs.declared.replies.Said.{Said}
 use Rattle.result_text.specs.declared.replies.Said.TheVariants as said
 use Rattle.ts_sessions.specs.declared.changes.Change.TheVariants as changed
+use Rattle.ts_sessions.specs.declared.deeds.AfterCut.TheVariants as after_cuts
+use Rattle.ts_sessions.specs.declared.deeds.AfterLook.TheVariants as looks_for
 use Rattle.ts_sessions.specs.declared.deeds.Deed.TheVariants as deeds
 use Rattle.ts_sessions.specs.declared.deeds.Making.TheVariants as making
 use Rattle.ts_sessions.specs.declared.deeds.Next.{Next}
@@ -52,12 +54,12 @@ asked_by r (actions.Hyper t hyper) = meant.Does (deeds.Make (making.Hyper t hype
 asked_by r (actions.View def filled) = meant.Does (deeds.View def filled)
 asked_by r (actions.Mode n only) = meant.Does (deeds.Make (making.Mode n only))
 asked_by r (actions.Change op) = meant.Changes op
-asked_by r (actions.Refresh n lo hi) = meant.Does (deeds.Refresh (asked_for r n lo hi))
-asked_by r (actions.Cut n lo hi) = meant.Does (deeds.Cut (asked_for r n lo hi))
+asked_by r (actions.Refresh n lo hi) = meant.Does (deeds.Cut (asked_for r n lo hi) after_cuts.Refresh)
+asked_by r (actions.Cut n lo hi) = meant.Does (deeds.Cut (asked_for r n lo hi) after_cuts.End)
 asked_by r (actions.Ask q) = meant.Shows (plan_of r q)
 asked_by r (actions.Calendar t number unit at fold) =
     meant.Shows (calendar_plan t (record { number = number; unit = unit_of unit; at = at; fold = fold }))
-asked_by r other = meant.Does deeds.Unknown
+asked_by r other = meant.Does (deeds.Look looks_for.Unknown)
 
 -- by a statement that is checked, with its refusal
 abbrev pub checked_as : {T J : Type 0} → Roster → Stmt → Option Refusal → Meant T J

@@ -1,28 +1,22 @@
 //! Deeds: what a statement is to do with its store next, each of which meets the store once.
-ghost use Rattle.std.specs.Prelude.{◌≡◌, ℕ, ◌<◌, ◌^◌, IfOk, IsTrue, OnOk};
+ghost use Rattle.std.specs.Prelude.{◌≡◌, ℕ, ◌<◌, ◌^◌, IfOk, OnOk};
 ghost use Rattle.std.specs.Thread.{IsSync};
 ghost use Rattle.ts_model.specs.History.{History, position as position_of};
-ghost use Rattle.ts_model.specs.Sound.{sound};
-ghost use Rattle.ts_sessions.specs.Deeds.{Advances, CarriesOut, DeedFits, IsLostBy, IsLostNext, Joins, NextFits, event_of, held_in, lack_code, left, left_next, line_of, making_of, taken_by, taken_next};
+ghost use Rattle.ts_sessions.specs.Deeds.{Advances, CarriesOut, DeedFits, IsLostBy, IsLostNext, Joins, NextFits, at_in, cut_in, event_of, held_in, lack_code, left, left_next, line_of, taken_by, taken_next};
 ghost use Rattle.ts_sessions.specs.Places.{Places};
-ghost use Rattle.ts_sessions.specs.Procedures.{tries};
-ghost use Rattle.ts_sessions.specs.Sessions.{Brings, Tries};
+ghost use Rattle.ts_sessions.specs.Sessions.{Brings};
 
-use crate::blocks::Open;
-use crate::changes::{Change, Completion};
-use crate::events::{NewView, all_of, commit, new_view, view_number};
-use crate::follows::{
-    after_commit, after_cut, after_finish, after_hold, after_number, after_refresh_cut,
-    after_snapshot, after_view, refuse, say,
-};
-use crate::refreshes::{Asked, cut, finish, take_snapshot};
+use crate::calls::call;
+use crate::changes::Completion;
+use crate::events::NewView;
+use crate::follows::follow;
+use crate::refreshes::Asked;
 use crate::refusals::lost_code;
-use crate::tries::{Tried, answered};
 use result_text::Said;
 use std::alloc::Global;
 use std::thread::Threads;
 use ts_bucket::Span;
-use ts_model::{Backend, Gate, Hyper, Op, Pending, Shown, TableDef, ViewDef, codes};
+use ts_model::{Backend, Event, Gate, Hyper, Op, Shown, TableDef, ViewDef, codes};
 use ts_schema::{NoMemory, Seq, Steps};
 
 /// A refresh that was cut.
@@ -76,7 +70,31 @@ pub enum Lacks {
     Job,
 }
 
-/// What a statement is to do with its store next.
+/// What goes on after a cut.
+#[derive(Clone, Copy, Debug, PartialEq, Eq)]
+pub enum AfterCut {
+    /// The refresh goes on.
+    Refresh,
+    /// Nothing.
+    End,
+}
+
+/// What a snapshot is for.
+#[derive(Drop)]
+pub enum AfterLook {
+    /// A read block begins, at what is seen then.
+    BeginRead,
+    /// A refresh that the statement cut gets a snapshot, and is then finished.
+    Snapshot(Begun),
+    /// A refresh gets a snapshot, which the session holds.
+    Hold { cut: u64 },
+    /// A refresh can't be finished, since the session lacks this: it is refused.
+    Refuse { cut: u64, lacks: Lacks },
+    /// No refresh is meant: it is refused.
+    Unknown,
+}
+
+/// What a statement is to do with its store next: a call of it, with what awaits the answer.
 #[derive(Drop)]
 pub enum Deed<T: Shown>
 where
@@ -90,22 +108,12 @@ where
     View { def: ViewDef, filled: bool },
     /// An aggregate that an event made is refreshed over all that there is.
     Fill { new: NewView, made: u64 },
-    /// A read block begins, at what is seen then.
-    BeginRead,
-    /// A refresh is cut, and then goes on.
-    Refresh(Asked),
     /// A refresh is cut.
-    Cut(Asked),
-    /// A refresh that the statement cut gets a snapshot, and is then finished.
-    Snapshot(Begun),
-    /// A refresh gets a snapshot, which the session holds.
-    Hold { cut: u64 },
+    Cut { asked: Asked, then: AfterCut },
     /// A refresh is finished with a job.
     Finish { job: T::Job, finishing: Finishing },
-    /// A refresh can't be finished, since the session lacks this: it is refused.
-    Refuse { cut: u64, lacks: Lacks },
-    /// No refresh is meant: it is refused.
-    Unknown,
+    /// A snapshot is taken.
+    Look(AfterLook),
 }
 
 /// What comes after a deed.
@@ -218,131 +226,13 @@ where
     ensures lost { OnOk result (IsLostBy deed (B.state backend.new)) }
     ensures kin { B.kin backend.new ≡ B.kin backend.old }
 {
-    match deed {
-        Deed::Make(making) => {
-            let line = making.line();
-            let tried = make_one(backend, making)?;
-            let failed = tried.failed();
-            let next = after_number(alloc, line, tried.came())?;
-            Ok(Advanced {
-                said: None,
-                next,
-                failed,
-            })
-        }
-        Deed::Commit { ops, leaves } => {
-            let tried = commit(backend, ops)?;
-            let failed = tried.failed();
-            let next = after_commit(alloc, leaves, tried.came())?;
-            Ok(Advanced {
-                said: None,
-                next,
-                failed,
-            })
-        }
-        Deed::View { def, filled } => {
-            let new = new_view(&def)?;
-            let outcome = backend.make_view(def);
-            let tried = answered(outcome, backend.position())?;
-            let failed = tried.failed();
-            let next = after_view(alloc, new, filled, tried.came())?;
-            Ok(Advanced {
-                said: None,
-                next,
-                failed,
-            })
-        }
-        Deed::Fill { new, made } => {
-            let shot = backend.snap()?;
-            let view = view_number(shot.roster().views.items(), &new.name);
-            let next = Next::Deed(Deed::Refresh(all_of(view, &new.width)));
-            Ok(Advanced {
-                said: Some(Said::View(made)),
-                next,
-                failed: false,
-            })
-        }
-        Deed::BeginRead => {
-            let shot = backend.snap()?;
-            let at = shot.position();
-            let next = say(
-                alloc,
-                Said::BeginRead(at),
-                Change::Enters(Open::Read { at, shot }),
-            )?;
-            Ok(Advanced {
-                said: None,
-                next,
-                failed: false,
-            })
-        }
-        Deed::Refresh(asked) => {
-            let tried = cut(backend, asked.view, asked.lo, asked.hi)?;
-            let failed = tried.failed();
-            let next = after_refresh_cut(alloc, &asked, tried.came())?;
-            Ok(Advanced {
-                said: None,
-                next,
-                failed,
-            })
-        }
-        Deed::Cut(asked) => {
-            let tried = cut(backend, asked.view, asked.lo, asked.hi)?;
-            let failed = tried.failed();
-            let next = after_cut(alloc, &asked, tried.came())?;
-            Ok(Advanced {
-                said: None,
-                next,
-                failed,
-            })
-        }
-        Deed::Snapshot(begun) => {
-            let snapped = take_snapshot(rt, backend, begun.cut, steps)?;
-            let next = after_snapshot(alloc, begun, snapped)?;
-            Ok(Advanced {
-                said: None,
-                next,
-                failed: false,
-            })
-        }
-        Deed::Hold { cut } => {
-            let snapped = take_snapshot(rt, backend, cut, steps)?;
-            let next = after_hold(alloc, cut, snapped)?;
-            Ok(Advanced {
-                said: None,
-                next,
-                failed: false,
-            })
-        }
-        Deed::Finish { job, finishing } => {
-            let tried = finish(backend, gate, session, job)?;
-            let failed = tried.failed();
-            let next = after_finish(alloc, &finishing, tried.came())?;
-            Ok(Advanced {
-                said: None,
-                next,
-                failed,
-            })
-        }
-        Deed::Refuse { cut, lacks } => {
-            let shot = backend.snap()?;
-            let next = refuse(alloc, shot.pending(cut), shot.position(), lacks)?;
-            Ok(Advanced {
-                said: None,
-                next,
-                failed: false,
-            })
-        }
-        Deed::Unknown => {
-            let shot = backend.snap()?;
-            let next = refuse(alloc, Pending::Unknown, shot.position(), Lacks::Snapshot)?;
-            Ok(Advanced {
-                said: None,
-                next,
-                failed: false,
-            })
-        }
-    }
+    let meeting = call(backend, gate, session, deed)?;
+    let followed = follow(rt, alloc, meeting.outcome, steps)?;
+    Ok(Advanced {
+        said: followed.said,
+        next: followed.next,
+        failed: meeting.failed,
+    })
 }
 
 impl Making {
@@ -356,27 +246,15 @@ impl Making {
             Making::Mode { .. } => Line::Mode,
         }
     }
-}
 
-/// Makes a table, or sets one thing of a relation.
-#[tactic(auto, using(crate::proofs::CallWalks::called_tries))]
-fn make_one<B: Backend>(backend: &mut B, making: Making) -> Result<Tried<u64>, NoMemory>
-    requires { IsTrue (sound (B.state backend.old).history (event_of making)) }
-    ensures tries { Tries B.alone (B.state backend.old) (tries (making_of making)) result (B.state backend.new) }
-    ensures kin { B.kin backend.new ≡ B.kin backend.old }
-{
-    match making {
-        Making::Table(def) => {
-            let outcome = backend.make_table(def);
-            answered(outcome, backend.position())
-        }
-        Making::Hyper { table, hyper } => {
-            let outcome = backend.make_hyper(table, hyper);
-            answered(outcome, backend.position())
-        }
-        Making::Mode { view, only } => {
-            let outcome = backend.set_mode(view, only);
-            answered(outcome, backend.position())
+    /// The event that it is.
+    pub fn event(self) -> Event
+        ensures { result ≡ event_of self }
+    {
+        match self {
+            Making::Table(def) => Event::Table(def),
+            Making::Hyper { table, hyper } => Event::Hyper { table, hyper },
+            Making::Mode { view, only } => Event::Mode { view, only },
         }
     }
 }
@@ -410,13 +288,8 @@ where
             Deed::Commit { .. } => None,
             Deed::View { .. } => None,
             Deed::Fill { .. } => None,
-            Deed::Refresh(_) => None,
-            Deed::Cut(_) => None,
-            Deed::Snapshot(_) => None,
-            Deed::Hold { .. } => None,
-            Deed::Refuse { .. } => None,
-            Deed::BeginRead => None,
-            Deed::Unknown => None,
+            Deed::Cut { .. } => None,
+            Deed::Look(_) => None,
         }
     }
 }
@@ -441,6 +314,26 @@ impl Finishing {
         match self {
             Finishing::Begun { .. } => None,
             Finishing::Held { cut, at: _ } => Some(*cut),
+        }
+    }
+
+    /// The number of the refresh.
+    pub fn cut(&self) -> u64
+        ensures { result ≡ cut_in self.now }
+    {
+        match self {
+            Finishing::Begun { begun, at: _ } => begun.cut,
+            Finishing::Held { cut, at: _ } => *cut,
+        }
+    }
+
+    /// The position of its snapshot.
+    pub fn at(&self) -> u64
+        ensures { result ≡ at_in self.now }
+    {
+        match self {
+            Finishing::Begun { begun: _, at } => *at,
+            Finishing::Held { cut: _, at } => *at,
         }
     }
 }

@@ -13,7 +13,7 @@ ghost use Rattle.ts_sessions.specs.Step.{given_up, refresh_meant};
 
 use crate::blocks::{Open, Queue};
 use crate::changes::Change;
-use crate::deeds::{Deed, Finishing, Lacks, Next};
+use crate::deeds::{AfterLook, Deed, Finishing, Lacks, Next};
 use crate::follows::say;
 use crate::sessions::Session;
 use result_text::Said;
@@ -78,8 +78,8 @@ where
         ensures { result ≡ holding (refresh_meant (places_in self.now) number) }
     {
         match self.meant(number) {
-            Some(cut) => Deed::Hold { cut },
-            None => Deed::Unknown,
+            Some(cut) => Deed::Look(AfterLook::Hold { cut }),
+            None => Deed::Look(AfterLook::Unknown),
         }
     }
 
@@ -98,16 +98,16 @@ where
                     job,
                     finishing: Finishing::Held { cut, at },
                 },
-                HeldJob::Lost { at: _ } => Deed::Refuse {
+                HeldJob::Lost { at: _ } => Deed::Look(AfterLook::Refuse {
                     cut,
                     lacks: Lacks::Job,
-                },
-                HeldJob::Nothing => Deed::Refuse {
+                }),
+                HeldJob::Nothing => Deed::Look(AfterLook::Refuse {
                     cut,
                     lacks: Lacks::Snapshot,
-                },
+                }),
             },
-            None => Deed::Unknown,
+            None => Deed::Look(AfterLook::Unknown),
         }
     }
 

@@ -1,10 +1,13 @@
 //! What follows a deed, by what came of it: another deed, or the end of the statement. Nothing here meets a store.
-ghost use Rattle.std.specs.Prelude.{◌≡◌, [], ◌∷◌, false, IfOk, ⊤};
+ghost use Rattle.std.specs.Prelude.{◌≡◌, ◌<◌, ◌^◌, [], ◌∷◌, false, IfOk, IsTrue, ⊤};
+ghost use Rattle.std.specs.Thread.{IsSync};
 ghost use Rattle.ts_bucket.specs.Bucket.{first_of};
+ghost use Rattle.ts_model.specs.Allowed.{all_allowed};
 ghost use Rattle.ts_model.specs.History.{History, position as position_of};
 ghost use Rattle.result_text.specs.declared.replies.Said.TheVariants.{Cut, Fault};
 ghost use Rattle.ts_sessions.specs.declared.changes.Change.TheVariants.{Cuts};
 ghost use Rattle.ts_sessions.specs.declared.deeds.Next.TheVariants.{End};
+ghost use Rattle.ts_sessions.specs.Calls.{FollowsTo, LooksTo, OutcomeFits, quiet};
 ghost use Rattle.ts_sessions.specs.Deeds.{Follows, FollowsReading, MadeFits, finished, lack_code, left_by, said_once, says, spent_by, view_leaves};
 ghost use Rattle.ts_sessions.specs.Places.{cuts};
 ghost use Rattle.ts_sessions.specs.Procedures.{ends};
@@ -14,14 +17,115 @@ ghost use Rattle.ts_sessions.specs.Step.{after_cut as cut_leaves, after_snapshot
 
 use crate::blocks::Open;
 use crate::changes::{Change, Completion, one_line};
-use crate::deeds::{Begun, Deed, Finishing, Lacks, Line, Next};
+use crate::calls::CallOutcome;
+use crate::deeds::{AfterCut, AfterLook, Begun, Deed, Finishing, Lacks, Line, Next};
 use crate::events::NewView;
-use crate::refreshes::{Asked, Snapped};
+use crate::refreshes::{Asked, Snapped, snapshot_of};
 use crate::refusals::at;
 use result_text::Said;
 use std::alloc::Global;
+use std::thread::Threads;
 use ts_model::{Committed, CutDone, Pending, Refusal, Shown, codes};
-use ts_schema::{NoMemory, Seq};
+use ts_schema::{NoMemory, Seq, Steps};
+
+/// What follows a deed.
+#[derive(Drop)]
+pub struct Followed<T: Shown>
+where
+    T::Job: Drop,
+{
+    /// A line that is said at once.
+    pub said: Option<Said>,
+    /// What comes next.
+    pub next: Next<T>,
+}
+
+/// What follows the call of a deed, by what it came to.
+pub fn follow<R: Threads + Sync, T: Shown + Drop, L>(
+    rt: &R,
+    alloc: Global,
+    outcome: CallOutcome<T>,
+    steps: &mut Steps<L>,
+) -> Result<Followed<T>, NoMemory>
+where
+    T::Job: Drop,
+    requires sync { IsSync R.row }
+    requires counts { steps.old < 2 ^ 64 }
+    ensures { (h : History) → OutcomeFits T.Shown h outcome
+        → FollowsTo T.Shown h outcome result steps.old steps.new }
+{
+    match outcome {
+        CallOutcome::Number { line, came } => quietly(after_number(alloc, line, came)),
+        CallOutcome::Commit { leaves, came } => quietly(after_commit(alloc, leaves, came)),
+        CallOutcome::View { new, filled, came } => quietly(after_view(alloc, new, filled, came)),
+        CallOutcome::Found { asked, made } => Ok(Followed {
+            said: Some(Said::View(made)),
+            next: Next::Deed(Deed::Cut {
+                asked,
+                then: AfterCut::Refresh,
+            }),
+        }),
+        CallOutcome::Cut { asked, then, came } => match then {
+            AfterCut::Refresh => quietly(after_refresh_cut(alloc, &asked, came)),
+            AfterCut::End => quietly(after_cut(alloc, &asked, came)),
+        },
+        CallOutcome::Finish { finishing, came } => quietly(after_finish(alloc, &finishing, came)),
+        CallOutcome::Look { then, shot } => quietly(after_look(rt, alloc, then, shot, steps)),
+    }
+}
+
+/// What comes next where no line is said at once.
+fn quietly<T: Shown + Drop>(next: Result<Next<T>, NoMemory>) -> Result<Followed<T>, NoMemory>
+where
+    T::Job: Drop,
+    ensures { result ≡ quiet next }
+{
+    match next {
+        Ok(next) => Ok(Followed { said: None, next }),
+        Err(NoMemory) => Err(NoMemory),
+    }
+}
+
+/// What follows a snapshot, by what it is for.
+fn after_look<R: Threads + Sync, T: Shown + Drop, L>(
+    rt: &R,
+    alloc: Global,
+    then: AfterLook,
+    shot: T,
+    steps: &mut Steps<L>,
+) -> Result<Next<T>, NoMemory>
+where
+    T::Job: Drop,
+    requires sync { IsSync R.row }
+    requires counts { steps.old < 2 ^ 64 }
+    ensures { (h : History) → T.stands shot h → IsTrue (all_allowed h)
+        → LooksTo T.Shown h then result steps.old steps.new }
+{
+    match then {
+        AfterLook::BeginRead => {
+            let at = shot.position();
+            say(
+                alloc,
+                Said::BeginRead(at),
+                Change::Enters(Open::Read { at, shot }),
+            )
+        }
+        AfterLook::Snapshot(begun) => {
+            let snapped = snapshot_of(rt, &shot, begun.cut, steps)?;
+            after_snapshot(alloc, begun, snapped)
+        }
+        AfterLook::Hold { cut } => {
+            let snapped = snapshot_of(rt, &shot, cut, steps)?;
+            after_hold(alloc, cut, snapped)
+        }
+        AfterLook::Refuse { cut, lacks } => {
+            refuse(alloc, shot.pending(cut), shot.position(), lacks)
+        }
+        AfterLook::Unknown => {
+            refuse(alloc, Pending::Unknown, shot.position(), Lacks::Snapshot)
+        }
+    }
+}
 
 /// Ends after a relation was made or set, or not.
 pub fn after_number<T: Shown + Drop>(
@@ -95,11 +199,11 @@ where
 {
     match came {
         Ok(done) => match done {
-            CutDone::Cut { pos, span } => Ok(Next::Deed(Deed::Snapshot(Begun {
+            CutDone::Cut { pos, span } => Ok(Next::Deed(Deed::Look(AfterLook::Snapshot(Begun {
                 cut: pos,
                 span,
                 min: asked.min,
-            }))),
+            })))),
             CutDone::Nothing { pos } => say(alloc, Said::Nothing(pos), Change::Nothing),
         },
         Err(refusal) => say(alloc, Said::Fault(refusal), Change::Nothing),

@@ -7,7 +7,9 @@
 //! - `kinds`: the kinds of statements, as blocks let them pass or not.
 //! - `name_checks`: what statements are to do first whose names are looked at.
 //! - `endings`: what those are to do first that begin or end blocks, or mean a snapshot that a session holds.
+//! - `openings`: what a statement does first, by its kind and by the block of its session.
 //! - `deeds`: what a statement is to do with its store next, and the one way in which it is done.
+//! - `calls`: calls of a store for deeds, and what they came to.
 //! - `follows`: what follows a deed, by what came of it.
 //! - `events`: operations that take effect, and aggregates that are made.
 //! - `refreshes`: the three phases of refreshes.
@@ -20,6 +22,7 @@
 
 mod actors;
 mod blocks;
+pub mod calls;
 pub mod changes;
 pub mod deeds;
 pub mod endings;
@@ -28,6 +31,7 @@ pub mod follows;
 mod kinds;
 pub mod laws;
 pub mod name_checks;
+mod openings;
 pub mod queries;
 mod refreshes;
 mod refusals;
@@ -39,6 +43,7 @@ mod tries;
 pub use actors::Actor;
 pub use blocks::{Block, Open, Queue};
 pub use kinds::{StatementKind, kind_of};
+pub use openings::Opening;
 pub use refreshes::{Asked, Snapped, cut, finish, snapshot_of, take_snapshot};
 pub use refusals::{bare, placed};
 pub use replies::{Reply, StepEnd, replied, write_reply};

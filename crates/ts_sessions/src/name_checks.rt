@@ -15,7 +15,7 @@ ghost use Rattle.ts_sessions.specs.Step.{block_refusal, kind_of as kind_of_stmt,
 
 use crate::blocks::Open;
 use crate::changes::Change;
-use crate::deeds::{Deed, Making, Next};
+use crate::deeds::{AfterCut, Deed, Making, Next};
 use crate::events::alone;
 use crate::follows::say;
 use crate::queries::{Plan, answer, calendar_plan, least_start, plan_of, roll_up_plan, unit_of};
@@ -105,11 +105,11 @@ where
         Action::Change(op) => Ok(Meant::Changes(op)),
         Action::Refresh { view, lo, hi } => {
             let asked = asked_of(roster, view, lo, hi);
-            Ok(Meant::Does(Deed::Refresh(asked)))
+            Ok(Meant::Does(Deed::Cut { asked, then: AfterCut::Refresh }))
         }
         Action::Cut { view, lo, hi } => {
             let asked = asked_of(roster, view, lo, hi);
-            Ok(Meant::Does(Deed::Cut(asked)))
+            Ok(Meant::Does(Deed::Cut { asked, then: AfterCut::End }))
         }
         Action::Ask(query) => Ok(Meant::Shows(plan_of(roster, query))),
         Action::Calendar {

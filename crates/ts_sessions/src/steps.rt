@@ -10,9 +10,9 @@ ghost use Rattle.ts_sessions.specs.Sound.{AsksSoundly};
 ghost use Rattle.ts_sessions.specs.Step.{block_refusal, kind_of as kind_of_stmt, performs, step as step_of};
 
 use crate::changes::{Change, Completion, refused};
-use crate::deeds::{Deed, Next, carry_out};
-use crate::endings::begin;
+use crate::deeds::{Next, carry_out};
 use crate::kinds::kind_of;
+use crate::openings::Opening;
 use crate::refusals::placed;
 use crate::replies::{Reply, StepEnd, replied, write_reply};
 use crate::sessions::Session;
@@ -199,25 +199,11 @@ where
         ensures number { self.new.number ≡ self.old.number }
         ensures kin { B.kin backend.new ≡ B.kin backend.old }
     {
-        match stmt {
-            Stmt::Snap { cut } => Ok(Next::Deed(self.snap(*cut))),
-            Stmt::Finish { cut } => Ok(Next::Deed(self.finish(*cut))),
-            Stmt::Begin => begin(alloc),
-            Stmt::BeginRead => Ok(Next::Deed(Deed::BeginRead)),
-            Stmt::Commit => self.end_block(alloc),
-            Stmt::Rollback => self.roll_back(alloc),
-            Stmt::Table { .. }
-            | Stmt::Hyper { .. }
-            | Stmt::View { .. }
-            | Stmt::Mode { .. }
-            | Stmt::Insert { .. }
-            | Stmt::Delete { .. }
-            | Stmt::Drop { .. }
-            | Stmt::Refresh { .. }
-            | Stmt::Cut { .. }
-            | Stmt::Buckets(_)
-            | Stmt::Calendar { .. }
-            | Stmt::Rows { .. } => self.named(rt, alloc, backend, stmt, bytes, steps),
+        let opening = self.opening(alloc, stmt)?;
+        match opening {
+            Opening::Next(next) => Ok(next),
+            Opening::Names => self.named(rt, alloc, backend, stmt, bytes, steps),
+            Opening::Finish(number) => Ok(Next::Deed(self.finish(number))),
         }
     }
 }

@@ -1,0 +1,119 @@
+-- What the call of a deed came to, and what is left of its statement there.
+use Rattle.std.specs.Prelude.{◌≡◌, ℕ, ◌≤◌, ◌<◌, Bool, None, Result, Ok, Err, IsTrue, ⊤}
+use Rattle.ts_schema.specs.Counts.{raised_by}
+use Rattle.ts_schema.specs.declared.memory.NoMemory.{NoMemory}
+use Rattle.ts_bucket.specs.Bucket.{first_of}
+use Rattle.ts_model.specs.Allowed.{all_allowed}
+use Rattle.ts_model.specs.History.{History}
+use Rattle.ts_model.specs.States.{State}
+use Rattle.ts_model.specs.declared.snapshots.Shown.{Ghosts as Shown}
+use Rattle.result_text.specs.declared.replies.Said.TheVariants as said
+use Rattle.ts_sessions.specs.declared.calls.CallOutcome.{CallOutcome}
+use Rattle.ts_sessions.specs.declared.calls.CallOutcome.TheVariants as outcomes
+use Rattle.ts_sessions.specs.declared.calls.Meeting.{Meeting}
+use Rattle.ts_sessions.specs.declared.deeds.AfterLook.{AfterLook}
+use Rattle.ts_sessions.specs.declared.deeds.Deed.{Deed}
+use Rattle.ts_sessions.specs.declared.deeds.Next.{Next}
+use Rattle.ts_sessions.specs.declared.follows.Followed.{Followed}
+use Rattle.ts_sessions.specs.Deeds.{IsAsked, Leads, MadeFits, NextFits, cut_left, cut_meets, finished, led, left, left_by, left_next, look_left, look_meets, rest, rest_next, says, spent, spent_by, spent_next, view_leaves}
+use Rattle.ts_sessions.specs.Places.{Places, Turn}
+use Rattle.ts_sessions.specs.Procedures.{Procedure, ending_as, ends, followed_by}
+use Rattle.ts_sessions.specs.Sound.{number_at}
+use Rattle.ts_sessions.specs.Step.{after_cut, after_line, committed, cuts_refresh, reported}
+use Rattle.ts_sessions.specs.Walks.{Breaks}
+
+-- ---- what a call leaves
+
+-- what is left of a statement of a session with these places, which had read so many rows, where its call came to this
+-- and this history was seen
+abbrev pub left_after : {T : Type 0} → Places → ℕ → History → CallOutcome T → Procedure (Turn Places)
+left_after p read h (outcomes.Number line r) = ends (reported p (says line) r)
+left_after p read h (outcomes.Commit leaves r) = ends (committed p (left_by leaves p) r)
+left_after p read h (outcomes.View new filled r) = view_leaves p (number_at h new.name) (first_of new.width) filled r
+left_after p read h (outcomes.Found asked made) =
+    ending_as (after_line (said.View made)) (followed_by (cuts_refresh asked.view asked.lo asked.hi) (after_cut p asked.min))
+left_after p read h (outcomes.Cut asked then r) = cut_left p asked.min then r
+left_after p read h (outcomes.Finish f r) = ends (finished p read f r)
+left_after p read h (outcomes.Look then shot) = look_left p h then
+
+-- how many meetings with the store were left at most, before the call
+abbrev pub meets_left : {T : Type 0} → CallOutcome T → ℕ
+meets_left (outcomes.Number line r) = 1
+meets_left (outcomes.Commit leaves r) = 1
+meets_left (outcomes.View new filled r) = 5
+meets_left (outcomes.Found asked made) = 4
+meets_left (outcomes.Cut asked then r) = cut_meets then
+meets_left (outcomes.Finish f r) = 1
+meets_left (outcomes.Look then shot) = look_meets then
+
+-- of so many rows read, those that what is left goes on from
+abbrev pub spent_after : {T : Type 0} → ℕ → CallOutcome T → ℕ
+spent_after read (outcomes.Finish f r) = spent_by read f
+spent_after read other = 0
+
+-- what it came to goes with the history that was seen: an aggregate that was made is there under its name, one that is
+-- to be refreshed is there, and a snapshot is one of an allowed history
+abbrev pub OutcomeFits : {T J : Type 0} → Shown T J → History → CallOutcome T → Type 0
+OutcomeFits shown h (outcomes.View new filled r) = MadeFits r h new.name
+OutcomeFits shown h (outcomes.Found asked made) = IsAsked h asked
+OutcomeFits shown h (outcomes.Look then shot) = shown.stands shot h × IsTrue (all_allowed h)
+OutcomeFits shown h other = ⊤
+
+-- ---- the two halves of the law: a call leads from what is left of a deed to what it leaves, and what follows it is
+-- just that
+
+-- the call of a deed came to this at some history that a world went on to
+pub record AnswersDeed {T J : Type 0} (shown : Shown T J) (h : History) (deed : Deed T J) (outcome : CallOutcome T) : Type 0 where
+  pub fits : OutcomeFits shown h outcome
+  pub left_so : meets_left outcome ≡ left deed
+  pub spent_so : (read : ℕ) → spent_after read outcome ≡ spent read deed
+
+-- a call of a store
+pub record Meets {T J : Type 0} (shown : Shown T J) (alone : Bool) (old : State) (deed : Deed T J) (m : Meeting T)
+    (new : State) : Type 0 where
+  pub leads : (p : Places) (read : ℕ)
+      → Leads alone m.failed old (rest p read old.history deed) new (left_after p read new.history m.outcome)
+  pub answers : AnswersDeed shown new.history deed m.outcome
+
+-- so, or the statement broke off for want of memory
+abbrev pub MeetsTo :
+    {T J : Type 0} → Shown T J → Bool → State → Deed T J → Result (Meeting T) NoMemory → State → Type 0
+MeetsTo shown alone old deed (Ok m) new = Meets shown alone old deed m new
+MeetsTo shown alone old deed (Err e) new = (p : Places) (read : ℕ) → Breaks alone old (rest p read old.history deed) new
+
+-- this follows a look at a history
+pub record IsLooked {T J : Type 0} (shown : Shown T J) (h : History) (then : AfterLook) (next : Next T J)
+    (before after : ℕ) : Type 0 where
+  pub read : ℕ
+  pub rest_so : (p : Places) → rest_next p read h next ≡ look_left p h then
+  pub fits : (s : State) (bytes : ℕ) → s.history ≡ h → NextFits shown bytes next s
+  pub spent_so : spent_next read next ≡ read
+  pub shorter : left_next next < look_meets then
+  pub counted : after ≡ raised_by read before
+
+abbrev pub LooksTo :
+    {T J : Type 0} → Shown T J → History → AfterLook → Result (Next T J) NoMemory → ℕ → ℕ → Type 0
+LooksTo shown h then (Ok next) before after = IsLooked shown h then next before after
+LooksTo shown h then (Err e) before after = before ≤ after
+
+-- this follows a call: it leaves just what the call left, by the places and by the rows read so far
+pub record IsFollowed {T J : Type 0} (shown : Shown T J) (h : History) (outcome : CallOutcome T) (f : Followed T J)
+    (before after : ℕ) : Type 0 where
+  pub read_then : ℕ → ℕ
+  pub rest_so : (p : Places) (read : ℕ)
+      → led f.said (rest_next p (read_then read) h f.next) ≡ left_after p read h outcome
+  pub fits : (s : State) (bytes : ℕ) → s.history ≡ h → NextFits shown bytes f.next s
+  pub spent_so : (read : ℕ) → spent_next (read_then read) f.next ≡ read_then read
+  pub shorter : left_next f.next < meets_left outcome
+  pub counted : (read from : ℕ) → before ≡ raised_by (spent_after read outcome) from → after ≡ raised_by (read_then read) from
+  pub rose : before ≤ after
+
+abbrev pub FollowsTo :
+    {T J : Type 0} → Shown T J → History → CallOutcome T → Result (Followed T J) NoMemory → ℕ → ℕ → Type 0
+FollowsTo shown h outcome (Ok f) before after = IsFollowed shown h outcome f before after
+FollowsTo shown h outcome (Err e) before after = before ≤ after
+
+-- what comes next, with no line said before it
+abbrev pub quiet : {T J : Type 0} → Result (Next T J) NoMemory → Result (Followed T J) NoMemory
+quiet (Ok next) = Ok (record { said = None; next = next })
+quiet (Err e) = Err e

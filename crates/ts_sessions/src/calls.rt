@@ -1,0 +1,164 @@
+//! Calls of a store: what a deed asks of one, and what it answered, with what awaits the answer.
+ghost use Rattle.std.specs.Prelude.{◌≡◌, IsTrue, OnOk};
+ghost use Rattle.ts_model.specs.Sound.{sound};
+ghost use Rattle.ts_sessions.specs.Calls.{MeetsTo};
+ghost use Rattle.ts_sessions.specs.Deeds.{DeedFits, IsLostBy, event_of, making_of};
+ghost use Rattle.ts_sessions.specs.Procedures.{tries};
+ghost use Rattle.ts_sessions.specs.Sessions.{Tries};
+
+use crate::deeds::{AfterCut, AfterLook, Deed, Finishing, Line, Making};
+use crate::events::{NewView, all_of, commit, new_view, view_number};
+use crate::refreshes::{Asked, cut, finish};
+use crate::tries::{Tried, answered};
+use ts_model::{Backend, Committed, CutDone, Gate, Refusal, Shown};
+use ts_schema::NoMemory;
+
+/// What the call of a deed came to, with what awaits it.
+#[derive(Drop)]
+pub enum CallOutcome<T> {
+    /// A relation was made or set by the event with a number, or not.
+    Number {
+        line: Line,
+        came: Result<u64, Refusal>,
+    },
+    /// Operations took effect, or not.
+    Commit {
+        leaves: bool,
+        came: Result<Committed, Refusal>,
+    },
+    /// An aggregate was made by the event with a number, or not.
+    View {
+        new: NewView,
+        filled: bool,
+        came: Result<u64, Refusal>,
+    },
+    /// An aggregate that an event made was found.
+    Found { asked: Asked, made: u64 },
+    /// A refresh was cut, or not.
+    Cut {
+        asked: Asked,
+        then: AfterCut,
+        came: Result<CutDone, Refusal>,
+    },
+    /// A refresh was finished by the event with a number, or not.
+    Finish {
+        finishing: Finishing,
+        came: Result<u64, Refusal>,
+    },
+    /// A snapshot was taken.
+    Look { then: AfterLook, shot: T },
+}
+
+/// What the call of a deed came to in a store.
+#[derive(Drop)]
+pub(crate) struct Meeting<T> {
+    /// What it came to.
+    pub outcome: CallOutcome<T>,
+    /// Whether the disk failed at its event.
+    pub failed: bool,
+}
+
+/// Calls a store for a deed.
+pub(crate) fn call<B: Backend, G: Gate>(
+    backend: &mut B,
+    gate: &G,
+    session: u32,
+    deed: Deed<B::Shot>,
+) -> Result<Meeting<B::Shot>, NoMemory>
+where
+    <B::Shot as Shown>::Job: Drop,
+    requires fits { DeedFits B.Shot.Shown deed (B.state backend.old) }
+    ensures meets { MeetsTo B.Shot.Shown B.alone (B.state backend.old) deed result (B.state backend.new) }
+    ensures lost { OnOk result (IsLostBy deed (B.state backend.new)) }
+    ensures kin { B.kin backend.new ≡ B.kin backend.old }
+{
+    match deed {
+        Deed::Make(making) => {
+            let line = making.line();
+            let tried = make_one(backend, making)?;
+            let failed = tried.failed();
+            let came = tried.came();
+            Ok(Meeting {
+                outcome: CallOutcome::Number { line, came },
+                failed,
+            })
+        }
+        Deed::Commit { ops, leaves } => {
+            let tried = commit(backend, ops)?;
+            let failed = tried.failed();
+            let came = tried.came();
+            Ok(Meeting {
+                outcome: CallOutcome::Commit { leaves, came },
+                failed,
+            })
+        }
+        Deed::View { def, filled } => {
+            let new = new_view(&def)?;
+            let outcome = backend.make_view(def);
+            let tried = answered(outcome, backend.position())?;
+            let failed = tried.failed();
+            let came = tried.came();
+            Ok(Meeting {
+                outcome: CallOutcome::View { new, filled, came },
+                failed,
+            })
+        }
+        Deed::Fill { new, made } => {
+            let shot = backend.snap()?;
+            let view = view_number(shot.roster().views.items(), &new.name);
+            let asked = all_of(view, &new.width);
+            Ok(Meeting {
+                outcome: CallOutcome::Found { asked, made },
+                failed: false,
+            })
+        }
+        Deed::Cut { asked, then } => {
+            let tried = cut(backend, asked.view, asked.lo, asked.hi)?;
+            let failed = tried.failed();
+            let came = tried.came();
+            Ok(Meeting {
+                outcome: CallOutcome::Cut { asked, then, came },
+                failed,
+            })
+        }
+        Deed::Finish { job, finishing } => {
+            let tried = finish(backend, gate, session, job)?;
+            let failed = tried.failed();
+            let came = tried.came();
+            Ok(Meeting {
+                outcome: CallOutcome::Finish { finishing, came },
+                failed,
+            })
+        }
+        Deed::Look(then) => {
+            let shot = backend.snap()?;
+            Ok(Meeting {
+                outcome: CallOutcome::Look { then, shot },
+                failed: false,
+            })
+        }
+    }
+}
+
+/// Makes a table, or sets one thing of a relation.
+#[tactic(auto, using(crate::proofs::CallWalks::called_tries))]
+fn make_one<B: Backend>(backend: &mut B, making: Making) -> Result<Tried<u64>, NoMemory>
+    requires { IsTrue (sound (B.state backend.old).history (event_of making)) }
+    ensures tries { Tries B.alone (B.state backend.old) (tries (making_of making)) result (B.state backend.new) }
+    ensures kin { B.kin backend.new ≡ B.kin backend.old }
+{
+    match making {
+        Making::Table(def) => {
+            let outcome = backend.make_table(def);
+            answered(outcome, backend.position())
+        }
+        Making::Hyper { table, hyper } => {
+            let outcome = backend.make_hyper(table, hyper);
+            answered(outcome, backend.position())
+        }
+        Making::Mode { view, only } => {
+            let outcome = backend.set_mode(view, only);
+            answered(outcome, backend.position())
+        }
+    }
+}

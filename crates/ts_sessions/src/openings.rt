@@ -1,0 +1,59 @@
+//! What a statement does first, by its kind and by the block of its session, before a store is met.
+ghost use Rattle.std.specs.Prelude.{◌≡◌, IfOk};
+ghost use Rattle.ts_sessions.specs.Held.{places_in};
+ghost use Rattle.ts_sessions.specs.Openings.{opening_of};
+
+use crate::deeds::{AfterLook, Deed, Next};
+use crate::endings::begin;
+use crate::sessions::Session;
+use std::alloc::Global;
+use stmt_syntax::Stmt;
+use ts_model::Shown;
+use ts_schema::NoMemory;
+
+/// What a statement does first.
+#[derive(Drop)]
+pub enum Opening<T: Shown>
+where
+    T::Job: Drop,
+{
+    /// This comes next.
+    Next(Next<T>),
+    /// Its names are looked at.
+    Names,
+    /// The refresh that is meant, by its number or as the last one, is finished with the job that is held for it.
+    Finish(Option<i64>),
+}
+
+impl<T: Shown + Drop> Session<T>
+where
+    T::Job: Drop,
+{
+    /// What a statement does first that the block lets pass.
+    pub fn opening(&self, alloc: Global, stmt: &Stmt) -> Result<Opening<T>, NoMemory>
+        ensures { IfOk result (λ o. o ≡ opening_of (places_in self.now) stmt.now) }
+    {
+        match stmt {
+            Stmt::Snap { cut } => Ok(Opening::Next(Next::Deed(self.snap(*cut)))),
+            Stmt::Finish { cut } => Ok(Opening::Finish(*cut)),
+            Stmt::Begin => Ok(Opening::Next(begin(alloc)?)),
+            Stmt::BeginRead => {
+                Ok(Opening::Next(Next::Deed(Deed::Look(AfterLook::BeginRead))))
+            }
+            Stmt::Commit => Ok(Opening::Next(self.end_block(alloc)?)),
+            Stmt::Rollback => Ok(Opening::Next(self.roll_back(alloc)?)),
+            Stmt::Table { .. }
+            | Stmt::Hyper { .. }
+            | Stmt::View { .. }
+            | Stmt::Mode { .. }
+            | Stmt::Insert { .. }
+            | Stmt::Delete { .. }
+            | Stmt::Drop { .. }
+            | Stmt::Refresh { .. }
+            | Stmt::Cut { .. }
+            | Stmt::Buckets(_)
+            | Stmt::Calendar { .. }
+            | Stmt::Rows { .. } => Ok(Opening::Names),
+        }
+    }
+}
